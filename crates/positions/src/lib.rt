@@ -1,0 +1,11 @@
+//! Positions in a text document and spans between two of them, as the Language Server Protocol has them.
+#![tactic(auto)]
+
+mod position;
+mod span;
+
+pub use position::Position;
+pub use span::Span;
+
+#[cfg(test)]
+mod tests;
