@@ -1,0 +1,43 @@
+-- Which ranges the documents of a dump contain (LSIF 0.6.0, "contains").
+use Rattle.std.specs.Prelude.{◌&&◌, ◌||◌, Bool, false, not, List, [], ◌∷◌, if◌then◌else◌}
+use Rattle.std.specs.List.{list_any, filter_map, flat_map}
+use Rattle.positions.specs.Span.{SpanValue, nests, overlaps}
+use Rattle.lsif.specs.Element.{IdValue, same_id, contains, other_edge, ElementValue, vertex, edge}
+use Rattle.dump.specs.Graph.{vertex_at, is_document, is_among, span_of}
+
+-- the element is a `contains` edge out of a document that names the range
+abbrev pub contains_range : List ElementValue → IdValue → ElementValue → Bool
+contains_range elements r (edge i (contains from to)) = is_document (vertex_at elements from) && is_among r to
+contains_range elements r (edge i (other_edge from to)) = false
+contains_range elements r (vertex i v) = false
+
+-- a document contains the range
+abbrev pub is_contained : List ElementValue → IdValue → Bool
+is_contained elements r = list_any (contains_range elements r) elements
+
+-- the spans of the ranges among these ids
+abbrev pub spans_of : List ElementValue → List IdValue → List SpanValue
+spans_of elements is = filter_map (λ i. span_of (vertex_at elements i)) is
+
+-- the spans of the ranges that the element, where it's a `contains` edge out of this document, names
+abbrev pub spans_named : List ElementValue → IdValue → ElementValue → List SpanValue
+spans_named elements d (edge i (contains from to)) = if same_id from d then spans_of elements to else []
+spans_named elements d (edge i (other_edge from to)) = []
+spans_named elements d (vertex i v) = []
+
+-- the spans of the ranges that the document contains
+abbrev pub spans_in : List ElementValue → IdValue → List SpanValue
+spans_in elements d = flat_map (spans_named elements d) elements
+
+-- equal, or overlapping with neither nested in the other
+abbrev pub conflicts : SpanValue → SpanValue → Bool
+conflicts s t = (nests s t && nests t s) || (overlaps s t && not (nests s t) && not (nests t s))
+
+-- a span of the first list conflicts with one of the second
+abbrev pub any_conflicts : List SpanValue → List SpanValue → Bool
+any_conflicts ss ts = list_any (λ s. list_any (conflicts s) ts) ss
+
+-- two spans of the list conflict
+abbrev pub has_conflict : List SpanValue → Bool
+has_conflict [] = false
+has_conflict (s ∷ ss) = list_any (conflicts s) ss || has_conflict ss

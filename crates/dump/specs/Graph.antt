@@ -1,0 +1,46 @@
+-- Elements looked up by their ids, and what vertices and edges they are (LSIF 0.6.0, "Vertices", "Edges").
+use Rattle.std.specs.Prelude.{◌||◌, Bool, true, false, List, [], ◌∷◌, Option, Some, None, option_and_then, find}
+use Rattle.std.specs.List.{list_any}
+use Rattle.positions.specs.Span.{SpanValue}
+use Rattle.lsif.specs.Element.{IdValue, same_id, VertexValue, document, range, contains, other_edge, ElementValue, vertex, edge, element_id}
+
+-- the element of this id: where no id is used twice there is one at most
+unfoldable pub element_at : List ElementValue → IdValue → Option ElementValue
+element_at elements i = find (λ x. same_id (element_id x) i) elements
+
+abbrev pub vertex_of : ElementValue → Option VertexValue
+vertex_of (vertex i v) = Some v
+vertex_of (edge i e) = None
+
+-- what the vertex of this id says; none where the id is an edge's, or nobody's
+abbrev pub vertex_at : List ElementValue → IdValue → Option VertexValue
+vertex_at elements i = option_and_then vertex_of (element_at elements i)
+
+abbrev pub is_document : Option VertexValue → Bool
+is_document (Some (document s)) = true
+is_document (Some v) = false
+is_document None = false
+
+abbrev pub is_range : Option VertexValue → Bool
+is_range (Some (range e)) = true
+is_range (Some v) = false
+is_range None = false
+
+abbrev pub span_of : Option VertexValue → Option SpanValue
+span_of (Some (range e)) = Some e
+span_of (Some v) = None
+span_of None = None
+
+-- the ids that an edge joins: its source and its targets
+abbrev pub ends : ElementValue → List IdValue
+ends (vertex i v) = []
+ends (edge i (contains from to)) = from ∷ to
+ends (edge i (other_edge from to)) = from ∷ to
+
+abbrev pub is_among : IdValue → List IdValue → Bool
+is_among i is = list_any (λ j. same_id j i) is
+
+-- an id stands in the list twice
+abbrev pub has_repeated : List IdValue → Bool
+has_repeated [] = false
+has_repeated (i ∷ is) = is_among i is || has_repeated is

@@ -1,0 +1,5 @@
+pub mod Conditions
+pub mod Contained
+pub mod Fault
+pub mod Graph
+pub mod Steps

@@ -1,0 +1,131 @@
+ghost use Rattle.std.specs.Prelude.{◌≡◌, true, map, []};
+ghost use Rattle.lsif.specs.Code.{is_shape_code};
+ghost use Rattle.lsif.specs.Element.{element_value, reading_value};
+ghost use Rattle.dump.specs.declared.fault.FeedFault.TheVariants.{Line};
+
+use crate::fault::{FeedFault, LineFault};
+use crate::order::{end_fault, order_code};
+use lsif::{Code, Element, Profile};
+use std::alloc::Global;
+use std::marker::Model;
+
+/// Takes the readings of a dump's lines one after the other. At the first faulty line it stops for good.
+#[derive(Drop)]
+pub struct Checker {
+    elements: Vec<Element>,
+    fault: Option<LineFault>,
+}
+
+impl Model for Checker {
+    ghost use Rattle.std.specs.Prelude.{◌≤◌, map, length};
+    ghost use Rattle.lsif.specs.Element.{element_value};
+    ghost use Rattle.dump.specs.Conditions.{most_elements};
+    ghost use Rattle.dump.specs.Steps.{Progress, progress_of, IsSound};
+
+    ghost Value = { Progress };
+
+    ghost view = { λ c. progress_of c.fault (map element_value c.elements.items) };
+
+    ghost invariant = { λ c. (length c.elements.items ≤ most_elements) × IsSound (map element_value c.elements.items) };
+}
+
+impl Checker {
+    ghost use Rattle.std.specs.Result.{ForErr};
+    ghost use Rattle.dump.specs.Steps.{running, stopped, next, Feeds, Finishes};
+
+    /// A checker that has seen no line.
+    pub fn new(alloc: Global, _profile: Profile) -> Checker
+        ensures { result ≡ running [] }
+    {
+        Checker {
+            elements: Vec::new(alloc),
+            fault: None,
+        }
+    }
+
+    /// Takes the next line: its element, or the fault of its shape. Answers the fault of the line, if it has one, and
+    /// from then on that fault for good. Where memory is refused the line doesn't count as taken.
+    pub fn feed(&mut self, reading: Result<Element, Code>) -> Result<(), FeedFault>
+        requires { ForErr reading (λ code. is_shape_code code ≡ true) }
+        ensures { Feeds result self.old (next self.old (reading_value reading)) self.new }
+    {
+        if let Some(fault) = self.fault {
+            return Err(FeedFault::Line(fault));
+        }
+        let line = self.elements.len() as u32 + 1;
+        let element = match reading {
+            Ok(element) => element,
+            Err(code) => return Err(self.stop(LineFault { line, code })),
+        };
+        match order_code(*self.elements.allocator(), &self.elements, &element)? {
+            Some(code) => Err(self.stop(LineFault { line, code })),
+            None => {
+                self.elements.push(element)?;
+                Ok(())
+            }
+        }
+    }
+
+    /// Keeps the fault, and answers it.
+    fn stop(&mut self, fault: LineFault) -> FeedFault
+        ensures fault { result ≡ Line fault }
+        ensures stopped { self.new ≡ stopped fault }
+    {
+        self.fault = Some(fault);
+        FeedFault::Line(fault)
+    }
+
+    /// The dump where no line is faulty and nothing is missing at its end; else the fault.
+    pub fn finish(self) -> Result<CheckedDump, FeedFault>
+        ensures { Finishes result self }
+    {
+        let Checker { elements, fault } = self;
+        if let Some(fault) = fault {
+            return Err(FeedFault::Line(fault));
+        }
+        if elements.is_empty() {
+            return Err(FeedFault::Line(LineFault {
+                line: 1,
+                code: Code::L06,
+            }));
+        }
+        match end_fault(&elements) {
+            Some(fault) => Err(FeedFault::Line(fault)),
+            None => Ok(CheckedDump { elements }),
+        }
+    }
+}
+
+/// The elements of a dump that has no fault, in the order of their lines.
+#[derive(Drop)]
+pub struct CheckedDump {
+    elements: Vec<Element>,
+}
+
+impl Model for CheckedDump {
+    ghost use Rattle.std.specs.Prelude.{◌≡◌, ◌≤◌, List, map, length, None};
+    ghost use Rattle.lsif.specs.Element.{ElementValue, element_value};
+    ghost use Rattle.dump.specs.Conditions.{most_elements};
+    ghost use Rattle.dump.specs.Steps.{IsSound, end_fault};
+
+    ghost Value = { List ElementValue };
+
+    ghost view = { λ d. map element_value d.elements.items };
+
+    ghost invariant = { λ d. (length d.elements.items ≤ most_elements) × IsSound (map element_value d.elements.items) × (end_fault (map element_value d.elements.items) ≡ None) };
+}
+
+impl CheckedDump {
+    ghost use Rattle.std.specs.Prelude.{◌≤◌, Ok, length};
+    ghost use Rattle.dump.specs.Conditions.{most_elements};
+    ghost use Rattle.dump.specs.Fault.{IsFaultless};
+
+    /// The elements: that of line 1 first.
+    pub fn elements(&self) -> &[Element]
+        ensures value { map element_value result.now ≡ self.now }
+        ensures few { length result.now ≤ most_elements }
+        ensures faultless { IsFaultless (map Ok self.now) }
+    {
+        &self.elements
+    }
+}

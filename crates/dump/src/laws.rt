@@ -1,0 +1,19 @@
+ghost use Rattle.std.specs.Prelude.{◌≡◌, ◌++◌, ◌<◌, List, Option, None, Ok, map, length};
+ghost use Rattle.lsif.specs.Element.{ElementValue, Reading};
+ghost use Rattle.dump.specs.declared.fault.LineFault.{LineFault};
+ghost use Rattle.dump.specs.Conditions.{order_code, most_elements};
+ghost use Rattle.dump.specs.Fault.{IsFault};
+ghost use Rattle.dump.specs.Steps.{progress, running, stopped, finished};
+
+/// Each dump has one fault or none, and feeding its lines in turn and then finishing answers it. A checker that runs on
+/// keeps the elements of all lines, at most 100,000. The fault of a line stays that of every dump that begins so.
+pub fn fault_law()
+    ensures holds { (dump : List Reading) → IsFault dump (finished (progress dump)) }
+    ensures only { (dump : List Reading) (fault : Option LineFault) → IsFault dump fault → fault ≡ finished (progress dump) }
+    ensures elements { (dump : List Reading) (elements : List ElementValue) → progress dump ≡ running elements
+        → dump ≡ map Ok elements }
+    ensures room { (elements : List ElementValue) (x : ElementValue) → order_code elements x ≡ None
+        → length elements < most_elements }
+    ensures stays { (dump more : List Reading) (fault : LineFault) → progress dump ≡ stopped fault
+        → progress (dump ++ more) ≡ stopped fault }
+{}

@@ -1,0 +1,16 @@
+//! The checker of a dump: takes the readings of its lines, and names the first fault or keeps the elements.
+#![tactic(auto)]
+
+mod checker;
+mod contained;
+mod fault;
+mod graph;
+mod laws;
+mod order;
+
+pub use checker::{CheckedDump, Checker};
+pub use fault::{FeedFault, LineFault};
+pub use laws::fault_law;
+
+#[cfg(test)]
+mod tests;

@@ -1,0 +1,186 @@
+//! What an element may not be after the elements before it, and what a whole dump may not have.
+ghost use Rattle.std.specs.Prelude.{◌≡◌, ◌<◌, ◌≤◌, IfOk, IfNone, map, length};
+ghost use Rattle.std.specs.List.{list_any};
+ghost use Rattle.lsif.specs.Element.{element_value};
+ghost use Rattle.dump.specs.Conditions.{is_misplaced, joins_no_vertex, may_not_join, is_contained_again, is_conflicting, is_document_of, has_used_uri, order_code, is_uncontained, end_code, most_elements};
+ghost use Rattle.dump.specs.Steps.{end_fault_from};
+
+use crate::contained::{
+    any_conflicts, any_contained, has_conflict, is_contained, spans_in, spans_of,
+};
+use crate::fault::LineFault;
+use crate::graph::{
+    are_documents, are_ranges, are_vertices, element_at, has_repeated, is_document, is_vertex,
+    vertex_at,
+};
+use lsif::{Code, Edge, Element, Vertex};
+use std::alloc::{AllocError, Global};
+
+/// The greatest number of elements of a dump.
+pub(crate) const MOST_ELEMENTS: usize = 100000;
+
+/// The first element isn't a supported metaData, or a later one is a metaData.
+#[tactic(auto, unfolding(crate::specs::Conditions::is_misplaced))]
+fn is_misplaced(before: &[Element], element: &Element) -> bool
+    ensures { result ≡ is_misplaced (map element_value before.now) (element_value element.now) }
+{
+    match element {
+        Element::Vertex(_, Vertex::MetaData(supported)) => !(before.is_empty() && *supported),
+        _ => before.is_empty(),
+    }
+}
+
+/// An end isn't the id of an earlier vertex.
+fn joins_no_vertex(before: &[Element], element: &Element) -> bool
+    ensures { result ≡ joins_no_vertex (map element_value before.now) (element_value element.now) }
+{
+    match element {
+        Element::Vertex(_, _) => false,
+        Element::Edge(_, Edge::Contains(from, to) | Edge::Other(from, to)) => {
+            !is_vertex(before, from) || !are_vertices(before, to)
+        }
+    }
+}
+
+/// No row of the edge table has these kinds.
+fn may_not_join(before: &[Element], element: &Element) -> bool
+    ensures { result ≡ may_not_join (map element_value before.now) (element_value element.now) }
+{
+    match element {
+        Element::Edge(_, Edge::Contains(from, to)) => match vertex_at(before, from) {
+            Some(Vertex::Project) => !are_documents(before, to),
+            Some(Vertex::Document(_)) => !are_ranges(before, to),
+            _ => true,
+        },
+        _ => false,
+    }
+}
+
+/// A document contains a target already, or a target is named twice.
+fn is_contained_again(before: &[Element], element: &Element) -> bool
+    ensures { result ≡ is_contained_again (map element_value before.now) (element_value element.now) }
+{
+    match element {
+        Element::Edge(_, Edge::Contains(from, to)) => {
+            is_document(before, from) && (any_contained(before, to) || has_repeated(to))
+        }
+        _ => false,
+    }
+}
+
+/// A target's span conflicts with one that the document contains already, or with another target's.
+fn is_conflicting(alloc: Global, before: &[Element], element: &Element) -> Result<bool, AllocError>
+    ensures { IfOk result (λ b. b ≡ is_conflicting (map element_value before.now) (element_value element.now)) }
+{
+    match element {
+        Element::Edge(_, Edge::Contains(from, to)) => {
+            if !is_document(before, from) {
+                return Ok(false);
+            }
+            let targets = spans_of(alloc, before, to)?;
+            let others = spans_in(alloc, before, from)?;
+            Ok(any_conflicts(&targets, &others) || has_conflict(&targets))
+        }
+        _ => Ok(false),
+    }
+}
+
+fn is_document_of(uri: &str, element: &Element) -> bool
+    ensures { result ≡ is_document_of uri.now (element_value element.now) }
+{
+    match element {
+        Element::Vertex(_, Vertex::Document(other)) => other.as_str() == uri,
+        _ => false,
+    }
+}
+
+fn any_document_of(before: &[Element], uri: &str) -> bool
+    ensures { result ≡ list_any (is_document_of uri.now) (map element_value before.now) }
+{
+    for element in before {
+        if is_document_of(uri, element) {
+            return true;
+        }
+    }
+    false
+}
+
+/// An earlier document has the same serialized URL.
+fn has_used_uri(before: &[Element], element: &Element) -> bool
+    ensures { result ≡ has_used_uri (map element_value before.now) (element_value element.now) }
+{
+    match element {
+        Element::Vertex(_, Vertex::Document(uri)) => any_document_of(before, uri.as_str()),
+        _ => false,
+    }
+}
+
+/// The least code whose condition holds of the element after those before it.
+#[tactic(auto, unfolding(crate::specs::Conditions::order_code))]
+pub(crate) fn order_code(
+    alloc: Global,
+    before: &[Element],
+    element: &Element,
+) -> Result<Option<Code>, AllocError>
+    ensures value { IfOk result (λ code. code ≡ order_code (map element_value before.now) (element_value element.now)) }
+    ensures room { IfOk result (λ code. IfNone code (length before.now < most_elements)) }
+{
+    let code = if element_at(before, element.id()).is_some() {
+        Some(Code::L04)
+    } else if is_misplaced(before, element) {
+        Some(Code::L06)
+    } else if joins_no_vertex(before, element) {
+        Some(Code::L09)
+    } else if may_not_join(before, element) {
+        Some(Code::L10)
+    } else if is_contained_again(before, element) {
+        Some(Code::L11)
+    } else if is_conflicting(alloc, before, element)? {
+        Some(Code::L12)
+    } else if has_used_uri(before, element) {
+        Some(Code::L19)
+    } else if before.len() >= MOST_ELEMENTS {
+        Some(Code::L20)
+    } else {
+        None
+    };
+    Ok(code)
+}
+
+/// A range that no document contains.
+fn is_uncontained(elements: &[Element], element: &Element) -> bool
+    ensures { result ≡ is_uncontained (map element_value elements.now) (element_value element.now) }
+{
+    match element {
+        Element::Vertex(id, Vertex::Range(_)) => !is_contained(elements, id),
+        _ => false,
+    }
+}
+
+/// The least code whose condition holds of the element at the end of the dump.
+#[tactic(auto, unfolding(crate::specs::Conditions::end_code))]
+fn end_code(elements: &[Element], element: &Element) -> Option<Code>
+    ensures { result ≡ end_code (map element_value elements.now) (element_value element.now) }
+{
+    if is_uncontained(elements, element) {
+        Some(Code::E01)
+    } else {
+        None
+    }
+}
+
+/// The fault of the first element that has a code at the end of the dump.
+pub(crate) fn end_fault(elements: &[Element]) -> Option<LineFault>
+    requires { length elements.now ≤ most_elements }
+    ensures { result ≡ end_fault_from (map element_value elements.now) 0 (map element_value elements.now) }
+{
+    for (k, element) in elements.iter().enumerate() {
+        if let Some(code) = end_code(elements, element) {
+            return Some(LineFault {
+                line: k as u32 + 1,
+                code,
+            });
+        }
+    }
+    None
+}

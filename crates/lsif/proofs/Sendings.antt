@@ -1,0 +1,34 @@
+-- Bytes that go out one part after another.
+use Rattle.std.proofs.Common.{◌≡◌, ℕ, ◌+◌, ◌<◌, inl, List, [], ◌++◌, length, take, drop, Option, Some, None, refl, sym, ◌∙◌, ap, append_assoc, append-nil}
+use Rattle.std.proofs.Math.Seq.{take-add}
+use Rattle.std.proofs.lemmas.Bool.{ne_eqb}
+use Rattle.std.proofs.lemmas.Bool.{lt-ltb}
+use Rattle.std.specs.Prelude.{if◌then◌else◌, ◌==◌, ◌&&◌}
+use Rattle.lsif.specs.Ends.{Gains, StaysOrHides}
+use Rattle.std.proofs.Common.{nat_lt}
+use Rattle.lsif.specs.Sending.{GainsOrHides}
+
+pub gains_refl : (a : Option (List ℕ)) → Gains a a []
+gains_refl None = tt
+gains_refl (Some xs) = ap Some (sym (append-nil xs))
+
+pub gains_more : (a b c : Option (List ℕ)) (p q : List ℕ) → Gains a b p → Gains b c q → Gains a c (p ++ q)
+gains_more None b c p q f g = tt
+gains_more (Some xs) b c p q f g = let h = rw f at g in h ∙ ap Some (append_assoc xs p q)
+
+pub gains_hides : (a b c : Option (List ℕ)) (p : List ℕ) → Gains a b p → StaysOrHides b c → GainsOrHides a c p
+gains_hides None b c p f h = tt
+gains_hides (Some xs) b c p f h = let k = rw f at h in k
+
+pub gains_or : (a b : Option (List ℕ)) (p : List ℕ) → Gains a b p → GainsOrHides a b p
+gains_or None b p f = tt
+gains_or (Some xs) b p f = inl f
+
+pub sent_more : (bytes : List ℕ) (sent n : ℕ) → take sent bytes ++ take n (drop sent bytes) ≡ take (sent + n) bytes
+sent_more bytes sent n = sym (take-add sent n bytes)
+
+pub idle_kept : (old new n : ℕ) (bytes : List ℕ) → new ≡ (if n == 0 && nat_lt 0 (length bytes) then old + 1 else old) → (n ≡ 0 → ⊥) → new ≡ old
+idle_kept old new n bytes h some = h ∙ rw (ne_eqb n 0 some) refl
+
+pub idle_more : (old new : ℕ) (bytes : List ℕ) → new ≡ (if 0 == 0 && nat_lt 0 (length bytes) then old + 1 else old) → 0 < length bytes → new ≡ old + 1
+idle_more old new bytes h lt = h ∙ rw (lt-ltb 0 (length bytes) lt) refl

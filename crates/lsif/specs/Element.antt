@@ -1,0 +1,78 @@
+-- Vertices, edges and elements without where they lie in memory (LSIF 0.6.0, "Vertices", "Edges").
+use Rattle.std.specs.Prelude.{◌==◌, ℕ, List, Bool, false, map, bytes_eq, string_bytes, Result, Ok, Err}
+use Rattle.lsif.specs.declared.code.Code.{Code}
+use Rattle.positions.specs.Span.{SpanValue}
+use Rattle.lsif.specs.declared.id.Id.{Id}
+use Rattle.lsif.specs.declared.id.Id.TheVariants as ids
+use Rattle.lsif.specs.declared.element.Vertex.{Vertex}
+use Rattle.lsif.specs.declared.element.Vertex.TheVariants as vertices
+use Rattle.lsif.specs.declared.element.Edge.{Edge}
+use Rattle.lsif.specs.declared.element.Edge.TheVariants as edges
+use Rattle.lsif.specs.declared.element.Element.{Element}
+use Rattle.lsif.specs.declared.element.Element.TheVariants as elements
+
+-- an id: the number 1 and the text "1" differ
+pub data IdValue : Type 0 where
+  number : ℕ → IdValue
+  text : List ℕ → IdValue
+
+-- what a vertex says: of metaData whether its version and encoding are supported, of a document its serialized URL
+pub data VertexValue : Type 0 where
+  meta_data : Bool → VertexValue
+  project : VertexValue
+  document : List ℕ → VertexValue
+  range : SpanValue → VertexValue
+  other_vertex : VertexValue
+
+-- what an edge joins: its source and its targets
+pub data EdgeValue : Type 0 where
+  contains : IdValue → List IdValue → EdgeValue
+  other_edge : IdValue → List IdValue → EdgeValue
+
+-- a vertex or an edge, with its own id
+pub data ElementValue : Type 0 where
+  vertex : IdValue → VertexValue → ElementValue
+  edge : IdValue → EdgeValue → ElementValue
+
+-- a line of a dump as it was read: its element, or the least fault of its shape
+abbrev pub Reading : Type 0
+Reading = Result ElementValue Code
+
+abbrev pub same_id : IdValue → IdValue → Bool
+same_id (number m) (number n) = m == n
+same_id (text s) (text t) = bytes_eq s t
+same_id (number m) (text t) = false
+same_id (text s) (number n) = false
+
+-- the element's own id
+abbrev pub element_id : ElementValue → IdValue
+element_id (vertex i v) = i
+element_id (edge i e) = i
+
+-- ---- the same of the program's values
+
+abbrev pub id_value : Id → IdValue
+id_value (ids.Number n) = number n
+id_value (ids.Text s) = text (string_bytes s)
+
+abbrev pub id_values : List Id → List IdValue
+id_values xs = map id_value xs
+
+abbrev pub vertex_value : Vertex → VertexValue
+vertex_value (vertices.MetaData b) = meta_data b
+vertex_value vertices.Project = project
+vertex_value (vertices.Document s) = document (string_bytes s)
+vertex_value (vertices.Range e) = range e
+vertex_value vertices.Other = other_vertex
+
+abbrev pub edge_value : Edge → EdgeValue
+edge_value (edges.Contains from to) = contains (id_value from) (id_values to.items)
+edge_value (edges.Other from to) = other_edge (id_value from) (id_values to.items)
+
+abbrev pub element_value : Element → ElementValue
+element_value (elements.Vertex i v) = vertex (id_value i) (vertex_value v)
+element_value (elements.Edge i e) = edge (id_value i) (edge_value e)
+
+abbrev pub reading_value : Result Element Code → Reading
+reading_value (Ok e) = Ok (element_value e)
+reading_value (Err c) = Err c

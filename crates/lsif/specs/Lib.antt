@@ -1,0 +1,11 @@
+pub mod Code
+pub mod Cutting
+pub mod Edges
+pub mod Element
+pub mod Ends
+pub mod Held
+pub mod Ids
+pub mod Lines
+pub mod Reading
+pub mod Sending
+pub mod Vertices

@@ -1,0 +1,64 @@
+-- What vertices of each label say (LSIF 0.6.0, "Vertices"; Language Server Protocol 3.17, "Position", "Range").
+use Rattle.std.specs.Prelude.{ℕ, ◌&&◌, Bool, true, false, nat_lt, List, codes, bytes_eq, Option, Some, None, option_map, option_and_then, Ok, Err, if◌then◌else◌}
+use Rattle.std.specs.Option.{option_map_or}
+use Rattle.serde_json.specs.Data.{Data}
+use Rattle.serde_json.specs.Find.{get, as_str}
+use Rattle.url.specs.Parser.{parse_url, Parsed}
+use Rattle.url.specs.Parts.{Parts, serialize}
+use Rattle.positions.specs.Position.{PositionValue, number_limit}
+use Rattle.positions.specs.Span.{SpanValue, is_span}
+use Rattle.lsif.specs.Element.{VertexValue, meta_data, project, document, range, other_vertex}
+use Rattle.lsif.specs.Ids.{whole_number_in, text_at}
+
+-- a whole number up to 2147483647
+abbrev pub coordinate_at : List ℕ → Data → Option ℕ
+coordinate_at name d =
+    option_and_then (λ n. if nat_lt n number_limit then Some n else None)
+    (option_and_then whole_number_in (get name d))
+
+unfoldable pub position_in : Data → Option PositionValue
+position_in d =
+    option_and_then (λ l. option_map (λ c. record { line = l; character = c }) (coordinate_at (codes "character") d))
+    (coordinate_at (codes "line") d)
+
+abbrev pub position_at : List ℕ → Data → Option PositionValue
+position_at name d = option_and_then position_in (get name d)
+
+-- the start isn't after the end
+abbrev pub span : PositionValue → PositionValue → Option SpanValue
+span first last = if is_span first last then Some (record { start = first; «end» = last }) else None
+
+unfoldable pub span_in : Data → Option SpanValue
+span_in d =
+    option_and_then (λ first. option_and_then (span first) (position_at (codes "end") d))
+    (position_at (codes "start") d)
+
+abbrev pub serialized : Parsed Parts → Option (List ℕ)
+serialized (Ok url) = Some (serialize url)
+serialized (Err e) = None
+
+-- the serialized URL of a document
+unfoldable pub uri_in : Data → Option (List ℕ)
+uri_in d = option_and_then (λ s. serialized (parse_url None s)) (text_at (codes "uri") d)
+
+abbrev pub is_text : List ℕ → Option Data → Bool
+is_text s found = option_map_or (bytes_eq s) (option_and_then as_str found) false
+
+abbrev pub is_absent_or_text : List ℕ → Option Data → Bool
+is_absent_or_text s None = true
+is_absent_or_text s (Some d) = is_text s (Some d)
+
+-- the version and the position encoding that are read here
+unfoldable pub is_supported : Data → Bool
+is_supported d =
+    is_text (codes "0.6.0") (get (codes "version") d)
+    && is_absent_or_text (codes "utf-16") (get (codes "positionEncoding") d)
+
+-- what a vertex of this label says, where the members that are read are of their forms
+unfoldable pub vertex_in : List ℕ → Data → Option VertexValue
+vertex_in label d =
+    if bytes_eq label (codes "metaData") then Some (meta_data (is_supported d))
+    else if bytes_eq label (codes "project") then Some project
+    else if bytes_eq label (codes "document") then option_map document (uri_in d)
+    else if bytes_eq label (codes "range") then option_map range (span_in d)
+    else Some other_vertex

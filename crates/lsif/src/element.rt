@@ -1,0 +1,53 @@
+ghost use Rattle.std.specs.Prelude.{◌≡◌};
+ghost use Rattle.lsif.specs.Element.{id_value, element_value, element_id};
+
+use crate::id::Id;
+use positions::Span;
+
+/// The part of LSIF that a dump is read by.
+#[derive(Clone, Copy, Debug, PartialEq, Eq)]
+pub enum Profile {
+    One,
+}
+
+/// What a vertex says (LSIF 0.6.0, "Vertices").
+#[derive(Debug, Drop)]
+pub enum Vertex {
+    /// `metaData`, and whether its version and its position encoding are those that are read here.
+    MetaData(bool),
+    /// `project`.
+    Project,
+    /// `document`, and its serialized URL.
+    Document(String),
+    /// `range`, in UTF-16 code units.
+    Range(Span),
+    /// A vertex of another label.
+    Other,
+}
+
+/// What an edge joins (LSIF 0.6.0, "Edges"): its source and its targets.
+#[derive(Debug, Drop)]
+pub enum Edge {
+    /// `contains`.
+    Contains(Id, Vec<Id>),
+    /// An edge of another label.
+    Other(Id, Vec<Id>),
+}
+
+/// One line of a dump: a vertex or an edge, and its id.
+#[derive(Debug, Drop)]
+pub enum Element {
+    Vertex(Id, Vertex),
+    Edge(Id, Edge),
+}
+
+impl Element {
+    /// The element's own id.
+    pub fn id(&self) -> &Id
+        ensures { id_value result.now ≡ element_id (element_value self.now) }
+    {
+        match self {
+            Element::Vertex(id, _) | Element::Edge(id, _) => id,
+        }
+    }
+}

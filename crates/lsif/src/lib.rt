@@ -1,0 +1,25 @@
+//! Readers and writers that count their failures, the lines of a reader, and the vertices and edges that lines of a
+//! dump in the Language Server Index Format 0.6.0 spell.
+#![tactic(auto)]
+
+mod buffer;
+mod code;
+mod edges;
+mod element;
+mod ends;
+mod fault;
+mod id;
+mod lines;
+mod reading;
+mod sending;
+mod vertices;
+
+pub use buffer::Buffer;
+pub use code::Code;
+pub use element::{Edge, Element, Profile, Vertex};
+pub use ends::{Counted, Failed, Sink, Source, counted_law};
+pub use fault::ReadFault;
+pub use id::Id;
+pub use lines::{LineBuffer, Lines, LinesFault, lines_law};
+pub use reading::{LONGEST_LINE, read_element};
+pub use sending::push_all;

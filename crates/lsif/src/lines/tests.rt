@@ -1,0 +1,169 @@
+//! Lines of input that comes in pieces, and callers that the contracts alone prove.
+ghost use Rattle.std.specs.Prelude.{◌≡◌, ◌+◌, ◌-◌, ◌^◌, ◌<◌, length, IfOk, IfSome};
+ghost use Rattle.lsif.specs.Held.{told};
+ghost use Rattle.lsif.specs.Lines.{lines_of};
+
+use super::*;
+use crate::ends::Counted;
+use std::io;
+use std::io::{ErrorKind, Read};
+use std::process::Abort;
+use std::test::Fail;
+
+/// A reader that gives at most so many bytes at a time, and fails once, at the read of that number.
+#[derive(Drop)]
+struct Pieces<'a> {
+    bytes: &'a [u8],
+    most: usize,
+    fails_at: u32,
+    reads: u32,
+}
+
+impl Read for Pieces<'_> {
+    fn read(&mut self, buf: &mut [u8]) -> io::Result<usize> {
+        self.reads = self.reads.saturating_add(1);
+        if self.reads == self.fails_at {
+            return Err(io::Error::from(ErrorKind::Other));
+        }
+        let count = self.bytes.len().min(self.most).min(buf.len());
+        buf[..count].copy_from_slice(&self.bytes[..count]);
+        self.bytes = &self.bytes[count..];
+        Ok(count)
+    }
+}
+
+/// A reader of these bytes that never fails.
+fn in_pieces(bytes: &[u8], most: usize) -> Counted<Pieces<'_>> {
+    Counted::new(Pieces {
+        bytes,
+        most,
+        fails_at: 0,
+        reads: 0,
+    })
+}
+
+fn next<'a, S: Source>(
+    rt: &impl Abort,
+    lines: &'a mut Lines<S>,
+) -> Result<Option<&'a [u8]>, LinesFault> {
+    assert!(rt; lines.failures() < u64::MAX);
+    lines.next_line()
+}
+
+/// How many lines are left, where they are fewer than `u64::MAX`.
+fn count_lines<S: Source>(lines: &mut Lines<S>) -> Result<Option<u64>, LinesFault>
+    requires { lines.old.failures < 2 ^ 64 - 1 }
+    ensures { IfOk result (λ o. IfSome o (λ n. IfSome lines.old.left (λ text. n ≡ length (lines_of text)))) }
+{
+    for n in 0..u64::MAX {
+        match lines.next_line() {
+            Ok(Some(_)) => {}
+            Ok(None) => return Ok(Some(n)),
+            Err(fault) => return Err(fault),
+        }
+    }
+    Ok(None)
+}
+
+/// The same over a source that is lent.
+fn count_lines_of<S: Source>(
+    lines: &mut LineBuffer,
+    source: &mut S,
+) -> Result<Option<u64>, LinesFault>
+    requires { S.failed source.old < 2 ^ 64 - 1 }
+    ensures { IfOk result (λ o. IfSome o (λ n. IfSome (told lines.old.pending (S.left source.old)) (λ text. n ≡ length (lines_of text)))) }
+{
+    for n in 0..u64::MAX {
+        match lines.advance(source) {
+            Ok(true) => {}
+            Ok(false) => return Ok(Some(n)),
+            Err(fault) => return Err(fault),
+        }
+    }
+    Ok(None)
+}
+
+#[test]
+fn lines_of_input_in_pieces(rt: HostRuntime) -> Result<(), Fail> {
+    let table = [
+        ("", [].as_slice()),
+        ("\n", [""].as_slice()),
+        ("one", ["one"].as_slice()),
+        ("one\n\ntwo\r\n\n", ["one", "", "two\r", ""].as_slice()),
+        (
+            "\r\n\n\rthree\nfour",
+            ["\r", "", "\rthree", "four"].as_slice(),
+        ),
+        ("1234567\n1234567", ["1234567", "1234567"].as_slice()),
+    ];
+    for (text, expected) in table {
+        for most in [1, 2, 7, 100] {
+            let mut lines = Lines::new(rt.alloc(), in_pieces(text.as_bytes(), most), 7)?;
+            for line in expected {
+                assert_eq!(rt;
+                    next(&rt, &mut lines)?,
+                    Some(line.as_bytes()),
+                    "{text:?} by {most}"
+                );
+            }
+            assert_eq!(rt; next(&rt, &mut lines)?, None, "{text:?} by {most}");
+            assert_eq!(rt; next(&rt, &mut lines)?, None, "{text:?} by {most}, again");
+        }
+    }
+    Ok(())
+}
+
+#[test]
+fn line_that_is_too_long(rt: HostRuntime) -> Result<(), Fail> {
+    for text in [
+        "1234567\n12345678\nend\n",
+        "1234567\n12345678",
+        "1234567\n1234567\r\n",
+    ] {
+        for most in [1, 2, 7, 100] {
+            let mut lines = Lines::new(rt.alloc(), in_pieces(text.as_bytes(), most), 7)?;
+            assert_eq!(rt; next(&rt, &mut lines)?, Some(b"1234567".as_slice()));
+            for _ in 0..3 {
+                assert_eq!(rt;
+                    next(&rt, &mut lines),
+                    Err(LinesFault::TooLong),
+                    "{text:?} by {most}"
+                );
+            }
+            assert_eq!(rt; lines.failures(), 0);
+        }
+    }
+    Ok(())
+}
+
+#[test]
+fn reader_that_fails_once(rt: HostRuntime) -> Result<(), Fail> {
+    let reader = Counted::new(Pieces {
+        bytes: b"one\ntwo\nthree\n",
+        most: 2,
+        fails_at: 3,
+        reads: 0,
+    });
+    let mut lines = Lines::new(rt.alloc(), reader, 7)?;
+    assert_eq!(rt; next(&rt, &mut lines)?, Some(b"one".as_slice()));
+    assert_eq!(rt; lines.failures(), 0);
+    for _ in 0..3 {
+        assert_eq!(rt; next(&rt, &mut lines), Err(LinesFault::Read));
+        assert_eq!(rt; lines.failures(), 1);
+    }
+    Ok(())
+}
+
+#[test]
+fn lines_of_a_source_that_is_lent(rt: HostRuntime) -> Result<(), Fail> {
+    let mut source = Counted::new(b"one\ntwo".as_slice());
+    let mut lines = LineBuffer::new(rt.alloc(), 3)?;
+    assert_eq!(rt; lines.advance(&mut source), Ok(true));
+    assert_eq!(rt; lines.line(), b"one".as_slice());
+    assert_eq!(rt; source.failures(), 0);
+    assert_eq!(rt; count_lines_of(&mut lines, &mut source), Ok(Some(1)));
+
+    let mut lines = Lines::new(rt.alloc(), Counted::new(b"a\n\nb".as_slice()), 3)?;
+    assert_eq!(rt; count_lines(&mut lines), Ok(Some(3)));
+    Ok(())
+}
