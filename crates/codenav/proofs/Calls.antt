@@ -1,0 +1,25 @@
+-- The faults of words that clap refuses.
+use Rattle.std.proofs.Common.{◌≡◌, true, List, sym, subst, inl, inr, refl}
+use Rattle.clap.specs.Words.{App, Text, HasKind, IsAmong, fault_of, is_simple_and_free, kind_of}
+use Rattle.clap.specs.declared.error.Error.{Error}
+use Rattle.codenav.specs.Call.{app, IsRefused, ShowsError}
+use Rattle.codenav.specs.declared.call.CallFault.{CallFault}
+use Rattle.codenav.specs.declared.call.CallFault.TheVariants.{Memory, Clap}
+
+-- the command line has no rules that clap's meaning leaves out
+simple : is_simple_and_free app ≡ true
+simple = refl
+
+pub has_kind : (command : App) (words : List Text) (error : Error) → command ≡ app
+    → (is_simple_and_free command ≡ true → HasKind (fault_of command words) error) → HasKind (fault_of app words) error
+has_kind command words error is fails =
+    subst (λ (a : App). is_simple_and_free a ≡ true → HasKind (fault_of a words) error) is fails simple
+
+pub refused : (words : List Text) (error : Error) (fault : CallFault) → HasKind (fault_of app words) error → ShowsError error fault
+    → IsRefused words fault
+refused words error Memory kinds shows = tt
+refused words error (Clap shown) kinds shows =
+    elim kinds [
+      | inl memory ↦ absurd (shows.1 memory)
+      | inr among ↦ inl (subst (λ (e : Error). IsAmong (kind_of e) (fault_of app words)) (sym shows.0) among)
+    ]

@@ -1,0 +1,59 @@
+-- What the words of the command line say, by clap's meaning of them.
+use Rattle.std.specs.Prelude.{◌≡◌, ◌≢◌, ◌⊎◌, true, List, Option, Some, None, codes, bytes_eq, option_map, if◌then◌else◌, ⊤}
+use Rattle.clap.specs.Words.{App, Row, Rule, Text, fault_of, first_of, kind_of, new_app, new_rule, subcommand_of, with_rule, with_subcommand, IsAmong}
+use Rattle.clap.specs.declared.builder.action.ArgAction.TheVariants.{Set}
+use Rattle.clap.specs.declared.error.Error.{Error}
+use Rattle.clap.specs.declared.error.kind.ErrorKind.TheVariants.{OutOfMemory, ValueValidation}
+use Rattle.codenav.specs.declared.call.Call.{Call}
+use Rattle.codenav.specs.declared.call.Call.TheVariants.{CheckLsif}
+use Rattle.codenav.specs.declared.call.CallFault.{CallFault}
+use Rattle.codenav.specs.declared.call.CallFault.TheVariants.{Memory, Clap}
+
+-- a call of the program
+pub data CallValue : Type 0 where
+  check_lsif : Text → CallValue
+
+abbrev pub call_value : Call → CallValue
+call_value (CheckLsif file) = check_lsif file.now
+
+-- a word that has to be there
+abbrev pub word : Text → Rule
+word id = record (new_rule id) { required = true; action = Some Set }
+
+-- check-lsif FILE
+abbrev pub check_lsif_app : App
+check_lsif_app = with_rule (new_app (codes "check-lsif")) (word (codes "file"))
+
+-- the program, which has to have a subcommand
+abbrev pub top_app : App
+top_app = let codenav = new_app (codes "codenav") in record codenav { top = record codenav.top { subcommand_required = true } }
+
+-- the command line
+abbrev pub app : App
+app = with_subcommand top_app check_lsif_app.top
+
+-- the call of check-lsif with these matches
+abbrev pub check_lsif_of : List Row → Option CallValue
+check_lsif_of rows = option_map check_lsif (first_of (codes "file") rows)
+
+-- the call of the subcommand with this name and these matches
+abbrev pub call_of : Option (Text × List Row) → Option CallValue
+call_of None = None
+call_of (Some sub) = if bytes_eq sub.0 (codes "check-lsif") then check_lsif_of sub.1 else None
+
+-- what clap's error becomes
+abbrev pub ShowsError : Error → CallFault → Type 0
+ShowsError error Memory = kind_of error ≡ OutOfMemory
+ShowsError error (Clap shown) = (shown ≡ error) × (kind_of error ≢ OutOfMemory)
+
+-- no memory was left, or the fault says that a value is missing
+abbrev pub IsMissing : CallFault → Type 0
+IsMissing Memory = ⊤
+IsMissing (Clap error) = kind_of error ≡ ValueValidation
+
+-- no memory was left, or clap's own error for these words, or they say no call
+abbrev pub IsRefused : List Text → CallFault → Type 0
+IsRefused words Memory = ⊤
+IsRefused words (Clap error) =
+    IsAmong (kind_of error) (fault_of app words)
+    ⊎ ((call_of (subcommand_of app words) ≡ None) × (kind_of error ≡ ValueValidation))

@@ -1,0 +1,136 @@
+//! What the program's words ask for.
+ghost use Rattle.std.specs.Prelude.{◌≡◌, ◌≢◌, List, Option, Some, None, IfOk, IfErr, MatchResult, map, option_map, false, codes};
+ghost use Rattle.clap.specs.Words.{app_of, found_of, kind_of, rows_of, rule_of, subcommand_of, subcommand_rows_of};
+ghost use Rattle.codenav.specs.Call.{IsMissing, IsRefused, ShowsError, app, call_of, call_value, check_lsif_app, check_lsif_of, top_app, word};
+
+use clap::error::ErrorKind;
+use clap::{Arg, ArgAction, ArgMatches, Command, Error};
+use std::alloc::{AllocError, Global};
+use std::convert::AsStr;
+
+/// What the program is to do.
+#[derive(Clone, Copy, Debug, PartialEq, Eq)]
+pub enum Call<'a> {
+    /// Check the dump in this file.
+    CheckLsif { file: &'a str },
+}
+
+/// Why the program's words are no call.
+#[derive(Debug, Drop)]
+pub enum CallFault {
+    /// Memory was refused.
+    Memory,
+    /// `clap` refuses the words, or they ask for help: its text says which.
+    Clap(Error),
+}
+
+impl From<AllocError> for CallFault {
+    ghost use Rattle.std.specs.Prelude.{◌≡◌};
+    ghost use Rattle.codenav.specs.declared.call.CallFault.TheVariants.{Memory};
+
+    ghost from_gives = { λ _ fault. fault ≡ Memory };
+
+    fn from(_: AllocError) -> CallFault {
+        CallFault::Memory
+    }
+}
+
+impl From<Error> for CallFault {
+    ghost use Rattle.codenav.specs.Call.{ShowsError};
+
+    ghost from_gives = { ShowsError };
+
+    fn from(error: Error) -> CallFault {
+        match error.kind() {
+            ErrorKind::OutOfMemory => CallFault::Memory,
+            _ => CallFault::Clap(error),
+        }
+    }
+}
+
+/// A word that has to be there.
+fn word<'a>(alloc: Global, id: &'a str) -> Arg<'a>
+    ensures rule { rule_of result ≡ word id.entry.now }
+    ensures local { result.global ≡ false }
+{
+    Arg::new(alloc, id).required(true).action(ArgAction::Set)
+}
+
+/// `check-lsif FILE`.
+fn check_lsif<'a>(alloc: Global) -> Result<Command<'a>, AllocError>
+    ensures { IfOk result (λ c. app_of c ≡ check_lsif_app) }
+{
+    Command::new(alloc, "check-lsif").arg(word(alloc, "file"))
+}
+
+/// The program with no subcommand yet.
+fn top<'a>(alloc: Global) -> Command<'a>
+    ensures { app_of result ≡ top_app }
+{
+    Command::new(alloc, "codenav").subcommand_required(true)
+}
+
+/// The command line.
+fn command<'a>(alloc: Global) -> Result<Command<'a>, AllocError>
+    ensures { IfOk result (λ c. app_of c ≡ app) }
+{
+    top(alloc).subcommand(check_lsif(alloc)?)
+}
+
+/// The call of `check-lsif` with these matches.
+fn read_check_lsif<'a>(found: &ArgMatches<'a>) -> Option<Call<'a>>
+    ensures { option_map call_value result ≡ check_lsif_of (rows_of (found_of found.now)) }
+{
+    match found.get_str("file") {
+        Some(file) => Some(Call::CheckLsif { file }),
+        None => None,
+    }
+}
+
+/// The call of the subcommand with that name and these matches.
+fn read_subcommand<'a>(name: &str, found: &ArgMatches<'a>) -> Option<Call<'a>>
+    ensures { option_map call_value result ≡ call_of (Some (name.now, rows_of (found_of found.now))) }
+{
+    if name == "check-lsif" {
+        return read_check_lsif(found);
+    }
+    None
+}
+
+/// The call that the matches say.
+fn read_matches<'a>(matches: &ArgMatches<'a>) -> Option<Call<'a>>
+    ensures { option_map call_value result ≡ call_of (subcommand_rows_of matches.now) }
+{
+    match matches.subcommand() {
+        Some((name, found)) => read_subcommand(name, found),
+        None => None,
+    }
+}
+
+/// The fault of words that `clap` takes though they say no call.
+fn missing_call(command: &mut Command<'_>) -> CallFault
+    ensures { IsMissing result }
+{
+    match command.error(ErrorKind::ValueValidation, "no such call") {
+        Ok(error) => CallFault::from(error),
+        Err(_) => CallFault::Memory,
+    }
+}
+
+/// Reads the program's words, its name first: the subcommand and the values that `clap` finds in them.
+pub fn read_call<'a, S: AsStr>(alloc: Global, words: &'a [S]) -> Result<Call<'a>, CallFault>
+    ensures call { IfOk result (λ call. call_of (subcommand_of app (map S.text words.entry.now)) ≡ Some (call_value call)) }
+    ensures fault { IfErr result (IsRefused (map S.text words.entry.now)) }
+{
+    let mut command = command(alloc)?;
+    match command.try_get_matches_from_mut(words) {
+        Ok(matches) => match read_matches(&matches) {
+            Some(call) => Ok(call),
+            None => Err(missing_call(&mut command)),
+        },
+        Err(error) => Err(CallFault::from(error)),
+    }
+}
+
+#[cfg(test)]
+mod tests;

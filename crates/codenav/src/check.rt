@@ -1,0 +1,171 @@
+//! `codenav check-lsif`: the report of a dump.
+ghost use Rattle.std.specs.Prelude.{◌≡◌, ◌-◌, ◌^◌, ◌<◌, IfOk, option_map, string_bytes};
+ghost use Rattle.lsif.specs.Element.{reading_value};
+ghost use Rattle.lsif.specs.Held.{told};
+ghost use Rattle.codenav.specs.Report.{ReportsOf, report_text, status_of, exit_code_of, Checks, CountsCheck};
+ghost use Rattle.codenav.specs.Judging.{ReadsNext, CountsRead, IsReady, GoesOn, Concludes};
+
+use dump::{Checker, FeedFault, LineFault, fault_law};
+use lsif::{
+    Code, Element, LONGEST_LINE, LineBuffer, LinesFault, Profile, ReadFault, Sink, Source,
+    push_all, read_element,
+};
+use std::alloc::{AllocError, Global};
+
+/// What a check found.
+#[derive(Clone, Copy, Debug, PartialEq, Eq)]
+pub enum Report {
+    /// No fault, and how many elements there are.
+    Sound(u32),
+    /// The fault.
+    Faulty(LineFault),
+}
+
+/// Whether what was checked is sound.
+#[derive(Clone, Copy, Debug, PartialEq, Eq)]
+pub enum Status {
+    Sound,
+    Faulty,
+}
+
+impl Status {
+    /// The exit status of the program.
+    pub fn exit_code(self) -> u8
+        ensures { result ≡ exit_code_of self }
+    {
+        match self {
+            Status::Sound => 0,
+            Status::Faulty => 1,
+        }
+    }
+}
+
+/// Why there is no report.
+#[derive(Clone, Copy, Debug, PartialEq, Eq)]
+pub enum CheckFault {
+    /// Memory was refused.
+    Memory,
+    /// The reader failed.
+    Read,
+    /// The writer failed, or took no byte.
+    Write,
+}
+
+impl From<AllocError> for CheckFault {
+    ghost use Rattle.codenav.specs.declared.check.CheckFault.TheVariants.{Memory};
+
+    ghost from_gives = { λ _ fault. fault ≡ Memory };
+
+    fn from(_: AllocError) -> CheckFault {
+        CheckFault::Memory
+    }
+}
+
+impl Report {
+    /// Whether what was checked is sound.
+    pub fn status(self) -> Status
+        ensures { result ≡ status_of self }
+    {
+        match self {
+            Report::Sound(_) => Status::Sound,
+            Report::Faulty(_) => Status::Faulty,
+        }
+    }
+}
+
+/// The line that is printed, with its line feed.
+fn report_text(alloc: Global, report: Report) -> Result<String, AllocError>
+    ensures { IfOk result (λ text. string_bytes text ≡ report_text report) }
+{
+    match report {
+        Report::Sound(elements) => format!(in alloc; "ok {elements} elements\n"),
+        Report::Faulty(fault) => {
+            let line = fault.line;
+            let name = fault.code.name();
+            let text = fault.code.text();
+            format!(in alloc; "line {line}: {name} {text}\n")
+        }
+    }
+}
+
+/// The reading of the next line: its element, or the fault of its shape. None at the end.
+fn next_reading<R: Source>(
+    alloc: Global,
+    lines: &mut LineBuffer,
+    r: &mut R,
+) -> Result<Option<Result<Element, Code>>, CheckFault>
+    requires count { R.failed r.old < 2 ^ 64 - 1 }
+    requires ready { IsReady lines.old }
+    ensures read { IfOk result (λ next. ReadsNext (told lines.old.pending (R.left r.old)) (option_map reading_value next) (told lines.new.pending (R.left r.new))) }
+    ensures goes_on { IfOk result (λ next. GoesOn next lines.new) }
+    ensures counted { CountsRead (R.failed r.old) (R.failed r.new) result }
+{
+    match lines.advance(r) {
+        Ok(false) => Ok(None),
+        Ok(true) => match read_element(alloc, lines.line()) {
+            Ok(element) => Ok(Some(Ok(element))),
+            Err(ReadFault::Shape(code)) => Ok(Some(Err(code))),
+            Err(ReadFault::Memory) => Err(CheckFault::Memory),
+        },
+        Err(LinesFault::TooLong) => Ok(Some(Err(Code::L01))),
+        Err(LinesFault::Read) => Err(CheckFault::Read),
+        Err(LinesFault::Memory) => Err(CheckFault::Memory),
+    }
+}
+
+/// What the end of the lines says.
+fn conclude(checker: Checker) -> Report
+    ensures { Concludes checker result }
+{
+    match checker.finish() {
+        Ok(dump) => Report::Sound(dump.elements().len() as u32),
+        Err(FeedFault::Line(fault)) => Report::Faulty(fault),
+        Err(FeedFault::Memory) => unreachable!(),
+    }
+}
+
+/// The report of a reader's bytes.
+fn judge<R: Source>(alloc: Global, r: &mut R) -> Result<Report, CheckFault>
+    requires { R.failed r.old < 2 ^ 64 - 1 }
+    ensures report { IfOk result (λ report. ReportsOf (R.left r.old) report) }
+    ensures counted { CountsRead (R.failed r.old) (R.failed r.new) result }
+{
+    fault_law();
+    let Ok(mut lines) = LineBuffer::new(alloc, LONGEST_LINE) else {
+        return Err(CheckFault::Memory);
+    };
+    let mut checker = Checker::new(alloc, Profile::One);
+    'reading: while let Some(reading) = next_reading(alloc, &mut lines, r)? {
+        match checker.feed(reading) {
+            Ok(()) => {}
+            Err(FeedFault::Line(fault)) => return Ok(Report::Faulty(fault)),
+            Err(FeedFault::Memory) => return Err(CheckFault::Memory),
+        }
+    }
+    Ok(conclude(checker))
+}
+
+/// Reads a dump from a reader to its end, or up to its first faulty line, and writes the line of its report:
+/// `ok N elements`, or `line N: CODE text`. Keeps the dump's elements, and of its bytes one line. Refuses where memory
+/// was refused, the reader failed, or the writer failed or took no byte.
+pub fn check_lsif<R: Source, W: Sink>(
+    alloc: Global,
+    r: &mut R,
+    w: &mut W,
+) -> Result<Status, CheckFault>
+    requires reads { R.failed r.old < 2 ^ 64 - 1 }
+    requires writes { W.failed w.old < 2 ^ 64 - 1 }
+    requires idles { W.idle w.old < 2 ^ 64 - 1 }
+    ensures checks { Checks (R.left r.old) (W.taken w.old) (W.taken w.new) result }
+    ensures counted { CountsCheck (R.failed r.old) (W.failed w.old) (W.idle w.old) (R.failed r.new) (W.failed w.new) (W.idle w.new) result }
+{
+    let report = judge(alloc, r)?;
+    let text = report_text(alloc, report)?;
+    match push_all(w, text.as_bytes()) {
+        Ok(()) => Ok(report.status()),
+        Err(_) => Err(CheckFault::Write),
+    }
+}
+
+#[cfg(test)]
+mod tests;

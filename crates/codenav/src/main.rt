@@ -1,0 +1,77 @@
+//! `codenav`, a code navigation index server.
+#![tactic(auto)]
+
+mod call;
+mod check;
+
+use call::{Call, CallFault, read_call};
+use check::{CheckFault, check_lsif};
+use lsif::Counted;
+use std::alloc::Global;
+use std::io::ErrorKind;
+use std::process::ExitCode;
+use std::rt::{Env, Files};
+use std::{env, fs, io};
+
+/// The status of a call that could not be carried out.
+const FAILED: u8 = 2;
+
+fn main(rt: HostRuntime) -> ExitCode {
+    ExitCode::from(run(&rt))
+}
+
+/// Carries out what the program's words say, and answers the exit status.
+fn run<R: Alloc<A = Global> + Env + Files + Print + Eprint>(rt: &R) -> u8 {
+    let words = match read_words(rt) {
+        Ok(words) => words,
+        Err(error) if error.kind() == ErrorKind::OutOfMemory => return fail(rt, "out of memory"),
+        Err(_) => return fail(rt, "cannot read the file"),
+    };
+    match read_call(rt.alloc(), words.as_slice()) {
+        Ok(Call::CheckLsif { file }) => check_file(rt, file),
+        Err(CallFault::Memory) => fail(rt, "out of memory"),
+        Err(CallFault::Clap(error)) => show(rt, &error),
+    }
+}
+
+/// The program's words, its name first.
+fn read_words<R: Alloc<A = Global> + Env>(rt: &R) -> io::Result<Vec<String>> {
+    let mut words = Vec::new(rt.alloc());
+    for word in env::args(rt)? {
+        words.push(word)?;
+    }
+    Ok(words)
+}
+
+/// `codenav check-lsif FILE`: prints the report of the dump in that file.
+fn check_file<R: Alloc<A = Global> + Files + Print + Eprint>(rt: &R, file: &str) -> u8 {
+    let file = match fs::open(rt, file) {
+        Ok(file) => file,
+        Err(error) if error.kind() == ErrorKind::OutOfMemory => return fail(rt, "out of memory"),
+        Err(_) => return fail(rt, "cannot read the file"),
+    };
+    let mut r = Counted::new(file);
+    let mut w = Counted::new(io::writer(rt));
+    match check_lsif(rt.alloc(), &mut r, &mut w) {
+        Ok(status) => status.exit_code(),
+        Err(CheckFault::Memory) => fail(rt, "out of memory"),
+        Err(CheckFault::Read) => fail(rt, "cannot read the file"),
+        Err(CheckFault::Write) => fail(rt, "cannot write the output"),
+    }
+}
+
+/// Prints `clap`'s text: a refusal to the standard error, with status 2, and help that was asked for to the standard
+/// output, with status 0.
+fn show<R: Print + Eprint>(rt: &R, error: &clap::Error) -> u8 {
+    match error.print(rt) {
+        Ok(()) if error.use_stderr() => FAILED,
+        Ok(()) => 0,
+        Err(_) => fail(rt, "cannot write the output"),
+    }
+}
+
+/// Prints why the program fails, one line on the standard error, and answers the status.
+fn fail(rt: &impl Eprint, text: &str) -> u8 {
+    let _ = eprintln!(rt; "codenav: {text}");
+    FAILED
+}
