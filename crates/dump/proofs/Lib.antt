@@ -1,3 +1,9 @@
+pub mod Chains
+pub mod Ends
 pub mod Graphs
+pub mod Leads
 pub mod Lists
+pub mod Members
+pub mod Paths
 pub mod Progresses
+pub mod SameIds

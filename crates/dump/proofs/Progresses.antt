@@ -26,6 +26,9 @@ pub stays : (rest : List Reading) (f : LineFault) → fold next (stopped f) rest
 stays [] f = refl
 stays (line ∷ rest) f = stays rest f
 
+pub stays_stopped : (rest : List Reading) (f : LineFault) (out : List ElementValue) → fold next (stopped f) rest ≡ running out → ⊥
+stays_stopped rest f out h = let no : stopped f ≡ running out = sym (stays rest f) ∙ h in cc
+
 -- one line more in front
 pub front_code : (elements : List ElementValue) (x : ElementValue) (rest : List Reading) (k : ℕ) (c : Code) → CodeFrom (elements ++ x ∷ []) rest k c → CodeFrom elements (Ok x ∷ rest) (suc k) c
 front_code elements x rest k c h = (h.0, h.1, rw (append_assoc elements (x ∷ []) (before rest k)) at h.2)

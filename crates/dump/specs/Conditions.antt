@@ -2,11 +2,14 @@
 -- (LSIF 0.6.0, "Emitting constraints", "metaData", "contains").
 use Rattle.std.specs.Prelude.{ℕ, ◌==◌, ◌&&◌, ◌||◌, Bool, true, false, nat_le, not, List, [], ◌∷◌, length, bytes_eq, Option, Some, None, is_some, find, if◌then◌else◌}
 use Rattle.std.specs.List.{list_any, list_all}
-use Rattle.lsif.specs.Element.{IdValue, VertexValue, meta_data, project, document, range, contains, other_edge, ElementValue, vertex, edge, element_id}
+use Rattle.lsif.specs.Element.{IdValue, VertexValue, meta_data, project, document, range, result_set, definition_result, other_vertex, ItemValue, contains, next, definition, item, ElementValue, vertex, edge, element_id}
 use Rattle.lsif.specs.declared.code.Code.{Code}
-use Rattle.lsif.specs.declared.code.Code.TheVariants.{L04, L06, L09, L10, L11, L12, L19, L20, E01}
+use Rattle.lsif.specs.declared.code.Code.TheVariants.{L04, L06, L09, L10, L11, L12, L13, L14, L16, L19, L20, E01, E02}
 use Rattle.dump.specs.Graph.{element_at, vertex_at, is_document, is_range, ends, has_repeated}
-use Rattle.dump.specs.Contained.{is_contained, spans_in, spans_of, any_conflicts, has_conflict}
+use Rattle.lsif.specs.declared.element.Property.{Property}
+use Rattle.lsif.specs.declared.element.Property.TheVariants.{Definitions, References, ReferenceResults}
+use Rattle.dump.specs.Walks.{first_to, reaches, next_pairs, definition_pairs}
+use Rattle.dump.specs.Contained.{is_contained, is_in, spans_in, spans_of, any_conflicts, has_conflict}
 
 -- L04: an earlier element has this id
 abbrev pub has_used_id : List ElementValue → ElementValue → Bool
@@ -33,24 +36,64 @@ are_vertices before is = list_all (λ i. is_some (vertex_at before i)) is
 abbrev pub joins_no_vertex : List ElementValue → ElementValue → Bool
 joins_no_vertex before x = not (are_vertices before (ends x))
 
--- the rows of the edge table for `contains`: a project contains documents, a document contains ranges
+abbrev pub are_documents : List ElementValue → List IdValue → Bool
+are_documents before is = list_all (λ i. is_document (vertex_at before i)) is
+
+abbrev pub are_ranges : List ElementValue → List IdValue → Bool
+are_ranges before is = list_all (λ i. is_range (vertex_at before i)) is
+
+-- a project contains documents, a document contains ranges
 abbrev pub may_contain : List ElementValue → Option VertexValue → List IdValue → Bool
-may_contain before (Some project) to = list_all (λ i. is_document (vertex_at before i)) to
-may_contain before (Some (document s)) to = list_all (λ i. is_range (vertex_at before i)) to
+may_contain before (Some project) to = are_documents before to
+may_contain before (Some (document s)) to = are_ranges before to
 may_contain before (Some v) to = false
 may_contain before None to = false
 
--- L10: no row of the edge table has these kinds
+-- `next` and the edges of requests leave ranges and result sets
+abbrev pub may_ask : Option VertexValue → Bool
+may_ask (Some (range s)) = true
+may_ask (Some result_set) = true
+may_ask (Some v) = false
+may_ask None = false
+
+abbrev pub is_result_set : Option VertexValue → Bool
+is_result_set (Some result_set) = true
+is_result_set (Some v) = false
+is_result_set None = false
+
+abbrev pub is_definition_result : Option VertexValue → Bool
+is_definition_result (Some definition_result) = true
+is_definition_result (Some v) = false
+is_definition_result None = false
+
+-- an `item` edge without a property has definitions
+abbrev pub are_definitions : Option Property → Bool
+are_definitions None = true
+are_definitions (Some Definitions) = true
+are_definitions (Some References) = false
+are_definitions (Some ReferenceResults) = false
+
+-- a definition result has ranges as its definitions; out of a vertex of another label any vertices may be items
+abbrev pub may_have_item : List ElementValue → Option VertexValue → ItemValue → Bool
+may_have_item before (Some definition_result) e = are_definitions e.property && are_ranges before e.targets
+may_have_item before (Some other_vertex) e = true
+may_have_item before (Some v) e = false
+may_have_item before None e = false
+
+-- L10: no row of the edge table has these kinds and this property
 abbrev pub may_not_join : List ElementValue → ElementValue → Bool
 may_not_join before (edge i (contains from to)) = not (may_contain before (vertex_at before from) to)
-may_not_join before (edge i (other_edge from to)) = false
+may_not_join before (edge i (next from to)) = not (may_ask (vertex_at before from) && is_result_set (vertex_at before to))
+may_not_join before (edge i (definition from to)) = not (may_ask (vertex_at before from) && is_definition_result (vertex_at before to))
+may_not_join before (edge i (item e)) = not (may_have_item before (vertex_at before e.source) e)
+may_not_join before (edge i e) = false
 may_not_join before (vertex i v) = false
 
 -- L11: a document contains a target already, or a target is named twice
 abbrev pub is_contained_again : List ElementValue → ElementValue → Bool
 is_contained_again before (edge i (contains from to)) =
     is_document (vertex_at before from) && (list_any (is_contained before) to || has_repeated to)
-is_contained_again before (edge i (other_edge from to)) = false
+is_contained_again before (edge i e) = false
 is_contained_again before (vertex i v) = false
 
 -- L12: a target's span conflicts with one that the document contains already, or with another target's
@@ -58,8 +101,39 @@ abbrev pub is_conflicting : List ElementValue → ElementValue → Bool
 is_conflicting before (edge i (contains from to)) =
     is_document (vertex_at before from)
     && (any_conflicts (spans_of before to) (spans_in before from) || has_conflict (spans_of before to))
-is_conflicting before (edge i (other_edge from to)) = false
+is_conflicting before (edge i e) = false
 is_conflicting before (vertex i v) = false
+
+-- L13: an edge of this single label leaves the same vertex already
+abbrev pub leaves_again : List ElementValue → ElementValue → Bool
+leaves_again before (edge i (next from to)) = is_some (first_to (next_pairs before) from)
+leaves_again before (edge i (definition from to)) = is_some (first_to (definition_pairs before) from)
+leaves_again before (edge i e) = false
+leaves_again before (vertex i v) = false
+
+-- L14: a path of `next` edges goes from the target to the source already
+abbrev pub closes_cycle : List ElementValue → ElementValue → Bool
+closes_cycle before (edge i (next from to)) = reaches (next_pairs before) to from
+closes_cycle before (edge i e) = false
+closes_cycle before (vertex i v) = false
+
+-- an `item` edge out of a vertex of another label has no effect
+abbrev pub has_effect : Option VertexValue → Bool
+has_effect (Some other_vertex) = false
+has_effect (Some v) = true
+has_effect None = true
+
+abbrev pub is_place : Option VertexValue → Bool
+is_place (Some project) = true
+is_place (Some (document s)) = true
+is_place (Some v) = false
+is_place None = false
+
+-- L16: the shard isn't an earlier document or project
+abbrev pub has_no_place : List ElementValue → ElementValue → Bool
+has_no_place before (edge i (item e)) = has_effect (vertex_at before e.source) && not (is_place (vertex_at before e.shard))
+has_no_place before (edge i e) = false
+has_no_place before (vertex i v) = false
 
 abbrev pub is_document_of : List ℕ → ElementValue → Bool
 is_document_of uri (vertex i (document s)) = bytes_eq s uri
@@ -88,13 +162,16 @@ order_condition before x L09 = joins_no_vertex before x
 order_condition before x L10 = may_not_join before x
 order_condition before x L11 = is_contained_again before x
 order_condition before x L12 = is_conflicting before x
+order_condition before x L13 = leaves_again before x
+order_condition before x L14 = closes_cycle before x
+order_condition before x L16 = has_no_place before x
 order_condition before x L19 = has_used_uri before x
 order_condition before x L20 = is_past_limit before
 order_condition before x c = false
 
 -- the codes that ask something of the elements before, least first
 abbrev pub order_codes : List Code
-order_codes = L04 ∷ L06 ∷ L09 ∷ L10 ∷ L11 ∷ L12 ∷ L19 ∷ L20 ∷ []
+order_codes = L04 ∷ L06 ∷ L09 ∷ L10 ∷ L11 ∷ L12 ∷ L13 ∷ L14 ∷ L16 ∷ L19 ∷ L20 ∷ []
 
 -- the least code whose condition holds
 unfoldable pub order_code : List ElementValue → ElementValue → Option Code
@@ -106,14 +183,25 @@ is_uncontained elements (vertex i (range s)) = not (is_contained elements i)
 is_uncontained elements (vertex i v) = false
 is_uncontained elements (edge i e) = false
 
+abbrev pub are_in : List ElementValue → IdValue → List IdValue → Bool
+are_in elements d is = list_all (is_in elements d) is
+
+-- E02: the shard of an `item` edge is a document that doesn't contain a target
+abbrev pub is_misplaced_item : List ElementValue → ElementValue → Bool
+is_misplaced_item elements (edge i (item e)) =
+    has_effect (vertex_at elements e.source) && (is_document (vertex_at elements e.shard) && not (are_in elements e.shard e.targets))
+is_misplaced_item elements (edge i e) = false
+is_misplaced_item elements (vertex i v) = false
+
 -- the condition of a code on an element of a whole dump
 abbrev pub end_condition : List ElementValue → ElementValue → Code → Bool
 end_condition elements x E01 = is_uncontained elements x
+end_condition elements x E02 = is_misplaced_item elements x
 end_condition elements x c = false
 
 -- the codes that are asked of a whole dump, least first
 abbrev pub end_codes : List Code
-end_codes = E01 ∷ []
+end_codes = E01 ∷ E02 ∷ []
 
 -- the least code whose condition holds at the end of the dump
 unfoldable pub end_code : List ElementValue → ElementValue → Option Code

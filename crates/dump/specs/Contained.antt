@@ -2,18 +2,28 @@
 use Rattle.std.specs.Prelude.{◌&&◌, ◌||◌, Bool, false, not, List, [], ◌∷◌, if◌then◌else◌}
 use Rattle.std.specs.List.{list_any, filter_map, flat_map}
 use Rattle.positions.specs.Span.{SpanValue, nests, overlaps}
-use Rattle.lsif.specs.Element.{IdValue, same_id, contains, other_edge, ElementValue, vertex, edge}
+use Rattle.lsif.specs.Element.{IdValue, same_id, contains, ElementValue, vertex, edge}
 use Rattle.dump.specs.Graph.{vertex_at, is_document, is_among, span_of}
 
 -- the element is a `contains` edge out of a document that names the range
 abbrev pub contains_range : List ElementValue → IdValue → ElementValue → Bool
 contains_range elements r (edge i (contains from to)) = is_document (vertex_at elements from) && is_among r to
-contains_range elements r (edge i (other_edge from to)) = false
+contains_range elements r (edge i e) = false
 contains_range elements r (vertex i v) = false
 
 -- a document contains the range
 abbrev pub is_contained : List ElementValue → IdValue → Bool
 is_contained elements r = list_any (contains_range elements r) elements
+
+-- the element is a `contains` edge out of this document that names the range
+abbrev pub places_range : IdValue → IdValue → ElementValue → Bool
+places_range d r (edge i (contains from to)) = same_id from d && is_among r to
+places_range d r (edge i e) = false
+places_range d r (vertex i v) = false
+
+-- this document contains the range
+abbrev pub is_in : List ElementValue → IdValue → IdValue → Bool
+is_in elements d r = list_any (places_range d r) elements
 
 -- the spans of the ranges among these ids
 abbrev pub spans_of : List ElementValue → List IdValue → List SpanValue
@@ -22,7 +32,7 @@ spans_of elements is = filter_map (λ i. span_of (vertex_at elements i)) is
 -- the spans of the ranges that the element, where it's a `contains` edge out of this document, names
 abbrev pub spans_named : List ElementValue → IdValue → ElementValue → List SpanValue
 spans_named elements d (edge i (contains from to)) = if same_id from d then spans_of elements to else []
-spans_named elements d (edge i (other_edge from to)) = []
+spans_named elements d (edge i e) = []
 spans_named elements d (vertex i v) = []
 
 -- the spans of the ranges that the document contains

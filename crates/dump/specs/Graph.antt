@@ -2,7 +2,7 @@
 use Rattle.std.specs.Prelude.{◌||◌, Bool, true, false, List, [], ◌∷◌, Option, Some, None, option_and_then, find}
 use Rattle.std.specs.List.{list_any}
 use Rattle.positions.specs.Span.{SpanValue}
-use Rattle.lsif.specs.Element.{IdValue, same_id, VertexValue, document, range, contains, other_edge, ElementValue, vertex, edge, element_id}
+use Rattle.lsif.specs.Element.{IdValue, same_id, VertexValue, document, range, contains, next, definition, item, other_edge, ElementValue, vertex, edge, element_id}
 
 -- the element of this id: where no id is used twice there is one at most
 unfoldable pub element_at : List ElementValue → IdValue → Option ElementValue
@@ -35,6 +35,9 @@ span_of None = None
 abbrev pub ends : ElementValue → List IdValue
 ends (vertex i v) = []
 ends (edge i (contains from to)) = from ∷ to
+ends (edge i (next from to)) = from ∷ to ∷ []
+ends (edge i (definition from to)) = from ∷ to ∷ []
+ends (edge i (item e)) = e.source ∷ e.targets
 ends (edge i (other_edge from to)) = from ∷ to
 
 abbrev pub is_among : IdValue → List IdValue → Bool

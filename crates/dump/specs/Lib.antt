@@ -3,3 +3,4 @@ pub mod Contained
 pub mod Fault
 pub mod Graph
 pub mod Steps
+pub mod Walks

@@ -2,7 +2,8 @@
 ghost use Rattle.std.specs.Prelude.{◌≡◌, ◌++◌, IfOk, OnOk, map};
 ghost use Rattle.std.specs.List.{list_any};
 ghost use Rattle.lsif.specs.Element.{id_value, id_values, element_value};
-ghost use Rattle.dump.specs.Contained.{contains_range, is_contained, spans_of, spans_named, spans_in, conflicts, any_conflicts, has_conflict};
+ghost use Rattle.dump.specs.Conditions.{are_in};
+ghost use Rattle.dump.specs.Contained.{contains_range, is_contained, places_range, is_in, spans_of, spans_named, spans_in, conflicts, any_conflicts, has_conflict};
 
 use crate::graph::{is_among, is_document, span_at};
 use lsif::{Edge, Element, Id};
@@ -43,6 +44,40 @@ pub(crate) fn any_contained(elements: &[Element], ranges: &[Id]) -> bool
         }
     }
     false
+}
+
+/// Whether the element is a `contains` edge out of this document that names the range.
+fn places_range(document: &Id, range: &Id, element: &Element) -> bool
+    ensures { result ≡ places_range (id_value document.now) (id_value range.now) (element_value element.now) }
+{
+    match element {
+        Element::Edge(_, Edge::Contains(from, to)) => from.is(document) && is_among(range, to),
+        _ => false,
+    }
+}
+
+/// Whether this document contains the range.
+fn is_in(elements: &[Element], document: &Id, range: &Id) -> bool
+    ensures { result ≡ is_in (map element_value elements.now) (id_value document.now) (id_value range.now) }
+{
+    for element in elements {
+        if places_range(document, range, element) {
+            return true;
+        }
+    }
+    false
+}
+
+/// Whether this document contains each of the ranges.
+pub(crate) fn are_in(elements: &[Element], document: &Id, ranges: &[Id]) -> bool
+    ensures { result ≡ are_in (map element_value elements.now) (id_value document.now) (id_values ranges.now) }
+{
+    for range in ranges {
+        if !is_in(elements, document, range) {
+            return false;
+        }
+    }
+    true
 }
 
 /// Adds the spans of the ranges among these ids.

@@ -1,9 +1,8 @@
 //! Elements looked up by their ids.
 ghost use Rattle.std.specs.Prelude.{◌≡◌, map, is_some, option_map};
-ghost use Rattle.std.specs.List.{list_all};
 ghost use Rattle.lsif.specs.Element.{id_value, id_values, vertex_value, element_value};
 ghost use Rattle.dump.specs.Graph.{element_at, vertex_at, is_document, is_range, span_of, is_among, has_repeated};
-ghost use Rattle.dump.specs.Conditions.{are_vertices};
+ghost use Rattle.dump.specs.Conditions.{are_vertices, are_documents, are_ranges};
 
 use lsif::{Element, Id, Vertex};
 use positions::Span;
@@ -72,7 +71,7 @@ pub(crate) fn are_vertices(elements: &[Element], ids: &[Id]) -> bool
 
 /// Whether each id is that of a document.
 pub(crate) fn are_documents(elements: &[Element], ids: &[Id]) -> bool
-    ensures { result ≡ list_all (λ i. is_document (vertex_at (map element_value elements.now) i)) (id_values ids.now) }
+    ensures { result ≡ are_documents (map element_value elements.now) (id_values ids.now) }
 {
     for id in ids {
         if !is_document(elements, id) {
@@ -84,7 +83,7 @@ pub(crate) fn are_documents(elements: &[Element], ids: &[Id]) -> bool
 
 /// Whether each id is that of a range.
 pub(crate) fn are_ranges(elements: &[Element], ids: &[Id]) -> bool
-    ensures { result ≡ list_all (λ i. is_range (vertex_at (map element_value elements.now) i)) (id_values ids.now) }
+    ensures { result ≡ are_ranges (map element_value elements.now) (id_values ids.now) }
 {
     for id in ids {
         if !is_range(elements, id) {

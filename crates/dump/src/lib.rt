@@ -7,6 +7,7 @@ mod fault;
 mod graph;
 mod laws;
 mod order;
+mod walks;
 
 pub use checker::{CheckedDump, Checker};
 pub use fault::{FeedFault, LineFault};

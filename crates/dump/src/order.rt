@@ -1,19 +1,21 @@
 //! What an element may not be after the elements before it, and what a whole dump may not have.
 ghost use Rattle.std.specs.Prelude.{◌≡◌, ◌<◌, ◌≤◌, IfOk, IfNone, map, length};
 ghost use Rattle.std.specs.List.{list_any};
-ghost use Rattle.lsif.specs.Element.{element_value};
-ghost use Rattle.dump.specs.Conditions.{is_misplaced, joins_no_vertex, may_not_join, is_contained_again, is_conflicting, is_document_of, has_used_uri, order_code, is_uncontained, end_code, most_elements};
-ghost use Rattle.dump.specs.Steps.{end_fault_from};
+ghost use Rattle.lsif.specs.Element.{id_value, id_values, item_value, element_value};
+ghost use Rattle.dump.specs.Conditions.{is_misplaced, joins_no_vertex, may_contain, may_ask, is_result_set, is_definition_result, are_definitions, may_have_item, may_not_join, is_contained_again, is_conflicting, leaves_again, closes_cycle, has_effect, is_place, has_no_place, is_misplaced_item, is_document_of, has_used_uri, order_code, is_uncontained, end_code, most_elements};
+ghost use Rattle.dump.specs.Graph.{vertex_at};
+ghost use Rattle.dump.specs.Steps.{end_fault_from, IsSound};
 
 use crate::contained::{
-    any_conflicts, any_contained, has_conflict, is_contained, spans_in, spans_of,
+    any_conflicts, any_contained, are_in, has_conflict, is_contained, spans_in, spans_of,
 };
 use crate::fault::LineFault;
 use crate::graph::{
     are_documents, are_ranges, are_vertices, element_at, has_repeated, is_document, is_vertex,
     vertex_at,
 };
-use lsif::{Code, Edge, Element, Vertex};
+use crate::walks::{definition_of, leads, next_of};
+use lsif::{Code, Edge, Element, Id, Item, Property, Vertex};
 use std::alloc::{AllocError, Global};
 
 /// The greatest number of elements of a dump.
@@ -39,19 +41,81 @@ fn joins_no_vertex(before: &[Element], element: &Element) -> bool
         Element::Edge(_, Edge::Contains(from, to) | Edge::Other(from, to)) => {
             !is_vertex(before, from) || !are_vertices(before, to)
         }
+        Element::Edge(_, Edge::Next(from, to) | Edge::Definition(from, to)) => {
+            !is_vertex(before, from) || !is_vertex(before, to)
+        }
+        Element::Edge(_, Edge::Item(item)) => {
+            !is_vertex(before, &item.source) || !are_vertices(before, &item.targets)
+        }
     }
 }
 
-/// No row of the edge table has these kinds.
+/// A project contains documents, a document contains ranges.
+fn may_contain(before: &[Element], from: &Id, to: &[Id]) -> bool
+    ensures { result ≡ may_contain (map element_value before.now) (vertex_at (map element_value before.now) (id_value from.now)) (id_values to.now) }
+{
+    match vertex_at(before, from) {
+        Some(Vertex::Project) => are_documents(before, to),
+        Some(Vertex::Document(_)) => are_ranges(before, to),
+        _ => false,
+    }
+}
+
+/// Requests are asked of ranges and result sets.
+fn may_ask(before: &[Element], id: &Id) -> bool
+    ensures { result ≡ may_ask (vertex_at (map element_value before.now) (id_value id.now)) }
+{
+    matches!(
+        vertex_at(before, id),
+        Some(Vertex::Range(_) | Vertex::ResultSet)
+    )
+}
+
+fn is_result_set(before: &[Element], id: &Id) -> bool
+    ensures { result ≡ is_result_set (vertex_at (map element_value before.now) (id_value id.now)) }
+{
+    matches!(vertex_at(before, id), Some(Vertex::ResultSet))
+}
+
+fn is_definition_result(before: &[Element], id: &Id) -> bool
+    ensures { result ≡ is_definition_result (vertex_at (map element_value before.now) (id_value id.now)) }
+{
+    matches!(vertex_at(before, id), Some(Vertex::DefinitionResult))
+}
+
+/// An `item` edge without a property has definitions.
+fn are_definitions(property: Option<Property>) -> bool
+    ensures { result ≡ are_definitions property }
+{
+    matches!(property, None | Some(Property::Definitions))
+}
+
+/// A definition result has ranges as its definitions; a vertex of another label any vertices.
+fn may_have_item(before: &[Element], item: &Item) -> bool
+    ensures { result ≡ may_have_item (map element_value before.now) (vertex_at (map element_value before.now) (id_value item.now.source)) (item_value item.now) }
+{
+    match vertex_at(before, &item.source) {
+        Some(Vertex::DefinitionResult) => {
+            are_definitions(item.property) && are_ranges(before, &item.targets)
+        }
+        Some(Vertex::Other) => true,
+        _ => false,
+    }
+}
+
+/// No row of the edge table has these kinds and this property.
 fn may_not_join(before: &[Element], element: &Element) -> bool
     ensures { result ≡ may_not_join (map element_value before.now) (element_value element.now) }
 {
     match element {
-        Element::Edge(_, Edge::Contains(from, to)) => match vertex_at(before, from) {
-            Some(Vertex::Project) => !are_documents(before, to),
-            Some(Vertex::Document(_)) => !are_ranges(before, to),
-            _ => true,
-        },
+        Element::Edge(_, Edge::Contains(from, to)) => !may_contain(before, from, to),
+        Element::Edge(_, Edge::Next(from, to)) => {
+            !(may_ask(before, from) && is_result_set(before, to))
+        }
+        Element::Edge(_, Edge::Definition(from, to)) => {
+            !(may_ask(before, from) && is_definition_result(before, to))
+        }
+        Element::Edge(_, Edge::Item(item)) => !may_have_item(before, item),
         _ => false,
     }
 }
@@ -82,6 +146,57 @@ fn is_conflicting(alloc: Global, before: &[Element], element: &Element) -> Resul
             Ok(any_conflicts(&targets, &others) || has_conflict(&targets))
         }
         _ => Ok(false),
+    }
+}
+
+/// An edge of this single label leaves the same vertex already.
+fn leaves_again(before: &[Element], element: &Element) -> bool
+    ensures { result ≡ leaves_again (map element_value before.now) (element_value element.now) }
+{
+    match element {
+        Element::Edge(_, Edge::Next(from, _)) => next_of(before, from).is_some(),
+        Element::Edge(_, Edge::Definition(from, _)) => definition_of(before, from).is_some(),
+        _ => false,
+    }
+}
+
+/// A path of `next` edges goes from the target to the source already.
+fn closes_cycle(before: &[Element], element: &Element) -> bool
+    requires { IsSound (map element_value before.now) }
+    ensures { result ≡ closes_cycle (map element_value before.now) (element_value element.now) }
+{
+    match element {
+        Element::Edge(_, Edge::Next(from, to)) => leads(before, to, from),
+        _ => false,
+    }
+}
+
+/// Whether an `item` edge out of this vertex has an effect.
+fn has_effect(elements: &[Element], source: &Id) -> bool
+    ensures { result ≡ has_effect (vertex_at (map element_value elements.now) (id_value source.now)) }
+{
+    !matches!(vertex_at(elements, source), Some(Vertex::Other))
+}
+
+/// Whether the id is that of a document or a project.
+fn is_place(elements: &[Element], id: &Id) -> bool
+    ensures { result ≡ is_place (vertex_at (map element_value elements.now) (id_value id.now)) }
+{
+    matches!(
+        vertex_at(elements, id),
+        Some(Vertex::Project | Vertex::Document(_))
+    )
+}
+
+/// The shard isn't an earlier document or project.
+fn has_no_place(before: &[Element], element: &Element) -> bool
+    ensures { result ≡ has_no_place (map element_value before.now) (element_value element.now) }
+{
+    match element {
+        Element::Edge(_, Edge::Item(item)) => {
+            has_effect(before, &item.source) && !is_place(before, &item.shard)
+        }
+        _ => false,
     }
 }
 
@@ -122,6 +237,7 @@ pub(crate) fn order_code(
     before: &[Element],
     element: &Element,
 ) -> Result<Option<Code>, AllocError>
+    requires { IsSound (map element_value before.now) }
     ensures value { IfOk result (λ code. code ≡ order_code (map element_value before.now) (element_value element.now)) }
     ensures room { IfOk result (λ code. IfNone code (length before.now < most_elements)) }
 {
@@ -137,6 +253,12 @@ pub(crate) fn order_code(
         Some(Code::L11)
     } else if is_conflicting(alloc, before, element)? {
         Some(Code::L12)
+    } else if leaves_again(before, element) {
+        Some(Code::L13)
+    } else if closes_cycle(before, element) {
+        Some(Code::L14)
+    } else if has_no_place(before, element) {
+        Some(Code::L16)
     } else if has_used_uri(before, element) {
         Some(Code::L19)
     } else if before.len() >= MOST_ELEMENTS {
@@ -157,6 +279,20 @@ fn is_uncontained(elements: &[Element], element: &Element) -> bool
     }
 }
 
+/// The shard of an `item` edge is a document that doesn't contain a target.
+fn is_misplaced_item(elements: &[Element], element: &Element) -> bool
+    ensures { result ≡ is_misplaced_item (map element_value elements.now) (element_value element.now) }
+{
+    match element {
+        Element::Edge(_, Edge::Item(item)) => {
+            has_effect(elements, &item.source)
+                && is_document(elements, &item.shard)
+                && !are_in(elements, &item.shard, &item.targets)
+        }
+        _ => false,
+    }
+}
+
 /// The least code whose condition holds of the element at the end of the dump.
 #[tactic(auto, unfolding(crate::specs::Conditions::end_code))]
 fn end_code(elements: &[Element], element: &Element) -> Option<Code>
@@ -164,6 +300,8 @@ fn end_code(elements: &[Element], element: &Element) -> Option<Code>
 {
     if is_uncontained(elements, element) {
         Some(Code::E01)
+    } else if is_misplaced_item(elements, element) {
+        Some(Code::E02)
     } else {
         None
     }

@@ -1,8 +1,13 @@
 -- What edges of each label join (LSIF 0.6.0, "Edges").
-use Rattle.std.specs.Prelude.{ℕ, List, [], ◌∷◌, codes, bytes_eq, Option, None, is_some, option_map, option_and_then, if◌then◌else◌}
+use Rattle.std.specs.Prelude.{ℕ, List, [], ◌∷◌, codes, bytes_eq, Option, Some, None, is_some, option_map, option_and_then, Result, Ok, Err, if◌then◌else◌}
 use Rattle.serde_json.specs.Data.{Data}
-use Rattle.serde_json.specs.Find.{get, as_array}
-use Rattle.lsif.specs.Element.{IdValue, EdgeValue, contains, other_edge}
+use Rattle.serde_json.specs.Find.{get, as_str, as_array}
+use Rattle.lsif.specs.declared.code.Code.{Code}
+use Rattle.lsif.specs.declared.code.Code.TheVariants.{L08, L15}
+use Rattle.lsif.specs.declared.element.Property.{Property}
+use Rattle.lsif.specs.declared.element.Property.TheVariants.{Definitions, References, ReferenceResults}
+use Rattle.lsif.specs.Element.{IdValue, ItemValue, EdgeValue, contains, next, definition, item, other_edge}
+use Rattle.lsif.specs.Shape.{◌>>=◌, some_or}
 use Rattle.lsif.specs.Ids.{ids_in, id_at}
 
 abbrev pub ids_at : List ℕ → Data → Option (List IdValue)
@@ -18,8 +23,50 @@ ends_in d =
     if is_some (get (codes "inVs") d) then targets_in d
     else option_map (λ i. i ∷ []) (id_at (codes "inV") d)
 
--- what an edge of this label joins, where its ends are of their form
-unfoldable pub edge_in : List ℕ → Data → Option EdgeValue
-edge_in label d = option_and_then (λ from.
-    if bytes_eq label (codes "contains") then option_map (contains from) (targets_in d)
-    else option_map (other_edge from) (ends_in d)) (id_at (codes "outV") d)
+-- the target of an edge that names it in `inV` and has no `inVs`
+unfoldable pub target_in : Data → Option IdValue
+target_in d = if is_some (get (codes "inVs") d) then None else id_at (codes "inV") d
+
+abbrev pub property_of : List ℕ → Option Property
+property_of text =
+    if bytes_eq text (codes "definitions") then Some Definitions
+    else if bytes_eq text (codes "references") then Some References
+    else if bytes_eq text (codes "referenceResults") then Some ReferenceResults
+    else None
+
+abbrev pub property_by : Option Data → Option (Option Property)
+property_by None = Some None
+property_by (Some d) = option_map Some (option_and_then property_of (as_str d))
+
+-- the property of an `item` edge, or that it has none
+unfoldable pub property_in : Data → Option (Option Property)
+property_in d = property_by (get (codes "property") d)
+
+-- the place of an `item` edge's targets: its `shard` or, where there is none, its `document`
+unfoldable pub shard_in : Data → Option IdValue
+shard_in d = if is_some (get (codes "shard") d) then id_at (codes "shard") d else id_at (codes "document") d
+
+-- an `item` edge out of this source
+unfoldable pub item_in : IdValue → Data → Result ItemValue Code
+item_in from d = do
+  to ← some_or L08 (targets_in d)
+  property ← some_or L15 (property_in d)
+  shard ← some_or L15 (shard_in d)
+  Ok (record { source = from; targets = to; property = property; shard = shard })
+
+-- what an edge of this label out of this source joins
+unfoldable pub edge_from : List ℕ → IdValue → Data → Result EdgeValue Code
+edge_from label from d =
+    if bytes_eq label (codes "contains") then some_or L08 (option_map (contains from) (targets_in d))
+    else if bytes_eq label (codes "next") then some_or L08 (option_map (next from) (target_in d))
+    else if bytes_eq label (codes "textDocument/definition") then some_or L08 (option_map (definition from) (target_in d))
+    else if bytes_eq label (codes "item") then (do
+      i ← item_in from d
+      Ok (item i))
+    else some_or L08 (option_map (other_edge from) (ends_in d))
+
+-- what an edge of this label joins, or the least fault of its shape
+unfoldable pub edge_in : List ℕ → Data → Result EdgeValue Code
+edge_in label d = do
+  from ← some_or L08 (id_at (codes "outV") d)
+  edge_from label from d

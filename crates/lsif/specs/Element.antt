@@ -1,5 +1,5 @@
 -- Vertices, edges and elements without where they lie in memory (LSIF 0.6.0, "Vertices", "Edges").
-use Rattle.std.specs.Prelude.{◌==◌, ℕ, List, Bool, false, map, bytes_eq, string_bytes, Result, Ok, Err}
+use Rattle.std.specs.Prelude.{◌==◌, ℕ, List, Bool, false, map, bytes_eq, string_bytes, Option, Result, Ok, Err}
 use Rattle.lsif.specs.declared.code.Code.{Code}
 use Rattle.positions.specs.Span.{SpanValue}
 use Rattle.lsif.specs.declared.id.Id.{Id}
@@ -8,6 +8,8 @@ use Rattle.lsif.specs.declared.element.Vertex.{Vertex}
 use Rattle.lsif.specs.declared.element.Vertex.TheVariants as vertices
 use Rattle.lsif.specs.declared.element.Edge.{Edge}
 use Rattle.lsif.specs.declared.element.Edge.TheVariants as edges
+use Rattle.lsif.specs.declared.element.Item.{Item}
+use Rattle.lsif.specs.declared.element.Property.{Property}
 use Rattle.lsif.specs.declared.element.Element.{Element}
 use Rattle.lsif.specs.declared.element.Element.TheVariants as elements
 
@@ -22,11 +24,23 @@ pub data VertexValue : Type 0 where
   project : VertexValue
   document : List ℕ → VertexValue
   range : SpanValue → VertexValue
+  result_set : VertexValue
+  definition_result : VertexValue
   other_vertex : VertexValue
 
--- what an edge joins: its source and its targets
+-- an `item` edge: its source, its targets, its property where it has one, and its shard
+pub record ItemValue : Type 0 where
+  pub source : IdValue
+  pub targets : List IdValue
+  pub property : Option Property
+  pub shard : IdValue
+
+-- what an edge joins: its source and its target or targets
 pub data EdgeValue : Type 0 where
   contains : IdValue → List IdValue → EdgeValue
+  next : IdValue → IdValue → EdgeValue
+  definition : IdValue → IdValue → EdgeValue
+  item : ItemValue → EdgeValue
   other_edge : IdValue → List IdValue → EdgeValue
 
 -- a vertex or an edge, with its own id
@@ -63,10 +77,23 @@ vertex_value (vertices.MetaData b) = meta_data b
 vertex_value vertices.Project = project
 vertex_value (vertices.Document s) = document (string_bytes s)
 vertex_value (vertices.Range e) = range e
+vertex_value vertices.ResultSet = result_set
+vertex_value vertices.DefinitionResult = definition_result
 vertex_value vertices.Other = other_vertex
+
+abbrev pub item_value : Item → ItemValue
+item_value i = record {
+  source = id_value i.source;
+  targets = id_values i.targets.items;
+  property = i.property;
+  shard = id_value i.shard;
+}
 
 abbrev pub edge_value : Edge → EdgeValue
 edge_value (edges.Contains from to) = contains (id_value from) (id_values to.items)
+edge_value (edges.Next from to) = next (id_value from) (id_value to)
+edge_value (edges.Definition from to) = definition (id_value from) (id_value to)
+edge_value (edges.Item i) = item (item_value i)
 edge_value (edges.Other from to) = other_edge (id_value from) (id_values to.items)
 
 abbrev pub element_value : Element → ElementValue

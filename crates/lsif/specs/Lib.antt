@@ -8,4 +8,5 @@ pub mod Ids
 pub mod Lines
 pub mod Reading
 pub mod Sending
+pub mod Shape
 pub mod Vertices

@@ -3,33 +3,22 @@ use Rattle.std.specs.Prelude.{◌≡◌, ℕ, nat_lt, true, List, length, codes,
 use Rattle.std.specs.Str.{is_utf8}
 use Rattle.serde_json.specs.Data.{Data}
 use Rattle.serde_json.specs.Read.{read}
-use Rattle.lsif.specs.Code.{is_shape_code}
 use Rattle.lsif.specs.Element.{IdValue, vertex, edge, Reading}
 use Rattle.lsif.specs.Ids.{id_at, text_at}
+use Rattle.lsif.specs.Shape.{◌>>=◌, some_or}
 use Rattle.lsif.specs.Vertices.{vertex_in}
 use Rattle.lsif.specs.Edges.{edge_in}
 use Rattle.lsif.specs.declared.code.Code.{Code}
-use Rattle.lsif.specs.declared.code.Code.TheVariants.{L01, L02, L03, L05, L07, L08}
-use Rattle.lsif.specs.declared.fault.ReadFault.{ReadFault}
-use Rattle.lsif.specs.declared.fault.ReadFault.TheVariants as faults
-
--- ---- steps that may fail: the first fault is the result
-
-infixl 10 ◌>>=◌
-abbrev pub ◌>>=◌ : {A B : Type 0} → Result A Code → (A → Result B Code) → Result B Code
-(Ok x) >>= f = f x
-(Err e) >>= f = Err e
-
-abbrev pub some_or : {A : Type 0} → Code → Option A → Result A Code
-some_or code None = Err code
-some_or code (Some x) = Ok x
+use Rattle.lsif.specs.declared.code.Code.TheVariants.{L01, L02, L03, L05, L07}
 
 -- ---- the reading of a line; the steps stand in the order of their codes
 
 abbrev pub element_by : List ℕ → IdValue → List ℕ → Data → Reading
 element_by kind i label d =
     if bytes_eq kind (codes "vertex") then some_or L07 (option_map (vertex i) (vertex_in label d))
-    else if bytes_eq kind (codes "edge") then some_or L08 (option_map (edge i) (edge_in label d))
+    else if bytes_eq kind (codes "edge") then (do
+      e ← edge_in label d
+      Ok (edge i e))
     else Err L05
 
 unfoldable pub element_in : Data → Reading
@@ -51,20 +40,3 @@ unfoldable pub reading : List ℕ → Reading
 reading line = if nat_lt longest_line (length line) then Err L01 else (do
   d ← some_or L02 (json_of line)
   element_in d)
-
--- ---- what a call answers
-
--- the fault that was answered is that of the reading, unless memory was refused
-abbrev pub Fails : {Y : Type 0} → ReadFault → Result Y Code → Type 0
-Fails faults.Memory reading = ⊤
-Fails (faults.Shape c) reading = reading ≡ Err c
-
--- what was answered is what the reading gives, unless memory was refused
-abbrev pub Gives : {X Y : Type 0} → (X → Y) → Result X ReadFault → Result Y Code → Type 0
-Gives value (Ok x) reading = reading ≡ Ok (value x)
-Gives value (Err e) reading = Fails e reading
-
--- a code that was answered is that of one line alone
-abbrev pub IsShapeFault : ReadFault → Type 0
-IsShapeFault faults.Memory = ⊤
-IsShapeFault (faults.Shape c) = is_shape_code c ≡ true

@@ -7,7 +7,7 @@ use Rattle.url.specs.Parser.{parse_url, Parsed}
 use Rattle.url.specs.Parts.{Parts, serialize}
 use Rattle.positions.specs.Position.{PositionValue, number_limit}
 use Rattle.positions.specs.Span.{SpanValue, is_span}
-use Rattle.lsif.specs.Element.{VertexValue, meta_data, project, document, range, other_vertex}
+use Rattle.lsif.specs.Element.{VertexValue, meta_data, project, document, range, result_set, definition_result, other_vertex}
 use Rattle.lsif.specs.Ids.{whole_number_in, text_at}
 
 -- a whole number up to 2147483647
@@ -61,4 +61,6 @@ vertex_in label d =
     else if bytes_eq label (codes "project") then Some project
     else if bytes_eq label (codes "document") then option_map document (uri_in d)
     else if bytes_eq label (codes "range") then option_map range (span_in d)
+    else if bytes_eq label (codes "resultSet") then Some result_set
+    else if bytes_eq label (codes "definitionResult") then Some definition_result
     else Some other_vertex

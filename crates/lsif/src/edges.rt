@@ -1,9 +1,12 @@
-ghost use Rattle.std.specs.Prelude.{◌≡◌, IfOk, option_map, codes};
-ghost use Rattle.lsif.specs.Element.{id_values, edge_value};
-ghost use Rattle.lsif.specs.Edges.{targets_in, ends_in, edge_in};
+ghost use Rattle.std.specs.Prelude.{◌≡◌, IfOk, IfErr, option_map, codes};
+ghost use Rattle.lsif.specs.Element.{id_value, id_values, item_value, edge_value};
+ghost use Rattle.lsif.specs.Edges.{targets_in, ends_in, target_in, property_of, property_in, shard_in, item_in, edge_from, edge_in};
+ghost use Rattle.lsif.specs.Shape.{Gives, IsShapeFault, some_or};
 ghost use Rattle.serde_json.specs.View.{view};
 
-use crate::element::Edge;
+use crate::code::Code;
+use crate::element::{Edge, Item, Property};
+use crate::fault::ReadFault;
 use crate::id::{Id, ids, member_id};
 use serde_json::Value;
 use std::alloc::{AllocError, Global};
@@ -38,17 +41,118 @@ fn ends(alloc: Global, value: &Value) -> Result<Option<Vec<Id>>, AllocError>
     Ok(Some(found))
 }
 
-/// What an edge of this label joins. None where its ends aren't of their form.
+/// The target of an edge that names it in `inV`. None where it doesn't, or names some in `inVs`.
+#[tactic(auto, unfolding(crate::specs::Edges::target_in))]
+fn target(alloc: Global, value: &Value) -> Result<Option<Id>, AllocError>
+    ensures { IfOk result (λ o. option_map id_value o ≡ target_in (view value.now)) }
+{
+    if value.get("inVs").is_some() {
+        return Ok(None);
+    }
+    member_id(alloc, value, "inV")
+}
+
+fn property_of(text: &str) -> Option<Property>
+    ensures { result ≡ property_of text.now }
+{
+    if text == "definitions" {
+        Some(Property::Definitions)
+    } else if text == "references" {
+        Some(Property::References)
+    } else if text == "referenceResults" {
+        Some(Property::ReferenceResults)
+    } else {
+        None
+    }
+}
+
+/// The property of an `item` edge, or that it has none. None where it isn't one of the three.
+#[tactic(auto, unfolding(crate::specs::Edges::property_in))]
+fn property(value: &Value) -> Option<Option<Property>>
+    ensures { result ≡ property_in (view value.now) }
+{
+    match value.get("property") {
+        None => Some(None),
+        Some(found) => match found.as_str() {
+            None => None,
+            Some(text) => property_of(text).map(Some),
+        },
+    }
+}
+
+/// The place of an `item` edge's targets. None where it's no id.
+#[tactic(auto, unfolding(crate::specs::Edges::shard_in))]
+fn shard(alloc: Global, value: &Value) -> Result<Option<Id>, AllocError>
+    ensures { IfOk result (λ o. option_map id_value o ≡ shard_in (view value.now)) }
+{
+    if value.get("shard").is_some() {
+        member_id(alloc, value, "shard")
+    } else {
+        member_id(alloc, value, "document")
+    }
+}
+
+/// An `item` edge out of this source.
+#[tactic(auto, unfolding(crate::specs::Edges::item_in))]
+fn item(alloc: Global, source: Id, value: &Value) -> Result<Item, ReadFault>
+    ensures reading { Gives item_value result (item_in (id_value source) (view value.now)) }
+    ensures shape { IfErr result IsShapeFault }
+{
+    let Some(targets) = targets(alloc, value)? else {
+        return Err(ReadFault::Shape(Code::L08));
+    };
+    let Some(property) = property(value) else {
+        return Err(ReadFault::Shape(Code::L15));
+    };
+    let Some(shard) = shard(alloc, value)? else {
+        return Err(ReadFault::Shape(Code::L15));
+    };
+    Ok(Item {
+        source,
+        targets,
+        property,
+        shard,
+    })
+}
+
+/// What was read of an edge, or that its ends aren't of their form.
+fn joined(edge: Option<Edge>) -> Result<Edge, ReadFault>
+    ensures reading { Gives edge_value result (some_or Code.L08 (option_map edge_value edge)) }
+    ensures shape { IfErr result IsShapeFault }
+{
+    match edge {
+        Some(edge) => Ok(edge),
+        None => Err(ReadFault::Shape(Code::L08)),
+    }
+}
+
+/// What an edge of this label out of this source joins.
+#[tactic(auto, unfolding(crate::specs::Edges::edge_from))]
+fn edge_from(alloc: Global, label: &str, from: Id, value: &Value) -> Result<Edge, ReadFault>
+    ensures reading { Gives edge_value result (edge_from label.now (id_value from) (view value.now)) }
+    ensures shape { IfErr result IsShapeFault }
+{
+    if label == "contains" {
+        joined(targets(alloc, value)?.map(|to| Edge::Contains(from, to)))
+    } else if label == "next" {
+        joined(target(alloc, value)?.map(|to| Edge::Next(from, to)))
+    } else if label == "textDocument/definition" {
+        joined(target(alloc, value)?.map(|to| Edge::Definition(from, to)))
+    } else if label == "item" {
+        Ok(Edge::Item(item(alloc, from, value)?))
+    } else {
+        joined(ends(alloc, value)?.map(|to| Edge::Other(from, to)))
+    }
+}
+
+/// What an edge of this label joins, or the least fault of its shape.
 #[tactic(auto, unfolding(crate::specs::Edges::edge_in))]
-pub(crate) fn edge(alloc: Global, label: &str, value: &Value) -> Result<Option<Edge>, AllocError>
-    ensures { IfOk result (λ o. option_map edge_value o ≡ edge_in label.now (view value.now)) }
+pub(crate) fn edge(alloc: Global, label: &str, value: &Value) -> Result<Edge, ReadFault>
+    ensures reading { Gives edge_value result (edge_in label.now (view value.now)) }
+    ensures shape { IfErr result IsShapeFault }
 {
     let Some(from) = member_id(alloc, value, "outV")? else {
-        return Ok(None);
+        return Err(ReadFault::Shape(Code::L08));
     };
-    if label == "contains" {
-        Ok(targets(alloc, value)?.map(|to| Edge::Contains(from, to)))
-    } else {
-        Ok(ends(alloc, value)?.map(|to| Edge::Other(from, to)))
-    }
+    edge_from(alloc, label, from, value)
 }

@@ -21,15 +21,46 @@ pub enum Vertex {
     Document(String),
     /// `range`, in UTF-16 code units.
     Range(Span),
+    /// `resultSet`.
+    ResultSet,
+    /// `definitionResult`.
+    DefinitionResult,
     /// A vertex of another label.
     Other,
 }
 
-/// What an edge joins (LSIF 0.6.0, "Edges"): its source and its targets.
+/// What the targets of an `item` edge are to its source (LSIF 0.6.0, "item").
+#[derive(Clone, Copy, Debug, PartialEq, Eq)]
+pub enum Property {
+    Definitions,
+    References,
+    ReferenceResults,
+}
+
+/// An `item` edge (LSIF 0.6.0, "item").
+#[derive(Debug, Drop)]
+pub struct Item {
+    /// A result.
+    pub source: Id,
+    /// Ranges or results.
+    pub targets: Vec<Id>,
+    /// What the targets are; an edge may leave it out.
+    pub property: Option<Property>,
+    /// The document or the project that holds the targets.
+    pub shard: Id,
+}
+
+/// What an edge joins (LSIF 0.6.0, "Edges"): its source and its target or targets.
 #[derive(Debug, Drop)]
 pub enum Edge {
     /// `contains`.
     Contains(Id, Vec<Id>),
+    /// `next`.
+    Next(Id, Id),
+    /// `textDocument/definition`.
+    Definition(Id, Id),
+    /// `item`.
+    Item(Item),
     /// An edge of another label.
     Other(Id, Vec<Id>),
 }

@@ -16,7 +16,7 @@ mod vertices;
 
 pub use buffer::Buffer;
 pub use code::Code;
-pub use element::{Edge, Element, Profile, Vertex};
+pub use element::{Edge, Element, Item, Profile, Property, Vertex};
 pub use ends::{Counted, Failed, Sink, Source, counted_law};
 pub use fault::ReadFault;
 pub use id::Id;

@@ -1,6 +1,7 @@
 ghost use Rattle.std.specs.Prelude.{IfErr};
 ghost use Rattle.lsif.specs.Element.{element_value};
-ghost use Rattle.lsif.specs.Reading.{Gives, IsShapeFault, some_or, json_of, element_in, reading};
+ghost use Rattle.lsif.specs.Reading.{json_of, element_in, reading};
+ghost use Rattle.lsif.specs.Shape.{Gives, IsShapeFault, some_or};
 ghost use Rattle.serde_json.specs.View.{view};
 
 use crate::code::Code;
@@ -36,10 +37,7 @@ fn element(alloc: Global, value: &Value) -> Result<Element, ReadFault>
             None => Err(ReadFault::Shape(Code::L07)),
         }
     } else if kind == "edge" {
-        match edge(alloc, label, value)? {
-            Some(edge) => Ok(Element::Edge(id, edge)),
-            None => Err(ReadFault::Shape(Code::L08)),
-        }
+        Ok(Element::Edge(id, edge(alloc, label, value)?))
     } else {
         Err(ReadFault::Shape(Code::L05))
     }

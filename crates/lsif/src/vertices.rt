@@ -88,6 +88,10 @@ pub(crate) fn vertex(
         Ok(uri(alloc, value)?.map(Vertex::Document))
     } else if label == "range" {
         Ok(span(value).map(Vertex::Range))
+    } else if label == "resultSet" {
+        Ok(Some(Vertex::ResultSet))
+    } else if label == "definitionResult" {
+        Ok(Some(Vertex::DefinitionResult))
     } else {
         Ok(Some(Vertex::Other))
     }

@@ -252,6 +252,61 @@ fn check_first(rt: HostRuntime) -> Result<(), Fail> {
             "line 1: L06 metaData missing, wrong or repeated\n",
         ),
         (7, "", "line 7: L02 not JSON\n"),
+        (
+            7,
+            "{\"id\":7,\"type\":\"edge\",\"label\":\"next\",\"outV\":5,\"inV\":5}",
+            "line 7: L14 next closes a cycle\n",
+        ),
+        (
+            7,
+            "{\"id\":7,\"type\":\"edge\",\"label\":\"next\",\"outV\":3,\"inV\":5}",
+            "line 7: L13 second edge of a single kind\n",
+        ),
+        (
+            7,
+            "{\"id\":7,\"type\":\"edge\",\"label\":\"next\",\"outV\":2,\"inV\":5}",
+            "line 7: L10 edge may not join these\n",
+        ),
+        (
+            7,
+            "{\"id\":7,\"type\":\"edge\",\"label\":\"next\",\"outV\":4,\"inVs\":[5]}",
+            "line 7: L08 bad edge ends\n",
+        ),
+        (
+            9,
+            "{\"id\":9,\"type\":\"edge\",\"label\":\"textDocument/definition\",\"outV\":5,\"inV\":3}",
+            "line 9: L10 edge may not join these\n",
+        ),
+        (
+            10,
+            "{\"id\":10,\"type\":\"edge\",\"label\":\"item\",\"outV\":8,\"inVs\":[3],\"shard\":3}",
+            "line 10: L16 shard names no document or project\n",
+        ),
+        (
+            10,
+            "{\"id\":10,\"type\":\"edge\",\"label\":\"item\",\"outV\":8,\"inVs\":[3],\"shard\":null,\"document\":2}",
+            "line 10: L15 bad item property or shard\n",
+        ),
+        (
+            10,
+            "{\"id\":10,\"type\":\"edge\",\"label\":\"item\",\"outV\":8,\"inVs\":[3],\"document\":2}",
+            "ok 11 elements\n",
+        ),
+        (
+            10,
+            "{\"id\":10,\"type\":\"edge\",\"label\":\"item\",\"outV\":8,\"inVs\":[3],\"shard\":2,\"property\":\"references\"}",
+            "line 10: L10 edge may not join these\n",
+        ),
+        (
+            10,
+            "{\"id\":10,\"type\":\"edge\",\"label\":\"item\",\"outV\":5,\"inVs\":[],\"shard\":2}",
+            "line 10: L10 edge may not join these\n",
+        ),
+        (
+            10,
+            "{\"id\":10,\"type\":\"edge\",\"label\":\"item\",\"outV\":8,\"shard\":2,\"property\":\"x\"}",
+            "line 10: L08 bad edge ends\n",
+        ),
     ];
     for (number, line, wanted) in table {
         expect(
@@ -287,6 +342,36 @@ fn first_fault_of_several(rt: HostRuntime) -> Result<(), Fail> {
         &rt,
         text_of(rt.alloc(), &BASE[..10])?.as_str(),
         "line 3: E01 range in no document\n",
+    );
+
+    let mut bad_property = BASE;
+    bad_property[9] =
+        "{\"id\":10,\"type\":\"edge\",\"label\":\"item\",\"outV\":8,\"inVs\":[3],\"shard\":2,\"property\":\"x\"}";
+    expect(
+        &rt,
+        text_of(rt.alloc(), &bad_property[..10])?.as_str(),
+        "line 10: L15 bad item property or shard\n",
+    );
+
+    let mut elsewhere = BASE;
+    elsewhere[4] = "{\"id\":5,\"type\":\"vertex\",\"label\":\"document\",\"uri\":\"file:///b.ts\"}";
+    elsewhere[5] = "{\"id\":6,\"type\":\"vertex\",\"label\":\"note\"}";
+    elsewhere[6] = "{\"id\":7,\"type\":\"vertex\",\"label\":\"note\"}";
+    elsewhere[8] =
+        "{\"id\":9,\"type\":\"edge\",\"label\":\"textDocument/definition\",\"outV\":3,\"inV\":8}";
+    elsewhere[9] =
+        "{\"id\":10,\"type\":\"edge\",\"label\":\"item\",\"outV\":8,\"inVs\":[3],\"shard\":5}";
+    expect(
+        &rt,
+        text_of(rt.alloc(), &elsewhere)?.as_str(),
+        "line 10: E02 shard is not the document of a target\n",
+    );
+    elsewhere[9] =
+        "{\"id\":10,\"type\":\"edge\",\"label\":\"item\",\"outV\":6,\"inVs\":[3],\"shard\":99}";
+    expect(
+        &rt,
+        text_of(rt.alloc(), &elsewhere)?.as_str(),
+        "ok 11 elements\n",
     );
 
     let mut later = text_of(rt.alloc(), &BASE[..10])?;

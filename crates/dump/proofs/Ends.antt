@@ -1,0 +1,179 @@
+-- A pair more, from a vertex that has none, to one from which no path leads back: each chain still ends. So it is in a
+-- sound dump, where no `next` edge leaves a vertex twice or closes a cycle.
+use Rattle.std.proofs.Common.{◌≡◌, ⊎_elim, Bool, true, false, cond, List, [], ◌∷◌, ◌++◌, map, append_assoc, append-nil, refl, sym, ap, ◌∙◌, subst, Ok, find, fold}
+use Rattle.std.specs.Prelude.{Option, Some, None, is_some, Contains, if◌then◌else◌}
+use Rattle.std.specs.List.{flat_map}
+use Rattle.std.proofs.lemmas.List.Elements.{Contains-push_cases}
+use Rattle.lsif.specs.declared.code.Code.{Code}
+use Rattle.lsif.specs.declared.code.Code.TheVariants.{L04, L06, L09, L10, L11, L12, L13, L14, L16, L19, L20}
+use Rattle.lsif.specs.Element.{IdValue, same_id, contains, next, definition, item, other_edge, ElementValue, vertex, edge}
+use Rattle.dump.specs.Walks.{Pair, first_to, IsChain, ends, links, HasChain, Path, stays, goes, next_pairs, next_in}
+use Rattle.dump.specs.Conditions.{order_code, order_condition, leaves_again, closes_cycle}
+use Rattle.dump.specs.Steps as steps
+use Rattle.dump.specs.Steps.{Progress, running, stopped, advance, progress, IsSound}
+use Rattle.dump.proofs.SameIds.{same_id_eq, same_id_self}
+use Rattle.dump.proofs.Members.{contains_head, contains_tail, not_in_nil}
+use Rattle.dump.proofs.Paths.{reaches_of}
+use Rattle.dump.proofs.Progresses.{stays_stopped}
+
+-- what a vertex is joined to, after more pairs
+more_by : (o p : Option IdValue) (v y : IdValue) → (o ≡ Some y → p ≡ Some y) → (b : Bool) → cond b (Some v) o ≡ Some y → cond b (Some v) p ≡ Some y
+more_by o p v y rest true h = h
+more_by o p v y rest false h = rest h
+
+pub first_more : (ps qs : List Pair) (x : IdValue) (y : IdValue) → first_to ps x ≡ Some y → first_to (ps ++ qs) x ≡ Some y
+first_more [] qs x y e = cc
+first_more (p ∷ ps) qs x y e = more_by (first_to ps x) (first_to (ps ++ qs) x) p.1 y (first_more ps qs x y) (same_id p.0 x) e
+
+none_by : (o p q : Option IdValue) (v : IdValue) → (o ≡ None → p ≡ q) → (b : Bool) → cond b (Some v) o ≡ None → cond b (Some v) p ≡ q
+none_by o p q v rest true h = cc
+none_by o p q v rest false h = rest h
+
+pub first_none : (ps : List Pair) (a b x : IdValue) → first_to ps x ≡ None → first_to (ps ++ (a, b) ∷ []) x ≡ (if same_id a x then Some b else None)
+first_none [] a b x e = refl
+first_none (p ∷ ps) a b x e = none_by (first_to ps x) (first_to (ps ++ (a, b) ∷ []) x) (if same_id a x then Some b else None) p.1 (first_none ps a b x) (same_id p.0 x) e
+
+pair_by : (p : Pair) (ps : List Pair) (x y : IdValue) → (first_to ps x ≡ Some y → Contains ps (x, y)) → (b : Bool) → (same_id p.0 x) ≡ b → cond b (Some p.1) (first_to ps x) ≡ Some y → Contains (p ∷ ps) (x, y)
+pair_by p ps x y rest true same h =
+    let source : p.0 ≡ x = same_id_eq p.0 x same in
+    let target : p.1 ≡ y = cc in
+    subst (Contains (p ∷ ps)) (λ i. (source i, target i)) (contains_head p ps)
+pair_by p ps x y rest false same h = contains_tail p ps (x, y) (rest h)
+
+pub pair_of_first : (ps : List Pair) (x y : IdValue) → first_to ps x ≡ Some y → Contains ps (x, y)
+pair_of_first [] x y e = cc
+pair_of_first (p ∷ ps) x y e = pair_by p ps x y (pair_of_first ps x y) (same_id p.0 x) refl e
+
+module _ (ps : List Pair) (a b : IdValue) (free : first_to ps a ≡ None) (apart : Path ps b a → ⊥) where
+  abbrev more : List Pair
+  more = ps ++ (a, b) ∷ []
+
+  -- what b leads to doesn't come to a, and so stays a chain
+  carry : (x : IdValue) (xs : List IdValue) → IsChain ps x xs → Path ps b x → IsChain more x xs
+  carry x xs (ends e) path = by (same_id a x) refl
+    where
+      by : (c : Bool) → (same_id a x) ≡ c → IsChain (ps ++ (a, b) ∷ []) x (x ∷ [])
+      by true same = absurd (apart (subst (Path ps b) (sym (same_id_eq a x same)) path))
+      by false same = ends (first_none ps a b x e ∙ ap (λ c. cond c (Some b) None) same)
+  carry x xs (links {y = y} {ys = ys} e c) path = links (first_more ps ((a, b) ∷ []) x y e) (carry y ys c (goes y path (pair_of_first ps x y e)))
+
+  pub still_ends : HasChain ps b → (x : IdValue) (xs : List IdValue) → IsChain ps x xs → HasChain more x
+  still_ends from x xs (ends e) = by (same_id a x) refl
+    where
+      by : (c : Bool) → (same_id a x) ≡ c → HasChain (ps ++ (a, b) ∷ []) x
+      by true same = (x ∷ from.0, links (first_none ps a b x e ∙ ap (λ c. cond c (Some b) None) same) (carry b from.0 from.1 stays))
+      by false same = (x ∷ [], ends (first_none ps a b x e ∙ ap (λ c. cond c (Some b) None) same))
+  still_ends from x xs (links {y = y} {ys = ys} e c) = let r = still_ends from y ys c in (x ∷ r.0, links (first_more ps ((a, b) ∷ []) x y e) r.1)
+
+  pub all_end : ((x : IdValue) → HasChain ps x) → (x : IdValue) → HasChain (ps ++ (a, b) ∷ []) x
+  all_end each x = still_ends (each b) x (each x).0 (each x).1
+
+-- ---- in a dump
+
+-- no element of the rest has a fault against those before it
+abbrev pub SoundAfter : List ElementValue → List ElementValue → Type 0
+SoundAfter before [] = Unit {0}
+SoundAfter before (x ∷ rest) = (order_code before x ≡ None) × SoundAfter (before ++ x ∷ []) rest
+
+sound_ok : (before : List ElementValue) (x : ElementValue) (rest out : List ElementValue) (o : Option Code) → order_code before x ≡ o
+    → (fold steps.next (running (before ++ x ∷ [])) (map Ok rest) ≡ running out → SoundAfter (before ++ x ∷ []) rest)
+    → fold steps.next (advance before (Ok x) o) (map Ok rest) ≡ running out → SoundAfter before (x ∷ rest)
+sound_ok before x rest out None e ih h = (e, ih h)
+sound_ok before x rest out (Some c) e ih h = absurd (stays_stopped (map Ok rest) _ out h)
+
+sound_from : (rest before out : List ElementValue) → fold steps.next (running before) (map Ok rest) ≡ running out → SoundAfter before rest
+sound_from [] before out h = tt
+sound_from (x ∷ rest) before out h = sound_ok before x rest out (order_code before x) refl (sound_from rest (before ++ x ∷ []) out) h
+
+pub sound_after : (elements : List ElementValue) → IsSound elements → SoundAfter [] elements
+sound_after elements h = sound_from elements [] elements h
+
+pub pairs_more : (f : ElementValue → List Pair) (before : List ElementValue) (x : ElementValue) → flat_map f (before ++ x ∷ []) ≡ flat_map f before ++ f x
+pairs_more f [] x = append-nil (f x)
+pairs_more f (e ∷ d) x = ap (λ ps. f e ++ ps) (pairs_more f d x) ∙ sym (append_assoc (f e) (flat_map f d) (f x))
+
+true_not_false : true ≡ false → ⊥
+true_not_false e = cc
+
+find_none : (p : Code → Bool) (c : Code) (cs : List Code) → find p (c ∷ cs) ≡ None → (p c ≡ false) × (find p cs ≡ None)
+find_none p c cs e = by (p c) refl e
+  where
+    by : (b : Bool) → p c ≡ b → cond b (Some c) (find p cs) ≡ None → (p c ≡ false) × (find p cs ≡ None)
+    by true same h = cc
+    by false same h = (same, h)
+
+-- without a code no vertex is left again, and no cycle is closed
+pub no_cycle : (before : List ElementValue) (x : ElementValue) → order_code before x ≡ None → (leaves_again before x ≡ false) × (closes_cycle before x ≡ false)
+unfolding order_code
+no_cycle before x e =
+    let p = order_condition before x in
+    let after_04 = (find_none p L04 (L06 ∷ L09 ∷ L10 ∷ L11 ∷ L12 ∷ L13 ∷ L14 ∷ L16 ∷ L19 ∷ L20 ∷ []) e).1 in
+    let after_06 = (find_none p L06 (L09 ∷ L10 ∷ L11 ∷ L12 ∷ L13 ∷ L14 ∷ L16 ∷ L19 ∷ L20 ∷ []) after_04).1 in
+    let after_09 = (find_none p L09 (L10 ∷ L11 ∷ L12 ∷ L13 ∷ L14 ∷ L16 ∷ L19 ∷ L20 ∷ []) after_06).1 in
+    let after_10 = (find_none p L10 (L11 ∷ L12 ∷ L13 ∷ L14 ∷ L16 ∷ L19 ∷ L20 ∷ []) after_09).1 in
+    let after_11 = (find_none p L11 (L12 ∷ L13 ∷ L14 ∷ L16 ∷ L19 ∷ L20 ∷ []) after_10).1 in
+    let after_12 = (find_none p L12 (L13 ∷ L14 ∷ L16 ∷ L19 ∷ L20 ∷ []) after_11).1 in
+    let at_13 = find_none p L13 (L14 ∷ L16 ∷ L19 ∷ L20 ∷ []) after_12 in
+    let at_14 = find_none p L14 (L16 ∷ L19 ∷ L20 ∷ []) at_13.1 in
+    (at_13.0, at_14.0)
+
+none_of : (o : Option IdValue) → is_some o ≡ false → o ≡ None
+none_of None e = refl
+none_of (Some x) e = cc
+
+same_pairs : (before : List ElementValue) (x : ElementValue) → next_in x ≡ [] → ((v : IdValue) → HasChain (next_pairs before) v) → (v : IdValue) → HasChain (next_pairs (before ++ x ∷ [])) v
+same_pairs before x e each v = subst (λ ps. HasChain ps v) (sym (pairs_more next_in before x ∙ ap (λ ps. next_pairs before ++ ps) e ∙ append-nil (next_pairs before))) (each v)
+
+one_more : (before : List ElementValue) (x : ElementValue) → order_code before x ≡ None → ((v : IdValue) → HasChain (next_pairs before) v) → (v : IdValue) → HasChain (next_pairs (before ++ x ∷ [])) v
+one_more before (edge i (next a b)) e each v =
+    let no = no_cycle before (edge i (next a b)) e in
+    let apart = λ (path : Path (next_pairs before) b a). let yes = reaches_of (next_pairs before) b a path in absurd (true_not_false (sym yes ∙ no.1)) in
+    subst (λ ps. HasChain ps v) (sym (pairs_more next_in before (edge i (next a b)))) (all_end (next_pairs before) a b (none_of (first_to (next_pairs before) a) no.0) apart each v)
+one_more before (edge i (contains a bs)) e each v = same_pairs before (edge i (contains a bs)) refl each v
+one_more before (edge i (definition a b)) e each v = same_pairs before (edge i (definition a b)) refl each v
+one_more before (edge i (item a)) e each v = same_pairs before (edge i (item a)) refl each v
+one_more before (edge i (other_edge a bs)) e each v = same_pairs before (edge i (other_edge a bs)) refl each v
+one_more before (vertex i w) e each v = same_pairs before (vertex i w) refl each v
+
+end_after : (rest before : List ElementValue) → SoundAfter before rest → ((v : IdValue) → HasChain (next_pairs before) v) → (v : IdValue) → HasChain (next_pairs (before ++ rest)) v
+end_after [] before h each v = subst (λ d. HasChain (next_pairs d) v) (sym (append-nil before)) (each v)
+end_after (x ∷ rest) before h each v = subst (λ d. HasChain (next_pairs d) v) (append_assoc before (x ∷ []) rest) (end_after rest (before ++ x ∷ []) h.1 (one_more before x h.0 each) v)
+
+pub each_ends : (elements : List ElementValue) → IsSound elements → (v : IdValue) → HasChain (next_pairs elements) v
+each_ends elements h v = end_after elements [] (sound_after elements h) (λ w. (w ∷ [], ends refl)) v
+
+-- ---- no vertex is left twice
+
+abbrev pub Single : List Pair → Type 0
+Single ps = (x y : IdValue) → Contains ps (x, y) → first_to ps x ≡ Some y
+
+single_more : (ps : List Pair) (a b : IdValue) → first_to ps a ≡ None → Single ps → Single (ps ++ (a, b) ∷ [])
+single_more ps a b free one x y at = ⊎_elim
+    (λ (h : Contains ps (x, y)). first_more ps ((a, b) ∷ []) x y (one x y h))
+    (λ (e : (a, b) ≡ (x, y)).
+    let source : a ≡ x = ap (λ p. p.0) e in
+    let target : b ≡ y = ap (λ p. p.1) e in
+    let none : first_to ps x ≡ None = subst (λ v. first_to ps v ≡ None) source free in
+    let here : same_id a x ≡ true = subst (λ v. same_id a v ≡ true) source (same_id_self a) in
+    first_none ps a b x none ∙ ap (λ c. cond c (Some b) None) here ∙ ap Some target)
+    (Contains-push_cases ps (a, b) (x, y) at)
+
+same_single : (before : List ElementValue) (x : ElementValue) → next_in x ≡ [] → Single (next_pairs before) → Single (next_pairs (before ++ x ∷ []))
+same_single before x e one = subst Single (sym (pairs_more next_in before x ∙ ap (λ ps. next_pairs before ++ ps) e ∙ append-nil (next_pairs before))) one
+
+single_one : (before : List ElementValue) (x : ElementValue) → order_code before x ≡ None → Single (next_pairs before) → Single (next_pairs (before ++ x ∷ []))
+single_one before (edge i (next a b)) e one =
+    let no = no_cycle before (edge i (next a b)) e in
+    subst Single (sym (pairs_more next_in before (edge i (next a b)))) (single_more (next_pairs before) a b (none_of (first_to (next_pairs before) a) no.0) one)
+single_one before (edge i (contains a bs)) e one = same_single before (edge i (contains a bs)) refl one
+single_one before (edge i (definition a b)) e one = same_single before (edge i (definition a b)) refl one
+single_one before (edge i (item a)) e one = same_single before (edge i (item a)) refl one
+single_one before (edge i (other_edge a bs)) e one = same_single before (edge i (other_edge a bs)) refl one
+single_one before (vertex i w) e one = same_single before (vertex i w) refl one
+
+single_after : (rest before : List ElementValue) → SoundAfter before rest → Single (next_pairs before) → Single (next_pairs (before ++ rest))
+single_after [] before h one = subst (λ d. Single (next_pairs d)) (sym (append-nil before)) one
+single_after (x ∷ rest) before h one = subst (λ d. Single (next_pairs d)) (append_assoc before (x ∷ []) rest) (single_after rest (before ++ x ∷ []) h.1 (single_one before x h.0 one))
+
+pub each_single : (elements : List ElementValue) → IsSound elements → Single (next_pairs elements)
+each_single elements h = single_after elements [] (sound_after elements h) (λ x y at. absurd (not_in_nil (x, y) at))
