@@ -288,3 +288,18 @@ one dump None None a b = refl
 one dump None (Some g) a b = absurd (no_fault dump g a b)
 one dump (Some f) None a b = absurd (no_fault dump f b a)
 one dump (Some f) (Some g) a b = ap Some (one_fault dump f g a b)
+
+-- ---- from no fault back to the steps
+
+abbrev as_lines : List ElementValue → List Reading
+as_lines elements = map Ok elements
+
+same_elements : (xs ys : List ElementValue) → as_lines xs ≡ as_lines ys → xs ≡ ys
+same_elements xs ys e = sym (elements_of-map xs) ∙ ap elements_of e ∙ elements_of-map ys
+
+sound_by : (elements : List ElementValue) (p : Progress) → IsFaultless (map Ok elements) → progress (map Ok elements) ≡ p → IsSound elements
+sound_by elements (stopped f) free e = absurd (sound_no_line (as_lines elements) f free.1 (line_fault (as_lines elements) f e))
+sound_by elements (running out) free e = e ∙ ap running (sym (same_elements elements out (kept (as_lines elements) out e)))
+
+pub sound_of : (elements : List ElementValue) → IsFaultless (map Ok elements) → IsSound elements
+sound_of elements free = sound_by elements (progress (as_lines elements)) free refl

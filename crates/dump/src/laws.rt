@@ -1,9 +1,10 @@
-ghost use Rattle.std.specs.Prelude.{◌≡◌, ◌++◌, ◌<◌, List, Option, None, Ok, map, length};
-ghost use Rattle.lsif.specs.Element.{ElementValue, Reading};
+ghost use Rattle.std.specs.Prelude.{◌≡◌, ◌++◌, ◌<◌, List, Option, None, Ok, map, length, ◌↔◌, IsTrue};
+ghost use Rattle.lsif.specs.Element.{IdValue, ElementValue, Reading};
 ghost use Rattle.dump.specs.declared.fault.LineFault.{LineFault};
 ghost use Rattle.dump.specs.Conditions.{order_code, most_elements};
-ghost use Rattle.dump.specs.Fault.{IsFault};
+ghost use Rattle.dump.specs.Fault.{IsFault, IsFaultless};
 ghost use Rattle.dump.specs.Steps.{progress, running, stopped, finished};
+ghost use Rattle.dump.specs.Walks.{Pair, Path, HasChain, reaches, next_pairs};
 
 /// Each dump has one fault or none, and feeding its lines in turn and then finishing answers it. A checker that runs on
 /// keeps the elements of all lines, at most 100,000. The fault of a line stays that of every dump that begins so.
@@ -16,4 +17,14 @@ pub fn fault_law()
         → length elements < most_elements }
     ensures stays { (dump more : List Reading) (fault : LineFault) → progress dump ≡ stopped fault
         → progress (dump ++ more) ≡ stopped fault }
+{}
+
+/// The test of a path is true exactly where there is one.
+pub fn path_law()
+    ensures { (pairs : List Pair) (from to : IdValue) → IsTrue (reaches pairs from to) ↔ Path pairs from to }
+{}
+
+/// In a dump without fault the chain of `next` edges from each vertex ends.
+pub fn chain_law()
+    ensures { (elements : List ElementValue) → IsFaultless (map Ok elements) → (x : IdValue) → HasChain (next_pairs elements) x }
 {}
