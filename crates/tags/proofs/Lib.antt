@@ -1,0 +1,2 @@
+pub mod AroundLemmas
+pub mod EscapeLemmas

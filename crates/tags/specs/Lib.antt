@@ -1,0 +1,4 @@
+pub mod Around
+pub mod Bytes
+pub mod Codes
+pub mod Escapes

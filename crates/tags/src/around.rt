@@ -1,0 +1,28 @@
+ghost use Rattle.std.specs.Prelude.{◌≡◌, ◌==◌, ◌+◌, ◌<◌, IfSome, length, option_map, position};
+ghost use Rattle.tags.specs.Around.{around};
+
+/// The text before and after the first of an ASCII character.
+pub(crate) fn around_char(text: &str, separator: char) -> Option<(&str, &str)>
+    requires { separator < 128 }
+    ensures value { option_map (λ p. (p.0.now, p.1.now)) result ≡ around separator text.now }
+    ensures shorter { IfSome result (λ p. length p.0.now + length p.1.now < length text.now) }
+{
+    text.split_once(separator)
+}
+
+/// The place of the first of a byte.
+pub(crate) fn place_of(bytes: &[u8], byte: u8) -> Option<usize>
+    ensures { result ≡ position (λ b. b == byte) bytes.now }
+{
+    bytes.iter().position(|b| *b == byte)
+}
+
+/// The bytes before and after the first of a byte.
+#[tactic(auto, using(crate::proofs::AroundLemmas::places))]
+pub(crate) fn around_byte(bytes: &[u8], separator: u8) -> Option<(&[u8], &[u8])>
+    ensures value { option_map (λ p. (p.0.now, p.1.now)) result ≡ around separator bytes.now }
+    ensures shorter { IfSome result (λ p. length p.0.now + length p.1.now < length bytes.now) }
+{
+    let place = place_of(bytes, separator)?;
+    Some((&bytes[..place], &bytes[place + 1..]))
+}
