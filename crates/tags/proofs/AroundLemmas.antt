@@ -3,7 +3,7 @@ use Rattle.std.proofs.Common.{◌≡◌, ◌∙◌, ◌==◌, ℕ, ◌+◌, ◌<
 use Rattle.std.proofs.Math.Numerals.{one-add}
 use Rattle.std.proofs.lemmas.Bool.Decides.{nat_tests}
 use Rattle.std.proofs.lemmas.List.Sums.{prefix_len-le-length}
-use Rattle.std.specs.List.{position, position_or_len, before_first, after_first}
+use Rattle.std.specs.List.{position, position_or_len, before_first, after_first, slice_split, onto_first}
 use Rattle.tags.specs.Around.{around, longer}
 
 abbrev pub is : ℕ → ℕ → Bool
@@ -65,3 +65,24 @@ pub around-no_position : (c : ℕ) (bs : List ℕ) → position (is c) bs ≡ No
 around-no_position c bs h = no_position_by c bs (nat_lt (position_or_len (is c) bs) (length bs)) refl h
 
 pub ruleset places = (around-position, around-no_position)
+
+-- ---- the parts between the bytes
+
+-- the parts, by what stands around the first of the bytes
+abbrev pub parts_by : ℕ → List ℕ → Option (List ℕ × List ℕ) → List (List ℕ)
+parts_by c bs None = bs ∷ []
+parts_by c bs (Some p) = p.0 ∷ slice_split (is c) p.1
+
+onto-parts_by : (c b : ℕ) (bs : List ℕ) (o : Option (List ℕ × List ℕ)) → onto_first b (parts_by c bs o) ≡ parts_by c (b ∷ bs) (option_map (longer b) o)
+onto-parts_by c b bs None = refl
+onto-parts_by c b bs (Some p) = refl
+
+split_by : (c b : ℕ) (bs : List ℕ) (t : Bool) → (b == c) ≡ t → slice_split (is c) bs ≡ parts_by c bs (around c bs) → slice_split (is c) (b ∷ bs) ≡ parts_by c (b ∷ bs) (around c (b ∷ bs))
+unfolding around
+split_by c b bs true e ih = rw e refl
+split_by c b bs false e ih = rw (e, ih) (onto-parts_by c b bs (around c bs))
+
+pub split-around : (c : ℕ) (bs : List ℕ) → slice_split (is c) bs ≡ parts_by c bs (around c bs)
+unfolding around
+split-around c [] = refl
+split-around c (b ∷ bs) = split_by c b bs (b == c) refl (split-around c bs)

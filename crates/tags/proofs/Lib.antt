@@ -1,2 +1,3 @@
+pub mod AddressLemmas
 pub mod AroundLemmas
 pub mod EscapeLemmas

@@ -1,4 +1,8 @@
 pub mod Around
 pub mod Bytes
 pub mod Codes
+pub mod Cutting
 pub mod Escapes
+pub mod Faults
+pub mod Parts
+pub mod Views

@@ -21,7 +21,7 @@ pub(crate) fn place_of(bytes: &[u8], byte: u8) -> Option<usize>
 #[tactic(auto, using(crate::proofs::AroundLemmas::places))]
 pub(crate) fn around_byte(bytes: &[u8], separator: u8) -> Option<(&[u8], &[u8])>
     ensures value { option_map (λ p. (p.0.now, p.1.now)) result ≡ around separator bytes.now }
-    ensures shorter { IfSome result (λ p. length p.0.now + length p.1.now < length bytes.now) }
+    ensures lengths { IfSome result (λ p. length p.0.now + length p.1.now + 1 ≡ length bytes.now) }
 {
     let place = place_of(bytes, separator)?;
     Some((&bytes[..place], &bytes[place + 1..]))

@@ -1,9 +1,13 @@
 //! Tags files as Universal Ctags writes them: tags(5), format 2.
 #![tactic(auto)]
 
+mod address;
 mod around;
 mod code;
+mod cut;
 mod escape;
+mod parts;
 
 pub use code::{Code, LineFault, SplitFault, TagsFault};
 pub use escape::decode;
+pub use parts::{Part, split};
