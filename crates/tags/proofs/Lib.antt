@@ -1,3 +1,5 @@
 pub mod AddressLemmas
 pub mod AroundLemmas
 pub mod EscapeLemmas
+pub mod FieldLemmas
+pub mod TextLemmas

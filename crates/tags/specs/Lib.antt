@@ -4,5 +4,9 @@ pub mod Codes
 pub mod Cutting
 pub mod Escapes
 pub mod Faults
+pub mod Fields
+pub mod Gathering
 pub mod Parts
+pub mod Reading
+pub mod Values
 pub mod Views

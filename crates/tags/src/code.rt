@@ -69,12 +69,12 @@ pub enum TagsFault {
     Line(LineFault),
 }
 
-/// Why a line wasn't split.
+/// Why a line was refused.
 #[derive(Debug, PartialEq, Eq, Drop)]
 pub enum SplitFault {
     /// Memory ran out.
     Memory,
-    /// What is wrong with the line: T04 or T06.
+    /// What is wrong with the line.
     Line(Code),
 }
 
