@@ -1,13 +1,9 @@
 -- Reading escapes, a run of plain bytes at a time.
-use Rattle.std.proofs.Common.{◌≡◌, ◌∙◌, ◌==◌, ℕ, ◌+◌, ◌<◌, ◌≤◌, ◌-◌, suc, Bool, true, false, List, [], ◌∷◌, ◌++◌, length, take, drop, get_or, Option, Some, None, option_map, option_and_then, refl, ap, sym, arith, append_assoc}
-use Rattle.std.specs.List.{position_or_len, before_first, after_first}
+use Rattle.std.proofs.Common.{◌≡◌, ◌∙◌, ◌==◌, ℕ, Bool, true, false, List, [], ◌∷◌, ◌++◌, drop, Option, Some, None, option_map, option_and_then, refl, ap, sym, arith, append_assoc}
 use Rattle.std.proofs.lemmas.Bool.Decides.{nat_tests}
-use Rattle.std.specs.Str.{IsUtf8, IsCharBoundary}
-use Rattle.std.proofs.lemmas.Str.{IsCharBoundary-after_ascii}
 use Rattle.tags.specs.Around.{around, longer}
 use Rattle.tags.specs.Bytes.{backslash, letter_x}
-use Rattle.tags.specs.Escapes.{onto, decoded, after_backslash, after_x, after_digit, escape_at, letter_value, hex_value}
-use Rattle.tags.proofs.AroundLemmas.{is, around-found, around-none}
+use Rattle.tags.specs.Escapes.{onto, decoded, after_backslash, after_x, escape_at, letter_value, hex_value}
 
 -- bytes in front of what is read of the rest
 abbrev pub front : List ℕ → Option (List ℕ) → Option (List ℕ)

@@ -1,11 +1,11 @@
 -- One field more.
-use Rattle.std.proofs.Common.{◌≡◌, ◌∙◌, ◌++◌, ◌||◌, ℕ, ◌<◌, ◌≤◌, suc, zero, Bool, true, false, not, cond, nat_lt, List, [], ◌∷◌, length, Option, Some, None, option_map, is_some, Ok, Err, Result, refl, ap, sym, arith, append_assoc, append-nil, if◌then◌else◌}
+use Rattle.std.proofs.Common.{◌≡◌, ◌∙◌, ◌++◌, ◌||◌, ℕ, suc, Bool, true, false, not, nat_lt, List, [], ◌∷◌, Option, Some, None, option_map, is_some, Ok, Err, Result, refl, sym, arith, append_assoc, append-nil, if◌then◌else◌}
 use Rattle.std.proofs.lemmas.Bool.Decides.{nat_tests}
 use Rattle.std.specs.List.{list_any, filter_map}
 use Rattle.tags.specs.Cutting.{is_empty}
 use Rattle.tags.specs.Escapes.{decoded}
-use Rattle.tags.specs.Fields.{fields_by, name_in, value_in, is_field_name, has_bad_escape, is_bad_field, kind_in, other_in, fields_of}
-use Rattle.tags.specs.Gathering.{gathered, kinds_with}
+use Rattle.tags.specs.Fields.{name_in, value_in, is_field_name, has_bad_escape, is_bad_field, other_in, fields_of}
+use Rattle.tags.specs.Gathering.{gathered}
 use Rattle.tags.specs.Values.{FieldValue, FieldsValue}
 use Rattle.tags.specs.declared.code.Code.{Code}
 use Rattle.tags.specs.declared.code.Code.TheVariants.{T05, T07}

@@ -1,20 +1,20 @@
 -- How a name, a file, a kind and the value of a field are written: tags(5), "Proposal", on tagname and
 -- tagfield, with the escapes of "Exceptions in Universal Ctags".
-use Rattle.std.specs.Prelude.{ℕ, ◌+◌, ◌*◌, ◌==◌, ◌&&◌, Bool, nat_lt, List, [], ◌∷◌, Option, Some, None, option_map, option_and_then, if◌then◌else◌}
+use Rattle.std.specs.Prelude.{ℕ, ◌+◌, ◌*◌, ◌==◌, ◌&&◌, nat_lt, List, [], ◌∷◌, Option, Some, None, option_map, option_and_then, if◌then◌else◌}
 use Rattle.std.specs.Char.{digit_value}
 use Rattle.tags.specs.Bytes.{backslash, letter_x}
 
 -- the byte that a backslash and a letter stand for
 unfoldable pub letter_value : ℕ → Option ℕ
 letter_value c =
-    if c == 116 then Some 9           -- \t
-    else if c == 114 then Some 13     -- \r
-    else if c == 110 then Some 10     -- \n
-    else if c == 92 then Some 92      -- \\
-    else if c == 97 then Some 7       -- \a
-    else if c == 98 then Some 8       -- \b
-    else if c == 118 then Some 11     -- \v
-    else if c == 102 then Some 12     -- \f
+    if c == 116 then Some 9  -- \t
+    else if c == 114 then Some 13  -- \r
+    else if c == 110 then Some 10  -- \n
+    else if c == 92 then Some 92  -- \\
+    else if c == 97 then Some 7  -- \a
+    else if c == 98 then Some 8  -- \b
+    else if c == 118 then Some 11  -- \v
+    else if c == 102 then Some 12  -- \f
     else None
 
 -- from 01 to 7F

@@ -22,3 +22,8 @@ Refuses (faults.Line code) reading = reading ≡ Err code
 abbrev pub Gives : {X Y : Type 0} → (X → Y) → Result X SplitFault → Result Y Code → Type 0
 Gives view (Ok x) reading = reading ≡ Ok (view x)
 Gives view (Err e) reading = Refuses e reading
+
+-- the same refusal, or f of what was returned
+abbrev pub result_map : {A B E : Type 0} → (A → B) → Result A E → Result B E
+result_map f (Ok x) = Ok (f x)
+result_map f (Err e) = Err e

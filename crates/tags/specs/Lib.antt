@@ -3,10 +3,14 @@ pub mod Bytes
 pub mod Codes
 pub mod Cutting
 pub mod Escapes
+pub mod Fault
 pub mod Faults
 pub mod Fields
 pub mod Gathering
+pub mod Lines
+pub mod Outcome
 pub mod Parts
 pub mod Reading
+pub mod Steps
 pub mod Values
 pub mod Views

@@ -1,5 +1,5 @@
 -- The parts of a line, each with its span.
-use Rattle.std.specs.Prelude.{ℕ, ◌+◌, ◌-◌, List, [], ◌∷◌, ◌++◌, length, Option, None, Some, Result, Ok, Err}
+use Rattle.std.specs.Prelude.{ℕ, ◌+◌, ◌-◌, List, [], ◌∷◌, ◌++◌, length, Option, None, Some, Result, Ok}
 use Rattle.tags.specs.Cutting.{Front, Tail, front_of, tail_of, each_field}
 use Rattle.tags.specs.Faults.{◌>>=◌, some_or}
 use Rattle.tags.specs.declared.code.Code.{Code}

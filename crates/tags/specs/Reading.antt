@@ -1,10 +1,10 @@
 -- What a line says, or the least code of the line alone: tags(5), "Proposal".
-use Rattle.std.specs.Prelude.{ℕ, ◌==◌, ◌&&◌, ◌||◌, Bool, not, nat_eq, nat_lt, nat_le, List, codes, bytes_eq, Result, Ok, Err, if◌then◌else◌}
+use Rattle.std.specs.Prelude.{ℕ, ◌==◌, ◌&&◌, ◌||◌, Bool, not, nat_eq, nat_le, List, codes, bytes_eq, Result, Ok, Err, if◌then◌else◌}
 use Rattle.std.specs.List.{list_any, starts_with}
 use Rattle.std.specs.Str.{is_utf8}
 use Rattle.tags.specs.Around.{around}
 use Rattle.tags.specs.Bytes.{tab}
-use Rattle.tags.specs.Cutting.{Front, Tail, front_of, tail_of, each_field}
+use Rattle.tags.specs.Cutting.{front_of, tail_of, each_field}
 use Rattle.tags.specs.Escapes.{decoded}
 use Rattle.tags.specs.Faults.{◌>>=◌, some_or}
 use Rattle.tags.specs.Fields.{fields_of}

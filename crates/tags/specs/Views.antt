@@ -1,14 +1,17 @@
 -- What the parts of a line and its tag are without where they lie in memory.
-use Rattle.std.specs.Prelude.{option_map, List, map, string_bytes}
+use Rattle.std.specs.Prelude.{Option, Some, None, option_map, List, map, string_bytes}
 use Rattle.tags.specs.Cutting as cutting
 use Rattle.tags.specs.Parts.{PartValue}
 use Rattle.tags.specs.Values.{FieldValue, EntryValue, TagValue, FieldsValue, ContentValue, sorted, other, ordinary}
+use Rattle.tags.specs.Steps.{Summary, State, running, stopped}
+use Rattle.tags.specs.declared.code.LineFault.{LineFault}
 use Rattle.tags.specs.declared.content.Content.{Content}
 use Rattle.tags.specs.declared.content.Content.TheVariants as contents
 use Rattle.tags.specs.declared.cut.Front.{Front}
 use Rattle.tags.specs.declared.cut.Tail.{Tail}
 use Rattle.tags.specs.declared.fields.Gathered.{Gathered}
 use Rattle.tags.specs.declared.parts.Part.{Part}
+use Rattle.tags.specs.declared.reader.Kept.{Kept}
 use Rattle.tags.specs.declared.tag.Field.{Field}
 use Rattle.tags.specs.declared.tag.Entry.{Entry}
 use Rattle.tags.specs.declared.tag.Tag.{Tag}
@@ -57,3 +60,11 @@ tag_value t = record {
 
 abbrev pub tag_values : List Tag → List TagValue
 tag_values tags = map tag_value tags
+
+abbrev pub summary : Kept → Summary
+summary k = record { count = k.count; tags = tag_values k.tags.items; last = option_map (λ name. name.items) k.last; checked = k.checked }
+
+-- the state that a reader's fields stand for
+abbrev pub state_of : Option LineFault → Kept → State
+state_of None k = running (summary k)
+state_of (Some fault) k = stopped fault.line fault.code

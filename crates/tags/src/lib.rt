@@ -8,10 +8,14 @@ mod content;
 mod cut;
 mod escape;
 mod fields;
+mod laws;
 mod parts;
+mod reader;
 mod tag;
 
 pub use code::{Code, LineFault, SplitFault, TagsFault};
 pub use escape::decode;
+pub use laws::state_law;
 pub use parts::{Part, split};
+pub use reader::{TagReader, read_tags};
 pub use tag::{Field, Tag};

@@ -30,7 +30,11 @@ fn part_from(text: &[u8], from: usize) -> Part<'_>
 }
 
 /// Adds the fields, which end where the line does, to its parts.
-fn push_fields<'a>(parts: &mut Vec<Part<'a>>, len: usize, fields: Option<&'a [u8]>) -> Result<(), AllocError>
+fn push_fields<'a>(
+    parts: &mut Vec<Part<'a>>,
+    len: usize,
+    fields: Option<&'a [u8]>,
+) -> Result<(), AllocError>
     requires { ForSome fields (λ bs. length bs.now ≤ len) }
     ensures { OnOk result (part_values parts.new.items
         ≡ part_values parts.old.items ++ fields_from len (option_map (λ bs. bs.now) fields.entry)) }

@@ -1,7 +1,6 @@
-use Rattle.std.proofs.Common.{◌≡◌, ◌∙◌, ◌==◌, ◌<◌, false, true, get_or, length, refl, sym, arith, eq-eqb}
+use Rattle.std.proofs.Common.{◌≡◌, ◌∙◌, ◌==◌, false, true, get_or, refl, sym, arith, eq-eqb}
 use Rattle.std.proofs.lemmas.Bool.Decides.{nat_tests}
 use Rattle.tags.specs.Cutting.{closing}
-use Rattle.tags.specs.Bytes.{backslash}
 use Rattle.tags.proofs.AddressLemmas.{closing_from, closing_from-here, closing_from-later, closing_from-escaped, closing_from-end}
 use Rattle.tags.proofs.address.closing.Goals as goal
 use Rattle.tags.proofs.address.closing.Goals.{then-escaped, else-escaped+else-byte-delimiter}
@@ -15,7 +14,7 @@ returns-then-byte-delimiter-clause-value c =
 pub loop-i-preserved : goal.loop-i-preserved
 loop-i-preserved c =
     elim c.if-escaped.branch [
-      then-escaped w ↦
+      | then-escaped w ↦
           let before : closing_from c.args.delimiter true c.args.bytes.now c.loop-i.i ≡ closing c.args.delimiter false c.args.bytes.now = rw w.if-escaped.true at c.loop-i.invariant in
           rw w.escaped-is (sym (closing_from-escaped c.args.delimiter (get_or c.args.bytes.now c.loop-i.i 0) c.args.bytes.now c.loop-i.i (omega arith) refl) ∙ before)
       | else-escaped+else-byte-delimiter w ↦

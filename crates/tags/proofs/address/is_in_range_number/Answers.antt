@@ -1,7 +1,7 @@
-use Rattle.std.proofs.Common.{◌≡◌, ◌∙◌, ◌+◌, ◌*◌, ◌-◌, ◌<◌, true, false, drop, get_or, refl, sym, arith}
+use Rattle.std.proofs.Common.{◌≡◌, ◌∙◌, ◌+◌, ◌*◌, ◌-◌, ◌<◌, true, drop, get_or, refl, sym, arith}
 use Rattle.std.specs.Char.{is_ascii_digit}
-use Rattle.tags.specs.Cutting.{is_in_range_number, greatest_number}
-use Rattle.tags.proofs.AddressLemmas.{in_range_from, in_range-next, in_range_from-large}
+use Rattle.tags.specs.Cutting.{greatest_number}
+use Rattle.tags.proofs.AddressLemmas.{in_range-next, in_range_from-large}
 use Rattle.tags.proofs.address.is_in_range_number.Goals as goal
 
 pub returns-then-value-gt-GREATEST_NUMBER : goal.returns-then-value-gt-GREATEST_NUMBER

@@ -1,4 +1,4 @@
-use Rattle.std.proofs.Common.{◌<◌, ◌≡◌, ◌-◌, length, get_or, drop, take, arith, add-zero}
+use Rattle.std.proofs.Common.{◌<◌, get_or, drop, add-zero}
 use Rattle.std.proofs.lemmas.List.{take_rest, get_or-drop}
 use Rattle.tags.proofs.TextLemmas.{texts_at}
 use Rattle.tags.proofs.cut.tail_of.Goals as goal

@@ -1,9 +1,7 @@
 use Rattle.std.proofs.Common.{◌≡◌, ◌∙◌, ◌<◌, ◌+◌, ◌-◌, ◌++◌, ◌∷◌, [], Some, None, get_or, length, string_bytes, sym, ap, arith}
-use Rattle.std.specs.Str.{IsCharBoundary, IsUtf8}
+use Rattle.std.specs.Str.{IsUtf8}
 use Rattle.std.proofs.lemmas.Str.{IsCharBoundary-after_ascii, encode_ascii}
 use lib.Utf8.{encode}
-use Rattle.tags.specs.Around.{around}
-use Rattle.tags.specs.Bytes.{backslash}
 use Rattle.tags.specs.Escapes.{escape_at}
 use Rattle.tags.proofs.EscapeLemmas.{decoded-step, decoded-stop, decoded-end}
 use Rattle.tags.proofs.escape.decode.Goals as goal
@@ -26,7 +24,7 @@ pub loop-before-preserved : goal.loop-before-preserved
 loop-before-preserved c =
     let escape : escape_at c.in-Some.escape.now ≡ Some (c.in-Some-escape_at.byte, c.in-Some-escape_at.len) = rw c.as_bytes.ensures.value at (sym c.in-Some-escape_at.ensures.value) in
     let pushed : string_bytes c.push.new.self ≡ (string_bytes c.loop-before.value ++ c.in-Some.before.now) ++ c.in-Some-escape_at.byte ∷ [] =
-        c.in_ok-push.ensures.bytes ∙ ap (λ bs. bs ++ encode c.from.result) c.in_ok-push_str.ensures.bytes ∙ ap (λ bs. (string_bytes c.loop-before.value ++ c.in-Some.before.now) ++ bs) (rw c.from.ensures (encode_ascii c.in-Some-escape_at.byte c.in-Some-escape_at.ensures.byte)) in
+    c.in_ok-push.ensures.bytes ∙ ap (λ bs. bs ++ encode c.from.result) c.in_ok-push_str.ensures.bytes ∙ ap (λ bs. (string_bytes c.loop-before.value ++ c.in-Some.before.now) ++ bs) (rw c.from.ensures (encode_ascii c.in-Some-escape_at.byte c.in-Some-escape_at.ensures.byte)) in
     record {
       text = c.range_from-rest.utf8;
       value = rw (pushed, c.range_from-rest.ensures.value) (decoded-step (string_bytes c.loop-before.value) c.loop-before.rest.now c.in-Some.before.now c.in-Some.escape.now c.in-Some-escape_at.byte c.in-Some-escape_at.len (sym c.in-Some.ensures.value) escape ∙ c.loop-before.invariant.value);

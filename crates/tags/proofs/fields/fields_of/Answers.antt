@@ -1,4 +1,4 @@
-use Rattle.std.proofs.Common.{◌≡◌, ◌∙◌, [], None, Result, Ok, Err, true, false, map, option_map, string_bytes, sym, ap}
+use Rattle.std.proofs.Common.{◌≡◌, ◌∙◌, [], None, true, map, option_map, string_bytes, sym, ap}
 use Rattle.tags.specs.Cutting.{each_field}
 use Rattle.tags.specs.Fields.{fields_of}
 use Rattle.tags.specs.Gathering.{gathered, gathered_in}

@@ -1,4 +1,4 @@
-use Rattle.std.proofs.Common.{◌≡◌, ◌+◌, ◌++◌, ◌≤◌, length, option_map, List, ℕ, Option}
+use Rattle.std.proofs.Common.{◌≡◌, ◌+◌, ◌++◌, ◌≤◌, length, option_map}
 use Rattle.std.specs.Option.{ForSome, option_map_or}
 use Rattle.tags.specs.Parts.{fields_from}
 use Rattle.tags.specs.Views.{part_values}
