@@ -19,3 +19,6 @@ pub use laws::state_law;
 pub use parts::{Part, split};
 pub use reader::{TagReader, read_tags};
 pub use tag::{Field, Tag};
+
+#[cfg(test)]
+mod tests;
