@@ -1,11 +1,12 @@
 -- The lines of a text, one after the other.
-use Rattle.std.proofs.Common.{◌≡◌, ◌∙◌, ◌==◌, ℕ, Bool, true, false, List, [], ◌∷◌, length, map, fold, Option, Some, None, option_map, Result, Ok, Err, refl, ap, sym, arith, suc, ◌≤◌}
+use Rattle.std.proofs.Common.{append_assoc, ◌++◌, ◌≡◌, ◌∙◌, ◌==◌, ℕ, Bool, true, false, List, [], ◌∷◌, length, map, fold, Option, Some, None, option_map, Result, Ok, Err, refl, ap, sym, arith, suc, ◌≤◌}
 use Rattle.std.proofs.lemmas.Bool.Decides.{nat_tests}
 use Rattle.tags.specs.Around.{around, longer}
 use Rattle.tags.specs.Bytes.{line_feed}
 use Rattle.tags.specs.Fault.{Reading, contents}
 use Rattle.tags.specs.Faults.{result_map}
-use Rattle.tags.specs.Lines.{Line, lines_of, in_front, readings_of, reading_of, handed}
+use Rattle.std.specs.List.{AllByRecursion, flat_map}
+use Rattle.tags.specs.Lines.{IsPiece, ended_line, ended_text, with_last, Line, lines_of, in_front, readings_of, reading_of, handed}
 use Rattle.tags.specs.Outcome.{Answers}
 use Rattle.tags.specs.Steps.{State, running, stopped, next, state_after, Tells, Finishes}
 use Rattle.tags.specs.Views.{tag_values}
@@ -93,3 +94,30 @@ finished_err (faults.Line f) (stopped n c) all finishes h =
 pub finish_answers : {X : Type 0} (items : X → List Tag) (r : Result X TagsFault) (state : State) (all : List Reading) → Finishes (result_map (λ x. tag_values (items x)) r) state → state ≡ state_after all → Answers (result_map items r) all
 finish_answers items (Ok x) state all finishes h = finished_ok (items x) state all finishes h
 finish_answers items (Err e) state all finishes h = finished_err e state all finishes h
+
+-- ---- the one list of lines
+
+not_line_feed : (b : ℕ) → (b ≡ line_feed → ⊥) → (b == line_feed) ≡ false
+not_line_feed b h = grind (arith, nat_tests, h)
+
+lines_of-piece : (piece rest : List ℕ) → IsPiece piece → lines_of (piece ++ line_feed ∷ rest) ≡ ended_line piece ∷ lines_of rest
+unfolding lines_of
+lines_of-piece [] rest h = refl
+lines_of-piece (b ∷ piece) rest h = rw (not_line_feed b h.0, lines_of-piece piece rest h.1) refl
+
+lines_of-last_piece : (b : ℕ) (piece : List ℕ) → IsPiece (b ∷ piece) → lines_of (b ∷ piece) ≡ record { bytes = b ∷ piece; ended = false } ∷ []
+unfolding lines_of
+lines_of-last_piece b [] h = rw (not_line_feed b h.0) refl
+lines_of-last_piece b (c ∷ piece) h = rw (not_line_feed b h.0) (ap (in_front b) (lines_of-last_piece c piece h.1))
+
+one_before : (piece : List ℕ) (pieces : List (List ℕ)) (last : List ℕ) → ended_line piece ∷ with_last pieces last ≡ with_last (piece ∷ pieces) last
+one_before piece pieces [] = refl
+one_before piece pieces (b ∷ bs) = refl
+
+pub lines_of-pieces : (pieces : List (List ℕ)) (last : List ℕ) → AllByRecursion IsPiece pieces → IsPiece last → lines_of (flat_map ended_text pieces ++ last) ≡ with_last pieces last
+unfolding lines_of
+lines_of-pieces [] [] h g = refl
+lines_of-pieces [] (b ∷ bs) h g = lines_of-last_piece b bs g
+lines_of-pieces (piece ∷ pieces) last h g =
+    let regrouped : flat_map ended_text (piece ∷ pieces) ++ last ≡ piece ++ (line_feed ∷ (flat_map ended_text pieces ++ last)) = simp append_assoc in
+    rw regrouped (lines_of-piece piece (flat_map ended_text pieces ++ last) h.0 ∙ ap (λ rest. ended_line piece ∷ rest) (lines_of-pieces pieces last h.1 g) ∙ one_before piece pieces last)

@@ -7,10 +7,12 @@ pub mod Fault
 pub mod Faults
 pub mod Fields
 pub mod Gathering
+pub mod Grammar
 pub mod Lines
 pub mod Outcome
 pub mod Parts
 pub mod Reading
+pub mod Said
 pub mod Steps
 pub mod Values
 pub mod Views

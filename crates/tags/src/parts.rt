@@ -1,7 +1,8 @@
-ghost use Rattle.std.specs.Prelude.{◌≡◌, ◌+◌, ◌-◌, ◌^◌, ◌<◌, ◌≤◌, ◌++◌, OnOk, length, option_map};
+ghost use Rattle.std.specs.Prelude.{◌≡◌, ◌+◌, ◌-◌, ◌^◌, ◌<◌, ◌≤◌, ◌++◌, IfOk, OnOk, length, option_map};
+ghost use Rattle.std.specs.List.{AllByRecursion};
 ghost use Rattle.std.specs.Option.{ForSome};
-ghost use Rattle.tags.specs.Faults.{Gives};
-ghost use Rattle.tags.specs.Parts.{part_at, split_of, fields_from};
+ghost use Rattle.tags.specs.Faults.{Gives, result_map};
+ghost use Rattle.tags.specs.Parts.{IsSlice, Splits, part_at, split_of, fields_from};
 ghost use Rattle.tags.specs.Views.{part_value, part_values};
 
 use crate::code::{Code, SplitFault};
@@ -48,10 +49,9 @@ fn push_fields<'a>(
     Ok(())
 }
 
-/// The name, the file, the address and each field of a tag's line, as written and in order, or the
-/// least of T04 and T06.
+/// The parts of a tag's line, or the least of T04 and T06.
 #[tactic(auto, unfolding(crate::specs::Parts::split_of))]
-pub fn split<'a>(alloc: Global, line: &'a [u8]) -> Result<Vec<Part<'a>>, SplitFault>
+fn parts_of<'a>(alloc: Global, line: &'a [u8]) -> Result<Vec<Part<'a>>, SplitFault>
     ensures { Gives (λ parts. part_values parts.items) result (split_of line.now) }
 {
     let Some(front) = front_of(line) else {
@@ -68,4 +68,15 @@ pub fn split<'a>(alloc: Global, line: &'a [u8]) -> Result<Vec<Part<'a>>, SplitFa
     parts.push(part_from(tail.address, address))?;
     push_fields(&mut parts, line.len(), tail.fields)?;
     Ok(parts)
+}
+
+/// The name, the file, the address and each field of a tag's line, as written and in order, or the
+/// least of T04 and T06. The other codes aren't asked: tags(5), "Proposal".
+pub fn split<'a>(alloc: Global, line: &'a [u8]) -> Result<Vec<Part<'a>>, SplitFault>
+    // The parts of the one cut that the grammar has.
+    ensures cut { Splits (result_map (λ parts. part_values parts.items) result) line.now }
+    // Each part is the bytes at its span.
+    ensures slices { IfOk result (λ parts. AllByRecursion (IsSlice line.now) (part_values parts.items)) }
+{
+    parts_of(alloc, line)
 }

@@ -1,4 +1,7 @@
-use crate::{Code, LineFault, SplitFault, TagReader, TagsFault, decode, read_tags, split, state_law};
+use crate::{
+    Code, LineFault, SplitFault, TagReader, TagsFault, decode, grammar_law, lines_law, read_tags,
+    split, state_law,
+};
 use std::test::Fail;
 
 /// The number of tags of a text.
@@ -27,7 +30,10 @@ fn accepted(rt: HostRuntime) -> Result<(), Fail> {
         ("x\tf.c\t/a\\/\tb/;\"\tf\n", 1),
         ("b\tf.c\t2\na\tf.c\t1\n", 2),
         ("!_TAG_FILE_SORTED\t1\t//\na\tf.c\t1\na\tf.c\t2\n", 2),
-        ("!_TAG_FILE_SORTED\t1\t\n!_TAG_FILE_SORTED\t2\t\nb\tf\t1\na\tf\t1\n", 2),
+        (
+            "!_TAG_FILE_SORTED\t1\t\n!_TAG_FILE_SORTED\t2\t\nb\tf\t1\na\tf\t1\n",
+            2,
+        ),
         ("!_TAG_FILE_SORTED\t1\t\nA\\\\\tf\t1\nA\\a\tf\t1\n", 2),
         ("!_TAG_FILE_FORMAT\t2\t\\q\n!_TAG_FILE_FORMAT2\t1\t\n", 0),
         ("!\\x5fTAG_X\tf\t1\nx\tf\t1\n", 2),
@@ -62,14 +68,29 @@ fn refused(rt: HostRuntime) -> Result<(), Fail> {
         ("!_TAG_FILE_FORMAT\t\t\n", 1, Code::T08),
         ("x\tf.c\t1\n!_TAG_FILE_FORMAT\t1\t\n", 2, Code::T08),
         ("x\tf.c\t1\n!_TAG_X\t\t\n", 2, Code::T09),
-        ("!_TAG_FILE_SORTED\t1\t//\nb\tf.c\t2\na\tf.c\t1\n", 3, Code::T10),
-        ("!_TAG_FILE_SORTED\t1\t//\naa\tf.c\t2\na\tf.c\t1", 3, Code::T10),
+        (
+            "!_TAG_FILE_SORTED\t1\t//\nb\tf.c\t2\na\tf.c\t1\n",
+            3,
+            Code::T10,
+        ),
+        (
+            "!_TAG_FILE_SORTED\t1\t//\naa\tf.c\t2\na\tf.c\t1",
+            3,
+            Code::T10,
+        ),
     ];
     for (text, line, code) in table {
-        assert_eq!(rt; fault(&rt, text.as_bytes()), Some(LineFault { line, code }), "{text}");
+        assert_eq!(rt;
+            fault(&rt, text.as_bytes()),
+            Some(LineFault { line, code }),
+            "{text}"
+        );
     }
     let code = Code::T02;
-    assert_eq!(rt; fault(&rt, b"x\tf.c\t1\n\xff\t"), Some(LineFault { line: 2, code }));
+    assert_eq!(rt;
+        fault(&rt, b"x\tf.c\t1\n\xff\t"),
+        Some(LineFault { line: 2, code })
+    );
     Ok(())
 }
 
@@ -87,18 +108,33 @@ fn limits(rt: HostRuntime) -> Result<(), Fail> {
 
     let long = [b'x'; 65537];
     let mut reader = TagReader::new(rt.alloc());
-    assert_eq!(rt; reader.feed(Ok(&long[..65536]), false).err(), Some(TagsFault::Line(LineFault { line: 1, code: Code::T04 })));
-    assert_eq!(rt; fault(&rt, &long), Some(LineFault { line: 1, code: Code::T01 }));
+    assert_eq!(rt;
+        reader.feed(Ok(&long[..65536]), false).err(),
+        Some(TagsFault::Line(LineFault {
+            line: 1,
+            code: Code::T04
+        }))
+    );
+    assert_eq!(rt;
+        fault(&rt, &long),
+        Some(LineFault {
+            line: 1,
+            code: Code::T01
+        })
+    );
     let mut reader = TagReader::new(rt.alloc());
     reader.feed(Ok(b"x\tf.c\t1"), false)?;
     assert_eq!(rt; reader.finish()?.len(), 1);
+    grammar_law();
+    lines_law();
     state_law();
     Ok(())
 }
 
 #[test]
 fn worked_tags(rt: HostRuntime) -> Result<(), Fail> {
-    let text = "!_TAG_X\t\t\nx\tf.c\t10;/x/;\"\tkind:f\tclass:\tline:10\na\\x41\\tb\tf.c\t/a\\/b/;\"\tf\n";
+    let text =
+        "!_TAG_X\t\t\nx\tf.c\t10;/x/;\"\tkind:f\tclass:\tline:10\na\\x41\\tb\tf.c\t/a\\/b/;\"\tf\n";
     let tags = read_tags(rt.alloc(), text.as_bytes())?;
     assert_eq!(rt; tags.len(), 2);
     let tag = &tags[0];
@@ -116,7 +152,10 @@ fn worked_tags(rt: HostRuntime) -> Result<(), Fail> {
     assert_eq!(rt; tag.address.as_str(), "/a\\/b/");
     assert_eq!(rt; tag.fields.len(), 0);
     let escapes = decode(rt.alloc(), "\\r\\n\\\\\\a\\b\\v\\f\\x7F")?;
-    assert_eq!(rt; escapes.as_deref(), Some("\r\n\\\u{7}\u{8}\u{b}\u{c}\u{7f}"));
+    assert_eq!(rt;
+        escapes.as_deref(),
+        Some("\r\n\\\u{7}\u{8}\u{b}\u{c}\u{7f}")
+    );
     assert_eq!(rt; decode(rt.alloc(), "\\x00")?, None);
     Ok(())
 }
@@ -138,8 +177,14 @@ fn parts(rt: HostRuntime) -> Result<(), Fail> {
         assert_eq!(rt; part.from, from);
         assert_eq!(rt; part.to, to);
     }
-    assert_eq!(rt; split(rt.alloc(), b"x\t\t1").err(), Some(SplitFault::Line(Code::T04)));
-    assert_eq!(rt; split(rt.alloc(), b"x\tf\t01").err(), Some(SplitFault::Line(Code::T06)));
+    assert_eq!(rt;
+        split(rt.alloc(), b"x\t\t1").err(),
+        Some(SplitFault::Line(Code::T04))
+    );
+    assert_eq!(rt;
+        split(rt.alloc(), b"x\tf\t01").err(),
+        Some(SplitFault::Line(Code::T06))
+    );
     Ok(())
 }
 
