@@ -11,3 +11,4 @@ pub mod SaidLemmas
 pub mod StepLemmas
 pub mod SummaryLemmas
 pub mod TextLemmas
+pub mod WrittenLemmas

@@ -16,3 +16,4 @@ pub mod Said
 pub mod Steps
 pub mod Values
 pub mod Views
+pub mod Written

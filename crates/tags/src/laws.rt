@@ -1,5 +1,6 @@
-ghost use Rattle.std.specs.Prelude.{◌≡◌, ◌+◌, ◌++◌, ◌∷◌, Err, ℕ, List};
+ghost use Rattle.std.specs.Prelude.{◌≡◌, ◌+◌, ◌++◌, ◌∷◌, Err, Some, ℕ, List};
 ghost use Rattle.tags.specs.Bytes.{tab};
+ghost use Rattle.tags.specs.Escapes.{decoded};
 ghost use Rattle.tags.specs.Fault.{Reading, contents, IsFaultless, IsFirstFault};
 ghost use Rattle.tags.specs.Grammar.{HasFront, IsName, Spells, TagLine};
 ghost use Rattle.tags.specs.Lines.{Cuts, lines_of, with_last};
@@ -7,8 +8,16 @@ ghost use Rattle.tags.specs.Parts.{parts_in};
 ghost use Rattle.tags.specs.Reading.{ordinary_of};
 ghost use Rattle.tags.specs.Said.{said_by, said_without_address};
 ghost use Rattle.tags.specs.Steps.{Summary, running, state_after, stopped, summary_of};
+ghost use Rattle.tags.specs.Written.{IsWritten};
 ghost use Rattle.tags.specs.declared.code.Code.{Code};
 ghost use Rattle.tags.specs.declared.code.Code.TheVariants.{T04};
+
+/// What is written by the grammar's pieces is read as the bytes that they stand for, and nothing else is
+/// read: a text that is written so has one meaning.
+pub fn escape_law()
+    ensures read { (written value : List ℕ) → IsWritten value written → decoded written ≡ Some value }
+    ensures written { (written value : List ℕ) → decoded written ≡ Some value → IsWritten value written }
+{}
 
 /// A line of the grammar has one cut and says one thing, and what isn't of the grammar has no tag.
 pub fn grammar_law()

@@ -15,7 +15,7 @@ mod tag;
 
 pub use code::{Code, LineFault, SplitFault, TagsFault};
 pub use escape::decode;
-pub use laws::{grammar_law, lines_law, state_law};
+pub use laws::{escape_law, grammar_law, lines_law, state_law};
 pub use parts::{Part, split};
 pub use reader::{TagReader, read_tags};
 pub use tag::{Field, Tag};

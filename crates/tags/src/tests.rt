@@ -1,6 +1,6 @@
 use crate::{
-    Code, LineFault, SplitFault, TagReader, TagsFault, decode, grammar_law, lines_law, read_tags,
-    split, state_law,
+    Code, LineFault, SplitFault, TagReader, TagsFault, decode, escape_law, grammar_law, lines_law,
+    read_tags, split, state_law,
 };
 use std::test::Fail;
 
@@ -125,6 +125,7 @@ fn limits(rt: HostRuntime) -> Result<(), Fail> {
     let mut reader = TagReader::new(rt.alloc());
     reader.feed(Ok(b"x\tf.c\t1"), false)?;
     assert_eq!(rt; reader.finish()?.len(), 1);
+    escape_law();
     grammar_law();
     lines_law();
     state_law();
