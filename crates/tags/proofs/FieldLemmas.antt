@@ -1,0 +1,85 @@
+-- One field more.
+use Rattle.std.proofs.Common.{◌≡◌, ◌∙◌, ◌++◌, ◌||◌, ℕ, suc, Bool, true, false, not, nat_lt, List, [], ◌∷◌, Option, Some, None, option_map, is_some, Ok, Err, Result, refl, sym, arith, append_assoc, append-nil, if◌then◌else◌}
+use Rattle.std.proofs.lemmas.Bool.Decides.{nat_tests}
+use Rattle.std.specs.List.{list_any, filter_map}
+use Rattle.tags.specs.Cutting.{is_empty}
+use Rattle.tags.specs.Escapes.{decoded}
+use Rattle.tags.specs.Fields.{name_in, value_in, is_field_name, has_bad_escape, is_bad_field, other_in, fields_of}
+use Rattle.tags.specs.Gathering.{gathered}
+use Rattle.tags.specs.Values.{FieldValue, FieldsValue}
+use Rattle.tags.specs.declared.code.Code.{Code}
+use Rattle.tags.specs.declared.code.Code.TheVariants.{T05, T07}
+
+pub gathered-escape : (good : Bool) (kind : Option (List ℕ)) (others : List FieldValue) (field : List ℕ) (rest : List (List ℕ)) → decoded (value_in field) ≡ None → gathered good kind others (field ∷ rest) ≡ Err T05
+unfolding gathered
+gathered-escape good kind others field rest e = rw e refl
+
+pub gathered-other : (good : Bool) (kind : Option (List ℕ)) (others : List FieldValue) (field name value : List ℕ) (rest : List (List ℕ)) → name_in field ≡ Some name → is_field_name name ≡ true → decoded (value_in field) ≡ Some value → gathered good kind (others ++ record { name = name; value = value } ∷ []) rest ≡ gathered good kind others (field ∷ rest)
+unfolding gathered
+gathered-other good kind others field name value rest n t e = rw (n, e, t, append_assoc others (record { name = name; value = value } ∷ []) (filter_map other_in rest)) refl
+
+or_true : (b : Bool) → (b || true) ≡ true
+or_true true = refl
+or_true false = refl
+
+true_or_true : (a b : Bool) → (a || (true || b)) ≡ true
+true_or_true true b = refl
+true_or_true false b = refl
+
+-- what a bad field makes of the rest
+abbrev pub refused : List (List ℕ) → Result FieldsValue Code
+refused rest = if list_any has_bad_escape rest then Err T05 else Err T07
+
+gathered-refused : (kind : Option (List ℕ)) (others : List FieldValue) (rest : List (List ℕ)) → gathered false kind others rest ≡ refused rest
+unfolding gathered
+gathered-refused kind others rest = refl
+
+gathered-bad : (good : Bool) (kind : Option (List ℕ)) (others : List FieldValue) (field value : List ℕ) (rest : List (List ℕ)) → is_bad_field field ≡ true → decoded (value_in field) ≡ Some value → gathered good kind others (field ∷ rest) ≡ refused rest
+unfolding gathered
+gathered-bad good kind others field value rest b e = rw (b, e, true_or_true (not good)) refl
+
+pub gathered-bad_name : (good : Bool) (kind : Option (List ℕ)) (others : List FieldValue) (field name value : List ℕ) (rest : List (List ℕ)) → name_in field ≡ Some name → is_field_name name ≡ false → decoded (value_in field) ≡ Some value → gathered false kind others rest ≡ gathered good kind others (field ∷ rest)
+gathered-bad_name good kind others field name value rest n t e =
+    let bad : is_bad_field field ≡ true = rw (n, t) refl in
+    gathered-refused kind others rest ∙ sym (gathered-bad good kind others field value rest bad e)
+
+pub gathered-empty : (good : Bool) (kind : Option (List ℕ)) (others : List FieldValue) (field value : List ℕ) (rest : List (List ℕ)) → name_in field ≡ None → is_empty (value_in field) ≡ true → decoded (value_in field) ≡ Some value → gathered false kind others rest ≡ gathered good kind others (field ∷ rest)
+gathered-empty good kind others field value rest n t e =
+    let bad : is_bad_field field ≡ true = rw (n, t) refl in
+    gathered-refused kind others rest ∙ sym (gathered-bad good kind others field value rest bad e)
+
+pub gathered-kind : (good : Bool) (others : List FieldValue) (field value : List ℕ) (rest : List (List ℕ)) → name_in field ≡ None → is_empty (value_in field) ≡ false → decoded (value_in field) ≡ Some value → gathered good (Some value) others rest ≡ gathered good None others (field ∷ rest)
+unfolding gathered
+gathered-kind good others field value rest n t e = rw (n, t, e) refl
+
+two_kinds : (n : ℕ) → nat_lt 1 (suc (suc n)) ≡ true
+two_kinds n = grind (arith, nat_tests)
+
+or_last : (a b : Bool) → (a || (b || true)) ≡ true
+or_last true b = refl
+or_last false b = or_true b
+
+pub gathered-second : (good : Bool) (kind : List ℕ) (others : List FieldValue) (field value : List ℕ) (rest : List (List ℕ)) → name_in field ≡ None → decoded (value_in field) ≡ Some value → gathered false (Some kind) others rest ≡ gathered good (Some kind) others (field ∷ rest)
+unfolding gathered
+gathered-second good kind others field value rest n e = rw (n, e, two_kinds, or_last) refl
+
+pub gathered-first_kind : {X : Type 0} (view : X → List ℕ) (old : Option X) (good : Bool) (others : List FieldValue) (field value : List ℕ) (rest : List (List ℕ)) → is_some old ≡ false → name_in field ≡ None → is_empty (value_in field) ≡ false → decoded (value_in field) ≡ Some value → gathered good (Some value) others rest ≡ gathered good (option_map view old) others (field ∷ rest)
+gathered-first_kind view None good others field value rest absent n t e = gathered-kind good others field value rest n t e
+gathered-first_kind view (Some x) good others field value rest absent n t e = absurd cc
+
+pub gathered-second_kind : {X : Type 0} (view : X → List ℕ) (old : Option X) (good : Bool) (others : List FieldValue) (field value : List ℕ) (rest : List (List ℕ)) → is_some old ≡ true → name_in field ≡ None → decoded (value_in field) ≡ Some value → gathered false (option_map view old) others rest ≡ gathered good (option_map view old) others (field ∷ rest)
+gathered-second_kind view None good others field value rest present n e = absurd cc
+gathered-second_kind view (Some x) good others field value rest present n e = gathered-second good (view x) others field value rest n e
+
+pub fields_of-gathered : (fields : List (List ℕ)) → gathered true None [] fields ≡ fields_of fields
+unfolding gathered fields_of
+fields_of-gathered fields = refl
+
+-- all were read
+pub gathered-end : (kind : Option (List ℕ)) (others : List FieldValue) → gathered true kind others [] ≡ Ok (record { kind = kind; others = others })
+unfolding gathered
+gathered-end None others = rw (append-nil others) refl
+gathered-end (Some kind) others = rw (append-nil others) refl
+
+pub gathered-bad_end : (kind : Option (List ℕ)) (others : List FieldValue) → gathered false kind others [] ≡ Err T07
+gathered-bad_end kind others = gathered-refused kind others []

@@ -1,0 +1,14 @@
+pub mod AddressLemmas
+pub mod AroundLemmas
+pub mod CutLemmas
+pub mod EscapeLemmas
+pub mod FieldLemmas
+pub mod LineLemmas
+pub mod NumberLemmas
+pub mod PartLemmas
+pub mod PatternLemmas
+pub mod SaidLemmas
+pub mod StepLemmas
+pub mod SummaryLemmas
+pub mod TextLemmas
+pub mod WrittenLemmas

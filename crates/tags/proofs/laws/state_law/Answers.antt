@@ -1,0 +1,11 @@
+use Rattle.std.proofs.Common.{arith}
+use Rattle.tags.proofs.StepLemmas.{stops_at, passes_all}
+use Rattle.tags.proofs.laws.state_law.Goals as goal
+
+pub returns-clause-stopped : goal.returns-clause-stopped
+returns-clause-stopped c = λ lines n code h.
+    let first = stops_at lines n code h in
+    (first.0, omega (arith, first.1), record { code = first.2.code; least = λ j j_lt b g. first.2.least j b j_lt g })
+
+pub returns-clause-running : goal.returns-clause-running
+returns-clause-running c = λ lines s h. let passes = passes_all lines s h in (passes.good, passes.summary)

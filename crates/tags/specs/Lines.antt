@@ -1,0 +1,66 @@
+-- The lines of a tags file, and what each says.
+use Rattle.std.specs.Prelude.{◌≡◌, ◌≢◌, ℕ, ◌==◌, ◌++◌, Bool, true, false, nat_lt, List, [], ◌∷◌, length, map, Result, Ok, Err, if◌then◌else◌}
+use Rattle.std.specs.List.{AllByRecursion, flat_map}
+use Rattle.std.specs.Str.Lines.{strip_carriage_return}
+use Rattle.tags.specs.Bytes.{line_feed}
+use Rattle.tags.specs.Reading.{reading}
+use Rattle.tags.specs.Values.{ContentValue}
+use Rattle.tags.specs.declared.code.Code.{Code}
+use Rattle.tags.specs.declared.code.Code.TheVariants.{T01}
+
+-- the bytes of a line without its LF, and whether an LF follows them
+pub record Line : Type 0 where
+  pub bytes : List ℕ
+  pub ended : Bool
+
+abbrev pub in_front : ℕ → List Line → List Line
+in_front b [] = record { bytes = b ∷ []; ended = false } ∷ []
+in_front b (line ∷ lines) = record { bytes = b ∷ line.bytes; ended = line.ended } ∷ lines
+
+-- the lines that an LF ends, and what stands after the last LF where it isn't empty
+unfoldable pub lines_of : List ℕ → List Line
+lines_of [] = []
+lines_of (b ∷ bs) = if b == line_feed then record { bytes = []; ended = true } ∷ lines_of bs else in_front b (lines_of bs)
+
+-- a piece without LF
+abbrev pub IsPiece : List ℕ → Type 0
+IsPiece piece = AllByRecursion (λ b. b ≢ line_feed) piece
+
+abbrev pub ended_line : List ℕ → Line
+ended_line piece = record { bytes = piece; ended = true }
+
+-- a piece and its LF
+abbrev pub ended_text : List ℕ → List ℕ
+ended_text piece = piece ++ line_feed ∷ []
+
+-- the text is the pieces, each before an LF, and then a piece with no LF
+abbrev pub Cuts : List ℕ → List (List ℕ) → List ℕ → Type 0
+Cuts text pieces last = AllByRecursion IsPiece pieces × IsPiece last × (text ≡ flat_map ended_text pieces ++ last)
+
+-- the pieces as lines, and the last one where it isn't empty
+abbrev pub with_last : List (List ℕ) → List ℕ → List Line
+with_last pieces [] = map ended_line pieces
+with_last pieces (b ∷ bs) = map ended_line pieces ++ record { bytes = b ∷ bs; ended = false } ∷ []
+
+-- ---- what a line says
+
+-- how many bytes a line may have, with its CR
+abbrev pub longest_line : ℕ
+longest_line = 65536
+
+-- one CR directly before the LF isn't part of the line's text
+abbrev pub line_text : Line → List ℕ
+line_text line = if line.ended then strip_carriage_return line.bytes else line.bytes
+
+-- what a line says, or the least code of the line alone
+abbrev pub reading_of : Line → Result ContentValue Code
+reading_of line = if nat_lt longest_line (length line.bytes) then Err T01 else reading (line_text line)
+
+-- what the lines of a text say
+abbrev pub readings_of : List ℕ → List (Result ContentValue Code)
+readings_of text = map reading_of (lines_of text)
+
+-- what a line that is handed in says: its bytes, or the code that was found before
+abbrev pub handed : Result (List ℕ) Code → Bool → Result ContentValue Code
+handed (Ok bytes) ended = reading_of (record { bytes = bytes; ended = ended })
+handed (Err code) ended = Err code

@@ -1,0 +1,111 @@
+ghost use Rattle.std.specs.Prelude.{◌≡◌};
+ghost use Rattle.tags.specs.Codes.{text_of};
+ghost use Rattle.tags.specs.declared.code.TagsFault.TheVariants as tags_fault;
+ghost use Rattle.tags.specs.declared.code.SplitFault.TheVariants as split_fault;
+
+use std::alloc::{AllocError, AllocFailed};
+
+/// What may be wrong with a line of a tags file. Of a faulty line the least code that holds is named.
+#[derive(Clone, Copy, Debug, PartialEq, Eq)]
+pub enum Code {
+    /// The line, with its CR, is longer than 65,536 bytes.
+    T01,
+    /// The line isn't UTF-8.
+    T02,
+    /// A control character other than Tab, LF and a CR before LF.
+    T03,
+    /// Fewer than two Tabs, or an ordinary tag's name or file is empty.
+    T04,
+    /// A backslash that begins no escape, in a name, a file, a kind or a field's value.
+    T05,
+    /// The address, or what follows it, is of no form.
+    T06,
+    /// An empty field, a bad field name, an empty kind or a second kind.
+    T07,
+    /// A pseudo-tag `!_TAG_FILE_FORMAT` whose value isn't `2`.
+    T08,
+    /// A pseudo-tag after an ordinary tag.
+    T09,
+    /// The file is sorted, and the name is less than the one before.
+    T10,
+    /// The line's number is over 100,000.
+    T11,
+}
+
+impl Code {
+    /// The text that reports and replies print for the code.
+    pub fn text(self) -> &'static str
+        ensures { result.now ≡ text_of self }
+    {
+        match self {
+            Code::T01 => "line too long",
+            Code::T02 => "not UTF-8",
+            Code::T03 => "control character",
+            Code::T04 => "fewer than three parts",
+            Code::T05 => "bad escape",
+            Code::T06 => "bad address",
+            Code::T07 => "bad field",
+            Code::T08 => "format is not 2",
+            Code::T09 => "pseudo-tag after a tag",
+            Code::T10 => "names descend",
+            Code::T11 => "too many lines",
+        }
+    }
+}
+
+/// A line of a tags file, counted from 1, and what is wrong with it.
+#[derive(Clone, Copy, Debug, PartialEq, Eq)]
+pub struct LineFault {
+    pub line: u32,
+    pub code: Code,
+}
+
+/// Why a tags file was refused.
+#[derive(Debug, PartialEq, Eq, Drop)]
+pub enum TagsFault {
+    /// Memory ran out.
+    Memory,
+    /// The first line that is faulty.
+    Line(LineFault),
+}
+
+/// Why a line was refused.
+#[derive(Debug, PartialEq, Eq, Drop)]
+pub enum SplitFault {
+    /// Memory ran out.
+    Memory,
+    /// What is wrong with the line.
+    Line(Code),
+}
+
+impl From<AllocError> for TagsFault {
+    ghost from_gives = { λ _ e. e ≡ tags_fault.Memory };
+
+    fn from(_e: AllocError) -> TagsFault {
+        TagsFault::Memory
+    }
+}
+
+impl<T: Drop> From<AllocFailed<T>> for TagsFault {
+    ghost from_gives = { λ _ e. e ≡ tags_fault.Memory };
+
+    fn from(_e: AllocFailed<T>) -> TagsFault {
+        TagsFault::Memory
+    }
+}
+
+impl From<AllocError> for SplitFault {
+    ghost from_gives = { λ _ e. e ≡ split_fault.Memory };
+
+    fn from(_e: AllocError) -> SplitFault {
+        SplitFault::Memory
+    }
+}
+
+impl<T: Drop> From<AllocFailed<T>> for SplitFault {
+    ghost from_gives = { λ _ e. e ≡ split_fault.Memory };
+
+    fn from(_e: AllocFailed<T>) -> SplitFault {
+        SplitFault::Memory
+    }
+}

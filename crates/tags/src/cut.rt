@@ -1,0 +1,80 @@
+ghost use Rattle.std.specs.Prelude.{◌≡◌, ◌∷◌, ◌≤◌, ◌+◌, ◌<◌, IfSome, OnSome, Some, None, length, option_map, slice_index, IsUtf8};
+ghost use Rattle.tags.specs.Cutting.{each_field, fields_after, front_of, tail_of};
+ghost use Rattle.tags.specs.Views.{front, tail};
+
+use crate::address::address_len;
+use crate::around::around_byte;
+
+/// The name and the file of a tag, and what stands after the file's Tab.
+#[derive(Clone, Copy)]
+pub(crate) struct Front<'a> {
+    pub name: &'a [u8],
+    pub file: &'a [u8],
+    pub rest: &'a [u8],
+}
+
+/// The address of a tag, and its fields, still joined by Tabs.
+#[derive(Clone, Copy)]
+pub(crate) struct Tail<'a> {
+    pub address: &'a [u8],
+    pub fields: Option<&'a [u8]>,
+}
+
+/// The name and the file, where each stands before a Tab and isn't empty.
+#[tactic(auto, unfolding(crate::specs::Cutting::front_of))]
+pub(crate) fn front_of(line: &[u8]) -> Option<Front<'_>>
+    ensures value { option_map front result ≡ front_of line.now }
+    ensures lengths { IfSome result (λ f. length f.name.now + length f.file.now + length f.rest.now + 2 ≡ length line.now) }
+    ensures texts { IsUtf8 line.now → IfSome result (λ f. IsUtf8 f.name.now × IsUtf8 f.file.now × IsUtf8 f.rest.now) }
+{
+    let (name, more) = around_byte(line, b'\t')?;
+    let (file, rest) = around_byte(more, b'\t')?;
+    if name.is_empty() || file.is_empty() {
+        return None;
+    }
+    Some(Front { name, file, rest })
+}
+
+/// What stands after an address, unless it's of no form: the fields.
+#[tactic(auto, unfolding(crate::specs::Cutting::fields_after))]
+fn fields_after(bytes: &[u8]) -> Option<Option<&[u8]>>
+    ensures value { option_map (λ fields. option_map (λ bs. bs.now) fields) result ≡ fields_after bytes.now }
+    ensures length { IfSome result (λ fields. IfSome fields (λ bs. length bs.now + 3 ≡ length bytes.now)) }
+    ensures ascii { OnSome result (slice_index bytes.now 0 < 128) }
+    ensures texts { IsUtf8 bytes.now → IfSome result (λ fields. IfSome fields (λ bs. IsUtf8 bs.now)) }
+{
+    match bytes {
+        [] | [b';', b'"'] => Some(None),
+        [b';', b'"', b'\t', fields @ ..] => Some(Some(fields)),
+        _ => None,
+    }
+}
+
+/// The address, and the fields after it.
+#[tactic(auto, unfolding(crate::specs::Cutting::tail_of))]
+pub(crate) fn tail_of(rest: &[u8]) -> Option<Tail<'_>>
+    ensures value { option_map tail result ≡ tail_of rest.now }
+    ensures address { IfSome result (λ t. length t.address.now ≤ length rest.now) }
+    ensures fields { IfSome result (λ t. IfSome t.fields (λ bs. length t.address.now + length bs.now + 3 ≡ length rest.now)) }
+    ensures texts { IsUtf8 rest.now → IfSome result (λ t. IsUtf8 t.address.now × IfSome t.fields (λ bs. IsUtf8 bs.now)) }
+{
+    let len = address_len(rest)?;
+    let fields = fields_after(&rest[len..])?;
+    Some(Tail {
+        address: &rest[..len],
+        fields,
+    })
+}
+
+/// The first of some fields, and those after it.
+pub(crate) fn first_field(fields: &[u8]) -> (&[u8], Option<&[u8]>)
+    ensures value { each_field (Some fields.now) ≡ result.0.now ∷ each_field (option_map (λ bs. bs.now) result.1) }
+    ensures within { length result.0.now ≤ length fields.now }
+    ensures lengths { IfSome result.1 (λ more. length result.0.now + length more.now + 1 ≡ length fields.now) }
+    ensures texts { IsUtf8 fields.now → IsUtf8 result.0.now × IfSome result.1 (λ more. IsUtf8 more.now) }
+{
+    match around_byte(fields, b'\t') {
+        Some((field, more)) => (field, Some(more)),
+        None => (fields, None),
+    }
+}

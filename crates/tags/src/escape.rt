@@ -1,0 +1,74 @@
+ghost use Rattle.std.specs.Prelude.{◌≡◌, ◌<◌, ◌≤◌, ◌-◌, IfOk, IfSome, length, option_map, slice_index, string_bytes};
+ghost use Rattle.tags.specs.Escapes.{decoded, escape_at, hex_value, letter_value};
+
+use crate::around::around_char;
+use std::alloc::{AllocError, Global};
+
+/// The byte that a backslash and the letter stand for.
+#[tactic(auto, unfolding(crate::specs::Escapes::letter_value))]
+fn letter_value(letter: u8) -> Option<u8>
+    ensures value { result ≡ letter_value letter }
+    ensures ascii { IfSome result (λ v. (v < 128) × (letter < 128)) }
+{
+    match letter {
+        b't' => Some(b'\t'),
+        b'r' => Some(b'\r'),
+        b'n' => Some(b'\n'),
+        b'\\' => Some(b'\\'),
+        b'a' => Some(7),
+        b'b' => Some(8),
+        b'v' => Some(11),
+        b'f' => Some(12),
+        _ => None,
+    }
+}
+
+/// The byte that `\x` and two hexadecimal digits stand for, from 01 to 7F.
+#[tactic(auto, unfolding(crate::specs::Escapes::hex_value))]
+fn hex_value(high: u8, low: u8) -> Option<u8>
+    ensures value { result ≡ hex_value high low }
+    ensures ascii { IfSome result (λ v. (v < 128) × (high < 128) × (low < 128)) }
+{
+    let high = char::from(high).to_digit(16)?;
+    let low = char::from(low).to_digit(16)?;
+    let value = high * 16 + low;
+    if 0 < value && value < 128 {
+        Some(value as u8)
+    } else {
+        None
+    }
+}
+
+/// The byte that stands after a backslash, and how many bytes its escape takes there.
+#[tactic(auto, unfolding(crate::specs::Escapes::escape_at))]
+fn escape_at(text: &[u8]) -> Option<(u8, usize)>
+    ensures value { result ≡ escape_at text.now }
+    ensures within { IfSome result (λ e. (0 < e.1) × (e.1 ≤ length text.now)) }
+    ensures ascii { IfSome result (λ e. slice_index text.now (e.1 - 1) < 128) }
+    ensures byte { IfSome result (λ e. e.0 < 128) }
+{
+    match text {
+        [b'x', high, low, ..] => Some((hex_value(*high, *low)?, 3)),
+        [letter, ..] => Some((letter_value(*letter)?, 1)),
+        [] => None,
+    }
+}
+
+/// The text that a name, a file, a kind or a field's value stands for, or `None` where a backslash
+/// begins no escape.
+pub fn decode(alloc: Global, written: &str) -> Result<Option<String>, AllocError>
+    ensures { IfOk result (λ o. option_map (λ s. string_bytes s) o ≡ decoded written.now) }
+{
+    let mut value = String::new(alloc);
+    let mut rest = written;
+    while let Some((before, escape)) = around_char(rest, '\\') {
+        value.push_str(before)?;
+        let Some((byte, len)) = escape_at(escape.as_bytes()) else {
+            return Ok(None);
+        };
+        value.push(char::from(byte))?;
+        rest = &escape[len..];
+    }
+    value.push_str(rest)?;
+    Ok(Some(value))
+}

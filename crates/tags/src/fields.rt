@@ -1,0 +1,99 @@
+ghost use Rattle.std.specs.Prelude.{◌≡◌, option_map, IsUtf8};
+ghost use Rattle.std.specs.Char.{is_ascii_alphanumeric};
+ghost use Rattle.std.specs.List.{list_all};
+ghost use Rattle.std.specs.Option.{ForSome};
+ghost use Rattle.tags.specs.Cutting.{each_field};
+ghost use Rattle.tags.specs.Faults.{Gives};
+ghost use Rattle.tags.specs.Views.{fields_value};
+ghost use Rattle.tags.specs.Fields.{fields_of, is_field_name, name_in, value_in};
+
+use crate::around::{around_char, text_of};
+use crate::code::{Code, SplitFault};
+use crate::cut::first_field;
+use crate::escape::decode;
+use crate::tag::Field;
+use std::alloc::Global;
+
+/// The name of a field other than the kind, and what the field's value is read from.
+fn name_and_value(field: &str) -> (Option<&str>, &str)
+    ensures name { option_map (λ s. s.now) result.0 ≡ name_in field.now }
+    ensures value { result.1.now ≡ value_in field.now }
+{
+    match around_char(field, ':') {
+        Some((name, value)) if name != "kind" => (Some(name), value),
+        Some((_, value)) => (None, value),
+        None => (None, field),
+    }
+}
+
+fn are_alphanumeric(bytes: &[u8]) -> bool
+    ensures { result ≡ list_all is_ascii_alphanumeric bytes.now }
+{
+    bytes.iter().all(|b| b.is_ascii_alphanumeric())
+}
+
+/// A letter, and then letters and digits.
+fn is_field_name(name: &str) -> bool
+    ensures { result ≡ is_field_name name.now }
+{
+    match name.as_bytes() {
+        [first, rest @ ..] => first.is_ascii_alphabetic() && are_alphanumeric(rest),
+        [] => false,
+    }
+}
+
+/// The fields of a tag as far as they were read.
+#[derive(Drop)]
+pub(crate) struct Gathered {
+    pub kind: Option<String>,
+    pub others: Vec<Field>,
+    /// No field was bad, and no second kind was there.
+    pub good: bool,
+}
+
+impl Gathered {
+    ghost use Rattle.tags.specs.Gathering.{Gathers, gathered_in};
+
+    /// Takes the next field. An `Err` is of memory or T05.
+    pub fn add(&mut self, alloc: Global, field: &str) -> Result<(), SplitFault>
+        ensures { Gathers result self.old self.new field.now }
+    {
+        let (name, written) = name_and_value(field);
+        let Some(value) = decode(alloc, written)? else {
+            return Err(SplitFault::Line(Code::T05));
+        };
+        match name {
+            Some(name) if is_field_name(name) => {
+                let name = String::from_str(alloc, name)?;
+                self.others.push(Field { name, value })?;
+            }
+            None if !written.is_empty() && self.kind.is_none() => self.kind = Some(value),
+            _ => self.good = false,
+        }
+        Ok(())
+    }
+}
+
+/// What the fields, joined by Tabs, say: the kind, and the others in order. An `Err` is of memory, T05 or
+/// T07.
+pub(crate) fn fields_of(alloc: Global, fields: Option<&[u8]>) -> Result<Gathered, SplitFault>
+    requires { ForSome fields (λ bs. IsUtf8 bs.now) }
+    ensures { Gives fields_value result (fields_of (each_field (option_map (λ bs. bs.now) fields.entry))) }
+{
+    let mut found = Gathered {
+        kind: None,
+        others: Vec::new(alloc),
+        good: true,
+    };
+    let mut rest = fields;
+    while let Some(bytes) = rest {
+        let (field, more) = first_field(bytes);
+        found.add(alloc, text_of(field))?;
+        rest = more;
+    }
+    if found.good {
+        Ok(found)
+    } else {
+        Err(SplitFault::Line(Code::T07))
+    }
+}

@@ -1,0 +1,45 @@
+ghost use Rattle.std.specs.Prelude.{◌≡◌, ◌+◌, ◌++◌, ◌∷◌, Err, Some, ℕ, List};
+ghost use Rattle.tags.specs.Bytes.{tab};
+ghost use Rattle.tags.specs.Escapes.{decoded};
+ghost use Rattle.tags.specs.Fault.{Reading, contents, IsFaultless, IsFirstFault};
+ghost use Rattle.tags.specs.Grammar.{HasFront, IsName, Spells, TagLine};
+ghost use Rattle.tags.specs.Lines.{Cuts, lines_of, with_last};
+ghost use Rattle.tags.specs.Parts.{parts_in};
+ghost use Rattle.tags.specs.Reading.{ordinary_of};
+ghost use Rattle.tags.specs.Said.{said_by, said_without_address};
+ghost use Rattle.tags.specs.Steps.{Summary, running, state_after, stopped, summary_of};
+ghost use Rattle.tags.specs.Written.{IsWritten};
+ghost use Rattle.tags.specs.declared.code.Code.{Code};
+ghost use Rattle.tags.specs.declared.code.Code.TheVariants.{T04};
+
+/// What is written by the grammar's pieces is read as the bytes that they stand for, and nothing else is
+/// read: a text that is written so has one meaning.
+pub fn escape_law()
+    ensures read { (written value : List ℕ) → IsWritten value written → decoded written ≡ Some value }
+    ensures written { (written value : List ℕ) → decoded written ≡ Some value → IsWritten value written }
+{}
+
+/// A line of the grammar has one cut and says one thing, and what isn't of the grammar has no tag.
+pub fn grammar_law()
+    ensures one_cut { (t u : TagLine) (line : List ℕ) → Spells t line → Spells u line → parts_in t ≡ parts_in u }
+    ensures one_tag { (t : TagLine) (line : List ℕ) → Spells t line → ordinary_of line ≡ said_by t }
+    ensures no_front { (line : List ℕ) → (HasFront line → ⊥) → ordinary_of line ≡ Err T04 }
+    ensures no_address { (line name file rest : List ℕ) → IsName name → IsName file
+        → line ≡ name ++ tab ∷ (file ++ tab ∷ rest) → ((t : TagLine) → Spells t line → ⊥)
+        → ordinary_of line ≡ said_without_address name file }
+{}
+
+/// There is one list of lines: the pieces that an LF ends, and a last one that isn't empty.
+pub fn lines_law()
+    ensures { (text : List ℕ) (pieces : List (List ℕ)) (last : List ℕ) → Cuts text pieces last
+        → lines_of text ≡ with_last pieces last }
+{}
+
+/// Where a reader of lines stops is the first fault. Where it doesn't there is none, and what it keeps is
+/// what has to be known of the lines.
+pub fn state_law()
+    ensures stopped { (lines : List Reading) (n : ℕ) (c : Code) → state_after lines ≡ stopped n c
+        → (k : ℕ) × (n ≡ k + 1) × IsFirstFault lines k c }
+    ensures running { (lines : List Reading) (s : Summary) → state_after lines ≡ running s
+        → IsFaultless lines × (s ≡ summary_of (contents lines)) }
+{}

@@ -1,0 +1,24 @@
+//! Tags files as Universal Ctags writes them: tags(5), format 2.
+#![tactic(auto)]
+
+mod address;
+mod around;
+mod code;
+mod content;
+mod cut;
+mod escape;
+mod fields;
+mod laws;
+mod parts;
+mod reader;
+mod tag;
+
+pub use code::{Code, LineFault, SplitFault, TagsFault};
+pub use escape::decode;
+pub use laws::{escape_law, grammar_law, lines_law, state_law};
+pub use parts::{Part, split};
+pub use reader::{TagReader, read_tags};
+pub use tag::{Field, Tag};
+
+#[cfg(test)]
+mod tests;
