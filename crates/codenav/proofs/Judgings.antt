@@ -1,5 +1,5 @@
 -- What the lines that a checker has taken say of the whole dump.
-use Rattle.std.proofs.Common.{◌≡◌, ◌∙◌, ◌++◌, ◌∷◌, [], ◌+◌, ◌-◌, ◌<◌, ℕ, List, length, map, fold, Option, None, Some, Result, Ok, Err, refl, sym, ap, subst, arith, rules, append-nil, append_assoc, length-append, true}
+use Rattle.std.proofs.Common.{◌≡◌, ◌∙◌, ◌++◌, ◌∷◌, [], ◌+◌, ◌-◌, ◌<◌, ℕ, List, length, map, fold, Option, None, Some, Result, Ok, Err, refl, sym, ap, subst, arith, rules, append-nil, append_assoc, length-append, Bool, true}
 use Rattle.std.proofs.lemmas.List.{length-map}
 use Rattle.std.proofs.lemmas.List.Sums.{fold-append}
 use Rattle.std.proofs.lemmas.Bool.{lt-ltb}
@@ -22,9 +22,9 @@ use Rattle.codenav.specs.declared.check.Report.TheVariants.{Sound, Faulty}
 
 -- ---- the reading of the next line
 
-pub given_fault : (left new : Option (List ℕ)) (line : List ℕ) (c : Code) → GivesLine left line new → reading line ≡ Err c → ReadsNext left (Some (Err c)) new
-given_fault None new line c g h = tt
-given_fault (Some text) new line c g h = (dump_of g.0, ap (map reading) g.2 ∙ ap (λ r. r ∷ dump_of g.0) h)
+pub given_fault : (left new : Option (List ℕ)) (line : List ℕ) (has_feed : Bool) (c : Code) → GivesLine left line has_feed new → reading line ≡ Err c → ReadsNext left (Some (Err c)) new
+given_fault None new line has_feed c g h = tt
+given_fault (Some text) new line has_feed c g h = (dump_of g.0, ap (map reading) g.2 ∙ ap (λ r. r ∷ dump_of g.0) h)
 
 long_reading : (line : List ℕ) → longest_line < length line → reading line ≡ Err L01
 unfolding reading

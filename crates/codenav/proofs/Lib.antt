@@ -1,2 +1,4 @@
 pub mod Calls
 pub mod Judgings
+pub mod TagsJudgings
+pub mod TagsLines

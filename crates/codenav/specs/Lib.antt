@@ -1,3 +1,5 @@
 pub mod Call
 pub mod Judging
 pub mod Report
+pub mod TagsJudging
+pub mod TagsReport

@@ -1,7 +1,7 @@
 //! What the program's words ask for.
 ghost use Rattle.std.specs.Prelude.{◌≡◌, ◌≢◌, List, Option, Some, None, IfOk, IfErr, MatchResult, map, option_map, false, codes};
-ghost use Rattle.clap.specs.Words.{app_of, found_of, kind_of, rows_of, rule_of, subcommand_of, subcommand_rows_of};
-ghost use Rattle.codenav.specs.Call.{IsMissing, IsRefused, ShowsError, app, call_of, call_value, check_lsif_app, check_lsif_of, top_app, word};
+ghost use Rattle.clap.specs.Words.{app_of, first_of, found_of, kind_of, rows_of, rule_of, subcommand_of, subcommand_rows_of};
+ghost use Rattle.codenav.specs.Call.{IsMissing, IsRefused, ShowsError, app, call_of, call_value, check_lsif_app, check_lsif_of, check_tags_app, check_tags_of, top_app, word};
 
 use clap::error::ErrorKind;
 use clap::{Arg, ArgAction, ArgMatches, Command, Error};
@@ -13,6 +13,8 @@ use std::convert::AsStr;
 pub enum Call<'a> {
     /// Check the dump in this file.
     CheckLsif { file: &'a str },
+    /// Check the tags file of this name.
+    CheckTags { file: &'a str },
 }
 
 /// Why the program's words are no call.
@@ -63,6 +65,13 @@ fn check_lsif<'a>(alloc: Global) -> Result<Command<'a>, AllocError>
     Command::new(alloc, "check-lsif").arg(word(alloc, "file"))
 }
 
+/// `check-tags FILE`.
+fn check_tags<'a>(alloc: Global) -> Result<Command<'a>, AllocError>
+    ensures { IfOk result (λ c. app_of c ≡ check_tags_app) }
+{
+    Command::new(alloc, "check-tags").arg(word(alloc, "file"))
+}
+
 /// The program with no subcommand yet.
 fn top<'a>(alloc: Global) -> Command<'a>
     ensures { app_of result ≡ top_app }
@@ -74,15 +83,34 @@ fn top<'a>(alloc: Global) -> Command<'a>
 fn command<'a>(alloc: Global) -> Result<Command<'a>, AllocError>
     ensures { IfOk result (λ c. app_of c ≡ app) }
 {
-    top(alloc).subcommand(check_lsif(alloc)?)
+    top(alloc)
+        .subcommand(check_lsif(alloc)?)?
+        .subcommand(check_tags(alloc)?)
+}
+
+/// The value of FILE among these matches.
+fn file_of<'a>(found: &ArgMatches<'a>) -> Option<&'a str>
+    ensures { option_map (λ file. file.now) result ≡ first_of (codes "file") (rows_of (found_of found.now)) }
+{
+    found.get_str("file")
 }
 
 /// The call of `check-lsif` with these matches.
 fn read_check_lsif<'a>(found: &ArgMatches<'a>) -> Option<Call<'a>>
     ensures { option_map call_value result ≡ check_lsif_of (rows_of (found_of found.now)) }
 {
-    match found.get_str("file") {
+    match file_of(found) {
         Some(file) => Some(Call::CheckLsif { file }),
+        None => None,
+    }
+}
+
+/// The call of `check-tags` with these matches.
+fn read_check_tags<'a>(found: &ArgMatches<'a>) -> Option<Call<'a>>
+    ensures { option_map call_value result ≡ check_tags_of (rows_of (found_of found.now)) }
+{
+    match file_of(found) {
+        Some(file) => Some(Call::CheckTags { file }),
         None => None,
     }
 }
@@ -93,6 +121,9 @@ fn read_subcommand<'a>(name: &str, found: &ArgMatches<'a>) -> Option<Call<'a>>
 {
     if name == "check-lsif" {
         return read_check_lsif(found);
+    }
+    if name == "check-tags" {
+        return read_check_tags(found);
     }
     None
 }

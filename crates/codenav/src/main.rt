@@ -3,9 +3,11 @@
 
 mod call;
 mod check;
+mod check_tags;
 
 use call::{Call, CallFault, read_call};
-use check::{CheckFault, check_lsif};
+use check::{CheckFault, Status, check_lsif};
+use check_tags::check_tags;
 use lsif::Counted;
 use std::alloc::Global;
 use std::io::ErrorKind;
@@ -28,7 +30,8 @@ fn run<R: Alloc<A = Global> + Env + Files + Print + Eprint>(rt: &R) -> u8 {
         Err(_) => return fail(rt, "cannot read the file"),
     };
     match read_call(rt.alloc(), words.as_slice()) {
-        Ok(Call::CheckLsif { file }) => check_file(rt, file),
+        Ok(Call::CheckLsif { file }) => check_dump(rt, file),
+        Ok(Call::CheckTags { file }) => check_tags_file(rt, file),
         Err(CallFault::Memory) => fail(rt, "out of memory"),
         Err(CallFault::Clap(error)) => show(rt, &error),
     }
@@ -43,16 +46,40 @@ fn read_words<R: Alloc<A = Global> + Env>(rt: &R) -> io::Result<Vec<String>> {
     Ok(words)
 }
 
+/// Opens the file of this name, or answers the exit status.
+fn open<R: Files + Eprint>(rt: &R, name: &str) -> Result<R::File, u8> {
+    match fs::open(rt, name) {
+        Ok(file) => Ok(file),
+        Err(error) if error.kind() == ErrorKind::OutOfMemory => Err(fail(rt, "out of memory")),
+        Err(_) => Err(fail(rt, "cannot read the file")),
+    }
+}
+
 /// `codenav check-lsif FILE`: prints the report of the dump in that file.
-fn check_file<R: Alloc<A = Global> + Files + Print + Eprint>(rt: &R, file: &str) -> u8 {
-    let file = match fs::open(rt, file) {
+fn check_dump<R: Alloc<A = Global> + Files + Print + Eprint>(rt: &R, name: &str) -> u8 {
+    let file = match open(rt, name) {
         Ok(file) => file,
-        Err(error) if error.kind() == ErrorKind::OutOfMemory => return fail(rt, "out of memory"),
-        Err(_) => return fail(rt, "cannot read the file"),
+        Err(status) => return status,
     };
     let mut r = Counted::new(file);
     let mut w = Counted::new(io::writer(rt));
-    match check_lsif(rt.alloc(), &mut r, &mut w) {
+    end(rt, check_lsif(rt.alloc(), &mut r, &mut w))
+}
+
+/// `codenav check-tags FILE`: prints the report of that tags file.
+fn check_tags_file<R: Alloc<A = Global> + Files + Print + Eprint>(rt: &R, name: &str) -> u8 {
+    let file = match open(rt, name) {
+        Ok(file) => file,
+        Err(status) => return status,
+    };
+    let mut r = Counted::new(file);
+    let mut w = Counted::new(io::writer(rt));
+    end(rt, check_tags(rt.alloc(), &mut r, &mut w))
+}
+
+/// The exit status of a check, after why it failed was printed.
+fn end(rt: &impl Eprint, answer: Result<Status, CheckFault>) -> u8 {
+    match answer {
         Ok(status) => status.exit_code(),
         Err(CheckFault::Memory) => fail(rt, "out of memory"),
         Err(CheckFault::Read) => fail(rt, "cannot read the file"),

@@ -1,6 +1,6 @@
 -- What was taken of the bytes, in the words of the lines of a text.
-use Rattle.std.proofs.Common.{◌≡◌, ◌∙◌, ℕ, ◌<◌, List, [], ◌∷◌, ◌++◌, Option, Some, None, Result, Ok, Err, length, refl, ap, sym, inl, inr, arith, length-append}
-use Rattle.lsif.specs.Lines.{Reader, lines_of, GivesLine, GivesNone, HasLongLine, NextLine}
+use Rattle.std.proofs.Common.{◌≡◌, ◌∙◌, ℕ, ◌<◌, List, [], ◌∷◌, ◌++◌, Option, Some, None, Result, Ok, Err, Bool, true, false, length, refl, ap, sym, inl, inr, arith, length-append}
+use Rattle.lsif.specs.Lines.{Reader, lines_of, BeginsWith, GivesLine, GivesNone, HasLongLine, NextLine}
 use Rattle.lsif.specs.Cutting.{HasNoFeed, TakesLine, TakesTold, EndsTold, BeginsLong, NextTaken}
 use Rattle.lsif.specs.declared.lines.LinesFault.{LinesFault}
 use Rattle.lsif.specs.declared.lines.LinesFault.TheVariants.{Memory, TooLong, Read}
@@ -10,16 +10,21 @@ no_lines : lines_of [] ≡ []
 unfolding lines_of
 no_lines = refl
 
-lines_of-takes : (text line rest : List ℕ) → TakesLine text line rest → lines_of text ≡ line ∷ lines_of rest
-lines_of-takes text line rest t =
+lines_of-takes : (text line : List ℕ) (has_feed : Bool) (rest : List ℕ) → TakesLine text line has_feed rest → lines_of text ≡ line ∷ lines_of rest
+lines_of-takes text line has_feed rest t =
     elim t.1 [
-      | inl e ↦ ap lines_of e ∙ lines_of-feed line rest (is_line line t.0)
-      | inr f ↦ ap lines_of f.1 ∙ lines_of-last line (is_line line t.0) f.0 ∙ ap (λ ls. line ∷ ls) (sym (ap lines_of f.2 ∙ no_lines))
+      | inl e ↦ ap lines_of e.1 ∙ lines_of-feed line rest (is_line line t.0)
+      | inr f ↦ ap lines_of f.2 ∙ lines_of-last line (is_line line t.0) f.1 ∙ ap (λ ls. line ∷ ls) (sym (ap lines_of f.3 ∙ no_lines))
     ]
 
-gives_line : (old : Option (List ℕ)) (line : List ℕ) (new : Option (List ℕ)) → TakesTold old line new → GivesLine old line new
-gives_line None line new t = tt
-gives_line (Some text) line new t = (t.0, t.1, lines_of-takes text line t.0 t.2)
+begins_with : (text line : List ℕ) (has_feed : Bool) (rest : List ℕ) → TakesLine text line has_feed rest → BeginsWith text line has_feed rest
+begins_with text line true rest t = elim t.1 [ | inl e ↦ e.1 | inr f ↦ cc (f.0) ]
+begins_with text line false rest t = elim t.1 [ | inl e ↦ cc (e.0) | inr f ↦ (f.1, f.2, f.3) ]
+
+gives_line : (old : Option (List ℕ)) (line : List ℕ) (has_feed : Bool) (new : Option (List ℕ)) → TakesTold old line has_feed new → GivesLine old line has_feed new
+gives_line None line has_feed new t = tt
+gives_line (Some text) line has_feed new t =
+    (t.0, t.1, lines_of-takes text line has_feed t.0 t.2, is_line line t.2.0, begins_with text line has_feed t.0 t.2)
 
 gives_none : (old new : Option (List ℕ)) → EndsTold old new → GivesNone old new
 gives_none None new t = tt
@@ -38,7 +43,7 @@ has_long_line longest (Some text) b = long_line longest text b.0 b.1 b.2 b.3 b.4
 
 pub next_line : (old : Reader) (result : Result (Option (List ℕ)) LinesFault) (new : Reader) → old.fault ≡ None
     → NextTaken old result new → NextLine old result new
-next_line old (Ok (Some line)) new none n = (none, n.0, n.1, n.2, n.3, gives_line old.left line new.left n.4)
+next_line old (Ok (Some line)) new none n = (none, n.0, n.1, n.2, n.3, gives_line old.left line new.has_feed new.left n.4)
 next_line old (Ok None) new none n = (none, n.0, n.1, n.2, gives_none old.left new.left n.3)
 next_line old (Err Memory) new none n = absurd n.2
 next_line old (Err TooLong) new none n = (λ e. cc, n.0, inr (none, n.1, (n.2.0, has_long_line old.longest old.left n.2.1)))

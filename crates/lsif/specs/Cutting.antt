@@ -1,5 +1,5 @@
 -- How the next line is found among the bytes in hand.
-use Rattle.std.specs.Prelude.{◌≡◌, ◌≢◌, ℕ, ◌+◌, ◌<◌, ◌≤◌, ◌⊎◌, List, [], ◌∷◌, ◌++◌, length, take, drop, Option, Some, None, Result, Ok, Err, ⊤, All}
+use Rattle.std.specs.Prelude.{◌≡◌, ◌≢◌, ℕ, ◌+◌, ◌<◌, ◌≤◌, ◌⊎◌, List, [], ◌∷◌, ◌++◌, length, take, drop, Option, Some, None, Result, Ok, Err, ⊤, All, Bool, true, false}
 use Rattle.lsif.specs.Ends.{AtEnd}
 use Rattle.lsif.specs.Lines.{Reader, line_feed}
 use Rattle.lsif.specs.declared.lines.LinesFault.{LinesFault}
@@ -43,13 +43,15 @@ KeepsTold (Err Memory) P = P
 KeepsTold (Ok a) P = P
 
 -- the text is the line, its line feed and the rest, or it ends with the line, which isn't empty
-abbrev pub TakesLine : List ℕ → List ℕ → List ℕ → Type 0
-TakesLine text line rest =
-    HasNoFeed line × ((text ≡ line ++ line_feed ∷ rest) ⊎ ((0 < length line) × (text ≡ line) × (rest ≡ [])))
+abbrev pub TakesLine : List ℕ → List ℕ → Bool → List ℕ → Type 0
+TakesLine text line has_feed rest =
+    HasNoFeed line
+    × (((has_feed ≡ true) × (text ≡ line ++ line_feed ∷ rest))
+    ⊎ ((has_feed ≡ false) × (0 < length line) × (text ≡ line) × (rest ≡ [])))
 
-abbrev pub TakesTold : Option (List ℕ) → List ℕ → Option (List ℕ) → Type 0
-TakesTold None line new = ⊤
-TakesTold (Some text) line new = (rest : List ℕ) × (new ≡ Some rest) × TakesLine text line rest
+abbrev pub TakesTold : Option (List ℕ) → List ℕ → Bool → Option (List ℕ) → Type 0
+TakesTold None line has_feed new = ⊤
+TakesTold (Some text) line has_feed new = (rest : List ℕ) × (new ≡ Some rest) × TakesLine text line has_feed rest
 
 abbrev pub EndsTold : Option (List ℕ) → Option (List ℕ) → Type 0
 EndsTold None new = ⊤
@@ -70,7 +72,7 @@ FaultsBy old Read new = new.failures ≡ old.failures + 1
 abbrev pub NextTaken : Reader → Result (Option (List ℕ)) LinesFault → Reader → Type 0
 NextTaken old (Ok (Some line)) new =
     (new.fault ≡ None) × (new.failures ≡ old.failures) × (new.longest ≡ old.longest)
-    × (length line ≤ old.longest) × TakesTold old.left line new.left
+    × (length line ≤ old.longest) × TakesTold old.left line new.has_feed new.left
 NextTaken old (Ok None) new =
     (new.fault ≡ None) × (new.failures ≡ old.failures) × (new.longest ≡ old.longest) × EndsTold old.left new.left
 NextTaken old (Err fault) new = (new.fault ≡ Some fault) × (new.longest ≡ old.longest) × FaultsBy old fault new

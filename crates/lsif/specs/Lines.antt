@@ -36,13 +36,14 @@ Cuts text lines =
     × (lines ≡ front ++ last ∷ []) × (0 < length last) × (text ≡ flat_map ended front ++ last)))
 
 -- what lines are read from: the bytes not handed out, where they are told, the longest line, the reader's failures,
--- the fault that is answered for good, and the line that came last
+-- the fault that is answered for good, the line that came last, and whether a line feed ended it
 pub record Reader : Type 0 where
   pub left : Option (List ℕ)
   pub longest : ℕ
   pub failures : ℕ
   pub fault : Option LinesFault
   pub line : List ℕ
+  pub has_feed : Bool
 
 -- what cuts lines: the bytes in hand that weren't handed out, and the rest of a `Reader` but for its failures
 pub record Cutter : Type 0 where
@@ -50,16 +51,23 @@ pub record Cutter : Type 0 where
   pub longest : ℕ
   pub fault : Option LinesFault
   pub line : List ℕ
+  pub has_feed : Bool
 
 -- what cuts lines, over a reader with this left and so many failures
 abbrev pub over : Cutter → Option (List ℕ) → ℕ → Reader
 over cutter left failures =
-    record { left = told cutter.pending left; longest = cutter.longest; failures = failures; fault = cutter.fault; line = cutter.line }
+    record { left = told cutter.pending left; longest = cutter.longest; failures = failures; fault = cutter.fault; line = cutter.line; has_feed = cutter.has_feed }
 
--- of told bytes this is the first line, and the others are the lines of what is told after it
-abbrev pub GivesLine : Option (List ℕ) → List ℕ → Option (List ℕ) → Type 0
-GivesLine None line new = ⊤
-GivesLine (Some text) line new = (rest : List ℕ) × (new ≡ Some rest) × (lines_of text ≡ line ∷ lines_of rest)
+-- the text is the line, its line feed and the rest; without a line feed it is the line alone, which isn't empty
+abbrev pub BeginsWith : List ℕ → List ℕ → Bool → List ℕ → Type 0
+BeginsWith text line true rest = text ≡ line ++ line_feed ∷ rest
+BeginsWith text line false rest = (0 < length line) × (text ≡ line) × (rest ≡ [])
+
+-- of told bytes this is the first line, with or without a line feed, and the others are the lines of what is told after it
+abbrev pub GivesLine : Option (List ℕ) → List ℕ → Bool → Option (List ℕ) → Type 0
+GivesLine None line has_feed new = ⊤
+GivesLine (Some text) line has_feed new =
+    (rest : List ℕ) × (new ≡ Some rest) × (lines_of text ≡ line ∷ lines_of rest) × IsLine line × BeginsWith text line has_feed rest
 
 -- told bytes have no line, and none is left
 abbrev pub GivesNone : Option (List ℕ) → Option (List ℕ) → Type 0
@@ -82,7 +90,7 @@ Faults old Read new = new.failures ≡ old.failures + 1
 abbrev pub NextLine : Reader → Result (Option (List ℕ)) LinesFault → Reader → Type 0
 NextLine old (Ok (Some line)) new =
     (old.fault ≡ None) × (new.fault ≡ None) × (new.failures ≡ old.failures) × (new.longest ≡ old.longest)
-    × (length line ≤ old.longest) × GivesLine old.left line new.left
+    × (length line ≤ old.longest) × GivesLine old.left line new.has_feed new.left
 NextLine old (Ok None) new =
     (old.fault ≡ None) × (new.fault ≡ None) × (new.failures ≡ old.failures) × (new.longest ≡ old.longest)
     × GivesNone old.left new.left

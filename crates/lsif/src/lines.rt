@@ -1,5 +1,5 @@
 //! Lines of a reader.
-ghost use Rattle.std.specs.Prelude.{◌≡◌, ◌≢◌, ℕ, ◌+◌, ◌-◌, ◌^◌, ◌<◌, ◌≤◌, List, [], ◌∷◌, ◌++◌, drop, take, Option, Some, None, IfOk, IfErr, MatchOption, MatchResult, length};
+ghost use Rattle.std.specs.Prelude.{◌≡◌, ◌≢◌, ℕ, ◌+◌, ◌-◌, ◌^◌, ◌<◌, ◌≤◌, List, [], ◌∷◌, ◌++◌, drop, take, Option, Some, None, IfOk, IfErr, MatchOption, MatchResult, length, false};
 ghost use Rattle.lsif.specs.Cutting.{HasNoFeed, IsFirstFeed, Scans, CountsRead, KeepsTold, NextTaken};
 ghost use Rattle.lsif.specs.Ends.{AtEnd};
 ghost use Rattle.lsif.specs.Held.{SameTold, told};
@@ -54,12 +54,12 @@ pub struct LineBuffer {
 }
 
 impl Model for LineBuffer {
-    ghost use Rattle.std.specs.Prelude.{◌≡◌, ◌≤◌, ◌+◌, length, drop, take};
+    ghost use Rattle.std.specs.Prelude.{◌≡◌, ◌≤◌, ◌+◌, length, drop, nat_lt, take};
     ghost use Rattle.lsif.specs.Lines.{Cutter, IsLater};
 
     ghost Value = { Cutter };
 
-    ghost view = { λ l. record { pending = drop l.given l.buffer.pending; longest = l.longest; fault = l.fault; line = take l.line_len l.buffer.pending } };
+    ghost view = { λ l. record { pending = drop l.given l.buffer.pending; longest = l.longest; fault = l.fault; line = take l.line_len l.buffer.pending; has_feed = nat_lt l.line_len l.given } };
 
     ghost invariant = { λ l. (l.given ≤ length l.buffer.pending) × (l.line_len ≤ l.given) × (l.buffer.capacity ≡ l.longest + 1) × IsLater l.fault };
 }
@@ -140,7 +140,7 @@ impl LineBuffer {
     /// Room for lines of at most `longest` bytes, each without its line feed.
     pub fn new(alloc: Global, longest: usize) -> Result<LineBuffer, LinesFault>
         requires { longest < 2 ^ 64 - 1 }
-        ensures { MatchResult result (λ l. l ≡ record { pending = []; longest = longest; fault = None; line = [] }) (λ fault. fault ≡ LinesFault.Memory) }
+        ensures { MatchResult result (λ l. l ≡ record { pending = []; longest = longest; fault = None; line = []; has_feed = false }) (λ fault. fault ≡ LinesFault.Memory) }
     {
         let buffer = Buffer::new(alloc, longest + 1)?;
         Ok(LineBuffer {
@@ -197,6 +197,13 @@ impl LineBuffer {
     {
         &self.buffer.pending()[..self.line_len]
     }
+
+    /// Whether a line feed ended the line that came last. Only a line that the reader's end ended has none.
+    pub fn has_feed(&self) -> bool
+        ensures { result ≡ self.now.has_feed }
+    {
+        self.line_len < self.given
+    }
 }
 
 impl<S: Source> Lines<S> {
@@ -205,7 +212,7 @@ impl<S: Source> Lines<S> {
     where
         S: Drop,
         requires { longest < 2 ^ 64 - 1 }
-        ensures { MatchResult result (λ l. l ≡ record { left = S.left source; longest = longest; failures = S.failed source; fault = None; line = [] }) (λ fault. fault ≡ LinesFault.Memory) }
+        ensures { MatchResult result (λ l. l ≡ record { left = S.left source; longest = longest; failures = S.failed source; fault = None; line = []; has_feed = false }) (λ fault. fault ≡ LinesFault.Memory) }
     {
         let lines = LineBuffer::new(alloc, longest)?;
         Ok(Lines { source, lines })

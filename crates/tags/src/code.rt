@@ -1,5 +1,5 @@
 ghost use Rattle.std.specs.Prelude.{◌≡◌};
-ghost use Rattle.tags.specs.Codes.{text_of};
+ghost use Rattle.tags.specs.Codes.{name_of, text_of};
 ghost use Rattle.tags.specs.declared.code.TagsFault.TheVariants as tags_fault;
 ghost use Rattle.tags.specs.declared.code.SplitFault.TheVariants as split_fault;
 
@@ -33,6 +33,25 @@ pub enum Code {
 }
 
 impl Code {
+    /// The code as it is printed.
+    pub fn name(self) -> &'static str
+        ensures { result.now ≡ name_of self }
+    {
+        match self {
+            Code::T01 => "T01",
+            Code::T02 => "T02",
+            Code::T03 => "T03",
+            Code::T04 => "T04",
+            Code::T05 => "T05",
+            Code::T06 => "T06",
+            Code::T07 => "T07",
+            Code::T08 => "T08",
+            Code::T09 => "T09",
+            Code::T10 => "T10",
+            Code::T11 => "T11",
+        }
+    }
+
     /// The text that reports and replies print for the code.
     pub fn text(self) -> &'static str
         ensures { result.now ≡ text_of self }

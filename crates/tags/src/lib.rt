@@ -17,7 +17,7 @@ pub use code::{Code, LineFault, SplitFault, TagsFault};
 pub use escape::decode;
 pub use laws::{escape_law, grammar_law, lines_law, state_law};
 pub use parts::{Part, split};
-pub use reader::{TagReader, read_tags};
+pub use reader::{LONGEST_LINE, TagReader, read_tags};
 pub use tag::{Field, Tag};
 
 #[cfg(test)]

@@ -13,7 +13,7 @@ use std::alloc::{AllocError, Global};
 use std::marker::Model;
 
 /// How many bytes a line may have, with its CR.
-const LONGEST_LINE: usize = 65536;
+pub const LONGEST_LINE: usize = 65536;
 
 /// How many lines a tags file may have.
 const MOST_LINES: u32 = 100000;

@@ -192,19 +192,20 @@ fn parts(rt: HostRuntime) -> Result<(), Fail> {
 #[test]
 fn texts(rt: HostRuntime) {
     let table = [
-        (Code::T01, "line too long"),
-        (Code::T02, "not UTF-8"),
-        (Code::T03, "control character"),
-        (Code::T04, "fewer than three parts"),
-        (Code::T05, "bad escape"),
-        (Code::T06, "bad address"),
-        (Code::T07, "bad field"),
-        (Code::T08, "format is not 2"),
-        (Code::T09, "pseudo-tag after a tag"),
-        (Code::T10, "names descend"),
-        (Code::T11, "too many lines"),
+        (Code::T01, "T01", "line too long"),
+        (Code::T02, "T02", "not UTF-8"),
+        (Code::T03, "T03", "control character"),
+        (Code::T04, "T04", "fewer than three parts"),
+        (Code::T05, "T05", "bad escape"),
+        (Code::T06, "T06", "bad address"),
+        (Code::T07, "T07", "bad field"),
+        (Code::T08, "T08", "format is not 2"),
+        (Code::T09, "T09", "pseudo-tag after a tag"),
+        (Code::T10, "T10", "names descend"),
+        (Code::T11, "T11", "too many lines"),
     ];
-    for (code, text) in table {
+    for (code, name, text) in table {
+        assert_eq!(rt; code.name(), name);
         assert_eq!(rt; code.text(), text);
     }
 }

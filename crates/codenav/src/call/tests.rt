@@ -10,6 +10,11 @@ fn reads_a_call(rt: HostRuntime) -> Result<(), Fail> {
             Ok(call) => assert_eq!(rt; call, Call::CheckLsif { file }),
             Err(_) => panic!(rt; "{file:?} is refused"),
         }
+        let words = ["codenav", "check-tags", file];
+        match read_call(rt.alloc(), words.as_slice()) {
+            Ok(call) => assert_eq!(rt; call, Call::CheckTags { file }),
+            Err(_) => panic!(rt; "{file:?} is refused"),
+        }
     }
     Ok(())
 }
@@ -20,6 +25,10 @@ fn refuses_words(rt: HostRuntime) {
         (["codenav"].as_slice(), ErrorKind::MissingSubcommand),
         (
             ["codenav", "check-lsif"].as_slice(),
+            ErrorKind::MissingRequiredArgument,
+        ),
+        (
+            ["codenav", "check-tags"].as_slice(),
             ErrorKind::MissingRequiredArgument,
         ),
         (

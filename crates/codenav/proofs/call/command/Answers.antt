@@ -6,7 +6,9 @@ use Rattle.codenav.proofs.call.command.Goals as goal
 
 pub returns : goal.returns
 returns c =
-    let local = (plain_fields c.in_ok-check_lsif.field-0 (ap (λ (a : App). a.top.is_plain) c.in_ok-check_lsif.ensures)).globals in
-    IfOk-weaker c.subcommand.result _ _
-    (λ m h. h.shape local ∙ ap₂ with_subcommand c.top.ensures (ap (λ (a : App). a.top) c.in_ok-check_lsif.ensures))
-    c.subcommand.ensures
+    let lsif_local = (plain_fields c.in_ok-check_lsif.field-0 (ap (λ (a : App). a.top.is_plain) c.in_ok-check_lsif.ensures)).globals in
+    let tags_local = (plain_fields c.in_ok-check_tags.field-0 (ap (λ (a : App). a.top.is_plain) c.in_ok-check_tags.ensures)).globals in
+    let first = c.in_ok-subcommand.ensures.shape lsif_local ∙ ap₂ with_subcommand c.top.ensures (ap (λ (a : App). a.top) c.in_ok-check_lsif.ensures) in
+    IfOk-weaker c.subcommand-2.result _ _
+    (λ m h. h.shape tags_local ∙ ap₂ with_subcommand first (ap (λ (a : App). a.top) c.in_ok-check_tags.ensures))
+    c.subcommand-2.ensures

@@ -10,5 +10,5 @@ loop-n-preserved g c =
     let step = rw (c.in-Ok-Some.is, c.in-Ok-Some.field-0-is) at c.next_line.follows.holds-at-none in
     record {
       failures = step.2 ∙ c.loop-n.invariant.failures;
-      seen = seen_more _ _ _ _ _ c.loop-n.invariant.seen step.5;
+      seen = seen_more _ _ _ _ _ _ c.loop-n.invariant.seen step.5;
     }

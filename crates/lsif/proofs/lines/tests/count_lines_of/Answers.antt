@@ -10,5 +10,5 @@ loop-n-preserved g c =
     let step = rw (c.in-Ok-true.is, c.in-Ok-true.field-0-test) at c.advance.ensures in
     record {
       failures = step.2 ∙ c.loop-n.invariant.failures;
-      seen = seen_more _ _ _ _ _ c.loop-n.invariant.seen step.5;
+      seen = seen_more _ _ _ _ _ _ c.loop-n.invariant.seen step.5;
     }

@@ -1,0 +1,21 @@
+use Rattle.std.proofs.Common.{◌≡◌, ◌∙◌, refl, rules}
+use Rattle.lsif.specs.Held.{told}
+use Rattle.tags.specs.declared.code.Code.TheVariants.{T01}
+use Rattle.codenav.proofs.TagsJudgings.{fed_code, fed_line}
+use Rattle.codenav.proofs.TagsLines.{long_line, reads_line, reads_none}
+use Rattle.codenav.proofs.check_tags.take_line.Goals as goal
+
+pub returns-in-Ok-true-clause-takes : goal.returns-in-Ok-true-clause-takes
+returns-in-Ok-true-clause-takes g c =
+    let step = rw (c.in-Ok-true.is, c.in-Ok-true.field-0-test) at c.advance.ensures in
+    fed_line c.feed.result _ _ _ _ _ c.advance.new.self (reads_line _ _ _ _ step.5) (step.1, step.3 ∙ c.requires.ready.1)
+    (rw (c.line.ensures, c.has_feed.ensures) at c.feed.ensures)
+
+pub returns-in-Ok-false-clause-takes : goal.returns-in-Ok-false-clause-takes
+returns-in-Ok-false-clause-takes g c =
+    let step = rw (c.in-Ok-false.is, c.in-Ok-false.field-0-test) at c.advance.ensures in
+    (refl, reads_none _ _ step.4)
+
+pub returns-in-Err-TooLong-clause-takes : goal.returns-in-Err-TooLong-clause-takes
+returns-in-Err-TooLong-clause-takes g c =
+    fed_code _ _ _ T01 _ _ _ (long_line _ (search rules)) c.feed-in-Err-TooLong.ensures

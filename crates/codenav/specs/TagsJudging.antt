@@ -1,0 +1,64 @@
+-- What the parts of a check of a tags file answer.
+use Rattle.std.specs.Prelude.{◌≡◌, ℕ, ◌+◌, ◌-◌, List, [], ◌∷◌, length, fold, Option, Some, None, Result, Ok, Err, ⊤}
+use Rattle.lsif.specs.Lines.{Cutter}
+use Rattle.tags.specs.Fault.{Reading, most_lines}
+use Rattle.tags.specs.Lines.{longest_line, readings_of}
+use Rattle.tags.specs.Steps.{State, Summary, running, stopped, next, state_after, IsRunning}
+use Rattle.codenav.specs.declared.check.CheckFault.{CheckFault}
+use Rattle.codenav.specs.declared.check.CheckFault.TheVariants as faults
+use Rattle.codenav.specs.declared.check_tags.Step.{Step}
+use Rattle.codenav.specs.declared.check_tags.Step.TheVariants as steps
+use Rattle.codenav.specs.declared.check_tags.TagsReport.{TagsReport}
+use Rattle.codenav.specs.declared.check_tags.TagsReport.TheVariants.{Sound, Faulty}
+
+-- what is answered for a line that leads to this state
+abbrev pub Feeds : Result Step CheckFault → State → State → Type 0
+Feeds (Ok steps.Good) new to = (new ≡ to) × IsRunning to
+Feeds (Ok (steps.Faulty f)) new to = to ≡ stopped f.line f.code
+Feeds (Ok steps.End) new to = ⊥
+Feeds (Err faults.Memory) new to = ⊤
+Feeds (Err faults.Read) new to = ⊥
+Feeds (Err faults.Write) new to = ⊥
+
+-- the first line of told bytes reads so
+abbrev pub BeginsSo : Option (List ℕ) → Reading → Type 0
+BeginsSo None line = ⊤
+BeginsSo (Some text) line = (others : List Reading) × (readings_of text ≡ line ∷ others)
+
+-- the first line of told bytes reads so, and the bytes left hold the other lines
+abbrev pub ReadsFirst : Option (List ℕ) → Reading → Option (List ℕ) → Type 0
+ReadsFirst None line left = ⊤
+ReadsFirst (Some text) line left = (rest : List ℕ) × (left ≡ Some rest) × (readings_of text ≡ line ∷ readings_of rest)
+
+-- told bytes have no line
+abbrev pub ReadsNone : Option (List ℕ) → Type 0
+ReadsNone None = ⊤
+ReadsNone (Some text) = readings_of text ≡ []
+
+-- lines of the longest length that a tags file may have, before any fault
+abbrev pub IsReady : Cutter → Type 0
+IsReady lines = (lines.fault ≡ None) × (lines.longest ≡ longest_line)
+
+-- what a step says of the bytes and the states before it and after it
+abbrev pub Takes : Option (List ℕ) → State → Step → State → Cutter → Option (List ℕ) → Type 0
+Takes left old steps.Good new lines left' =
+    (line : Reading) × ReadsFirst left line left' × (new ≡ next old line) × IsRunning new × IsReady lines
+Takes left old (steps.Faulty f) new lines left' =
+    (line : Reading) × BeginsSo left line × (next old line ≡ stopped f.line f.code)
+Takes left old steps.End new lines left' = (new ≡ old) × ReadsNone left
+
+-- of told bytes the lines that are left lead from this state to that of the whole file
+abbrev pub HasTaken : Option (List ℕ) → State → Option (List ℕ) → Type 0
+HasTaken None state left = ⊤
+HasTaken (Some text) state left =
+    (rest : List ℕ) × (left ≡ Some rest) × (fold next state (readings_of rest) ≡ state_after (readings_of text))
+
+-- how many lines a reader may still take, and one more
+abbrev pub room_of : State → ℕ
+room_of (running s) = most_lines + 1 - s.count
+room_of (stopped n c) = 0
+
+-- what the end of the lines says of the state
+abbrev pub Concludes : State → TagsReport → Type 0
+Concludes state (Sound n) = (s : Summary) × (state ≡ running s) × (n ≡ length s.tags)
+Concludes state (Faulty f) = state ≡ stopped f.line f.code

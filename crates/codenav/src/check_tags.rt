@@ -1,0 +1,153 @@
+//! `codenav check-tags`: the report of a tags file.
+ghost use Rattle.std.specs.Prelude.{◌≡◌, ◌-◌, ◌^◌, ◌<◌, IfOk, string_bytes};
+ghost use Rattle.lsif.specs.Held.{told};
+ghost use Rattle.tags.specs.Faults.{result_map};
+ghost use Rattle.tags.specs.Lines.{handed};
+ghost use Rattle.tags.specs.Steps.{next};
+ghost use Rattle.codenav.specs.Report.{CountsCheck};
+ghost use Rattle.codenav.specs.Judging.{CountsRead};
+ghost use Rattle.codenav.specs.TagsReport.{ReportsOf, report_text, status_of, Checks};
+ghost use Rattle.codenav.specs.TagsJudging.{Concludes, Feeds, IsReady, Takes};
+
+use crate::check::{CheckFault, Status};
+use lsif::{LineBuffer, LinesFault, Sink, Source, push_all};
+use std::alloc::{AllocError, Global};
+use tags::{Code, LONGEST_LINE, LineFault, TagReader, TagsFault, state_law};
+
+/// What a check of a tags file found.
+#[derive(Clone, Copy, Debug, PartialEq, Eq)]
+pub enum TagsReport {
+    /// No fault, and how many ordinary tags there are.
+    Sound(usize),
+    /// The first faulty line.
+    Faulty(LineFault),
+}
+
+/// What a step of a check came upon.
+#[derive(Clone, Copy, Debug, PartialEq, Eq)]
+enum Step {
+    /// A line without fault.
+    Good,
+    /// The first faulty line.
+    Faulty(LineFault),
+    /// No further line.
+    End,
+}
+
+impl TagsReport {
+    /// Whether what was checked is sound.
+    pub fn status(self) -> Status
+        ensures { result ≡ status_of self }
+    {
+        match self {
+            TagsReport::Sound(_) => Status::Sound,
+            TagsReport::Faulty(_) => Status::Faulty,
+        }
+    }
+}
+
+/// The line that is printed, with its line feed.
+fn report_text(alloc: Global, report: TagsReport) -> Result<String, AllocError>
+    ensures { IfOk result (λ text. string_bytes text ≡ report_text report) }
+{
+    match report {
+        TagsReport::Sound(tags) => format!(in alloc; "ok {tags} tags\n"),
+        TagsReport::Faulty(fault) => {
+            let line = fault.line;
+            let name = fault.code.name();
+            let text = fault.code.text();
+            format!(in alloc; "line {line}: {name} {text}\n")
+        }
+    }
+}
+
+/// Feeds the reader a line, or the code of one that was too long to be lent.
+fn feed(
+    reader: &mut TagReader,
+    line: Result<&[u8], Code>,
+    has_feed: bool,
+) -> Result<Step, CheckFault>
+    ensures { Feeds result reader.new (next reader.old (handed (result_map (λ bytes. bytes.now) line.entry) has_feed)) }
+{
+    match reader.feed(line, has_feed) {
+        Ok(()) => Ok(Step::Good),
+        Err(TagsFault::Line(fault)) => Ok(Step::Faulty(fault)),
+        Err(TagsFault::Memory) => Err(CheckFault::Memory),
+    }
+}
+
+/// Takes the next line.
+fn take_line<R: Source>(
+    lines: &mut LineBuffer,
+    r: &mut R,
+    reader: &mut TagReader,
+) -> Result<Step, CheckFault>
+    requires count { R.failed r.old < 2 ^ 64 - 1 }
+    requires ready { IsReady lines.old }
+    ensures takes { IfOk result (λ step. Takes (told lines.old.pending (R.left r.old)) reader.old step reader.new lines.new (told lines.new.pending (R.left r.new))) }
+    ensures counted { CountsRead (R.failed r.old) (R.failed r.new) result }
+{
+    match lines.advance(r) {
+        Ok(true) => feed(reader, Ok(lines.line()), lines.has_feed()),
+        Ok(false) => Ok(Step::End),
+        Err(LinesFault::TooLong) => feed(reader, Err(Code::T01), false),
+        Err(LinesFault::Read) => Err(CheckFault::Read),
+        Err(LinesFault::Memory) => Err(CheckFault::Memory),
+    }
+}
+
+/// What the end of the lines says.
+fn conclude(reader: TagReader) -> TagsReport
+    ensures { Concludes reader result }
+{
+    match reader.finish() {
+        Ok(tags) => TagsReport::Sound(tags.len()),
+        Err(TagsFault::Line(fault)) => TagsReport::Faulty(fault),
+        Err(TagsFault::Memory) => unreachable!(),
+    }
+}
+
+/// The report of a reader's bytes.
+fn judge<R: Source>(alloc: Global, r: &mut R) -> Result<TagsReport, CheckFault>
+    requires { R.failed r.old < 2 ^ 64 - 1 }
+    ensures report { IfOk result (λ report. ReportsOf (R.left r.old) report) }
+    ensures counted { CountsRead (R.failed r.old) (R.failed r.new) result }
+{
+    state_law();
+    let Ok(mut lines) = LineBuffer::new(alloc, LONGEST_LINE) else {
+        return Err(CheckFault::Memory);
+    };
+    let mut reader = TagReader::new(alloc);
+    'reading: loop {
+        match take_line(&mut lines, r, &mut reader)? {
+            Step::Good => {}
+            Step::Faulty(fault) => return Ok(TagsReport::Faulty(fault)),
+            Step::End => return Ok(conclude(reader)),
+        }
+    }
+}
+
+/// Reads a tags file from a reader to its end, or up to its first faulty line, and writes the line of its report:
+/// `ok N tags`, the ordinary ones, or `line N: CODE text`. Keeps the file's tags, and of its bytes one line. Refuses
+/// where memory was refused, the reader failed, or the writer failed or took no byte.
+pub fn check_tags<R: Source, W: Sink>(
+    alloc: Global,
+    r: &mut R,
+    w: &mut W,
+) -> Result<Status, CheckFault>
+    requires reads { R.failed r.old < 2 ^ 64 - 1 }
+    requires writes { W.failed w.old < 2 ^ 64 - 1 }
+    requires idles { W.idle w.old < 2 ^ 64 - 1 }
+    ensures checks { Checks (R.left r.old) (W.taken w.old) (W.taken w.new) result }
+    ensures counted { CountsCheck (R.failed r.old) (W.failed w.old) (W.idle w.old) (R.failed r.new) (W.failed w.new) (W.idle w.new) result }
+{
+    let report = judge(alloc, r)?;
+    let text = report_text(alloc, report)?;
+    match push_all(w, text.as_bytes()) {
+        Ok(()) => Ok(report.status()),
+        Err(_) => Err(CheckFault::Write),
+    }
+}
+
+#[cfg(test)]
+mod tests;
