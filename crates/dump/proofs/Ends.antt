@@ -8,7 +8,7 @@ use Rattle.lsif.specs.declared.code.Code.{Code}
 use Rattle.lsif.specs.declared.code.Code.TheVariants.{L04, L06, L09, L10, L11, L12, L13, L14, L16, L19, L20}
 use Rattle.lsif.specs.Element.{IdValue, same_id, contains, next, definition, item, other_edge, ElementValue, vertex, edge}
 use Rattle.dump.specs.Walks.{Pair, first_to, IsChain, ends, links, HasChain, Path, stays, goes, next_pairs, next_in}
-use Rattle.dump.specs.Conditions.{order_code, order_condition, leaves_again, closes_cycle}
+use Rattle.dump.specs.Conditions.{order_code, order_condition, has_used_id, joins_no_vertex, may_not_join, is_contained_again, is_conflicting, leaves_again, closes_cycle}
 use Rattle.dump.specs.Steps as steps
 use Rattle.dump.specs.Steps.{Progress, running, stopped, advance, progress, IsSound}
 use Rattle.dump.proofs.SameIds.{same_id_eq, same_id_self}
@@ -102,20 +102,37 @@ find_none p c cs e = by (p c) refl e
     by true same h = cc
     by false same h = (same, h)
 
--- without a code no vertex is left again, and no cycle is closed
-pub no_cycle : (before : List ElementValue) (x : ElementValue) → order_code before x ≡ None → (leaves_again before x ≡ false) × (closes_cycle before x ≡ false)
+-- what an element without a code is not
+pub record HasNoCode (before : List ElementValue) (x : ElementValue) : Type 0 where
+  pub fresh : has_used_id before x ≡ false
+  pub ends : joins_no_vertex before x ≡ false
+  pub joins : may_not_join before x ≡ false
+  pub again : is_contained_again before x ≡ false
+  pub conflict : is_conflicting before x ≡ false
+  pub single : leaves_again before x ≡ false
+  pub cycle : closes_cycle before x ≡ false
+
+pub no_code : (before : List ElementValue) (x : ElementValue) → order_code before x ≡ None → HasNoCode before x
 unfolding order_code
-no_cycle before x e =
+no_code before x e =
     let p = order_condition before x in
-    let after_04 = (find_none p L04 (L06 ∷ L09 ∷ L10 ∷ L11 ∷ L12 ∷ L13 ∷ L14 ∷ L16 ∷ L19 ∷ L20 ∷ []) e).1 in
-    let after_06 = (find_none p L06 (L09 ∷ L10 ∷ L11 ∷ L12 ∷ L13 ∷ L14 ∷ L16 ∷ L19 ∷ L20 ∷ []) after_04).1 in
-    let after_09 = (find_none p L09 (L10 ∷ L11 ∷ L12 ∷ L13 ∷ L14 ∷ L16 ∷ L19 ∷ L20 ∷ []) after_06).1 in
-    let after_10 = (find_none p L10 (L11 ∷ L12 ∷ L13 ∷ L14 ∷ L16 ∷ L19 ∷ L20 ∷ []) after_09).1 in
-    let after_11 = (find_none p L11 (L12 ∷ L13 ∷ L14 ∷ L16 ∷ L19 ∷ L20 ∷ []) after_10).1 in
-    let after_12 = (find_none p L12 (L13 ∷ L14 ∷ L16 ∷ L19 ∷ L20 ∷ []) after_11).1 in
-    let at_13 = find_none p L13 (L14 ∷ L16 ∷ L19 ∷ L20 ∷ []) after_12 in
+    let at_04 = find_none p L04 (L06 ∷ L09 ∷ L10 ∷ L11 ∷ L12 ∷ L13 ∷ L14 ∷ L16 ∷ L19 ∷ L20 ∷ []) e in
+    let at_06 = find_none p L06 (L09 ∷ L10 ∷ L11 ∷ L12 ∷ L13 ∷ L14 ∷ L16 ∷ L19 ∷ L20 ∷ []) at_04.1 in
+    let at_09 = find_none p L09 (L10 ∷ L11 ∷ L12 ∷ L13 ∷ L14 ∷ L16 ∷ L19 ∷ L20 ∷ []) at_06.1 in
+    let at_10 = find_none p L10 (L11 ∷ L12 ∷ L13 ∷ L14 ∷ L16 ∷ L19 ∷ L20 ∷ []) at_09.1 in
+    let at_11 = find_none p L11 (L12 ∷ L13 ∷ L14 ∷ L16 ∷ L19 ∷ L20 ∷ []) at_10.1 in
+    let at_12 = find_none p L12 (L13 ∷ L14 ∷ L16 ∷ L19 ∷ L20 ∷ []) at_11.1 in
+    let at_13 = find_none p L13 (L14 ∷ L16 ∷ L19 ∷ L20 ∷ []) at_12.1 in
     let at_14 = find_none p L14 (L16 ∷ L19 ∷ L20 ∷ []) at_13.1 in
-    (at_13.0, at_14.0)
+    record {
+      fresh = at_04.0;
+      ends = at_09.0;
+      joins = at_10.0;
+      again = at_11.0;
+      conflict = at_12.0;
+      single = at_13.0;
+      cycle = at_14.0;
+    }
 
 none_of : (o : Option IdValue) → is_some o ≡ false → o ≡ None
 none_of None e = refl
@@ -126,9 +143,9 @@ same_pairs before x e each v = subst (λ ps. HasChain ps v) (sym (pairs_more nex
 
 one_more : (before : List ElementValue) (x : ElementValue) → order_code before x ≡ None → ((v : IdValue) → HasChain (next_pairs before) v) → (v : IdValue) → HasChain (next_pairs (before ++ x ∷ [])) v
 one_more before (edge i (next a b)) e each v =
-    let no = no_cycle before (edge i (next a b)) e in
-    let apart = λ (path : Path (next_pairs before) b a). let yes = reaches_of (next_pairs before) b a path in absurd (true_not_false (sym yes ∙ no.1)) in
-    subst (λ ps. HasChain ps v) (sym (pairs_more next_in before (edge i (next a b)))) (all_end (next_pairs before) a b (none_of (first_to (next_pairs before) a) no.0) apart each v)
+    let no = no_code before (edge i (next a b)) e in
+    let apart = λ (path : Path (next_pairs before) b a). let yes = reaches_of (next_pairs before) b a path in absurd (true_not_false (sym yes ∙ no.cycle)) in
+    subst (λ ps. HasChain ps v) (sym (pairs_more next_in before (edge i (next a b)))) (all_end (next_pairs before) a b (none_of (first_to (next_pairs before) a) no.single) apart each v)
 one_more before (edge i (contains a bs)) e each v = same_pairs before (edge i (contains a bs)) refl each v
 one_more before (edge i (definition a b)) e each v = same_pairs before (edge i (definition a b)) refl each v
 one_more before (edge i (item a)) e each v = same_pairs before (edge i (item a)) refl each v
@@ -163,8 +180,8 @@ same_single before x e one = subst Single (sym (pairs_more next_in before x ∙ 
 
 single_one : (before : List ElementValue) (x : ElementValue) → order_code before x ≡ None → Single (next_pairs before) → Single (next_pairs (before ++ x ∷ []))
 single_one before (edge i (next a b)) e one =
-    let no = no_cycle before (edge i (next a b)) e in
-    subst Single (sym (pairs_more next_in before (edge i (next a b)))) (single_more (next_pairs before) a b (none_of (first_to (next_pairs before) a) no.0) one)
+    let no = no_code before (edge i (next a b)) e in
+    subst Single (sym (pairs_more next_in before (edge i (next a b)))) (single_more (next_pairs before) a b (none_of (first_to (next_pairs before) a) no.single) one)
 single_one before (edge i (contains a bs)) e one = same_single before (edge i (contains a bs)) refl one
 single_one before (edge i (definition a b)) e one = same_single before (edge i (definition a b)) refl one
 single_one before (edge i (item a)) e one = same_single before (edge i (item a)) refl one

@@ -4,6 +4,7 @@ pub mod Graphs
 pub mod Leads
 pub mod Lists
 pub mod Members
+pub mod Nests
 pub mod Paths
 pub mod Progresses
 pub mod SameIds

@@ -1,8 +1,8 @@
 -- Which ranges the documents of a dump contain (LSIF 0.6.0, "contains").
-use Rattle.std.specs.Prelude.{◌&&◌, ◌||◌, Bool, false, not, List, [], ◌∷◌, if◌then◌else◌}
+use Rattle.std.specs.Prelude.{◌≡◌, ◌&&◌, ◌||◌, Bool, true, false, not, Some, List, [], ◌∷◌, if◌then◌else◌}
 use Rattle.std.specs.List.{list_any, filter_map, flat_map}
 use Rattle.positions.specs.Span.{SpanValue, nests, overlaps}
-use Rattle.lsif.specs.Element.{IdValue, same_id, contains, ElementValue, vertex, edge}
+use Rattle.lsif.specs.Element.{IdValue, same_id, range, contains, ElementValue, vertex, edge}
 use Rattle.dump.specs.Graph.{vertex_at, is_document, is_among, span_of}
 
 -- the element is a `contains` edge out of a document that names the range
@@ -51,3 +51,10 @@ any_conflicts ss ts = list_any (λ s. list_any (conflicts s) ts) ss
 abbrev pub has_conflict : List SpanValue → Bool
 has_conflict [] = false
 has_conflict (s ∷ ss) = list_any (conflicts s) ss || has_conflict ss
+
+-- two ranges that one document contains don't conflict
+abbrev pub IsNested : List ElementValue → Type 0
+IsNested elements = (d r s : IdValue) (e f : SpanValue)
+    → is_in elements d r ≡ true → is_in elements d s ≡ true
+    → vertex_at elements r ≡ Some (range e) → vertex_at elements s ≡ Some (range f)
+    → (r ≡ s → ⊥) → conflicts e f ≡ false

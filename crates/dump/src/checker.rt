@@ -4,8 +4,10 @@ ghost use Rattle.lsif.specs.Element.{element_value, reading_value};
 ghost use Rattle.dump.specs.declared.fault.FeedFault.TheVariants.{Line};
 
 use crate::fault::{FeedFault, LineFault};
+use crate::laws::chain_law;
 use crate::order::{end_fault, order_code};
-use lsif::{Code, Element, Profile};
+use crate::walks::first_definition;
+use lsif::{Code, Element, Id, Profile};
 use std::alloc::Global;
 use std::marker::Model;
 
@@ -118,7 +120,10 @@ impl Model for CheckedDump {
 impl CheckedDump {
     ghost use Rattle.std.specs.Prelude.{◌≤◌, Ok, length};
     ghost use Rattle.dump.specs.Conditions.{most_elements};
+    ghost use Rattle.std.specs.Prelude.{List, option_map};
+    ghost use Rattle.lsif.specs.Element.{IdValue, id_value};
     ghost use Rattle.dump.specs.Fault.{IsFaultless};
+    ghost use Rattle.dump.specs.Walks.{IsChain, first_of_list, next_pairs, definition_pairs};
 
     /// The elements: that of line 1 first.
     pub fn elements(&self) -> &[Element]
@@ -127,5 +132,14 @@ impl CheckedDump {
         ensures faultless { IsFaultless (map Ok self.now) }
     {
         &self.elements
+    }
+
+    /// The definition result that a request at this vertex is answered by: that of the first vertex along the chain of
+    /// `next` edges from it that has one.
+    pub fn first_definition<'a>(&'a self, vertex: &'a Id) -> Option<&'a Id>
+        ensures { (xs : List IdValue) → IsChain (next_pairs self.now) (id_value vertex.now) xs → option_map (λ i. id_value i.now) result ≡ first_of_list (definition_pairs self.now) xs }
+    {
+        chain_law();
+        first_definition(self.elements(), vertex)
     }
 }

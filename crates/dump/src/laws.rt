@@ -2,6 +2,7 @@ ghost use Rattle.std.specs.Prelude.{◌≡◌, ◌++◌, ◌<◌, List, Option, 
 ghost use Rattle.lsif.specs.Element.{IdValue, ElementValue, Reading};
 ghost use Rattle.dump.specs.declared.fault.LineFault.{LineFault};
 ghost use Rattle.dump.specs.Conditions.{order_code, most_elements};
+ghost use Rattle.dump.specs.Contained.{IsNested};
 ghost use Rattle.dump.specs.Fault.{IsFault, IsFaultless};
 ghost use Rattle.dump.specs.Steps.{progress, running, stopped, finished};
 ghost use Rattle.dump.specs.Walks.{Pair, Path, HasChain, reaches, next_pairs};
@@ -27,4 +28,9 @@ pub fn path_law()
 /// In a dump without fault the chain of `next` edges from each vertex ends.
 pub fn chain_law()
     ensures { (elements : List ElementValue) → IsFaultless (map Ok elements) → (x : IdValue) → HasChain (next_pairs elements) x }
+{}
+
+/// In a dump without fault two ranges that one document contains don't conflict.
+pub fn nesting_law()
+    ensures { (elements : List ElementValue) → IsFaultless (map Ok elements) → IsNested elements }
 {}

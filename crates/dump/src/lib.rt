@@ -11,7 +11,7 @@ mod walks;
 
 pub use checker::{CheckedDump, Checker};
 pub use fault::{FeedFault, LineFault};
-pub use laws::{chain_law, fault_law, path_law};
+pub use laws::{chain_law, fault_law, nesting_law, path_law};
 
 #[cfg(test)]
 mod tests;

@@ -1,5 +1,5 @@
 use crate::{Checker, FeedFault, LineFault};
-use lsif::{Code, Element, Profile, ReadFault, read_element};
+use lsif::{Code, Element, Id, Profile, ReadFault, read_element};
 use std::test::Fail;
 
 const META_DATA: &str =
@@ -48,5 +48,42 @@ fn dump_of_no_line(rt: HostRuntime) -> Result<(), Fail> {
     });
     let checker = Checker::new(rt.alloc(), Profile::One);
     assert_eq!(rt; checker.finish().err(), Some(fault));
+    Ok(())
+}
+
+/// A range 3 in a document 2, next edges from it to 5 and on to 6, and definition results 8 at 5 and 9 at 6.
+const CHAIN: [&str; 9] = [
+    "{\"id\":3,\"type\":\"vertex\",\"label\":\"range\",\"start\":{\"line\":0,\"character\":4},\"end\":{\"line\":0,\"character\":7}}",
+    "{\"id\":5,\"type\":\"vertex\",\"label\":\"resultSet\"}",
+    "{\"id\":6,\"type\":\"vertex\",\"label\":\"resultSet\"}",
+    "{\"id\":7,\"type\":\"edge\",\"label\":\"next\",\"outV\":3,\"inV\":5}",
+    "{\"id\":\"7\",\"type\":\"edge\",\"label\":\"next\",\"outV\":5,\"inV\":6}",
+    "{\"id\":8,\"type\":\"vertex\",\"label\":\"definitionResult\"}",
+    "{\"id\":9,\"type\":\"vertex\",\"label\":\"definitionResult\"}",
+    "{\"id\":10,\"type\":\"edge\",\"label\":\"textDocument/definition\",\"outV\":6,\"inV\":9}",
+    "{\"id\":11,\"type\":\"edge\",\"label\":\"textDocument/definition\",\"outV\":5,\"inV\":8}",
+];
+
+const CONTAINS: &str =
+    "{\"id\":12,\"type\":\"edge\",\"label\":\"contains\",\"outV\":2,\"inVs\":[3]}";
+
+#[test]
+fn first_definition_along_a_chain(rt: HostRuntime) -> Result<(), Fail> {
+    let mut checker = Checker::new(rt.alloc(), Profile::One);
+    for line in [META_DATA, DOCUMENT] {
+        assert_eq!(rt; checker.feed(Ok(element(&rt, line)?)), Ok(()));
+    }
+    for line in CHAIN {
+        assert_eq!(rt; checker.feed(Ok(element(&rt, line)?)), Ok(()));
+    }
+    assert_eq!(rt; checker.feed(Ok(element(&rt, CONTAINS)?)), Ok(()));
+    let dump = checker.finish().map_err(|_| "a fault")?;
+    for (vertex, result) in [(3, Some(8)), (5, Some(8)), (6, Some(9)), (2, None)] {
+        let vertex = Id::Number(vertex);
+        let found = dump.first_definition(&vertex);
+        assert_eq!(rt; found.is_some(), result.is_some());
+        let wanted = Id::Number(result.unwrap_or(0));
+        assert!(rt; found.is_none_or(|id| id.is(&wanted)));
+    }
     Ok(())
 }

@@ -1,8 +1,8 @@
 //! What `next` and `textDocument/definition` edges lead to.
-ghost use Rattle.std.specs.Prelude.{◌≡◌, map, option_map};
-ghost use Rattle.lsif.specs.Element.{id_value, element_value};
+ghost use Rattle.std.specs.Prelude.{◌≡◌, List, map, option_map};
+ghost use Rattle.lsif.specs.Element.{IdValue, id_value, element_value};
 ghost use Rattle.dump.specs.Steps.{IsSound};
-ghost use Rattle.dump.specs.Walks.{first_to, reaches, next_pairs, definition_pairs};
+ghost use Rattle.dump.specs.Walks.{IsChain, HasChain, first_to, first_of_list, reaches, next_pairs, definition_pairs};
 
 use lsif::{Edge, Element, Id};
 
@@ -50,4 +50,22 @@ pub(crate) fn leads(elements: &[Element], from: &Id, to: &Id) -> bool
         }
     }
     place.is(to)
+}
+
+/// The definition result that the first vertex along the chain of `next` edges has, of those from this one on.
+pub(crate) fn first_definition<'a>(elements: &'a [Element], from: &'a Id) -> Option<&'a Id>
+    requires { HasChain (next_pairs (map element_value elements.now)) (id_value from.now) }
+    ensures { (xs : List IdValue) → IsChain (next_pairs (map element_value elements.now)) (id_value from.now) xs → option_map (λ i. id_value i.now) result ≡ first_of_list (definition_pairs (map element_value elements.now)) xs }
+{
+    let mut place = from;
+    for _step in 0..elements.len() {
+        if let Some(result) = definition_of(elements, place) {
+            return Some(result);
+        }
+        match next_of(elements, place) {
+            Some(more) => place = more,
+            None => return None,
+        }
+    }
+    definition_of(elements, place)
 }
