@@ -1,4 +1,4 @@
-ghost use Rattle.std.specs.Prelude.{◌≡◌, ◌+◌, ◌++◌, ◌∷◌, Err, Some, ℕ, List};
+ghost use Rattle.std.specs.Prelude.{◌≡◌, ◌+◌, ◌++◌, ◌∷◌, Err, Some, ℕ, List, fold};
 ghost use Rattle.tags.specs.Bytes.{tab};
 ghost use Rattle.tags.specs.Escapes.{decoded};
 ghost use Rattle.tags.specs.Fault.{Reading, contents, IsFaultless, IsFirstFault};
@@ -7,7 +7,7 @@ ghost use Rattle.tags.specs.Lines.{Cuts, lines_of, with_last};
 ghost use Rattle.tags.specs.Parts.{parts_in};
 ghost use Rattle.tags.specs.Reading.{ordinary_of};
 ghost use Rattle.tags.specs.Said.{said_by, said_without_address};
-ghost use Rattle.tags.specs.Steps.{Summary, running, state_after, stopped, summary_of};
+ghost use Rattle.tags.specs.Steps.{Summary, next, running, state_after, stopped, summary_of};
 ghost use Rattle.tags.specs.Written.{IsWritten};
 ghost use Rattle.tags.specs.declared.code.Code.{Code};
 ghost use Rattle.tags.specs.declared.code.Code.TheVariants.{T04};
@@ -36,10 +36,11 @@ pub fn lines_law()
 {}
 
 /// Where a reader of lines stops is the first fault. Where it doesn't there is none, and what it keeps is
-/// what has to be known of the lines.
+/// what has to be known of the lines. Once stopped it stays so.
 pub fn state_law()
     ensures stopped { (lines : List Reading) (n : ℕ) (c : Code) → state_after lines ≡ stopped n c
         → (k : ℕ) × (n ≡ k + 1) × IsFirstFault lines k c }
     ensures running { (lines : List Reading) (s : Summary) → state_after lines ≡ running s
         → IsFaultless lines × (s ≡ summary_of (contents lines)) }
+    ensures stays { (lines : List Reading) (n : ℕ) (c : Code) → fold next (stopped n c) lines ≡ stopped n c }
 {}

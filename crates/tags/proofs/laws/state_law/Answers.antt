@@ -1,5 +1,5 @@
 use Rattle.std.proofs.Common.{arith}
-use Rattle.tags.proofs.StepLemmas.{stops_at, passes_all}
+use Rattle.tags.proofs.StepLemmas.{stays, stops_at, passes_all}
 use Rattle.tags.proofs.laws.state_law.Goals as goal
 
 pub returns-clause-stopped : goal.returns-clause-stopped
@@ -9,3 +9,6 @@ returns-clause-stopped c = λ lines n code h.
 
 pub returns-clause-running : goal.returns-clause-running
 returns-clause-running c = λ lines s h. let passes = passes_all lines s h in (passes.good, passes.summary)
+
+pub returns-clause-stays : goal.returns-clause-stays
+returns-clause-stays c = stays
