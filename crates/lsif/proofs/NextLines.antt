@@ -18,8 +18,8 @@ lines_of-takes text line has_feed rest t =
     ]
 
 begins_with : (text line : List ℕ) (has_feed : Bool) (rest : List ℕ) → TakesLine text line has_feed rest → BeginsWith text line has_feed rest
-begins_with text line true rest t = elim t.1 [ | inl e ↦ e.1 | inr f ↦ cc (f.0) ]
-begins_with text line false rest t = elim t.1 [ | inl e ↦ cc (e.0) | inr f ↦ (f.1, f.2, f.3) ]
+begins_with text line true rest t = elim t.1 [ inl e ↦ e.1 | inr f ↦ cc (f.0) ]
+begins_with text line false rest t = elim t.1 [ inl e ↦ cc (e.0) | inr f ↦ (f.1, f.2, f.3) ]
 
 gives_line : (old : Option (List ℕ)) (line : List ℕ) (has_feed : Bool) (new : Option (List ℕ)) → TakesTold old line has_feed new → GivesLine old line has_feed new
 gives_line None line has_feed new t = tt
