@@ -15,7 +15,8 @@ use Rattle.dump.specs.declared.fault.FeedFault.TheVariants as faults
 use Rattle.dump.specs.Conditions.{order_code, most_elements}
 use Rattle.dump.specs.Fault.{IsFault, line_code}
 use Rattle.dump.specs.Steps.{Progress, running, stopped, next, advance, progress, finished, end_fault, IsRunning, Feeds}
-use Rattle.codenav.specs.Report.{dump_of, IsReport, ReportsOf}
+use Rattle.dump.specs.Lines.{dump_of}
+use Rattle.codenav.specs.Report.{IsReport, ReportsOf}
 use Rattle.codenav.specs.Judging.{ReadsFirst, ReadsNext, HasTaken, room_of, Concludes, GoesOn, IsReady}
 use Rattle.codenav.specs.declared.check.Report.{Report}
 use Rattle.codenav.specs.declared.check.Report.TheVariants.{Sound, Faulty}

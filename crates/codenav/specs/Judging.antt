@@ -8,7 +8,8 @@ use Rattle.lsif.specs.declared.code.Code.{Code}
 use Rattle.lsif.specs.declared.element.Element.{Element}
 use Rattle.dump.specs.Conditions.{most_elements}
 use Rattle.dump.specs.Steps.{Progress, running, stopped, progress, end_fault, finished}
-use Rattle.codenav.specs.Report.{dump_of, IsReport, ReportsOf}
+use Rattle.dump.specs.Lines.{dump_of}
+use Rattle.codenav.specs.Report.{IsReport, ReportsOf}
 use Rattle.codenav.specs.declared.check.Report.{Report}
 use Rattle.codenav.specs.declared.check.Report.TheVariants.{Sound, Faulty}
 use Rattle.codenav.specs.declared.check.CheckFault.{CheckFault}

@@ -1,23 +1,18 @@
 -- What `codenav check-lsif` reports of a dump.
-use Rattle.std.specs.Prelude.{◌≡◌, ℕ, ◌+◌, ◌⊎◌, List, [], ◌∷◌, ◌++◌, length, map, codes, Option, Some, None, Result, Ok, Err, ⊤}
+use Rattle.std.specs.Prelude.{◌≡◌, ℕ, ◌+◌, ◌⊎◌, List, [], ◌∷◌, ◌++◌, length, codes, Option, Some, None, Result, Ok, Err, ⊤}
 use Rattle.std.specs.Fmt.{decimal}
 use Rattle.lsif.specs.Code.{name_of, text_of}
 use Rattle.lsif.specs.Element.{Reading}
 use Rattle.lsif.specs.Ends.{Gains}
-use Rattle.lsif.specs.Lines.{lines_of}
-use Rattle.lsif.specs.Reading.{reading}
 use Rattle.lsif.specs.Sending.{GainsOrHides}
 use Rattle.dump.specs.Fault.{IsFault}
+use Rattle.dump.specs.Lines.{dump_of}
 use Rattle.codenav.specs.declared.check.Report.{Report}
 use Rattle.codenav.specs.declared.check.Report.TheVariants.{Sound, Faulty}
 use Rattle.codenav.specs.declared.check.Status.{Status}
 use Rattle.codenav.specs.declared.check.Status.TheVariants as statuses
 use Rattle.codenav.specs.declared.check.CheckFault.{CheckFault}
 use Rattle.codenav.specs.declared.check.CheckFault.TheVariants as faults
-
--- the readings of the lines of a text
-abbrev pub dump_of : List ℕ → List Reading
-dump_of text = map reading (lines_of text)
 
 -- the report of a dump: how many elements it has where it's sound, and else its fault
 abbrev pub IsReport : List Reading → Report → Type 0
