@@ -1,10 +1,10 @@
 -- What the lines that a checker of tags has taken say of the whole file.
-use Rattle.std.proofs.Common.{◌≡◌, ◌∙◌, ℕ, ◌+◌, ◌-◌, ◌<◌, ◌&&◌, Bool, true, false, not, nat_lt, List, [], ◌∷◌, length, map, fold, Option, Some, None, Result, Ok, Err, refl, sym, ap, subst, arith, rules, if◌then◌else◌}
+use Rattle.std.proofs.Common.{◌≡◌, ◌∙◌, ℕ, ◌+◌, ◌<◌, Bool, true, false, not, nat_lt, List, [], ◌∷◌, length, fold, Option, Some, None, Result, Ok, Err, refl, sym, ap, subst, arith, if◌then◌else◌}
 use Rattle.std.specs.Prelude.{IfOk}
 use Rattle.std.proofs.lemmas.Bool.{ltb-true}
 use Rattle.lsif.specs.Lines.{Cutter}
 use Rattle.tags.specs.Counting.{Count, State, running, stopped, add, advance, next, order_in, state_after, Finishes, IsRunning}
-use Rattle.tags.specs.Fault.{Reading, contents, is_descending, is_late, most_lines, order_by, tags_of, IsFaultless, IsFirstFault}
+use Rattle.tags.specs.Fault.{Reading, contents, is_descending, is_late, most_lines, tags_of, IsFaultless, IsFirstFault}
 use Rattle.tags.specs.Lines.{readings_of}
 use Rattle.tags.specs.Values.{ContentValue, sorted, other, ordinary}
 use Rattle.tags.specs.declared.code.Code.{Code}

@@ -1,9 +1,9 @@
 -- A checker that counts tags goes the way of a reader that keeps them.
-use Rattle.std.proofs.Common.{◌≡◌, ◌∙◌, ℕ, ◌+◌, List, [], ◌∷◌, length, fold, Option, Some, None, Result, Ok, Err, refl, ap, sym}
+use Rattle.std.proofs.Common.{◌≡◌, ◌∙◌, ℕ, ◌+◌, List, [], ◌∷◌, length, fold, Option, Some, None, Ok, Err, refl, ap, sym}
 use Rattle.std.proofs.lemmas.List.{length_push}
 use Rattle.tags.specs.Counting as counting
 use Rattle.tags.specs.Counting.{Count}
-use Rattle.tags.specs.Fault.{Reading, contents, tags_of, IsFaultless, IsFirstFault}
+use Rattle.tags.specs.Fault.{Reading, contents, tags_of}
 use Rattle.tags.specs.Steps as steps
 use Rattle.tags.specs.Steps.{Summary, order_in, summary_of}
 use Rattle.tags.specs.Values.{ContentValue, sorted, other, ordinary, numbered}

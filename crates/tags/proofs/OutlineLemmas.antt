@@ -1,5 +1,5 @@
 -- What a line says where of an ordinary tag only the name is kept.
-use Rattle.std.proofs.Common.{◌≡◌, ℕ, true, false, List, Option, Some, None, is_some, Result, Ok, Err, refl}
+use Rattle.std.proofs.Common.{◌≡◌, ℕ, true, false, List, Some, None, is_some, Result, Ok, Err, refl}
 use Rattle.std.specs.List.{list_any}
 use Rattle.std.specs.Str.{is_utf8}
 use Rattle.tags.specs.Cutting.{Front, Tail, front_of, tail_of, each_field}

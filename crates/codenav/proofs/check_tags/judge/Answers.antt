@@ -1,4 +1,3 @@
-use Rattle.std.proofs.Common.{◌≡◌}
 use Rattle.codenav.proofs.TagsJudgings.{found_fault, concluded}
 use Rattle.codenav.proofs.check_tags.judge.Goals as goal
 

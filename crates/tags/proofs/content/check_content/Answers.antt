@@ -1,4 +1,4 @@
-use Rattle.std.proofs.Common.{◌≡◌, ◌∙◌, false, sym}
+use Rattle.std.proofs.Common.{◌≡◌, false, sym}
 use Rattle.tags.specs.Reading.{is_pseudo_tag}
 use Rattle.tags.proofs.OutlineLemmas.{outlines}
 use Rattle.tags.proofs.TextLemmas.{is_utf8-text}

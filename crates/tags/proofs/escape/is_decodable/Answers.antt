@@ -1,4 +1,4 @@
-use Rattle.std.proofs.Common.{◌≡◌, ◌∙◌, sym}
+use Rattle.std.proofs.Common.{◌∙◌, sym}
 use Rattle.std.proofs.lemmas.List.{take_rest}
 use Rattle.tags.proofs.EscapeLemmas.{decodable-step, decodable-stop, decodable-end}
 use Rattle.tags.proofs.escape.is_decodable.Goals as goal
