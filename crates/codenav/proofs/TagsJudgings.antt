@@ -1,12 +1,12 @@
--- What the lines that a reader of tags has taken say of the whole file.
-use Rattle.std.proofs.Common.{◌≡◌, ◌∙◌, ℕ, ◌+◌, ◌-◌, ◌<◌, ◌&&◌, Bool, true, false, not, nat_lt, List, [], ◌∷◌, length, map, fold, Option, Some, None, Result, Ok, Err, refl, sym, ap, subst, arith, rules, if◌then◌else◌}
+-- What the lines that a checker of tags has taken say of the whole file.
+use Rattle.std.proofs.Common.{◌≡◌, ◌∙◌, ℕ, ◌+◌, ◌<◌, Bool, true, false, not, nat_lt, List, [], ◌∷◌, length, fold, Option, Some, None, Result, Ok, Err, refl, sym, ap, subst, arith, if◌then◌else◌}
 use Rattle.std.specs.Prelude.{IfOk}
 use Rattle.std.proofs.lemmas.Bool.{ltb-true}
 use Rattle.lsif.specs.Lines.{Cutter}
-use Rattle.tags.specs.Fault.{Reading, contents, is_descending, is_late, most_lines, order_by, tags_of, IsFaultless, IsFirstFault}
+use Rattle.tags.specs.Counting.{Count, State, running, stopped, add, advance, next, order_in, state_after, Finishes, IsRunning}
+use Rattle.tags.specs.Fault.{Reading, contents, is_descending, is_late, most_lines, tags_of, IsFaultless, IsFirstFault}
 use Rattle.tags.specs.Lines.{readings_of}
-use Rattle.tags.specs.Steps.{Summary, State, running, stopped, add, advance, next, order_in, state_after, summary_of, Finishes, IsRunning}
-use Rattle.tags.specs.Values.{ContentValue, TagValue, sorted, other, ordinary}
+use Rattle.tags.specs.Values.{ContentValue, sorted, other, ordinary}
 use Rattle.tags.specs.declared.code.Code.{Code}
 use Rattle.tags.specs.declared.code.Code.TheVariants.{T09, T10, T11}
 use Rattle.tags.specs.declared.code.LineFault.{LineFault}
@@ -55,7 +55,7 @@ fed_code (Ok (steps.Faulty fault)) left left' c old new lines h f = (Err c, h, f
 fed_code (Ok steps.End) left left' c old new lines h f = absurd f
 fed_code (Err e) left left' c old new lines h f = tt
 
--- ---- a reader that goes on took fewer lines than it may
+-- ---- a checker that goes on took fewer lines than it may
 
 none_by : (late descending few : Bool) → (if late then Some T09 else if descending then Some T10 else if not few then Some T11 else None) ≡ None → few ≡ true
 none_by true descending few e = cc
@@ -63,15 +63,15 @@ none_by false true few e = cc
 none_by false false true e = refl
 none_by false false false e = cc
 
-few_lines : (s : Summary) (x : ContentValue) → order_in s x ≡ None → s.count < most_lines
-few_lines s x e = ltb-true s.count most_lines (none_by (is_late s.last x) (is_descending s.last s.checked x) (nat_lt s.count most_lines) e)
+few_lines : (s : Count) (x : ContentValue) → order_in s x ≡ None → s.lines < most_lines
+few_lines s x e = ltb-true s.lines most_lines (none_by (is_late s.last x) (is_descending s.last s.checked x) (nat_lt s.lines most_lines) e)
 
-one_more : (s : Summary) (x : ContentValue) → (add s x).count ≡ s.count + 1
+one_more : (s : Count) (x : ContentValue) → (add s x).lines ≡ s.lines + 1
 one_more s (sorted b) = refl
 one_more s other = refl
 one_more s (ordinary written e) = refl
 
-less_by : (s : Summary) (x : ContentValue) (new : State) (o : Option Code) → order_in s x ≡ o → new ≡ advance s x o → IsRunning new
+less_by : (s : Count) (x : ContentValue) (new : State) (o : Option Code) → order_in s x ≡ o → new ≡ advance s x o → IsRunning new
     → room_of new < room_of (running s)
 less_by s x new None none e h = let few = few_lines s x none in rw e (omega (arith, one_more s x, few))
 less_by s x new (Some c) some e h = let P : State → Type 0 = λ s. IsRunning s in absurd (subst P e h)
@@ -105,7 +105,7 @@ abbrev pub StopsAtFirst : Type 0
 StopsAtFirst = (lines : List Reading) (n : ℕ) (c : Code) → state_after lines ≡ stopped n c → (k : ℕ) × (n ≡ k + 1) × IsFirstFault lines k c
 
 abbrev pub RunsFaultless : Type 0
-RunsFaultless = (lines : List Reading) (s : Summary) → state_after lines ≡ running s → IsFaultless lines × (s ≡ summary_of (contents lines))
+RunsFaultless = (lines : List Reading) (s : Count) → state_after lines ≡ running s → IsFaultless lines × (s.tags ≡ length (tags_of (contents lines)))
 
 pub found_fault : (left now : Option (List ℕ)) (old : State) (line : Reading) (f : LineFault) → StopsAtFirst
     → HasTaken left old now → BeginsSo now line → next old line ≡ stopped f.line f.code → ReportsOf left (Faulty f)
@@ -118,15 +118,11 @@ found_fault (Some text) now old line f law h g e =
 
 -- ---- the end of the lines
 
-tags-summary : (before : List ContentValue) → (summary_of before).tags ≡ tags_of before
-unfolding summary_of
-tags-summary before = refl
-
 concluded_at : (lines : List Reading) (state : State) (report : TagsReport) → StopsAtFirst → RunsFaultless → state ≡ state_after lines
     → Concludes state report → IsReport lines report
 concluded_at lines state (Sound n) stops runs e h =
     let law = runs lines h.0 (sym e ∙ h.1) in
-    (law.0, h.2 ∙ ap length (ap (λ (s : Summary). s.tags) law.1 ∙ tags-summary (contents lines)))
+    (law.0, h.2 ∙ law.1)
 concluded_at lines state (Faulty f) stops runs e h = stops lines f.line f.code (sym e ∙ h)
 
 pub concluded : (left now : Option (List ℕ)) (old state : State) (report : TagsReport) → StopsAtFirst → RunsFaultless
@@ -137,7 +133,7 @@ concluded (Some text) now old state report stops runs h g e c =
     let nothing : readings_of h.0 ≡ [] = subst P h.1 g in
     concluded_at (readings_of text) state report stops runs (e ∙ sym (ap (fold next old) nothing) ∙ h.2) c
 
--- what a reader's end says
-pub finished_tags : (tags : List TagValue) (state : State) → Finishes (Ok tags) state → Concludes state (Sound (length tags))
-finished_tags tags (running s) h = (s, refl, ap length h)
+-- what a checker's end says
+pub finished_tags : (tags : ℕ) (state : State) → Finishes (Ok tags) state → Concludes state (Sound tags)
+finished_tags tags (running s) h = (s, refl, h)
 finished_tags tags (stopped n c) h = absurd h

@@ -1,9 +1,9 @@
 -- What the parts of a check of a tags file answer.
-use Rattle.std.specs.Prelude.{◌≡◌, ℕ, ◌+◌, ◌-◌, List, [], ◌∷◌, length, fold, Option, Some, None, Result, Ok, Err, ⊤}
+use Rattle.std.specs.Prelude.{◌≡◌, ℕ, ◌+◌, ◌-◌, List, [], ◌∷◌, fold, Option, Some, None, Result, Ok, Err, ⊤}
 use Rattle.lsif.specs.Lines.{Cutter}
+use Rattle.tags.specs.Counting.{Count, State, running, stopped, next, state_after, IsRunning}
 use Rattle.tags.specs.Fault.{Reading, most_lines}
 use Rattle.tags.specs.Lines.{longest_line, readings_of}
-use Rattle.tags.specs.Steps.{State, Summary, running, stopped, next, state_after, IsRunning}
 use Rattle.codenav.specs.declared.check.CheckFault.{CheckFault}
 use Rattle.codenav.specs.declared.check.CheckFault.TheVariants as faults
 use Rattle.codenav.specs.declared.check_tags.Step.{Step}
@@ -53,12 +53,12 @@ HasTaken None state left = ⊤
 HasTaken (Some text) state left =
     (rest : List ℕ) × (left ≡ Some rest) × (fold next state (readings_of rest) ≡ state_after (readings_of text))
 
--- how many lines a reader may still take, and one more
+-- how many lines a checker may still take, and one more
 abbrev pub room_of : State → ℕ
-room_of (running s) = most_lines + 1 - s.count
+room_of (running s) = most_lines + 1 - s.lines
 room_of (stopped n c) = 0
 
 -- what the end of the lines says of the state
 abbrev pub Concludes : State → TagsReport → Type 0
-Concludes state (Sound n) = (s : Summary) × (state ≡ running s) × (n ≡ length s.tags)
+Concludes state (Sound n) = (s : Count) × (state ≡ running s) × (n ≡ s.tags)
 Concludes state (Faulty f) = state ≡ stopped f.line f.code

@@ -3,7 +3,7 @@ ghost use Rattle.std.specs.Prelude.{◌≡◌, ◌-◌, ◌^◌, ◌<◌, IfOk, 
 ghost use Rattle.lsif.specs.Held.{told};
 ghost use Rattle.tags.specs.Faults.{result_map};
 ghost use Rattle.tags.specs.Lines.{handed};
-ghost use Rattle.tags.specs.Steps.{next};
+ghost use Rattle.tags.specs.Counting.{next};
 ghost use Rattle.codenav.specs.Report.{CountsCheck};
 ghost use Rattle.codenav.specs.Judging.{CountsRead};
 ghost use Rattle.codenav.specs.TagsReport.{ReportsOf, report_text, status_of, Checks};
@@ -12,13 +12,13 @@ ghost use Rattle.codenav.specs.TagsJudging.{Concludes, Feeds, IsReady, Takes};
 use crate::check::{CheckFault, Status};
 use lsif::{LineBuffer, LinesFault, Sink, Source, push_all};
 use std::alloc::{AllocError, Global};
-use tags::{Code, LONGEST_LINE, LineFault, TagReader, TagsFault, state_law};
+use tags::{Code, LONGEST_LINE, LineFault, TagChecker, TagsFault, count_law};
 
 /// What a check of a tags file found.
 #[derive(Clone, Copy, Debug, PartialEq, Eq)]
 pub enum TagsReport {
     /// No fault, and how many ordinary tags there are.
-    Sound(usize),
+    Sound(u32),
     /// The first faulty line.
     Faulty(LineFault),
 }
@@ -61,15 +61,15 @@ fn report_text(alloc: Global, report: TagsReport) -> Result<String, AllocError>
     }
 }
 
-/// Feeds the reader a line, or the code of one that was too long to be lent.
+/// Feeds the checker a line, or the code of one that was too long to be lent.
 fn feed(
-    reader: &mut TagReader,
+    checker: &mut TagChecker,
     line: Result<&[u8], Code>,
     has_feed: bool,
 ) -> Result<Step, CheckFault>
-    ensures { Feeds result reader.new (next reader.old (handed (result_map (λ bytes. bytes.now) line.entry) has_feed)) }
+    ensures { Feeds result checker.new (next checker.old (handed (result_map (λ bytes. bytes.now) line.entry) has_feed)) }
 {
-    match reader.feed(line, has_feed) {
+    match checker.feed(line, has_feed) {
         Ok(()) => Ok(Step::Good),
         Err(TagsFault::Line(fault)) => Ok(Step::Faulty(fault)),
         Err(TagsFault::Memory) => Err(CheckFault::Memory),
@@ -80,28 +80,28 @@ fn feed(
 fn take_line<R: Source>(
     lines: &mut LineBuffer,
     r: &mut R,
-    reader: &mut TagReader,
+    checker: &mut TagChecker,
 ) -> Result<Step, CheckFault>
     requires count { R.failed r.old < 2 ^ 64 - 1 }
     requires ready { IsReady lines.old }
-    ensures takes { IfOk result (λ step. Takes (told lines.old.pending (R.left r.old)) reader.old step reader.new lines.new (told lines.new.pending (R.left r.new))) }
+    ensures takes { IfOk result (λ step. Takes (told lines.old.pending (R.left r.old)) checker.old step checker.new lines.new (told lines.new.pending (R.left r.new))) }
     ensures counted { CountsRead (R.failed r.old) (R.failed r.new) result }
 {
     match lines.advance(r) {
-        Ok(true) => feed(reader, Ok(lines.line()), lines.has_feed()),
+        Ok(true) => feed(checker, Ok(lines.line()), lines.has_feed()),
         Ok(false) => Ok(Step::End),
-        Err(LinesFault::TooLong) => feed(reader, Err(Code::T01), false),
+        Err(LinesFault::TooLong) => feed(checker, Err(Code::T01), false),
         Err(LinesFault::Read) => Err(CheckFault::Read),
         Err(LinesFault::Memory) => Err(CheckFault::Memory),
     }
 }
 
 /// What the end of the lines says.
-fn conclude(reader: TagReader) -> TagsReport
-    ensures { Concludes reader result }
+fn conclude(checker: TagChecker) -> TagsReport
+    ensures { Concludes checker result }
 {
-    match reader.finish() {
-        Ok(tags) => TagsReport::Sound(tags.len()),
+    match checker.finish() {
+        Ok(tags) => TagsReport::Sound(tags),
         Err(TagsFault::Line(fault)) => TagsReport::Faulty(fault),
         Err(TagsFault::Memory) => unreachable!(),
     }
@@ -113,22 +113,22 @@ fn judge<R: Source>(alloc: Global, r: &mut R) -> Result<TagsReport, CheckFault>
     ensures report { IfOk result (λ report. ReportsOf (R.left r.old) report) }
     ensures counted { CountsRead (R.failed r.old) (R.failed r.new) result }
 {
-    state_law();
+    count_law();
     let Ok(mut lines) = LineBuffer::new(alloc, LONGEST_LINE) else {
         return Err(CheckFault::Memory);
     };
-    let mut reader = TagReader::new(alloc);
+    let mut checker = TagChecker::new(alloc);
     'reading: loop {
-        match take_line(&mut lines, r, &mut reader)? {
+        match take_line(&mut lines, r, &mut checker)? {
             Step::Good => {}
             Step::Faulty(fault) => return Ok(TagsReport::Faulty(fault)),
-            Step::End => return Ok(conclude(reader)),
+            Step::End => return Ok(conclude(checker)),
         }
     }
 }
 
 /// Reads a tags file from a reader to its end, or up to its first faulty line, and writes the line of its report:
-/// `ok N tags`, the ordinary ones, or `line N: CODE text`. Keeps the file's tags, and of its bytes one line. Refuses
+/// `ok N tags`, the ordinary ones, or `line N: CODE text`. Keeps of its bytes one line, and the last tag's name. Refuses
 /// where memory was refused, the reader failed, or the writer failed or took no byte.
 pub fn check_tags<R: Source, W: Sink>(
     alloc: Global,

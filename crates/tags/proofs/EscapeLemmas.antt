@@ -1,5 +1,5 @@
 -- Reading escapes, a run of plain bytes at a time.
-use Rattle.std.proofs.Common.{◌≡◌, ◌∙◌, ◌==◌, ℕ, Bool, true, false, List, [], ◌∷◌, ◌++◌, drop, Option, Some, None, option_map, option_and_then, refl, ap, sym, arith, append_assoc}
+use Rattle.std.proofs.Common.{◌≡◌, ◌∙◌, ◌==◌, ℕ, Bool, true, false, List, [], ◌∷◌, ◌++◌, drop, Option, Some, None, is_some, option_map, option_and_then, refl, ap, sym, arith, append_assoc}
 use Rattle.std.proofs.lemmas.Bool.Decides.{nat_tests}
 use Rattle.tags.specs.Around.{around, longer}
 use Rattle.tags.specs.Bytes.{backslash, letter_x}
@@ -92,3 +92,21 @@ decoded-stop value rest before escape a e =
 
 pub decoded-end : (value rest : List ℕ) → around backslash rest ≡ None → front value (decoded rest) ≡ Some (value ++ rest)
 decoded-end value rest a = let run : decoded rest ≡ Some rest = decoded-run rest ∙ ap (by_run rest) a in rw run refl
+
+-- ---- whether there is a text
+
+is_some-front : (bs : List ℕ) (o : Option (List ℕ)) → is_some (front bs o) ≡ is_some o
+is_some-front bs None = refl
+is_some-front bs (Some cs) = refl
+
+pub decodable-step : (rest before escape : List ℕ) (byte len : ℕ) → around backslash rest ≡ Some (before, escape) → escape_at escape ≡ Some (byte, len) → is_some (decoded (drop len escape)) ≡ is_some (decoded rest)
+decodable-step rest before escape byte len a e =
+    sym (is_some-front (([] ++ before) ++ byte ∷ []) (decoded (drop len escape)))
+    ∙ ap is_some (decoded-step [] rest before escape byte len a e)
+    ∙ is_some-front [] (decoded rest)
+
+pub decodable-stop : (rest before escape : List ℕ) → around backslash rest ≡ Some (before, escape) → escape_at escape ≡ None → is_some (decoded rest) ≡ false
+decodable-stop rest before escape a e = sym (is_some-front [] (decoded rest)) ∙ ap is_some (decoded-stop [] rest before escape a e)
+
+pub decodable-end : (rest : List ℕ) → around backslash rest ≡ None → is_some (decoded rest) ≡ true
+decodable-end rest a = sym (is_some-front [] (decoded rest)) ∙ ap is_some (decoded-end [] rest a)

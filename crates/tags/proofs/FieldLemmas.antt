@@ -83,3 +83,49 @@ gathered-end (Some kind) others = rw (append-nil others) refl
 
 pub gathered-bad_end : (kind : Option (List ℕ)) (others : List FieldValue) → gathered false kind others [] ≡ Err T07
 gathered-bad_end kind others = gathered-refused kind others []
+
+-- ---- the same where the fields aren't kept
+
+pub none_of : {X : Type 0} (o : Option X) → is_some o ≡ false → o ≡ None
+none_of None h = refl
+none_of (Some x) h = absurd cc
+
+pub some_of : {X : Type 0} (o : Option X) → is_some o ≡ true → (x : X) × (o ≡ Some x)
+some_of None h = absurd cc
+some_of (Some x) h = (x, refl)
+
+-- a field leads to a kind and others of which this is known
+abbrev pub LeadsTo : Bool → Bool → Bool → Option (List ℕ) → List FieldValue → List ℕ → Type 0
+LeadsTo has_kind good' good kind others field =
+    (kind' : Option (List ℕ)) × (others' : List FieldValue) × (is_some kind' ≡ has_kind)
+    × ((rest : List (List ℕ)) → gathered good' kind' others' rest ≡ gathered good kind others (field ∷ rest))
+
+pub noted-escape : (good : Bool) (kind : Option (List ℕ)) (others : List FieldValue) (field : List ℕ) (rest : List (List ℕ)) → is_some (decoded (value_in field)) ≡ false → gathered good kind others (field ∷ rest) ≡ Err T05
+noted-escape good kind others field rest d = gathered-escape good kind others field rest (none_of (decoded (value_in field)) d)
+
+pub noted-other : (has_kind good : Bool) (kind : Option (List ℕ)) (others : List FieldValue) (field name : List ℕ) → name_in field ≡ Some name → is_field_name name ≡ true → is_some (decoded (value_in field)) ≡ true → is_some kind ≡ has_kind → LeadsTo has_kind good good kind others field
+noted-other has_kind good kind others field name n t d stands =
+    let v = some_of (decoded (value_in field)) d in
+    (kind, others ++ record { name = name; value = v.0 } ∷ [], stands, λ rest. gathered-other good kind others field name v.0 rest n t v.1)
+
+pub noted-bad_name : (has_kind good : Bool) (kind : Option (List ℕ)) (others : List FieldValue) (field name : List ℕ) → name_in field ≡ Some name → is_field_name name ≡ false → is_some (decoded (value_in field)) ≡ true → is_some kind ≡ has_kind → LeadsTo has_kind false good kind others field
+noted-bad_name has_kind good kind others field name n t d stands =
+    let v = some_of (decoded (value_in field)) d in
+    (kind, others, stands, λ rest. gathered-bad_name good kind others field name v.0 rest n t v.1)
+
+pub noted-empty : (has_kind good : Bool) (kind : Option (List ℕ)) (others : List FieldValue) (field : List ℕ) → name_in field ≡ None → is_empty (value_in field) ≡ true → is_some (decoded (value_in field)) ≡ true → is_some kind ≡ has_kind → LeadsTo has_kind false good kind others field
+noted-empty has_kind good kind others field n t d stands =
+    let v = some_of (decoded (value_in field)) d in
+    (kind, others, stands, λ rest. gathered-empty good kind others field v.0 rest n t v.1)
+
+pub noted-first_kind : (good : Bool) (kind : Option (List ℕ)) (others : List FieldValue) (field : List ℕ) → name_in field ≡ None → is_empty (value_in field) ≡ false → is_some (decoded (value_in field)) ≡ true → is_some kind ≡ false → LeadsTo true good good kind others field
+noted-first_kind good None others field n t d stands =
+    let v = some_of (decoded (value_in field)) d in
+    (Some v.0, others, refl, λ rest. gathered-kind good others field v.0 rest n t v.1)
+noted-first_kind good (Some x) others field n t d stands = absurd cc
+
+pub noted-second_kind : (has_kind good : Bool) (kind : Option (List ℕ)) (others : List FieldValue) (field : List ℕ) → name_in field ≡ None → is_some (decoded (value_in field)) ≡ true → has_kind ≡ true → is_some kind ≡ has_kind → LeadsTo has_kind false good kind others field
+noted-second_kind has_kind good None others field n d has stands = absurd cc
+noted-second_kind has_kind good (Some x) others field n d has stands =
+    let v = some_of (decoded (value_in field)) d in
+    (Some x, others, stands, λ rest. gathered-second good x others field v.0 rest n v.1)

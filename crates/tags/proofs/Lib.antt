@@ -1,10 +1,12 @@
 pub mod AddressLemmas
 pub mod AroundLemmas
+pub mod CountLemmas
 pub mod CutLemmas
 pub mod EscapeLemmas
 pub mod FieldLemmas
 pub mod LineLemmas
 pub mod NumberLemmas
+pub mod OutlineLemmas
 pub mod PartLemmas
 pub mod PatternLemmas
 pub mod SaidLemmas

@@ -27,3 +27,8 @@ Gives view (Err e) reading = Refuses e reading
 abbrev pub result_map : {A B E : Type 0} → (A → B) → Result A E → Result B E
 result_map f (Ok x) = Ok (f x)
 result_map f (Err e) = Err e
+
+-- the refusal of a step
+abbrev pub fault_in : {A : Type 0} → Result A Code → Option Code
+fault_in (Ok x) = None
+fault_in (Err code) = Some code

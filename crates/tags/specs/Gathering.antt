@@ -1,5 +1,5 @@
 -- Fields read one after the other.
-use Rattle.std.specs.Prelude.{◌≡◌, ℕ, ◌++◌, ◌||◌, ◌∷◌, Bool, not, nat_lt, List, length, map, Option, option_map, string_bytes, Result, Ok, Err, ⊤, if◌then◌else◌}
+use Rattle.std.specs.Prelude.{◌≡◌, ℕ, ◌++◌, ◌||◌, ◌∷◌, Bool, not, nat_lt, List, length, map, Option, option_map, string_bytes, is_some, Result, Ok, Err, ⊤, true, false, if◌then◌else◌}
 use Rattle.std.specs.List.{list_any, filter_map}
 use Rattle.std.specs.Option.{option_to_list}
 use Rattle.tags.specs.Fields.{fields_by, has_bad_escape, is_bad_field, kind_in, other_in}
@@ -10,6 +10,7 @@ use Rattle.tags.specs.declared.code.Code.TheVariants.{T05, T07}
 use Rattle.tags.specs.declared.code.SplitFault.{SplitFault}
 use Rattle.tags.specs.declared.code.SplitFault.TheVariants as faults
 use Rattle.tags.specs.declared.fields.Gathered.{Gathered}
+use Rattle.tags.specs.declared.fields.Noted.{Noted}
 
 -- the kind so far, and those of the fields to come
 abbrev pub kinds_with : Option (List ℕ) → List (List ℕ) → List (List ℕ)
@@ -30,3 +31,19 @@ abbrev pub Gathers : Result ⊤ SplitFault → Gathered → Gathered → List �
 Gathers (Ok u) old new field = (rest : List (List ℕ)) → gathered_in new rest ≡ gathered_in old (field ∷ rest)
 Gathers (Err faults.Memory) old new field = Unit {0}
 Gathers (Err (faults.Line code)) old new field = (rest : List (List ℕ)) → gathered_in old (field ∷ rest) ≡ Err code
+
+-- ---- the same where the fields aren't kept
+
+-- there is a kind or not, as was noted
+abbrev pub Stands : Noted → Option (List ℕ) → Type 0
+Stands n kind = is_some kind ≡ n.has_kind
+
+-- what a call says of the notes before it and after it: that the field leads to some kind, as is noted then, and
+-- others; or that it has a bad escape
+abbrev pub Notes : Bool → Noted → Noted → List ℕ → Type 0
+Notes true old new field =
+    (kind : Option (List ℕ)) (others : List FieldValue) → Stands old kind
+    → (kind' : Option (List ℕ)) × (others' : List FieldValue) × Stands new kind'
+    × ((rest : List (List ℕ)) → gathered new.good kind' others' rest ≡ gathered old.good kind others (field ∷ rest))
+Notes false old new field =
+    (kind : Option (List ℕ)) (others : List FieldValue) (rest : List (List ℕ)) → gathered old.good kind others (field ∷ rest) ≡ Err T05

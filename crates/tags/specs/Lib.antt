@@ -1,6 +1,7 @@
 pub mod Around
 pub mod Bytes
 pub mod Codes
+pub mod Counting
 pub mod Cutting
 pub mod Escapes
 pub mod Fault
@@ -10,6 +11,7 @@ pub mod Gathering
 pub mod Grammar
 pub mod Lines
 pub mod Outcome
+pub mod Outlines
 pub mod Parts
 pub mod Reading
 pub mod Said

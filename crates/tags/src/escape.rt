@@ -1,7 +1,7 @@
-ghost use Rattle.std.specs.Prelude.{◌≡◌, ◌<◌, ◌≤◌, ◌-◌, IfOk, IfSome, length, option_map, slice_index, string_bytes};
+ghost use Rattle.std.specs.Prelude.{◌≡◌, ◌<◌, ◌≤◌, ◌-◌, IfOk, IfSome, length, option_map, is_some, slice_index, string_bytes};
 ghost use Rattle.tags.specs.Escapes.{decoded, escape_at, hex_value, letter_value};
 
-use crate::around::around_char;
+use crate::around::{around_byte, around_char};
 use std::alloc::{AllocError, Global};
 
 /// The byte that a backslash and the letter stand for.
@@ -71,4 +71,18 @@ pub fn decode(alloc: Global, written: &str) -> Result<Option<String>, AllocError
     }
     value.push_str(rest)?;
     Ok(Some(value))
+}
+
+/// Whether each backslash begins an escape, so that the text has a meaning. It takes no memory.
+pub(crate) fn is_decodable(written: &[u8]) -> bool
+    ensures { result ≡ is_some (decoded written.now) }
+{
+    let mut rest = written;
+    'escapes: while let Some((_, escape)) = around_byte(rest, b'\\') {
+        let Some((_, len)) = escape_at(escape) else {
+            return false;
+        };
+        rest = &escape[len..];
+    }
+    true
 }

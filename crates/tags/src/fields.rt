@@ -3,24 +3,26 @@ ghost use Rattle.std.specs.Char.{is_ascii_alphanumeric};
 ghost use Rattle.std.specs.List.{list_all};
 ghost use Rattle.std.specs.Option.{ForSome};
 ghost use Rattle.tags.specs.Cutting.{each_field};
-ghost use Rattle.tags.specs.Faults.{Gives};
+ghost use Rattle.tags.specs.Faults.{Gives, fault_in};
+ghost use Rattle.tags.specs.Gathering.{Notes};
 ghost use Rattle.tags.specs.Views.{fields_value};
 ghost use Rattle.tags.specs.Fields.{fields_of, is_field_name, name_in, value_in};
 
-use crate::around::{around_char, text_of};
+use crate::around::{around_byte, text_of};
 use crate::code::{Code, SplitFault};
 use crate::cut::first_field;
-use crate::escape::decode;
+use crate::escape::{decode, is_decodable};
 use crate::tag::Field;
 use std::alloc::Global;
 
 /// The name of a field other than the kind, and what the field's value is read from.
-fn name_and_value(field: &str) -> (Option<&str>, &str)
+fn name_and_value(field: &[u8]) -> (Option<&[u8]>, &[u8])
     ensures name { option_map (λ s. s.now) result.0 ≡ name_in field.now }
     ensures value { result.1.now ≡ value_in field.now }
+    ensures texts { IsUtf8 field.now → ForSome result.0 (λ s. IsUtf8 s.now) × IsUtf8 result.1.now }
 {
-    match around_char(field, ':') {
-        Some((name, value)) if name != "kind" => (Some(name), value),
+    match around_byte(field, b':') {
+        Some((name, value)) if name != b"kind".as_slice() => (Some(name), value),
         Some((_, value)) => (None, value),
         None => (None, field),
     }
@@ -33,10 +35,10 @@ fn are_alphanumeric(bytes: &[u8]) -> bool
 }
 
 /// A letter, and then letters and digits.
-fn is_field_name(name: &str) -> bool
+fn is_field_name(name: &[u8]) -> bool
     ensures { result ≡ is_field_name name.now }
 {
-    match name.as_bytes() {
+    match name {
         [first, rest @ ..] => first.is_ascii_alphabetic() && are_alphanumeric(rest),
         [] => false,
     }
@@ -55,16 +57,17 @@ impl Gathered {
     ghost use Rattle.tags.specs.Gathering.{Gathers, gathered_in};
 
     /// Takes the next field. An `Err` is of memory or T05.
-    pub fn add(&mut self, alloc: Global, field: &str) -> Result<(), SplitFault>
+    pub fn add(&mut self, alloc: Global, field: &[u8]) -> Result<(), SplitFault>
+        requires { IsUtf8 field.now }
         ensures { Gathers result self.old self.new field.now }
     {
         let (name, written) = name_and_value(field);
-        let Some(value) = decode(alloc, written)? else {
+        let Some(value) = decode(alloc, text_of(written))? else {
             return Err(SplitFault::Line(Code::T05));
         };
         match name {
             Some(name) if is_field_name(name) => {
-                let name = String::from_str(alloc, name)?;
+                let name = String::from_str(alloc, text_of(name))?;
                 self.others.push(Field { name, value })?;
             }
             None if !written.is_empty() && self.kind.is_none() => self.kind = Some(value),
@@ -88,7 +91,7 @@ pub(crate) fn fields_of(alloc: Global, fields: Option<&[u8]>) -> Result<Gathered
     let mut rest = fields;
     while let Some(bytes) = rest {
         let (field, more) = first_field(bytes);
-        found.add(alloc, text_of(field))?;
+        found.add(alloc, field)?;
         rest = more;
     }
     if found.good {
@@ -96,4 +99,49 @@ pub(crate) fn fields_of(alloc: Global, fields: Option<&[u8]>) -> Result<Gathered
     } else {
         Err(SplitFault::Line(Code::T07))
     }
+}
+
+/// What has to be known of the fields so far where they aren't kept.
+#[derive(Clone, Copy)]
+struct Noted {
+    has_kind: bool,
+    /// No field was bad, and no second kind was there.
+    good: bool,
+}
+
+impl Noted {
+    /// Takes the next field, and says whether each backslash in its value begins an escape.
+    fn add(&mut self, field: &[u8]) -> bool
+        ensures { Notes result self.old self.new field.now }
+    {
+        let (name, written) = name_and_value(field);
+        if !is_decodable(written) {
+            return false;
+        }
+        match name {
+            Some(name) if is_field_name(name) => {}
+            None if !written.is_empty() && !self.has_kind => self.has_kind = true,
+            _ => self.good = false,
+        }
+        true
+    }
+}
+
+/// The least of T05 and T07 that holds of the fields, joined by Tabs. It takes no memory.
+pub(crate) fn fields_code(fields: Option<&[u8]>) -> Option<Code>
+    ensures { result ≡ fault_in (fields_of (each_field (option_map (λ bs. bs.now) fields.entry))) }
+{
+    let mut noted = Noted {
+        has_kind: false,
+        good: true,
+    };
+    let mut rest = fields;
+    while let Some(bytes) = rest {
+        let (field, more) = first_field(bytes);
+        if !noted.add(field) {
+            return Some(Code::T05);
+        }
+        rest = more;
+    }
+    if noted.good { None } else { Some(Code::T07) }
 }

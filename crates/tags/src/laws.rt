@@ -1,7 +1,9 @@
-ghost use Rattle.std.specs.Prelude.{◌≡◌, ◌+◌, ◌++◌, ◌∷◌, Err, Some, ℕ, List, fold};
+ghost use Rattle.std.specs.Prelude.{◌≡◌, ◌+◌, ◌++◌, ◌∷◌, Err, Some, ℕ, List, fold, length};
 ghost use Rattle.tags.specs.Bytes.{tab};
+ghost use Rattle.tags.specs.Counting as counting;
+ghost use Rattle.tags.specs.Counting.{Count};
 ghost use Rattle.tags.specs.Escapes.{decoded};
-ghost use Rattle.tags.specs.Fault.{Reading, contents, IsFaultless, IsFirstFault};
+ghost use Rattle.tags.specs.Fault.{Reading, contents, tags_of, IsFaultless, IsFirstFault};
 ghost use Rattle.tags.specs.Grammar.{HasFront, IsName, Spells, TagLine};
 ghost use Rattle.tags.specs.Lines.{Cuts, lines_of, with_last};
 ghost use Rattle.tags.specs.Parts.{parts_in};
@@ -43,4 +45,14 @@ pub fn state_law()
     ensures running { (lines : List Reading) (s : Summary) → state_after lines ≡ running s
         → IsFaultless lines × (s ≡ summary_of (contents lines)) }
     ensures stays { (lines : List Reading) (n : ℕ) (c : Code) → fold next (stopped n c) lines ≡ stopped n c }
+{}
+
+/// Where a checker of lines stops is the first fault. Where it doesn't there is none, and it counted the tags.
+/// Once stopped it stays so.
+pub fn count_law()
+    ensures stopped { (lines : List Reading) (n : ℕ) (c : Code) → counting.state_after lines ≡ counting.stopped n c
+        → (k : ℕ) × (n ≡ k + 1) × IsFirstFault lines k c }
+    ensures running { (lines : List Reading) (s : Count) → counting.state_after lines ≡ counting.running s
+        → IsFaultless lines × (s.tags ≡ length (tags_of (contents lines))) }
+    ensures stays { (lines : List Reading) (n : ℕ) (c : Code) → fold counting.next (counting.stopped n c) lines ≡ counting.stopped n c }
 {}

@@ -3,19 +3,22 @@
 
 mod address;
 mod around;
+mod checker;
 mod code;
 mod content;
 mod cut;
 mod escape;
 mod fields;
 mod laws;
+mod order;
 mod parts;
 mod reader;
 mod tag;
 
+pub use checker::TagChecker;
 pub use code::{Code, LineFault, SplitFault, TagsFault};
 pub use escape::decode;
-pub use laws::{escape_law, grammar_law, lines_law, state_law};
+pub use laws::{count_law, escape_law, grammar_law, lines_law, state_law};
 pub use parts::{Part, split};
 pub use reader::{LONGEST_LINE, TagReader, read_tags};
 pub use tag::{Field, Tag};

@@ -1,5 +1,4 @@
 ghost use Rattle.std.specs.Prelude.{◌≡◌, ◌+◌, ◌<◌, IfNone, Ok, OnErr, OnOk, map, option_map};
-ghost use Rattle.tags.specs.Fault.{descends};
 ghost use Rattle.tags.specs.Faults.{Gives, result_map};
 ghost use Rattle.tags.specs.Lines.{handed, line_text, readings_of};
 ghost use Rattle.tags.specs.Outcome.{Answers};
@@ -7,7 +6,8 @@ ghost use Rattle.tags.specs.Views.{content_value};
 
 use crate::around::around_byte;
 use crate::code::{Code, LineFault, SplitFault, TagsFault};
-use crate::content::{Content, read_content};
+use crate::content::{Content, PseudoTag, read_content};
+use crate::order::Order;
 use crate::tag::Tag;
 use std::alloc::{AllocError, Global};
 use std::marker::Model;
@@ -15,11 +15,8 @@ use std::marker::Model;
 /// How many bytes a line may have, with its CR.
 pub const LONGEST_LINE: usize = 65536;
 
-/// How many lines a tags file may have.
-const MOST_LINES: u32 = 100000;
-
 /// The line's text: one CR directly before an LF isn't part of it.
-fn line_text(line: &[u8], ended: bool) -> &[u8]
+pub(crate) fn line_text(line: &[u8], ended: bool) -> &[u8]
     ensures { result.now ≡ line_text (record { bytes = line.now; ended = ended }) }
 {
     match line {
@@ -43,25 +40,11 @@ fn read_line(
     }
 }
 
-/// The name is less, by bytes, than the last one.
-fn descends(last: Option<&[u8]>, written: &[u8]) -> bool
-    ensures { result ≡ descends (option_map (λ name. name.now) last.entry) written.now }
-{
-    match last {
-        Some(name) => written.cmp(&name).is_lt(),
-        None => false,
-    }
-}
-
 /// What has to be known of the lines so far.
 #[derive(Drop)]
 struct Kept {
-    count: u32,
+    order: Order,
     tags: Vec<Tag>,
-    /// The name of the last tag, as written.
-    last: Option<Vec<u8>>,
-    /// The names may not descend.
-    checked: bool,
 }
 
 impl Kept {
@@ -71,44 +54,30 @@ impl Kept {
     /// The least of T09 to T11 that holds of the next line.
     fn order_code(&self, content: &Content) -> Option<Code>
         ensures value { result ≡ order_in (summary self.now) (content_value content.now) }
-        ensures room { IfNone result (self.now.count < 100000) }
+        ensures room { IfNone result (self.now.order.count < 100000) }
     {
-        let last = self.last.as_deref();
         match content {
-            Content::Ordinary(written, _) => {
-                if self.checked && descends(last, written) {
-                    return Some(Code::T10);
-                }
-            }
-            _ => {
-                if last.is_some() {
-                    return Some(Code::T09);
-                }
-            }
-        }
-        if self.count < MOST_LINES {
-            None
-        } else {
-            Some(Code::T11)
+            Content::Ordinary(written, _) => self.order.code(Some(written)),
+            Content::Pseudo(_) => self.order.code(None),
         }
     }
 
     /// Takes the next line. An `Err` changes nothing.
     fn add(&mut self, alloc: Global, content: Content<'_>) -> Result<(), AllocError>
-        requires { self.old.count < 100000 }
+        requires { self.old.order.count < 100000 }
         ensures ok { OnOk result (summary self.new ≡ add (summary self.old) (content_value content.entry)) }
         ensures err { OnErr result (summary self.new ≡ summary self.old) }
     {
         match content {
-            Content::Sorted(checked) => self.checked = checked,
-            Content::Other => {}
+            Content::Pseudo(PseudoTag::Sorted(checked)) => self.order.checked = checked,
+            Content::Pseudo(PseudoTag::Other) => {}
             Content::Ordinary(written, entry) => {
                 let last = Vec::from_slice(alloc, written)?;
-                self.tags.push(entry.at(self.count + 1))?;
-                self.last = Some(last);
+                self.tags.push(entry.at(self.order.count + 1))?;
+                self.order.last = Some(last);
             }
         }
-        self.count += 1;
+        self.order.count += 1;
         Ok(())
     }
 }
@@ -130,7 +99,7 @@ impl Model for TagReader {
 
     ghost view = { λ r. state_of r.fault r.kept };
 
-    ghost invariant = { λ r. r.kept.count ≤ 100000 };
+    ghost invariant = { λ r. r.kept.order.count ≤ 100000 };
 }
 
 impl TagReader {
@@ -142,10 +111,8 @@ impl TagReader {
         ensures { result ≡ start }
     {
         let kept = Kept {
-            count: 0,
+            order: Order::new(),
             tags: Vec::new(alloc),
-            last: None,
-            checked: false,
         };
         TagReader {
             alloc,
@@ -163,7 +130,7 @@ impl TagReader {
         if let Some(fault) = self.fault {
             return Err(TagsFault::Line(fault));
         }
-        let number = self.kept.count + 1;
+        let number = self.kept.order.count + 1;
         let content = match read_line(self.alloc, line, ended) {
             Ok(content) => content,
             Err(SplitFault::Memory) => return Err(TagsFault::Memory),

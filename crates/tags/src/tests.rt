@@ -1,8 +1,20 @@
 use crate::{
-    Code, LineFault, SplitFault, TagReader, TagsFault, decode, escape_law, grammar_law, lines_law,
-    read_tags, split, state_law,
+    Code, LineFault, SplitFault, TagChecker, TagReader, TagsFault, count_law, decode, escape_law,
+    grammar_law, lines_law, read_tags, split, state_law,
 };
 use std::test::Fail;
+
+/// What a checker says of a text.
+fn check(rt: &HostRuntime, text: &str) -> Result<u32, TagsFault> {
+    let mut checker = TagChecker::new(rt.alloc());
+    for line in text.split_inclusive('\n') {
+        match line.strip_suffix('\n') {
+            Some(line) => checker.feed(Ok(line.as_bytes()), true)?,
+            None => checker.feed(Ok(line.as_bytes()), false)?,
+        }
+    }
+    checker.finish()
+}
 
 /// The number of tags of a text.
 fn count(rt: &HostRuntime, text: &str) -> Result<usize, Fail> {
@@ -40,6 +52,7 @@ fn accepted(rt: HostRuntime) -> Result<(), Fail> {
     ];
     for (text, tags) in table {
         assert_eq!(rt; count(&rt, text)?, tags, "{text}");
+        assert_eq!(rt; check(&rt, text), Ok(tags as u32), "{text}");
     }
     Ok(())
 }
@@ -85,6 +98,8 @@ fn refused(rt: HostRuntime) -> Result<(), Fail> {
             Some(LineFault { line, code }),
             "{text}"
         );
+        let refused = Err(TagsFault::Line(LineFault { line, code }));
+        assert_eq!(rt; check(&rt, text), refused, "{text}");
     }
     let code = Code::T02;
     assert_eq!(rt;
@@ -129,6 +144,45 @@ fn limits(rt: HostRuntime) -> Result<(), Fail> {
     grammar_law();
     lines_law();
     state_law();
+    Ok(())
+}
+
+#[test]
+fn limits_of_a_checker(rt: HostRuntime) -> Result<(), Fail> {
+    let mut checker = TagChecker::new(rt.alloc());
+    for _ in 0..99999 {
+        checker.feed(Ok(b"!_TAG_X\t\t\r"), true)?;
+    }
+    checker.feed(Ok(b"x\tf.c\t1"), true)?;
+    let code = Code::T09;
+    let over = Err(TagsFault::Line(LineFault { line: 100001, code }));
+    assert_eq!(rt; checker.feed(Ok(b"!_TAG_X\t\t"), false), over);
+    assert_eq!(rt; checker.feed(Err(Code::T01), false), over);
+    assert!(rt; checker.finish().is_err());
+
+    let long = [b'x'; 65537];
+    let mut checker = TagChecker::new(rt.alloc());
+    assert_eq!(rt;
+        checker.feed(Ok(&long), false),
+        Err(TagsFault::Line(LineFault {
+            line: 1,
+            code: Code::T01
+        }))
+    );
+    let mut checker = TagChecker::new(rt.alloc());
+    assert_eq!(rt;
+        checker.feed(Ok(b"x\tf.c\t\xff"), true),
+        Err(TagsFault::Line(LineFault {
+            line: 1,
+            code: Code::T02
+        }))
+    );
+    let mut checker = TagChecker::new(rt.alloc());
+    for name in [b"aaa\tf\t1".as_slice(), b"b\tf\t1", b"cc\tf\t1"] {
+        checker.feed(Ok(name), true)?;
+    }
+    assert_eq!(rt; checker.finish(), Ok(3));
+    count_law();
     Ok(())
 }
 

@@ -7,8 +7,8 @@ abbrev pub invariant-reading : goal.invariant-reading
 invariant-reading g l = record {
   failed : g.R.Source.failed l.r ≡ g.R.Source.failed l.fn.r;
   ready : IsReady l.lines;
-  taken : HasTaken (g.R.Source.left l.fn.r) l.reader (told l.lines.pending (g.R.Source.left l.r));
+  taken : HasTaken (g.R.Source.left l.fn.r) l.checker (told l.lines.pending (g.R.Source.left l.r));
 }
 
 abbrev pub decreases-reading : goal.decreases-reading
-decreases-reading g l = room_of l.reader
+decreases-reading g l = room_of l.checker

@@ -1,7 +1,6 @@
-use Rattle.std.proofs.Common.{◌≡◌, ◌∙◌, ◌++◌, sym, ap, rules, string_bytes, codes}
+use Rattle.std.proofs.Common.{◌≡◌, ◌∙◌, ◌++◌, sym, ap, string_bytes, codes}
 use Rattle.std.specs.Fmt.{decimal}
 use Rattle.std.proofs.lemmas.Result.{IfOk-weaker}
-use Rattle.tags.specs.Codes.{name_of, text_of}
 use Rattle.codenav.specs.TagsReport.{report_text}
 use Rattle.codenav.proofs.check_tags.report_text.Goals as goal
 

@@ -1,5 +1,4 @@
-use Rattle.std.proofs.Common.{◌≡◌, ◌∙◌, refl, rules}
-use Rattle.lsif.specs.Held.{told}
+use Rattle.std.proofs.Common.{◌∙◌, refl, rules}
 use Rattle.tags.specs.declared.code.Code.TheVariants.{T01}
 use Rattle.codenav.proofs.TagsJudgings.{fed_code, fed_line}
 use Rattle.codenav.proofs.TagsLines.{long_line, reads_line, reads_none}

@@ -11,29 +11,29 @@ use Rattle.tags.proofs.fields.Gathered.add.Goals.{in_default-name-via-in-Some-na
 
 pub returns-in_default : goal.returns-in_default
 returns-in_default c =
-    let none : decoded (value_in c.args.field.now) ≡ None = rw (← c.name_and_value.ensures.value) (sym c.in_ok-value.ensures ∙ ap (option_map (λ s. string_bytes s)) c.in_default.is) in
+    let none : decoded (value_in c.args.field.now) ≡ None = rw (← c.name_and_value.ensures.value, ← c.text_of.ensures) (sym c.in_ok-value.ensures ∙ ap (option_map (λ s. string_bytes s)) c.in_default.is) in
     λ rest. gathered-escape c.args.self.now.good _ _ c.args.field.now rest none
 
 pub returns-in_ok-push-in-Some-name : goal.returns-in_ok-push-in-Some-name
 returns-in_ok-push-in-Some-name c =
-    let some : decoded (value_in c.args.field.now) ≡ Some (string_bytes c.in-Some.value) = rw (← c.name_and_value.ensures.value) (sym c.in_ok-value.ensures ∙ ap (option_map (λ s. string_bytes s)) c.in-Some.is) in
+    let some : decoded (value_in c.args.field.now) ≡ Some (string_bytes c.in-Some.value) = rw (← c.name_and_value.ensures.value, ← c.text_of.ensures) (sym c.in_ok-value.ensures ∙ ap (option_map (λ s. string_bytes s)) c.in-Some.is) in
     let name : name_in c.args.field.now ≡ Some c.in-Some-name.name.now = sym c.name_and_value.ensures.name ∙ ap (option_map (λ s. s.now)) c.in-Some-name.is in
     let pushed : map field_value c.push.new.self.items ≡ map field_value c.args.self.now.others.items ++ record { name = c.in-Some-name.name.now; value = string_bytes c.in-Some.value } ∷ [] =
     ap (map field_value) c.in_ok-push-in-Some-name.ensures.items ∙ map-append field_value c.args.self.now.others.items _
-    ∙ ap (λ n. map field_value c.args.self.now.others.items ++ record { name = n; value = string_bytes c.in-Some.value } ∷ []) c.in_ok-name-in-Some-name.ensures.ok in
+    ∙ ap (λ n. map field_value c.args.self.now.others.items ++ record { name = n; value = string_bytes c.in-Some.value } ∷ []) (c.in_ok-name-in-Some-name.ensures.ok ∙ c.text_of-in-Some-name.ensures) in
     λ rest. ap (λ xs. gathered c.args.self.now.good (option_map (λ s. string_bytes s) c.args.self.now.kind) xs rest) pushed
     ∙ gathered-other c.args.self.now.good (option_map (λ s. string_bytes s) c.args.self.now.kind) (map field_value c.args.self.now.others.items) c.args.field.now c.in-Some-name.name.now (string_bytes c.in-Some.value) rest name (sym c.if-is_field_name.ensures) some
 
 pub returns-in-None : goal.returns-in-None
 returns-in-None c =
-    let some : decoded (value_in c.args.field.now) ≡ Some (string_bytes c.in-Some.value) = rw (← c.name_and_value.ensures.value) (sym c.in_ok-value.ensures ∙ ap (option_map (λ s. string_bytes s)) c.in-Some.is) in
+    let some : decoded (value_in c.args.field.now) ≡ Some (string_bytes c.in-Some.value) = rw (← c.name_and_value.ensures.value, ← c.text_of.ensures) (sym c.in_ok-value.ensures ∙ ap (option_map (λ s. string_bytes s)) c.in-Some.is) in
     let name : name_in c.args.field.now ≡ None = sym c.name_and_value.ensures.name ∙ ap (option_map (λ s. s.now)) c.in-None.is in
     let full : is_empty (value_in c.args.field.now) ≡ false = rw c.name_and_value.ensures.value at (sym c.if-not-is_empty.ensures) in
     λ rest. gathered-first_kind (λ s. string_bytes s) c.args.self.now.kind c.args.self.now.good (map field_value c.args.self.now.others.items) c.args.field.now (string_bytes c.in-Some.value) rest c.if-is_none.ensures name full some
 
 pub returns-in_default-name : goal.returns-in_default-name
 returns-in_default-name c =
-    let some : decoded (value_in c.args.field.now) ≡ Some (string_bytes c.in-Some.value) = rw (← c.name_and_value.ensures.value) (sym c.in_ok-value.ensures ∙ ap (option_map (λ s. string_bytes s)) c.in-Some.is) in
+    let some : decoded (value_in c.args.field.now) ≡ Some (string_bytes c.in-Some.value) = rw (← c.name_and_value.ensures.value, ← c.text_of.ensures) (sym c.in_ok-value.ensures ∙ ap (option_map (λ s. string_bytes s)) c.in-Some.is) in
     elim c.in_default-name.branch [
       | in_default-name-via-in-Some-name+else-is_field_name w ↦
           let name : name_in c.args.field.now ≡ Some w.in-Some-name.name.now = sym c.name_and_value.ensures.name ∙ ap (option_map (λ s. s.now)) w.in-Some-name.is in
