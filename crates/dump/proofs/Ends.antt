@@ -8,7 +8,7 @@ use Rattle.lsif.specs.declared.code.Code.{Code}
 use Rattle.lsif.specs.declared.code.Code.TheVariants.{L04, L06, L09, L10, L11, L12, L13, L14, L16, L19, L20}
 use Rattle.lsif.specs.Element.{IdValue, same_id, contains, next, definition, item, other_edge, ElementValue, vertex, edge}
 use Rattle.dump.specs.Walks.{Pair, first_to, IsChain, ends, links, HasChain, Path, stays, goes, next_pairs, next_in}
-use Rattle.dump.specs.Conditions.{order_code, order_condition, has_used_id, joins_no_vertex, may_not_join, is_contained_again, is_conflicting, leaves_again, closes_cycle}
+use Rattle.dump.specs.Conditions.{order_code, order_condition, has_used_id, joins_no_vertex, may_not_join, is_contained_again, is_conflicting, leaves_again, closes_cycle, has_used_uri}
 use Rattle.dump.specs.Steps as steps
 use Rattle.dump.specs.Steps.{Progress, running, stopped, advance, progress, IsSound}
 use Rattle.dump.proofs.SameIds.{same_id_eq, same_id_self}
@@ -111,6 +111,7 @@ pub record HasNoCode (before : List ElementValue) (x : ElementValue) : Type 0 wh
   pub conflict : is_conflicting before x ≡ false
   pub single : leaves_again before x ≡ false
   pub cycle : closes_cycle before x ≡ false
+  pub uri : has_used_uri before x ≡ false
 
 pub no_code : (before : List ElementValue) (x : ElementValue) → order_code before x ≡ None → HasNoCode before x
 unfolding order_code
@@ -124,6 +125,8 @@ no_code before x e =
     let at_12 = find_none p L12 (L13 ∷ L14 ∷ L16 ∷ L19 ∷ L20 ∷ []) at_11.1 in
     let at_13 = find_none p L13 (L14 ∷ L16 ∷ L19 ∷ L20 ∷ []) at_12.1 in
     let at_14 = find_none p L14 (L16 ∷ L19 ∷ L20 ∷ []) at_13.1 in
+    let at_16 = find_none p L16 (L19 ∷ L20 ∷ []) at_14.1 in
+    let at_19 = find_none p L19 (L20 ∷ []) at_16.1 in
     record {
       fresh = at_04.0;
       ends = at_09.0;
@@ -132,6 +135,7 @@ no_code before x e =
       conflict = at_12.0;
       single = at_13.0;
       cycle = at_14.0;
+      uri = at_19.0;
     }
 
 none_of : (o : Option IdValue) → is_some o ≡ false → o ≡ None

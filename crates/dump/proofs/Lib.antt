@@ -1,10 +1,13 @@
 pub mod Chains
 pub mod Ends
 pub mod Graphs
+pub mod Judgings
 pub mod Leads
 pub mod Lists
 pub mod Members
 pub mod Nests
+pub mod OneAnswers
 pub mod Paths
 pub mod Progresses
 pub mod SameIds
+pub mod Uniques

@@ -1,14 +1,14 @@
 -- In a sound dump two ranges of one document don't conflict.
-use Rattle.std.proofs.Common.{◌≡◌, ◌⊎◌, inl, inr, ◌∙◌, ◌&&◌, ◌||◌, ◌++◌, ◌∷◌, [], ◌==◌, ◌<◌, ℕ, Bool, true, false, not, nat_lt, if◌then◌else◌, List, map, refl, sym, ap, ap₂, subst, append_assoc, append-nil, arith, find, Option, Some, None, option_and_then, is_some}
-use Rattle.std.specs.List.{list_any, list_all, filter_map, flat_map, cons_option}
+use Rattle.std.proofs.Common.{◌≡◌, ◌⊎◌, inl, inr, ◌∙◌, ◌&&◌, ◌||◌, ◌++◌, ◌∷◌, [], ℕ, Bool, true, false, not, if◌then◌else◌, List, refl, sym, ap, ap₂, subst, append_assoc, append-nil, arith, find, Option, Some, None, option_and_then, is_some}
+use Rattle.std.specs.List.{list_any, list_all, flat_map, cons_option}
 use Rattle.std.specs.Option.{option_or}
 use Rattle.std.proofs.lemmas.List.Folds.{find-append, list_any-append}
 use Rattle.positions.specs.Position.{PositionValue, is_before, later_of, earlier_of}
 use Rattle.positions.specs.Span.{SpanValue, nests, overlaps}
 use Rattle.lsif.specs.Element.{IdValue, same_id, VertexValue, meta_data, project, document, range, result_set, definition_result, other_vertex, contains, next, definition, item, other_edge, ElementValue, vertex, edge, element_id}
-use Rattle.dump.specs.Graph.{element_at, vertex_of, vertex_at, is_document, is_range, span_of, ends, is_among}
+use Rattle.dump.specs.Graph.{element_at, vertex_of, vertex_at, is_document, span_of, is_among}
 use Rattle.dump.specs.Contained.{places_range, is_in, spans_of, spans_named, spans_in, conflicts, any_conflicts, has_conflict, IsNested}
-use Rattle.dump.specs.Conditions.{order_code, are_vertices, are_documents, are_ranges, joins_no_vertex, may_contain, may_not_join, is_conflicting}
+use Rattle.dump.specs.Conditions.{are_vertices, may_contain}
 use Rattle.dump.specs.Steps.{IsSound}
 use Rattle.dump.proofs.SameIds.{same_id_eq}
 use Rattle.dump.proofs.Ends.{HasNoCode, no_code, SoundAfter, sound_after}

@@ -2,6 +2,7 @@ pub mod Conditions
 pub mod Contained
 pub mod Fault
 pub mod Graph
+pub mod Judging
 pub mod Lines
 pub mod Places
 pub mod Steps

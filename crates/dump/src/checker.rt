@@ -3,11 +3,13 @@ ghost use Rattle.lsif.specs.Code.{is_shape_code};
 ghost use Rattle.lsif.specs.Element.{element_value, reading_value};
 ghost use Rattle.dump.specs.declared.fault.FeedFault.TheVariants.{Line};
 
+use crate::contained::is_in;
 use crate::fault::{FeedFault, LineFault};
+use crate::graph::vertex_at;
 use crate::laws::chain_law;
 use crate::order::{end_fault, order_code};
 use crate::walks::first_definition;
-use lsif::{Code, Element, Id, Profile};
+use lsif::{Code, Element, Id, Profile, Vertex};
 use std::alloc::Global;
 use std::marker::Model;
 
@@ -120,10 +122,12 @@ impl Model for CheckedDump {
 impl CheckedDump {
     ghost use Rattle.std.specs.Prelude.{◌≤◌, Ok, length};
     ghost use Rattle.dump.specs.Conditions.{most_elements};
-    ghost use Rattle.std.specs.Prelude.{List, option_map};
-    ghost use Rattle.lsif.specs.Element.{IdValue, id_value};
+    ghost use Rattle.std.specs.Prelude.{Option, option_map};
+    ghost use Rattle.lsif.specs.Element.{IdValue, id_value, vertex_value};
+    ghost use Rattle.dump.specs.Graph.{vertex_at};
+    ghost use Rattle.dump.specs.Contained.{is_in};
     ghost use Rattle.dump.specs.Fault.{IsFaultless};
-    ghost use Rattle.dump.specs.Walks.{IsChain, first_of_list, next_pairs, definition_pairs};
+    ghost use Rattle.dump.specs.Places.{FirstDefinition};
 
     /// The elements: that of line 1 first.
     pub fn elements(&self) -> &[Element]
@@ -137,9 +141,24 @@ impl CheckedDump {
     /// The definition result that a request at this vertex is answered by: that of the first vertex along the chain of
     /// `next` edges from it that has one.
     pub fn first_definition<'a>(&'a self, vertex: &'a Id) -> Option<&'a Id>
-        ensures { (xs : List IdValue) → IsChain (next_pairs self.now) (id_value vertex.now) xs → option_map (λ i. id_value i.now) result ≡ first_of_list (definition_pairs self.now) xs }
+        ensures value { FirstDefinition self.now (id_value vertex.now) (option_map (λ i. id_value i.now) result) }
+        ensures only { (other : Option IdValue) → FirstDefinition self.now (id_value vertex.now) other → other ≡ option_map (λ i. id_value i.now) result }
     {
         chain_law();
         first_definition(self.elements(), vertex)
+    }
+
+    /// What the vertex of this id says. None where the id is an edge's, or nobody's.
+    pub fn vertex_at(&self, id: &Id) -> Option<&Vertex>
+        ensures { option_map (λ v. vertex_value v.now) result ≡ vertex_at self.now (id_value id.now) }
+    {
+        vertex_at(self.elements(), id)
+    }
+
+    /// Whether a `contains` edge out of this document names the range.
+    pub fn is_in(&self, document: &Id, range: &Id) -> bool
+        ensures { result ≡ is_in self.now (id_value document.now) (id_value range.now) }
+    {
+        is_in(self.elements(), document, range)
     }
 }

@@ -57,7 +57,7 @@ fn places_range(document: &Id, range: &Id, element: &Element) -> bool
 }
 
 /// Whether this document contains the range.
-fn is_in(elements: &[Element], document: &Id, range: &Id) -> bool
+pub(crate) fn is_in(elements: &[Element], document: &Id, range: &Id) -> bool
     ensures { result ≡ is_in (map element_value elements.now) (id_value document.now) (id_value range.now) }
 {
     for element in elements {

@@ -1,10 +1,13 @@
-ghost use Rattle.std.specs.Prelude.{◌≡◌, ◌++◌, ◌<◌, List, Option, None, Ok, map, length, ◌↔◌, IsTrue};
-ghost use Rattle.lsif.specs.Element.{IdValue, ElementValue, Reading};
+ghost use Rattle.std.specs.Prelude.{◌≡◌, ◌++◌, ◌<◌, ℕ, List, Contains, Option, Some, None, Ok, map, length, ◌↔◌, IsTrue};
+ghost use Rattle.positions.specs.Position.{PositionValue};
+ghost use Rattle.lsif.specs.Element.{IdValue, VertexValue, document, ElementValue, vertex, Reading};
 ghost use Rattle.dump.specs.declared.fault.LineFault.{LineFault};
 ghost use Rattle.dump.specs.Conditions.{order_code, most_elements};
 ghost use Rattle.dump.specs.Contained.{IsNested};
 ghost use Rattle.dump.specs.Fault.{IsFault, IsFaultless};
+ghost use Rattle.dump.specs.Places.{PlaceValue, DefinitionPlaces};
 ghost use Rattle.dump.specs.Steps.{progress, running, stopped, finished};
+ghost use Rattle.dump.specs.Graph.{vertex_at};
 ghost use Rattle.dump.specs.Walks.{Pair, Path, HasChain, reaches, next_pairs};
 
 /// Each dump has one fault or none, and feeding its lines in turn and then finishing answers it. A checker that runs on
@@ -33,4 +36,19 @@ pub fn chain_law()
 /// In a dump without fault two ranges that one document contains don't conflict.
 pub fn nesting_law()
     ensures { (elements : List ElementValue) → IsFaultless (map Ok elements) → IsNested elements }
+{}
+
+/// In a dump without fault the vertex of an id is the one element with this id.
+pub fn vertex_law()
+    ensures { (elements : List ElementValue) → IsFaultless (map Ok elements) → (i : IdValue) (v : VertexValue) → vertex_at elements i ≡ Some v ↔ Contains elements (vertex i v) }
+{}
+
+/// In a dump without fault two documents of one serialized URL are one.
+pub fn uri_law()
+    ensures { (elements : List ElementValue) → IsFaultless (map Ok elements) → (d e : IdValue) (uri : List ℕ) → vertex_at elements d ≡ Some (document uri) → vertex_at elements e ≡ Some (document uri) → d ≡ e }
+{}
+
+/// In a dump without fault a definition request is answered by one list of places at most.
+pub fn answer_law()
+    ensures { (elements : List ElementValue) → IsFaultless (map Ok elements) → (uri : List ℕ) (position : PositionValue) (places others : List PlaceValue) → DefinitionPlaces elements uri position places → DefinitionPlaces elements uri position others → places ≡ others }
 {}

@@ -7,11 +7,13 @@ mod fault;
 mod graph;
 mod laws;
 mod order;
+mod reading;
 mod walks;
 
 pub use checker::{CheckedDump, Checker};
 pub use fault::{FeedFault, LineFault};
-pub use laws::{chain_law, fault_law, nesting_law, path_law};
+pub use laws::{answer_law, chain_law, fault_law, nesting_law, path_law, uri_law, vertex_law};
+pub use reading::{DumpFault, read_dump};
 
 #[cfg(test)]
 mod tests;

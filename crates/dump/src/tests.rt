@@ -1,5 +1,5 @@
-use crate::{Checker, FeedFault, LineFault};
-use lsif::{Code, Element, Id, Profile, ReadFault, read_element};
+use crate::{Checker, DumpFault, FeedFault, LineFault, read_dump};
+use lsif::{Code, Counted, Element, Id, Profile, ReadFault, Vertex, read_element};
 use std::test::Fail;
 
 const META_DATA: &str =
@@ -68,7 +68,7 @@ const CONTAINS: &str =
     "{\"id\":12,\"type\":\"edge\",\"label\":\"contains\",\"outV\":2,\"inVs\":[3]}";
 
 #[test]
-fn first_definition_along_a_chain(rt: HostRuntime) -> Result<(), Fail> {
+fn first_definition_along_a_chain_and_look_ups(rt: HostRuntime) -> Result<(), Fail> {
     let mut checker = Checker::new(rt.alloc(), Profile::One);
     for line in [META_DATA, DOCUMENT] {
         assert_eq!(rt; checker.feed(Ok(element(&rt, line)?)), Ok(()));
@@ -85,5 +85,30 @@ fn first_definition_along_a_chain(rt: HostRuntime) -> Result<(), Fail> {
         let wanted = Id::Number(result.unwrap_or(0));
         assert!(rt; found.is_none_or(|id| id.is(&wanted)));
     }
+    let (document, range, edge) = (Id::Number(2), Id::Number(3), Id::Number(12));
+    assert!(rt; matches!(dump.vertex_at(&document), Some(Vertex::Document(_))));
+    assert!(rt; matches!(dump.vertex_at(&range), Some(Vertex::Range(_))));
+    assert!(rt; dump.vertex_at(&edge).is_none());
+    assert!(rt; dump.is_in(&document, &range));
+    assert!(rt; !dump.is_in(&range, &document));
+    Ok(())
+}
+
+#[test]
+fn dump_of_a_reader(rt: HostRuntime) -> Result<(), Fail> {
+    let text = format!(in rt.alloc(); "{META_DATA}\n{DOCUMENT}")?;
+    let mut reader = Counted::new(text.as_bytes());
+    let dump = read_dump(rt.alloc(), &mut reader).map_err(|_| "a fault")?;
+    assert_eq!(rt; dump.elements().len(), 2);
+    let text = format!(in rt.alloc(); "{META_DATA}\n\n{DOCUMENT}\n")?;
+    let fault = LineFault {
+        line: 2,
+        code: Code::L02,
+    };
+    let mut reader = Counted::new(text.as_bytes());
+    assert_eq!(rt;
+        read_dump(rt.alloc(), &mut reader).err(),
+        Some(DumpFault::Line(fault))
+    );
     Ok(())
 }

@@ -1,7 +1,7 @@
 use Rattle.std.proofs.Common.{◌∙◌, arith, map}
 use Rattle.lsif.specs.Element.{id_value, element_value}
 use Rattle.dump.specs.Walks.{next_pairs, definition_pairs}
-use Rattle.dump.proofs.Chains.{follows, found, none, on, last}
+use Rattle.dump.proofs.Chains.{follows, last}
 use Rattle.dump.proofs.Leads.{few_pairs}
 use Rattle.dump.proofs.walks.first_definition.Goals as goal
 

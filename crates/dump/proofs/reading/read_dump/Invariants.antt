@@ -1,0 +1,16 @@
+use Rattle.std.proofs.Common.{◌≡◌}
+use Rattle.lsif.specs.Held.{told}
+use Rattle.dump.specs.Steps.{IsRunning}
+use Rattle.dump.specs.Judging.{HasTaken, IsReady, room_of}
+use Rattle.dump.proofs.reading.read_dump.Given as goal
+
+abbrev pub invariant-reading : goal.invariant-reading
+invariant-reading g l = record {
+  failed : g.R.Source.failed l.r ≡ g.R.Source.failed l.fn.r;
+  ready : IsReady l.lines;
+  runs : IsRunning l.checker;
+  taken : HasTaken (g.R.Source.left l.fn.r) l.checker (told l.lines.pending (g.R.Source.left l.r));
+}
+
+abbrev pub decreases-reading : goal.decreases-reading
+decreases-reading g l = room_of l.checker

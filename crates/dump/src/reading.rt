@@ -1,0 +1,82 @@
+//! The dump that a reader's bytes are.
+ghost use Rattle.std.specs.Prelude.{◌≡◌, ◌-◌, ◌^◌, ◌<◌, IfOk, IfErr, option_map};
+ghost use Rattle.lsif.specs.Element.{reading_value};
+ghost use Rattle.lsif.specs.Held.{told};
+ghost use Rattle.dump.specs.Judging.{CountsRead, GoesOn, IsOutside, IsReady, ReadsDump, ReadsNext, as_dump_fault};
+
+use crate::checker::{CheckedDump, Checker};
+use crate::fault::{FeedFault, LineFault};
+use crate::laws::fault_law;
+use lsif::{
+    Code, Element, LONGEST_LINE, LineBuffer, LinesFault, Profile, ReadFault, Source, read_element,
+};
+use std::alloc::Global;
+
+/// Why a reader's bytes give no dump.
+#[derive(Clone, Copy, Debug, PartialEq, Eq)]
+pub enum DumpFault {
+    /// Memory was refused.
+    Memory,
+    /// The reader failed.
+    Read,
+    /// The dump is faulty.
+    Line(LineFault),
+}
+
+impl From<FeedFault> for DumpFault {
+    ghost from_gives = { λ e fault. fault ≡ as_dump_fault e };
+
+    fn from(e: FeedFault) -> DumpFault {
+        match e {
+            FeedFault::Memory => DumpFault::Memory,
+            FeedFault::Line(fault) => DumpFault::Line(fault),
+        }
+    }
+}
+
+/// The reading of the next line: its element, or the fault of its shape. None at the end.
+fn next_reading<R: Source>(
+    alloc: Global,
+    lines: &mut LineBuffer,
+    r: &mut R,
+) -> Result<Option<Result<Element, Code>>, DumpFault>
+    requires count { R.failed r.old < 2 ^ 64 - 1 }
+    requires ready { IsReady lines.old }
+    ensures read { IfOk result (λ next. ReadsNext (told lines.old.pending (R.left r.old)) (option_map reading_value next) (told lines.new.pending (R.left r.new))) }
+    ensures goes_on { IfOk result (λ next. GoesOn next lines.new) }
+    ensures unfaulty { IfErr result IsOutside }
+    ensures counted { CountsRead (R.failed r.old) (R.failed r.new) result }
+{
+    match lines.advance(r) {
+        Ok(false) => Ok(None),
+        Ok(true) => match read_element(alloc, lines.line()) {
+            Ok(element) => Ok(Some(Ok(element))),
+            Err(ReadFault::Shape(code)) => Ok(Some(Err(code))),
+            Err(ReadFault::Memory) => Err(DumpFault::Memory),
+        },
+        Err(LinesFault::TooLong) => Ok(Some(Err(Code::L01))),
+        Err(LinesFault::Read) => Err(DumpFault::Read),
+        Err(LinesFault::Memory) => Err(DumpFault::Memory),
+    }
+}
+
+/// Reads a dump from a reader to its end, or up to its first faulty line: the dump where it has no fault, else its
+/// fault. Keeps the dump's elements, and of its bytes one line.
+pub fn read_dump<R: Source>(alloc: Global, r: &mut R) -> Result<CheckedDump, DumpFault>
+    requires { R.failed r.old < 2 ^ 64 - 1 }
+    ensures dump { ReadsDump (R.left r.old) result }
+    ensures counted { CountsRead (R.failed r.old) (R.failed r.new) result }
+{
+    fault_law();
+    let Ok(mut lines) = LineBuffer::new(alloc, LONGEST_LINE) else {
+        return Err(DumpFault::Memory);
+    };
+    let mut checker = Checker::new(alloc, Profile::One);
+    'reading: while let Some(reading) = next_reading(alloc, &mut lines, r)? {
+        match checker.feed(reading) {
+            Ok(()) => {}
+            Err(fault) => return Err(DumpFault::from(fault)),
+        }
+    }
+    Ok(checker.finish()?)
+}
