@@ -1,0 +1,10 @@
+pub mod Answering
+pub mod BodyTexts
+pub mod Candidates
+pub mod Gathers
+pub mod Judging
+pub mod Listing
+pub mod Lookups
+pub mod Members
+pub mod Steps
+pub mod Stores

@@ -1,0 +1,21 @@
+-- A run that goes on by one request.
+use Rattle.std.proofs.Common.{◌≡◌, ◌∙◌, ℕ, ◌+◌, ◌<◌, List, [], ◌∷◌, ◌++◌, length, take, get_or, sym, ap, subst}
+use Rattle.std.proofs.lemmas.List.{map-append, take_more}
+use Rattle.desk.specs.Machine.{State}
+use Rattle.desk.specs.Reply.{ReplyValue}
+use Rattle.desk.specs.Requests.{RequestValue, request_value, request_values}
+use Rattle.desk.specs.Runs.{MayReply, moved, Run}
+use Rattle.desk.specs.declared.request.Request.{Request}
+
+pub run_more : (s : Type 0) (m n : State) (qs : List RequestValue) (rs : List ReplyValue) (q : RequestValue) (r : ReplyValue)
+    → Run s m qs rs n → MayReply s n q r → Run s m (qs ++ q ∷ []) (rs ++ r ∷ []) (moved n q r)
+run_more s m n [] [] q r e may = (subst (λ k. MayReply s k q r) e may, ap (λ k. moved k q r) e)
+run_more s m n [] (t ∷ rs) q r e may = absurd e
+run_more s m n (p ∷ qs) [] q r e may = absurd e
+run_more s m n (p ∷ qs) (t ∷ rs) q r e may = (e.0, run_more s (moved m p t) n qs rs q r e.1 may)
+
+pub requests_more : (requests : List Request) (i : ℕ) (request : Request) → i < length requests → request ≡ get_or requests i request
+    → request_values (take (i + 1) requests) ≡ request_values (take i requests) ++ request_value request ∷ []
+requests_more requests i request lt is =
+    ap request_values (take_more requests i request lt) ∙ map-append request_value (take i requests) (get_or requests i request ∷ [])
+    ∙ ap (λ (q : Request). request_values (take i requests) ++ request_value q ∷ []) (sym is)

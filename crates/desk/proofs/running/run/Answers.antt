@@ -1,0 +1,28 @@
+use Rattle.std.proofs.Common.{List, ◌∷◌, [], ◌++◌, take, arith, sym, subst}
+use Rattle.desk.specs.Reply.{ReplyValue}
+use Rattle.desk.specs.Requests.{request_value, request_values}
+use Rattle.desk.specs.Runs.{moved, Run}
+use Rattle.desk.proofs.Steps.{run_more, requests_more}
+use Rattle.desk.proofs.running.run.Goals as goal
+
+pub loop-request-preserved : goal.loop-request-preserved
+loop-request-preserved g c =
+    let store = g.D.Desk.store_may_refuse in
+    let i = c.loop-request.invariant in
+    let s = c.serve-reply.ensures in
+    let done = request_values (take c.loop-request.request-index c.args.requests.now) in
+    let q = request_value c.request-item.result in
+    let asked = requests_more c.args.requests.now c.loop-request.request-index c.request-item.result (omega arith) c.request-item.is in
+    let told = c.push_reserved.ensures.items in
+    record {
+      count = omega arith;
+      room = omega arith;
+      run = λ m stood.
+          let h = i.run m stood in
+          let next = moved h.0 q c.serve-reply.result in
+          let more = run_more store m h.0 done c.loop-request.replies.items q c.serve-reply.result h.1 (s.reply h.0 h.2) in (
+            next,
+            subst (λ qs. Run store m qs c.push_reserved.new.self.items next) (sym asked) (subst (λ rs. Run store m (done ++ q ∷ []) rs next) (sym {A = List ReplyValue} told) more),
+            s.state h.0 h.2,
+          );
+    }

@@ -1,0 +1,11 @@
+pub mod Bodies
+pub mod BodyData
+pub mod Candidates
+pub mod Documents
+pub mod Machine
+pub mod Names
+pub mod Places
+pub mod Plain
+pub mod Reply
+pub mod Requests
+pub mod Runs

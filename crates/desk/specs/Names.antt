@@ -1,0 +1,42 @@
+-- The forms of a project's name, of a key and of a number in a request.
+use Rattle.std.specs.Prelude.{◌≡◌, ◌≢◌, ℕ, ◌<◌, ◌⊎◌, Bool, ◌&&◌, ◌||◌, ◌==◌, not, nat_le, List, length, codes, slice_index, Option, Some, None, if◌then◌else◌}
+use Rattle.std.specs.Char.{is_ascii_lowercase, is_ascii_uppercase, is_ascii_digit}
+use Rattle.std.specs.List.{list_all}
+use Rattle.std.specs.Str.Parse.{IsNumeral, digits_value}
+use Rattle.positions.specs.Position.{number_limit}
+
+-- a-z 0-9 _ -
+abbrev pub is_project_byte : ℕ → Bool
+is_project_byte b = is_ascii_lowercase b || is_ascii_digit b || b == 95 || b == 45
+
+-- A-Z a-z 0-9 _ -
+abbrev pub is_key_byte : ℕ → Bool
+is_key_byte b = is_ascii_uppercase b || is_project_byte b
+
+-- the most characters of a project's name and of a key
+abbrev pub longest_name : ℕ
+longest_name = 64
+
+-- 1 to 64 of these characters
+abbrev pub is_name_of : (ℕ → Bool) → List ℕ → Bool
+is_name_of is_byte text = not (length text == 0) && nat_le (length text) longest_name && list_all is_byte text
+
+abbrev pub is_project_name : List ℕ → Bool
+is_project_name = is_name_of is_project_byte
+
+abbrev pub is_key : List ℕ → Bool
+is_key = is_name_of is_key_byte
+
+-- the text, where it is of the form
+abbrev pub where_so : (List ℕ → Bool) → List ℕ → Option (List ℕ)
+where_so is_form text = if is_form text then Some text else None
+
+abbrev pub digit_zero : ℕ
+digit_zero = 48
+
+-- the text spells the number of a line or a character: in decimal digits, the first of which isn't zero but in "0"
+pub record IsNumberText (text : List ℕ) (n : ℕ) : Type 0 where
+  pub digits : IsNumeral 10 text
+  pub no_leading_zero : (text ≡ codes "0") ⊎ (slice_index text 0 ≢ digit_zero)
+  pub value : n ≡ digits_value 10 text
+  pub within : n < number_limit

@@ -1,0 +1,55 @@
+ghost use Rattle.std.specs.Prelude.{◌≡◌, IfOk, OnErr};
+ghost use Rattle.desk.specs.Machine.{State};
+ghost use Rattle.desk.specs.Requests.{request_value, request_values};
+ghost use Rattle.desk.specs.Runs.{MayReply, moved, Run};
+
+use crate::desk::Desk;
+use crate::reply::Reply;
+use crate::request::Request;
+use std::alloc::{AllocError, Global};
+
+/// Why no request was served.
+#[derive(Clone, Copy, Debug, PartialEq, Eq)]
+pub enum RunFault {
+    /// Memory for the replies was refused.
+    Memory,
+}
+
+impl From<AllocError> for RunFault {
+    ghost use Rattle.desk.specs.declared.running.RunFault.TheVariants.{Memory};
+
+    ghost from_gives = { λ _ fault. fault ≡ Memory };
+
+    fn from(_: AllocError) -> RunFault {
+        RunFault::Memory
+    }
+}
+
+/// Serves one request.
+fn serve<D: Desk>(desk: &mut D, request: &Request<'_>) -> Reply
+    ensures reply { (m : State) → D.stands desk.old m → MayReply D.store_may_refuse m (request_value request.now) result }
+    ensures state { (m : State) → D.stands desk.old m → D.stands desk.new (moved m (request_value request.now) result) }
+{
+    match request {
+        Request::Command(command) => desk.apply(command),
+        Request::Query(query) => desk.ask(query),
+    }
+}
+
+/// Serves requests in order, each from the state that the one before left. Room for all replies is made first: where
+/// that is refused, no request was served.
+pub fn run<D: Desk>(
+    alloc: Global,
+    desk: &mut D,
+    requests: &[Request<'_>],
+) -> Result<Vec<Reply>, RunFault>
+    ensures run { IfOk result (λ replies. (m : State) → D.stands desk.old m → (n : State) × Run D.store_may_refuse m (request_values requests.now) replies.items n × D.stands desk.new n) }
+    ensures unserved { OnErr result (desk.new ≡ desk.old) }
+{
+    let mut replies = Vec::with_capacity(alloc, requests.len())?;
+    for request in requests {
+        let reply = serve(desk, request);
+        replies.push_reserved(reply);
+    }
+    Ok(replies)
+}
