@@ -1,0 +1,13 @@
+pub mod BodyLemmas
+pub mod Ends
+pub mod FieldLemmas
+pub mod HeadLemmas
+pub mod ItemLemmas
+pub mod MovedLemmas
+pub mod PairLemmas
+pub mod Paths
+pub mod ReplyLemmas
+pub mod RequestLemmas
+pub mod Rows
+pub mod Runs
+pub mod Sures

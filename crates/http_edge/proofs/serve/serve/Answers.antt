@@ -1,0 +1,160 @@
+use Rattle.std.proofs.Common.{◌≡◌, ◌+◌, ◌<◌, ◌≤◌, ◌++◌, inl, inr, [], ◌∷◌, length, sym, arith, refl, ◌∙◌, append_assoc, length-append}
+use Rattle.http_edge.specs.Serving.{item_value}
+use Rattle.http_edge.proofs.MovedLemmas.{gains_refl, gains_more, moves_refl, moves_more, moves_or_more, gains_or_more}
+use Rattle.http_edge.proofs.Runs.{run-snoc, joined-snoc, begun}
+use Rattle.http_edge.proofs.Sures.{settled-append, settled-snoc, requests-full, requests-ended, requests-last, sure-full, gives_settles, stops-last, sure-unended}
+use Rattle.http_edge.proofs.serve.serve.Goals as goal
+
+pub serving-init : goal.serving-init
+serving-init g c = record {
+  bytes = [];
+  items = [];
+  moved = moves_refl _;
+  chain = c.requires.empty;
+  count = refl;
+  within = omega arith;
+  run = λ m s. (m, [], refl, s, gains_refl _);
+  capacity = refl;
+  reads = refl;
+  writes = refl;
+  idles = refl;
+  room = refl;
+}
+
+pub returns-clause-served : goal.returns-clause-served
+returns-clause-served g c = λ m s.
+    let i = c.serving.invariant in
+    let full : length i.items ≡ c.args.limit = omega (arith, i.count, i.within) in
+    let run = i.run m s in (
+      run.0,
+      (
+        i.bytes,
+        i.items,
+        run.1,
+        i.moved,
+        (requests-full c.args.limit i.bytes i.items c.serving.buffer.pending i.chain full, inr (inl full, sure-full c.args.limit i.bytes i.items c.serving.buffer.pending i.chain full)),
+        i.count,
+        run.2,
+        run.4,
+      ),
+      run.3,
+    )
+
+pub returns-in-Ok-None-clause-served : goal.returns-in-Ok-None-clause-served
+returns-in-Ok-None-clause-served g c = λ m s.
+    let i = c.serving.invariant in
+    let run = i.run m s in
+    let next = rw c.in-Ok-None.field-0-is at c.in-Ok-None.ensures.item in
+    let chain = settled-append i.bytes i.items c.serving.buffer.pending next.0 i.chain in
+    let lt : length i.items < c.args.limit = omega (arith, i.count, c.serving-test.true) in (
+      run.0,
+      (
+        i.bytes ++ next.0,
+        i.items,
+        run.1,
+        moves_more _ _ _ i.bytes next.0 i.moved next.1,
+        (requests-ended c.args.limit _ i.items _ chain lt next.3, inl next.2),
+        i.count,
+        run.2,
+        run.4,
+      ),
+      run.3,
+    )
+
+pub returns-then-ends-clause-served : goal.returns-then-ends-clause-served
+returns-then-ends-clause-served g c = λ m s.
+    let i = c.serving.invariant in
+    let run = i.run m s in
+    let next = rw c.in-Ok-Some.field-0-is at c.in-Ok-Some.ensures.item in
+    let said = c.in-Ok.ensures.sent run.0 run.3 in
+    let chain = settled-append i.bytes i.items c.serving.buffer.pending next.0 i.chain in
+    let lt : length i.items < c.args.limit = omega (arith, i.count, c.serving-test.true) in
+    let last = sym (c.if-ends.ensures c.next_item.new.buffer.pending c.next_item.new.body) in (
+      said.0,
+      (
+        i.bytes ++ next.0,
+        i.items ++ (item_value c.next_item.new.buffer.pending c.next_item.new.body c.in-Ok-Some.next.item) ∷ [],
+        run.1 ++ said.1 ∷ [],
+        moves_more _ _ _ i.bytes next.0 i.moved next.1,
+        stops-last c.args.limit _ i.items _ (item_value c.next_item.new.buffer.pending c.next_item.new.body c.in-Ok-Some.next.item) _ _ chain lt next.2 last,
+        simp length-append (omega (arith, i.count)),
+        run-snoc _ m i.items run.1 run.0 (item_value c.next_item.new.buffer.pending c.next_item.new.body c.in-Ok-Some.next.item) said.1 said.0 run.2 said.2,
+        rw (joined-snoc run.1 said.1) (gains_more _ _ _ _ _ run.4 said.4),
+      ),
+      said.3,
+    )
+
+pub serving-preserved : goal.serving-preserved
+serving-preserved g c =
+    let i = c.serving.invariant in
+    let next = rw c.in-Ok-Some.field-0-is at c.in-Ok-Some.ensures.item in
+    let chain = settled-append i.bytes i.items c.serving.buffer.pending next.0 i.chain in
+    let settled = gives_settles _ (item_value c.next_item.new.buffer.pending c.next_item.new.body c.in-Ok-Some.next.item) _ _ next.2 (sym (c.if-ends.ensures c.next_item.new.buffer.pending c.next_item.new.body)) in
+    record {
+      bytes = i.bytes ++ next.0;
+      items = i.items ++ (item_value c.next_item.new.buffer.pending c.next_item.new.body c.in-Ok-Some.next.item) ∷ [];
+      moved = moves_more _ _ _ i.bytes next.0 i.moved next.1;
+      chain = rw c.respond_next-written.ensures.pending
+          (settled-snoc _ i.items _ (item_value c.next_item.new.buffer.pending c.next_item.new.body c.in-Ok-Some.next.item) _ chain settled (sym (c.if-ends.ensures c.next_item.new.buffer.pending c.next_item.new.body)));
+      count = simp length-append (omega (arith, i.count));
+      within = omega (arith, c.serving-test.true);
+      run = λ m s.
+          let run = i.run m s in
+          let said = c.in-Ok.ensures.sent run.0 run.3 in (
+            said.0,
+            run.1 ++ said.1 ∷ [],
+            run-snoc _ m i.items run.1 run.0 (item_value c.next_item.new.buffer.pending c.next_item.new.body c.in-Ok-Some.next.item) said.1 said.0 run.2 said.2,
+            said.3,
+            rw (joined-snoc run.1 said.1) (gains_more _ _ _ _ _ run.4 said.4),
+          );
+      capacity = c.respond_next-written.ensures.capacity ∙ c.next_item.ensures.capacity ∙ i.capacity;
+      reads = c.in-Ok-Some.ensures.counted ∙ i.reads;
+      writes = c.in-Ok.ensures.counted.0 ∙ i.writes;
+      idles = c.in-Ok.ensures.counted.1 ∙ i.idles;
+      room = c.next_item.ensures.len ∙ i.room;
+    }
+
+pub returns-in-Err-clause-served : goal.returns-in-Err-clause-served
+returns-in-Err-clause-served g c = λ m s.
+    let i = c.serving.invariant in
+    let run = i.run m s in
+    let next = c.in-Err.ensures.item in
+    let chain = settled-append i.bytes i.items c.serving.buffer.pending next.0 i.chain in
+    let lt : length i.items < c.args.limit = omega (arith, i.count, c.serving-test.true) in (
+      run.0,
+      (
+        i.bytes ++ next.0,
+        i.items,
+        run.1,
+        moves_or_more _ _ _ i.bytes next.0 i.moved next.1,
+        sure-unended c.args.limit _ i.items _ next.2 chain next.3 lt,
+        run.2,
+        run.4,
+      ),
+      run.3,
+    )
+
+pub returns-in-Err-written-clause-served : goal.returns-in-Err-written-clause-served
+returns-in-Err-written-clause-served g c = λ m s.
+    let i = c.serving.invariant in
+    let run = i.run m s in
+    let next = rw c.in-Ok-Some.field-0-is at c.in-Ok-Some.ensures.item in
+    let said = c.in-Err-written.ensures.sent run.0 run.3 in
+    let chain = settled-append i.bytes i.items c.serving.buffer.pending next.0 i.chain in
+    let lt : length i.items < c.args.limit = omega (arith, i.count, c.serving-test.true) in (
+      said.0,
+      (
+        i.bytes ++ next.0,
+        i.items ++ (item_value c.next_item.new.buffer.pending c.next_item.new.body c.in-Ok-Some.next.item) ∷ [],
+        run.1,
+        said.1,
+        said.4.0,
+        said.4.1,
+        moves_more _ _ _ i.bytes next.0 i.moved next.1,
+        begun c.args.limit _ i.items _ (item_value c.next_item.new.buffer.pending c.next_item.new.body c.in-Ok-Some.next.item) _ _ chain lt next.2,
+        said.4.2,
+        run-snoc _ m i.items run.1 run.0 (item_value c.next_item.new.buffer.pending c.next_item.new.body c.in-Ok-Some.next.item) said.1 said.0 run.2 said.2,
+        gains_or_more _ _ _ _ _ run.4 said.4.3,
+      ),
+      said.3,
+    )

@@ -1,0 +1,27 @@
+use Rattle.std.proofs.Common.{◌≡◌, ◌-◌, ◌≤◌, ◌++◌, ℕ, List, length}
+use Rattle.lsif.specs.Ends.{Moves, Gains}
+use Rattle.http_edge.specs.Items.{SettlesAll}
+use Rattle.http_edge.specs.Requests.{ItemValue}
+use Rattle.desk.specs.Machine.{State}
+use Rattle.http_edge.specs.Serving.{Run, joined}
+use Rattle.http_edge.proofs.serve.serve.Given as goal
+
+abbrev pub invariant-serving : goal.invariant-serving
+invariant-serving g l = record {
+  bytes : List ℕ;
+  items : List ItemValue;
+  moved : Moves (g.R.Source.left l.fn.r) (g.R.Source.left l.r) bytes;
+  chain : SettlesAll bytes items l.buffer.pending;
+  count : l.count ≡ length items;
+  within : l.count ≤ l.limit;
+  run : (m : State) → g.D.Desk.stands l.fn.desk m → (n : State) × (texts : List (List ℕ)) × Run g.D.Desk.store_may_refuse m items texts n
+      × g.D.Desk.stands l.desk n × Gains (g.W.Sink.taken l.fn.w) (g.W.Sink.taken l.w) (joined texts);
+  capacity : l.buffer.capacity ≡ l.fn.buffer.capacity;
+  reads : g.R.Source.failed l.r ≡ g.R.Source.failed l.fn.r;
+  writes : g.W.Sink.failed l.w ≡ g.W.Sink.failed l.fn.w;
+  idles : g.W.Sink.idle l.w ≡ g.W.Sink.idle l.fn.w;
+  room : length l.body ≡ length l.fn.body;
+}
+
+abbrev pub decreases-serving : goal.decreases-serving
+decreases-serving g l = l.limit - l.count

@@ -1,0 +1,10 @@
+pub mod Fields
+pub mod Heads
+pub mod Items
+pub mod Parameters
+pub mod Refusals
+pub mod Replies
+pub mod Requests
+pub mod Routes
+pub mod Serving
+pub mod Values

@@ -1,0 +1,47 @@
+-- The text of replies (RFC 9112, sections 4 to 6).
+use Rattle.std.specs.Prelude.{ℕ, List, [], ◌∷◌, ◌++◌, ◌&&◌, length, codes, Option, Some, None, unwrap_or, if◌then◌else◌, nat_le, nat_lt}
+use Rattle.std.specs.Fmt.{decimal}
+use Rattle.http.specs.StatusCode.{reason_phrase}
+use Rattle.desk.specs.Reply.{ReplyValue}
+use Rattle.http_edge.specs.Refusals.{status_of, allow_of, body_of}
+use Rattle.http_edge.specs.Routes.{method_of}
+use Rattle.http_edge.specs.declared.route.Route.{Route}
+use Rattle.http_edge.specs.declared.refusal.Refusal.{Refusal}
+use Rattle.http_edge.specs.declared.reply.Answer.{Answer}
+use Rattle.http_edge.specs.declared.reply.Answer.TheVariants.{Reply, Refused}
+
+-- the phrase of a status, a number of three digits
+unfoldable pub phrase : ℕ → List ℕ
+phrase status = if nat_le 100 status && nat_lt status 1000 then unwrap_or (reason_phrase status) [] else []
+
+-- the status line without its end
+unfoldable pub status_line : ℕ → List ℕ
+status_line status = codes "HTTP/1.1 " ++ (decimal status ++ (codes " " ++ phrase status))
+
+abbrev pub fixed_fields : List ℕ
+fixed_fields = codes "\r\nConnection: close\r\nContent-Type: application/json\r\n"
+
+-- the end of the status line, and the fields before the length
+unfoldable pub fields_text : Option Route → List ℕ
+fields_text None = fixed_fields
+fields_text (Some route) = fixed_fields ++ (codes "Allow: " ++ (method_of route ++ codes "\r\n"))
+
+-- the length of a body, an empty line, and the body
+unfoldable pub body_text : List ℕ → List ℕ
+body_text body = codes "Content-Length: " ++ (decimal (length body) ++ (codes "\r\n\r\n" ++ body))
+
+-- a status line, the fields, an empty line and the body
+abbrev pub response_text : ℕ → Option Route → List ℕ → List ℕ
+response_text status allow body = status_line status ++ (fields_text allow ++ body_text body)
+
+abbrev pub reply_text : ReplyValue → List ℕ
+reply_text reply = response_text reply.status None reply.body
+
+abbrev pub refusal_text : Refusal → List ℕ
+refusal_text refusal = response_text (status_of refusal) (allow_of refusal) (body_of refusal)
+
+-- ---- the same of the program's values
+
+abbrev pub answer_text : Answer → List ℕ
+answer_text (Reply reply) = reply_text reply
+answer_text (Refused refusal) = refusal_text refusal

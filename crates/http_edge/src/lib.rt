@@ -1,0 +1,16 @@
+//! Requests of HTTP/1.1 from a stream of bytes to a desk, and the desk's replies to a writer.
+#![tactic(auto)]
+
+mod fields;
+mod head;
+mod parameters;
+mod reading;
+mod refusal;
+mod reply;
+mod request;
+mod route;
+mod serve;
+
+pub use refusal::Refusal;
+pub use route::{Route, route_law};
+pub use serve::{ServeFault, serve_stream};

@@ -1,0 +1,248 @@
+//! Serves a stream.
+ghost use Rattle.std.specs.Prelude.{◌≡◌, ◌≢◌, ℕ, ◌-◌, ◌^◌, ◌<◌, ◌≤◌, List, [], Err, IfOk, drop, length, vec_len};
+ghost use Rattle.desk.specs.Machine.{State};
+ghost use Rattle.lsif.specs.Sending.{CountsSending, Sends};
+ghost use Rattle.http_edge.specs.Fields.{body_limit};
+ghost use Rattle.http_edge.specs.Heads.{head_limit};
+ghost use Rattle.http_edge.specs.Items.{ends};
+ghost use Rattle.http_edge.specs.Replies.{answer_text};
+ghost use Rattle.http_edge.specs.Requests.{item_of};
+ghost use Rattle.http_edge.specs.Routes.{routes};
+ghost use Rattle.http_edge.specs.Serving.{Answers, CountsRead, CountsWrite, ItemFits, item_value, Serves};
+ghost use Rattle.http_edge.specs.declared.serve.ServeFault.TheVariants.{Memory};
+
+use crate::fields::BODY_LIMIT;
+use crate::head::HEAD_LIMIT;
+use crate::reading::{Item, Next, next_item};
+use crate::reply::Answer;
+use crate::request::{Asked, read_request};
+use crate::route::{Route, router};
+use desk::{Desk, Reply, Request};
+use lsif::{Buffer, Failed, Sink, Source};
+use matchit::{InsertError, Router};
+use std::alloc::{AllocError, Global};
+
+/// Why serving stopped.
+#[derive(Clone, Copy, Debug, PartialEq, Eq)]
+pub enum ServeFault {
+    /// Memory was refused before anything was read or written.
+    Memory,
+    /// The reader failed. The request in hand has no reply and no effect.
+    Read,
+    /// The writer failed, or took no byte. The request whose reply was cut has its effect.
+    Write,
+}
+
+impl From<AllocError> for ServeFault {
+    ghost use Rattle.http_edge.specs.declared.serve.ServeFault.TheVariants.{Memory};
+
+    ghost from_gives = { λ _ fault. fault ≡ Memory };
+
+    fn from(_: AllocError) -> ServeFault {
+        ServeFault::Memory
+    }
+}
+
+impl From<InsertError> for ServeFault {
+    ghost use Rattle.http_edge.specs.declared.serve.ServeFault.TheVariants.{Memory};
+
+    ghost from_gives = { λ _ fault. fault ≡ Memory };
+
+    fn from(_: InsertError) -> ServeFault {
+        ServeFault::Memory
+    }
+}
+
+/// Answers what a method, a target and a body ask.
+fn answer<D: Desk>(
+    alloc: Global,
+    desk: &mut D,
+    router: &Router<Route>,
+    method: &[u8],
+    target: &[u8],
+    body: &[u8],
+) -> Answer
+    requires { router.now ≡ routes }
+    ensures { (m : State) → D.stands desk.old m → (n : State)
+        × Answers D.store_may_refuse m (item_of method.now target.now body.now) (answer_text result) n × D.stands desk.new n }
+{
+    match read_request(alloc, router, method, target, body) {
+        Ok(Asked::Request(Request::Command(command))) => Answer::Reply(desk.apply(&command)),
+        Ok(Asked::Request(Request::Query(query))) => Answer::Reply(desk.ask(&query)),
+        Ok(Asked::Refused(refusal)) => Answer::Refused(refusal),
+        Err(_) => Answer::Reply(Reply::out_of_memory()),
+    }
+}
+
+/// Answers an item.
+fn answer_item<D: Desk>(
+    alloc: Global,
+    desk: &mut D,
+    router: &Router<Route>,
+    item: Item,
+    held: &[u8],
+    body: &[u8],
+) -> Answer
+    requires routes { router.now ≡ routes }
+    requires fits { ItemFits (length held.now) (length body.now) item }
+    ensures { (m : State) → D.stands desk.old m → (n : State)
+        × Answers D.store_may_refuse m (item_value held.now body.now item) (answer_text result) n × D.stands desk.new n }
+{
+    match item {
+        Item::Request(line, len) => {
+            let method = line.method.of(held);
+            let target = line.target.of(held);
+            answer(alloc, desk, router, method, target, &body[..len])
+        }
+        Item::Refused(refusal) => Answer::Refused(refusal),
+    }
+}
+
+/// Answers an item, and writes the reply.
+fn respond<D: Desk, W: Sink>(
+    alloc: Global,
+    desk: &mut D,
+    router: &Router<Route>,
+    w: &mut W,
+    item: Item,
+    held: &[u8],
+    body: &[u8],
+) -> Result<(), Failed>
+    requires routes { router.now ≡ routes }
+    requires fits { ItemFits (length held.now) (length body.now) item }
+    requires failures { W.failed w.old < 2 ^ 64 - 1 }
+    requires idles { W.idle w.old < 2 ^ 64 - 1 }
+    ensures sent { (m : State) → D.stands desk.old m → (n : State) × (text : List ℕ)
+        × Answers D.store_may_refuse m (item_value held.now body.now item) text n × D.stands desk.new n
+        × Sends (W.taken w.old) (W.taken w.new) text result }
+    ensures counted { CountsSending (W.failed w.old) (W.idle w.old) (W.failed w.new) (W.idle w.new) result }
+{
+    let answer = answer_item(alloc, desk, router, item, held, body);
+    answer.write(w)
+}
+
+/// Answers the next item, writes the reply, and lets the bytes in hand go that it takes.
+fn respond_next<D: Desk, W: Sink>(
+    alloc: Global,
+    desk: &mut D,
+    router: &Router<Route>,
+    w: &mut W,
+    next: Next,
+    buffer: &mut Buffer,
+    body: &[u8],
+) -> Result<(), Failed>
+    requires routes { router.now ≡ routes }
+    requires fits { ItemFits (length buffer.old.pending) (length body.now) next.item }
+    requires taken { next.taken ≤ length buffer.old.pending }
+    requires failures { W.failed w.old < 2 ^ 64 - 1 }
+    requires idles { W.idle w.old < 2 ^ 64 - 1 }
+    ensures sent { (m : State) → D.stands desk.old m → (n : State) × (text : List ℕ)
+        × Answers D.store_may_refuse m (item_value buffer.old.pending body.now next.item) text n × D.stands desk.new n
+        × Sends (W.taken w.old) (W.taken w.new) text result }
+    ensures pending { buffer.new.pending ≡ drop next.taken buffer.old.pending }
+    ensures capacity { buffer.new.capacity ≡ buffer.old.capacity }
+    ensures counted { CountsSending (W.failed w.old) (W.idle w.old) (W.failed w.new) (W.idle w.new) result }
+{
+    let written = respond(alloc, desk, router, w, next.item, buffer.pending(), body);
+    buffer.advance(next.taken);
+    written
+}
+
+/// Whether nothing after the item is served.
+fn ends(item: Item) -> bool
+    ensures { (held body : List ℕ) → result ≡ ends (item_value held body item) }
+{
+    match item {
+        Item::Request(_, _) => false,
+        Item::Refused(refusal) => refusal.ends_stream(),
+    }
+}
+
+/// Serves at most so many requests, with buffers that are there, and says how many replies were written.
+fn serve<D: Desk, R: Source, W: Sink>(
+    alloc: Global,
+    desk: &mut D,
+    r: &mut R,
+    w: &mut W,
+    router: &Router<Route>,
+    buffer: &mut Buffer,
+    body: &mut [u8],
+    limit: u32,
+) -> Result<u32, ServeFault>
+    requires routes { router.now ≡ routes }
+    requires reads { R.failed r.old < 2 ^ 64 - 1 }
+    requires writes { W.failed w.old < 2 ^ 64 - 1 }
+    requires idles { W.idle w.old < 2 ^ 64 - 1 }
+    requires room { head_limit ≤ buffer.old.capacity }
+    requires body_room { body_limit ≤ length body.old }
+    requires empty { buffer.old.pending ≡ [] }
+    ensures served { (m : State) → D.stands desk.old m → (n : State)
+        × Serves D.store_may_refuse limit m (R.left r.old) (R.left r.new) (W.taken w.old) (W.taken w.new) n result × D.stands desk.new n }
+    ensures read { CountsRead (R.failed r.old) (R.failed r.new) result }
+    ensures write { CountsWrite (W.failed w.old) (W.idle w.old) (W.failed w.new) (W.idle w.new) result }
+    ensures made { result ≢ Err Memory }
+{
+    let mut count = 0;
+    'serving: while count < limit {
+        let next = match next_item(r, buffer, body) {
+            Ok(Some(next)) => next,
+            Ok(None) => return Ok(count),
+            Err(_) => return Err(ServeFault::Read),
+        };
+        let written = respond_next(alloc, desk, router, w, next, buffer, body);
+        match written {
+            Ok(()) => {}
+            Err(_) => return Err(ServeFault::Write),
+        }
+        count += 1;
+        if ends(next.item) {
+            return Ok(count);
+        }
+    }
+    Ok(count)
+}
+
+#[tactic(auto, using(crate::proofs::HeadLemmas::head_limit_is))]
+fn head_buffer(alloc: Global) -> Result<Buffer, AllocError>
+    ensures { IfOk result (λ b. (b.pending ≡ []) × (head_limit ≤ b.capacity)) }
+{
+    Buffer::new(alloc, HEAD_LIMIT)
+}
+
+#[tactic(auto, using(crate::proofs::FieldLemmas::body_limit_is))]
+fn body_buffer(alloc: Global) -> Result<Vec<u8>, AllocError>
+    ensures { IfOk result (λ v. body_limit ≤ vec_len v) }
+{
+    Vec::from_elem(alloc, 0, BODY_LIMIT)
+}
+
+/// Serves the requests of a stream (HTTP/1.1, RFC 9112), one after the other and at most `limit` of them, and says how
+/// many replies were written. Stops at the end of the input, at the limit, and at a refusal that ends the stream.
+///
+/// A head has at most 8,192 bytes, 34 lines and 32 fields, and a body at most 8,388,608 bytes. Both are whole in memory
+/// before the request is served. The buffers and the router are made first: where memory for them is refused, nothing was
+/// read or written. What is in hand is served before more is read.
+pub fn serve_stream<D: Desk, R: Source, W: Sink>(
+    alloc: Global,
+    desk: &mut D,
+    r: &mut R,
+    w: &mut W,
+    limit: u32,
+) -> Result<u32, ServeFault>
+    requires reads { R.failed r.old < 2 ^ 64 - 1 }
+    requires writes { W.failed w.old < 2 ^ 64 - 1 }
+    requires idles { W.idle w.old < 2 ^ 64 - 1 }
+    ensures served { (m : State) → D.stands desk.old m → (n : State)
+        × Serves D.store_may_refuse limit m (R.left r.old) (R.left r.new) (W.taken w.old) (W.taken w.new) n result × D.stands desk.new n }
+    ensures memory { result ≡ Err Memory → (desk.new ≡ desk.old) × (r.new ≡ r.old) × (w.new ≡ w.old) }
+    ensures read { CountsRead (R.failed r.old) (R.failed r.new) result }
+    ensures write { CountsWrite (W.failed w.old) (W.idle w.old) (W.failed w.new) (W.idle w.new) result }
+{
+    let router = router(alloc)?;
+    let mut buffer = head_buffer(alloc)?;
+    let mut body = body_buffer(alloc)?;
+    serve(alloc, desk, r, w, &router, &mut buffer, &mut body, limit)
+}
+
+#[cfg(test)]
+mod tests;
