@@ -1,132 +1,14 @@
--- What the lines that a checker has taken say of the whole dump.
-use Rattle.std.proofs.Common.{◌≡◌, ◌∙◌, ◌++◌, ◌∷◌, [], ◌+◌, ◌-◌, ◌<◌, ℕ, List, length, map, fold, Option, None, Some, Result, Ok, Err, refl, sym, ap, subst, arith, rules, append-nil, append_assoc, length-append, Bool, true}
+-- The report of a dump that was read.
+use Rattle.std.proofs.Common.{◌≡◌, ◌∙◌, ℕ, List, length, map, Option, None, Some, Ok, ap, sym}
 use Rattle.std.proofs.lemmas.List.{length-map}
-use Rattle.std.proofs.lemmas.List.Sums.{fold-append}
-use Rattle.std.proofs.lemmas.Bool.{lt-ltb}
-use Rattle.lsif.specs.Element.{ElementValue, Reading, element_value, reading_value}
-use Rattle.lsif.specs.Lines.{lines_of, GivesLine, HasLongLine, Cutter}
-use Rattle.lsif.specs.Reading.{reading, longest_line}
+use Rattle.lsif.specs.Element.{ElementValue, element_value}
 use Rattle.lsif.specs.declared.element.Element.{Element}
-use Rattle.lsif.specs.declared.code.Code.{Code}
-use Rattle.lsif.specs.declared.code.Code.TheVariants.{L01}
-use Rattle.dump.specs.declared.fault.LineFault.{LineFault}
-use Rattle.dump.specs.declared.fault.FeedFault.{FeedFault}
-use Rattle.dump.specs.declared.fault.FeedFault.TheVariants as faults
-use Rattle.dump.specs.Conditions.{order_code, most_elements}
-use Rattle.dump.specs.Fault.{IsFault, line_code}
-use Rattle.dump.specs.Steps.{Progress, running, stopped, next, advance, progress, finished, end_fault, IsRunning, Feeds}
-use Rattle.dump.specs.Lines.{dump_of}
-use Rattle.codenav.specs.Report.{IsReport, ReportsOf}
-use Rattle.codenav.specs.Judging.{ReadsFirst, ReadsNext, HasTaken, room_of, Concludes, GoesOn, IsReady}
-use Rattle.codenav.specs.declared.check.Report.{Report}
-use Rattle.codenav.specs.declared.check.Report.TheVariants.{Sound, Faulty}
+use Rattle.dump.specs.Judging.{ReadsDump}
+use Rattle.codenav.specs.Report.{ReportsOf}
+use Rattle.codenav.specs.declared.check.Report.TheVariants.{Sound}
 
--- ---- the reading of the next line
-
-pub given_fault : (left new : Option (List ℕ)) (line : List ℕ) (has_feed : Bool) (c : Code) → GivesLine left line has_feed new → reading line ≡ Err c → ReadsNext left (Some (Err c)) new
-given_fault None new line has_feed c g h = tt
-given_fault (Some text) new line has_feed c g h = (dump_of g.0, ap (map reading) g.2 ∙ ap (λ r. r ∷ dump_of g.0) h)
-
-long_reading : (line : List ℕ) → longest_line < length line → reading line ≡ Err L01
-unfolding reading
-long_reading line lt = rw (lt-ltb longest_line (length line) lt) refl
-
-pub long_fault : (left new : Option (List ℕ)) → HasLongLine longest_line left → ReadsNext left (Some (Err L01)) new
-long_fault None new h = tt
-long_fault (Some text) new h = (map reading h.1, ap (map reading) h.2 ∙ ap (λ r. r ∷ map reading h.1) (long_reading h.0 h.3))
-
--- ---- the lines that were taken
-
--- a checker that runs on holds fewer elements than it may
-pub less_room : (old new : Progress) (line : Reading) → ((elements : List ElementValue) (x : ElementValue) → order_code elements x ≡ None → length elements < most_elements)
-    → new ≡ next old line → IsRunning (next old line) → room_of new < room_of old
-less_room (running elements) new (Ok x) law e h = less_by elements x new (order_code elements x) refl law e h
-  where
-    less_by : (elements : List ElementValue) (x : ElementValue) (new : Progress) (o : Option Code) → order_code elements x ≡ o
-        → ((elements : List ElementValue) (x : ElementValue) → order_code elements x ≡ None → length elements < most_elements)
-        → new ≡ advance elements (Ok x) o → IsRunning (advance elements (Ok x) o) → room_of new < room_of (running elements)
-    less_by elements x new None none law e h = let few = law elements x none in rw e (omega (arith, length-append elements (x ∷ []), few))
-    less_by elements x new (Some c) some law e h = absurd h
-less_room (running elements) new (Err c) law e h = absurd h
-less_room (stopped f) new line law e h = absurd h
-
--- one more line was taken
-pub took_line : (left now later : Option (List ℕ)) (old new : Progress) (x : ElementValue) → HasTaken left old now → ReadsNext now (Some (Ok x)) later → new ≡ next old (Ok x) → HasTaken left new later
-took_line None now later old new x h g e = tt
-took_line (Some text) now later old new x h g e =
-    let P : Option (List ℕ) → Type 0 = λ o. ReadsNext o (Some (Ok x)) later in
-    let first = subst P h.1 g in
-    let lines : dump_of text ≡ (h.2 ++ Ok x ∷ []) ++ dump_of first.0 = h.3 ∙ ap (λ l. h.2 ++ l) first.2 ∙ sym (append_assoc h.2 (Ok x ∷ []) (dump_of first.0)) in
-    let state : new ≡ progress (h.2 ++ Ok x ∷ []) = e ∙ ap (λ p. next p (Ok x)) h.4 ∙ sym (fold-append next (running []) h.2 (Ok x ∷ [])) in
-    (first.0, first.1, h.2 ++ Ok x ∷ [], lines, state)
-
--- the fault of a line is that of the whole dump
-whole_fault : (dump lines others : List Reading) (line : Reading) (old : Progress) (f : LineFault)
-    → ((d : List Reading) → IsFault d (finished (progress d)))
-    → ((d more : List Reading) (g : LineFault) → progress d ≡ stopped g → progress (d ++ more) ≡ stopped g)
-    → dump ≡ lines ++ line ∷ others → old ≡ progress lines → next old line ≡ stopped f → IsFault dump (Some f)
-whole_fault dump lines others line old f holds stays e state h =
-    let here : progress (lines ++ line ∷ []) ≡ stopped f = fold-append next (running []) lines (line ∷ []) ∙ ap (λ p. next p line) (sym state) ∙ h in
-    let whole : dump ≡ (lines ++ line ∷ []) ++ others = e ∙ sym (append_assoc lines (line ∷ []) others) in
-    let stop : progress dump ≡ stopped f = ap progress whole ∙ stays (lines ++ line ∷ []) others f here in
-    let P : Option LineFault → Type 0 = λ o. IsFault dump o in
-    subst P (ap finished stop) (holds dump)
-
-reads_others : (text : List ℕ) (line : Reading) (left : Option (List ℕ)) → ReadsFirst text line left → (others : List Reading) × (dump_of text ≡ line ∷ others)
-reads_others text (Ok x) left g = (dump_of g.0, g.2)
-reads_others text (Err c) left g = g
-
-pub found_fault : (left now later : Option (List ℕ)) (old : Progress) (line : Reading) (f : LineFault)
-    → ((d : List Reading) → IsFault d (finished (progress d)))
-    → ((d more : List Reading) (g : LineFault) → progress d ≡ stopped g → progress (d ++ more) ≡ stopped g)
-    → HasTaken left old now → ReadsNext now (Some line) later → next old line ≡ stopped f → ReportsOf left (Faulty f)
-found_fault None now later old line f holds stays h g e = tt
-found_fault (Some text) now later old line f holds stays h g e =
-    let P : Option (List ℕ) → Type 0 = λ o. ReadsNext o (Some line) later in
-    let first = reads_others h.0 line later (subst P h.1 g) in
-    whole_fault (dump_of text) h.2 first.0 line old f holds stays (h.3 ∙ ap (λ l. h.2 ++ l) first.1) h.4 e
-
--- ---- the end of the lines
-
-concluded_at : (dump : List Reading) (state : Progress) (report : Report)
-    → ((d : List Reading) → IsFault d (finished (progress d)))
-    → ((d : List Reading) (elements : List ElementValue) → progress d ≡ running elements → d ≡ map Ok elements)
-    → state ≡ progress dump → Concludes state report → IsReport dump report
-concluded_at dump state (Sound n) holds kept e h =
-    let runs : progress dump ≡ running h.0 = sym e ∙ h.1 in
-    let free : finished (progress dump) ≡ None = ap finished runs ∙ h.2 in
-    let P : Option LineFault → Type 0 = λ o. IsFault dump o in
-    let count : length dump ≡ length h.0 = ap length (kept dump h.0 runs) ∙ length-map h.0 Ok in
-    (subst P free (holds dump), h.3 ∙ sym count)
-concluded_at dump state (Faulty f) holds kept e h =
-    let P : Option LineFault → Type 0 = λ o. IsFault dump o in
-    subst P (ap finished (sym e) ∙ h) (holds dump)
-
-pub concluded : (left now later : Option (List ℕ)) (state : Progress) (report : Report)
-    → ((d : List Reading) → IsFault d (finished (progress d)))
-    → ((d : List Reading) (elements : List ElementValue) → progress d ≡ running elements → d ≡ map Ok elements)
-    → HasTaken left state now → ReadsNext now None later → Concludes state report → ReportsOf left report
-concluded None now later state report holds kept h g c = tt
-concluded (Some text) now later state report holds kept h g c =
-    let P : Option (List ℕ) → Type 0 = λ o. ReadsNext o None later in
-    let nothing : dump_of h.0 ≡ [] = subst P h.1 g in
-    let whole : dump_of text ≡ h.2 = h.3 ∙ ap (λ l. h.2 ++ l) nothing ∙ append-nil h.2 in
-    concluded_at (dump_of text) state report holds kept (h.4 ∙ ap progress (sym whole)) c
-
--- ---- a reading of the program
-
--- only an element lets a checker run on
-runs_not : (old : Progress) (c : Code) → IsRunning (next old (Err c)) → ⊥
-runs_not (running elements) c h = h
-runs_not (stopped f) c h = h
-
-pub goes_ready : (reading : Result Element Code) (lines : Cutter) (old : Progress) → GoesOn (Some reading) lines → IsRunning (next old (reading_value reading)) → IsReady lines
-goes_ready (Ok e) lines old g h = g
-goes_ready (Err c) lines old g h = absurd (runs_not old c h)
-
-pub took : (reading : Result Element Code) (left now later : Option (List ℕ)) (old new : Progress) → HasTaken left old now → ReadsNext now (Some (reading_value reading)) later → new ≡ next old (reading_value reading) → IsRunning (next old (reading_value reading)) → HasTaken left new later
-took (Ok e) left now later old new h g is runs = took_line left now later old new (element_value e) h g is
-took (Err c) left now later old new h g is runs = absurd (runs_not old c runs)
-
-pub still_runs : (new due : Progress) → new ≡ due → IsRunning due → IsRunning new
-still_runs new due e h = let P : Progress → Type 0 = λ p. IsRunning p in subst P (sym e) h
+pub sound : (left : Option (List ℕ)) (elements : List ElementValue) (lent : List Element) → ReadsDump left (Ok elements)
+    → map element_value lent ≡ elements → ReportsOf left (Sound (length lent))
+sound None elements lent h e = tt
+sound (Some text) elements lent h e =
+    (h.0, sym (length-map lent element_value) ∙ ap length e ∙ sym (ap length h.1 ∙ length-map elements Ok))

@@ -5,7 +5,7 @@ use Rattle.clap.specs.declared.builder.action.ArgAction.TheVariants.{Set}
 use Rattle.clap.specs.declared.error.Error.{Error}
 use Rattle.clap.specs.declared.error.kind.ErrorKind.TheVariants.{OutOfMemory, ValueValidation}
 use Rattle.codenav.specs.declared.call.Call.{Call}
-use Rattle.codenav.specs.declared.call.Call.TheVariants.{CheckLsif, CheckTags}
+use Rattle.codenav.specs.declared.call.Call.TheVariants.{CheckLsif, CheckTags, Replay}
 use Rattle.codenav.specs.declared.call.CallFault.{CallFault}
 use Rattle.codenav.specs.declared.call.CallFault.TheVariants.{Memory, Clap}
 
@@ -13,10 +13,12 @@ use Rattle.codenav.specs.declared.call.CallFault.TheVariants.{Memory, Clap}
 pub data CallValue : Type 0 where
   check_lsif : Text → CallValue
   check_tags : Text → CallValue
+  replay : Text → Text → CallValue
 
 abbrev pub call_value : Call → CallValue
 call_value (CheckLsif file) = check_lsif file.now
 call_value (CheckTags file) = check_tags file.now
+call_value (Replay database file) = replay database.now file.now
 
 -- a word that has to be there
 abbrev pub word : Text → Rule
@@ -30,13 +32,17 @@ check_lsif_app = with_rule (new_app (codes "check-lsif")) (word (codes "file"))
 abbrev pub check_tags_app : App
 check_tags_app = with_rule (new_app (codes "check-tags")) (word (codes "file"))
 
+-- replay DB FILE
+abbrev pub replay_app : App
+replay_app = with_rule (with_rule (new_app (codes "replay")) (word (codes "db"))) (word (codes "file"))
+
 -- the program, which has to have a subcommand
 abbrev pub top_app : App
 top_app = let codenav = new_app (codes "codenav") in record codenav { top = record codenav.top { subcommand_required = true } }
 
 -- the command line
 abbrev pub app : App
-app = with_subcommand (with_subcommand top_app check_lsif_app.top) check_tags_app.top
+app = with_subcommand (with_subcommand (with_subcommand top_app check_lsif_app.top) check_tags_app.top) replay_app.top
 
 -- the call of check-lsif with these matches
 abbrev pub check_lsif_of : List Row → Option CallValue
@@ -46,12 +52,23 @@ check_lsif_of rows = option_map check_lsif (first_of (codes "file") rows)
 abbrev pub check_tags_of : List Row → Option CallValue
 check_tags_of rows = option_map check_tags (first_of (codes "file") rows)
 
+-- the call of replay with these values, where both are there
+abbrev pub replay_with : Option Text → Option Text → Option CallValue
+replay_with (Some database) (Some file) = Some (replay database file)
+replay_with (Some database) None = None
+replay_with None file = None
+
+-- the call of replay with these matches
+abbrev pub replay_of : List Row → Option CallValue
+replay_of rows = replay_with (first_of (codes "db") rows) (first_of (codes "file") rows)
+
 -- the call of the subcommand with this name and these matches
 abbrev pub call_of : Option (Text × List Row) → Option CallValue
 call_of None = None
 call_of (Some sub) =
     if bytes_eq sub.0 (codes "check-lsif") then check_lsif_of sub.1
     else if bytes_eq sub.0 (codes "check-tags") then check_tags_of sub.1
+    else if bytes_eq sub.0 (codes "replay") then replay_of sub.1
     else None
 
 -- what clap's error becomes

@@ -1,42 +1,7 @@
--- What the parts of a check answer.
-use Rattle.std.specs.Prelude.{ℕ, ◌+◌, ◌-◌, List, [], ◌∷◌, ◌++◌, length, map, Option, Some, None, Result, Ok, Err, ⊤, ◌≡◌, true}
-use Rattle.lsif.specs.Element.{ElementValue, Reading, reading_value}
-use Rattle.lsif.specs.Code.{is_shape_code}
-use Rattle.lsif.specs.Lines.{lines_of, Cutter}
-use Rattle.lsif.specs.Reading.{reading, longest_line}
-use Rattle.lsif.specs.declared.code.Code.{Code}
-use Rattle.lsif.specs.declared.element.Element.{Element}
-use Rattle.dump.specs.Conditions.{most_elements}
-use Rattle.dump.specs.Steps.{Progress, running, stopped, progress, end_fault, finished}
-use Rattle.dump.specs.Lines.{dump_of}
-use Rattle.codenav.specs.Report.{IsReport, ReportsOf}
-use Rattle.codenav.specs.declared.check.Report.{Report}
-use Rattle.codenav.specs.declared.check.Report.TheVariants.{Sound, Faulty}
+-- How the reading of a reader's bytes fails.
+use Rattle.std.specs.Prelude.{ℕ, ◌+◌, Result, Ok, Err, ◌≡◌}
 use Rattle.codenav.specs.declared.check.CheckFault.{CheckFault}
 use Rattle.codenav.specs.declared.check.CheckFault.TheVariants as faults
-
--- the first line of a dump has this reading; where it's an element, these bytes hold the other lines
-abbrev pub ReadsFirst : List ℕ → Reading → Option (List ℕ) → Type 0
-ReadsFirst text (Ok x) left = (rest : List ℕ) × (left ≡ Some rest) × (dump_of text ≡ Ok x ∷ dump_of rest)
-ReadsFirst text (Err c) left = (others : List Reading) × (dump_of text ≡ Err c ∷ others)
-
--- the reading of the next line of told bytes, or that there is none
-abbrev pub ReadsNext : Option (List ℕ) → Option Reading → Option (List ℕ) → Type 0
-ReadsNext None next left = ⊤
-ReadsNext (Some text) (Some line) left = ReadsFirst text line left
-ReadsNext (Some text) None left = dump_of text ≡ []
-
--- of told bytes the checker has taken the lines before those that are left
-abbrev pub HasTaken : Option (List ℕ) → Progress → Option (List ℕ) → Type 0
-HasTaken None state left = ⊤
-HasTaken (Some text) state left =
-    (rest : List ℕ) × (left ≡ Some rest)
-    × (lines : List Reading) × (dump_of text ≡ lines ++ dump_of rest) × (state ≡ progress lines)
-
--- how many elements a checker may still take, and one more
-abbrev pub room_of : Progress → ℕ
-room_of (running elements) = most_elements + 1 - length elements
-room_of (stopped f) = 0
 
 -- the reader's count of failures, where a step fails only by it or for want of memory
 abbrev pub CountsRead : {A : Type 0} → ℕ → ℕ → Result A CheckFault → Type 0
@@ -44,18 +9,3 @@ CountsRead old new (Ok a) = new ≡ old
 CountsRead old new (Err faults.Memory) = new ≡ old
 CountsRead old new (Err faults.Read) = new ≡ old + 1
 CountsRead old new (Err faults.Write) = ⊥
-
--- a checker over lines of the longest length that a dump may have goes on after an element
-abbrev pub IsReady : Cutter → Type 0
-IsReady lines = (lines.fault ≡ None) × (lines.longest ≡ longest_line)
-
--- after an element the lines go on; a fault is one of a line's shape
-abbrev pub GoesOn : Option (Result Element Code) → Cutter → Type 0
-GoesOn None lines = ⊤
-GoesOn (Some (Ok e)) lines = IsReady lines
-GoesOn (Some (Err c)) lines = is_shape_code c ≡ true
-
--- what the end of the lines says of the state
-abbrev pub Concludes : Progress → Report → Type 0
-Concludes state (Sound n) = (elements : List ElementValue) × (state ≡ running elements) × (end_fault elements ≡ None) × (n ≡ length elements)
-Concludes state (Faulty f) = finished state ≡ Some f

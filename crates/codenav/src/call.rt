@@ -1,7 +1,7 @@
 //! What the program's words ask for.
 ghost use Rattle.std.specs.Prelude.{◌≡◌, ◌≢◌, List, Option, Some, None, IfOk, IfErr, MatchResult, map, option_map, false, codes};
 ghost use Rattle.clap.specs.Words.{app_of, first_of, found_of, kind_of, rows_of, rule_of, subcommand_of, subcommand_rows_of};
-ghost use Rattle.codenav.specs.Call.{IsMissing, IsRefused, ShowsError, app, call_of, call_value, check_lsif_app, check_lsif_of, check_tags_app, check_tags_of, top_app, word};
+ghost use Rattle.codenav.specs.Call.{IsMissing, IsRefused, ShowsError, app, call_of, call_value, check_lsif_app, check_lsif_of, check_tags_app, check_tags_of, replay_app, replay_of, replay_with, top_app, word};
 
 use clap::error::ErrorKind;
 use clap::{Arg, ArgAction, ArgMatches, Command, Error};
@@ -15,6 +15,8 @@ pub enum Call<'a> {
     CheckLsif { file: &'a str },
     /// Check the tags file of this name.
     CheckTags { file: &'a str },
+    /// Answer the requests in this file over this database.
+    Replay { database: &'a str, file: &'a str },
 }
 
 /// Why the program's words are no call.
@@ -72,6 +74,15 @@ fn check_tags<'a>(alloc: Global) -> Result<Command<'a>, AllocError>
     Command::new(alloc, "check-tags").arg(word(alloc, "file"))
 }
 
+/// `replay DB FILE`.
+fn replay<'a>(alloc: Global) -> Result<Command<'a>, AllocError>
+    ensures { IfOk result (λ c. app_of c ≡ replay_app) }
+{
+    Command::new(alloc, "replay")
+        .arg(word(alloc, "db"))?
+        .arg(word(alloc, "file"))
+}
+
 /// The program with no subcommand yet.
 fn top<'a>(alloc: Global) -> Command<'a>
     ensures { app_of result ≡ top_app }
@@ -85,7 +96,8 @@ fn command<'a>(alloc: Global) -> Result<Command<'a>, AllocError>
 {
     top(alloc)
         .subcommand(check_lsif(alloc)?)?
-        .subcommand(check_tags(alloc)?)
+        .subcommand(check_tags(alloc)?)?
+        .subcommand(replay(alloc)?)
 }
 
 /// The value of FILE among these matches.
@@ -115,6 +127,30 @@ fn read_check_tags<'a>(found: &ArgMatches<'a>) -> Option<Call<'a>>
     }
 }
 
+/// The value of DB among these matches.
+fn database_of<'a>(found: &ArgMatches<'a>) -> Option<&'a str>
+    ensures { option_map (λ database. database.now) result ≡ first_of (codes "db") (rows_of (found_of found.now)) }
+{
+    found.get_str("db")
+}
+
+/// The call of `replay` with these values.
+fn replay_call<'a>(database: Option<&'a str>, file: Option<&'a str>) -> Option<Call<'a>>
+    ensures { option_map call_value result ≡ replay_with (option_map (λ d. d.now) database.entry) (option_map (λ f. f.now) file.entry) }
+{
+    match (database, file) {
+        (Some(database), Some(file)) => Some(Call::Replay { database, file }),
+        _ => None,
+    }
+}
+
+/// The call of `replay` with these matches.
+fn read_replay<'a>(found: &ArgMatches<'a>) -> Option<Call<'a>>
+    ensures { option_map call_value result ≡ replay_of (rows_of (found_of found.now)) }
+{
+    replay_call(database_of(found), file_of(found))
+}
+
 /// The call of the subcommand with that name and these matches.
 fn read_subcommand<'a>(name: &str, found: &ArgMatches<'a>) -> Option<Call<'a>>
     ensures { option_map call_value result ≡ call_of (Some (name.now, rows_of (found_of found.now))) }
@@ -124,6 +160,9 @@ fn read_subcommand<'a>(name: &str, found: &ArgMatches<'a>) -> Option<Call<'a>>
     }
     if name == "check-tags" {
         return read_check_tags(found);
+    }
+    if name == "replay" {
+        return read_replay(found);
     }
     None
 }

@@ -1,15 +1,10 @@
 //! `codenav check-lsif`: the report of a dump.
-ghost use Rattle.std.specs.Prelude.{◌≡◌, ◌-◌, ◌^◌, ◌<◌, IfOk, option_map, string_bytes};
-ghost use Rattle.lsif.specs.Element.{reading_value};
-ghost use Rattle.lsif.specs.Held.{told};
+ghost use Rattle.std.specs.Prelude.{◌≡◌, ◌-◌, ◌^◌, ◌<◌, IfOk, string_bytes};
 ghost use Rattle.codenav.specs.Report.{ReportsOf, report_text, status_of, exit_code_of, Checks, CountsCheck};
-ghost use Rattle.codenav.specs.Judging.{ReadsNext, CountsRead, IsReady, GoesOn, Concludes};
+ghost use Rattle.codenav.specs.Judging.{CountsRead};
 
-use dump::{Checker, FeedFault, LineFault, fault_law};
-use lsif::{
-    Code, Element, LONGEST_LINE, LineBuffer, LinesFault, Profile, ReadFault, Sink, Source,
-    push_all, read_element,
-};
+use dump::{DumpFault, LineFault, read_dump};
+use lsif::{Sink, Source, push_all};
 use std::alloc::{AllocError, Global};
 
 /// What a check found.
@@ -88,61 +83,18 @@ fn report_text(alloc: Global, report: Report) -> Result<String, AllocError>
     }
 }
 
-/// The reading of the next line: its element, or the fault of its shape. None at the end.
-fn next_reading<R: Source>(
-    alloc: Global,
-    lines: &mut LineBuffer,
-    r: &mut R,
-) -> Result<Option<Result<Element, Code>>, CheckFault>
-    requires count { R.failed r.old < 2 ^ 64 - 1 }
-    requires ready { IsReady lines.old }
-    ensures read { IfOk result (λ next. ReadsNext (told lines.old.pending (R.left r.old)) (option_map reading_value next) (told lines.new.pending (R.left r.new))) }
-    ensures goes_on { IfOk result (λ next. GoesOn next lines.new) }
-    ensures counted { CountsRead (R.failed r.old) (R.failed r.new) result }
-{
-    match lines.advance(r) {
-        Ok(false) => Ok(None),
-        Ok(true) => match read_element(alloc, lines.line()) {
-            Ok(element) => Ok(Some(Ok(element))),
-            Err(ReadFault::Shape(code)) => Ok(Some(Err(code))),
-            Err(ReadFault::Memory) => Err(CheckFault::Memory),
-        },
-        Err(LinesFault::TooLong) => Ok(Some(Err(Code::L01))),
-        Err(LinesFault::Read) => Err(CheckFault::Read),
-        Err(LinesFault::Memory) => Err(CheckFault::Memory),
-    }
-}
-
-/// What the end of the lines says.
-fn conclude(checker: Checker) -> Report
-    ensures { Concludes checker result }
-{
-    match checker.finish() {
-        Ok(dump) => Report::Sound(dump.elements().len() as u32),
-        Err(FeedFault::Line(fault)) => Report::Faulty(fault),
-        Err(FeedFault::Memory) => unreachable!(),
-    }
-}
-
 /// The report of a reader's bytes.
 fn judge<R: Source>(alloc: Global, r: &mut R) -> Result<Report, CheckFault>
     requires { R.failed r.old < 2 ^ 64 - 1 }
     ensures report { IfOk result (λ report. ReportsOf (R.left r.old) report) }
     ensures counted { CountsRead (R.failed r.old) (R.failed r.new) result }
 {
-    fault_law();
-    let Ok(mut lines) = LineBuffer::new(alloc, LONGEST_LINE) else {
-        return Err(CheckFault::Memory);
-    };
-    let mut checker = Checker::new(alloc, Profile::One);
-    'reading: while let Some(reading) = next_reading(alloc, &mut lines, r)? {
-        match checker.feed(reading) {
-            Ok(()) => {}
-            Err(FeedFault::Line(fault)) => return Ok(Report::Faulty(fault)),
-            Err(FeedFault::Memory) => return Err(CheckFault::Memory),
-        }
+    match read_dump(alloc, r) {
+        Ok(dump) => Ok(Report::Sound(dump.elements().len() as u32)),
+        Err(DumpFault::Line(fault)) => Ok(Report::Faulty(fault)),
+        Err(DumpFault::Memory) => Err(CheckFault::Memory),
+        Err(DumpFault::Read) => Err(CheckFault::Read),
     }
-    Ok(conclude(checker))
 }
 
 /// Reads a dump from a reader to its end, or up to its first faulty line, and writes the line of its report:

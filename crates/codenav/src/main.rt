@@ -4,11 +4,16 @@
 mod call;
 mod check;
 mod check_tags;
+mod replay;
+#[cfg(test)]
+mod samples;
 
 use call::{Call, CallFault, read_call};
 use check::{CheckFault, Status, check_lsif};
 use check_tags::check_tags;
+use http_edge::ServeFault;
 use lsif::Counted;
+use replay::replay;
 use std::alloc::Global;
 use std::io::ErrorKind;
 use std::process::ExitCode;
@@ -32,6 +37,7 @@ fn run<R: Alloc<A = Global> + Env + Files + Print + Eprint>(rt: &R) -> u8 {
     match read_call(rt.alloc(), words.as_slice()) {
         Ok(Call::CheckLsif { file }) => check_dump(rt, file),
         Ok(Call::CheckTags { file }) => check_tags_file(rt, file),
+        Ok(Call::Replay { database, file }) => replay_file(rt, database, file),
         Err(CallFault::Memory) => fail(rt, "out of memory"),
         Err(CallFault::Clap(error)) => show(rt, &error),
     }
@@ -75,6 +81,29 @@ fn check_tags_file<R: Alloc<A = Global> + Files + Print + Eprint>(rt: &R, name: 
     let mut r = Counted::new(file);
     let mut w = Counted::new(io::writer(rt));
     end(rt, check_tags(rt.alloc(), &mut r, &mut w))
+}
+
+/// `codenav replay DB FILE`: prints the replies to the requests in that file. The only database is `:memory:`.
+fn replay_file<R: Alloc<A = Global> + Files + Print + Eprint>(
+    rt: &R,
+    database: &str,
+    name: &str,
+) -> u8 {
+    let file = match open(rt, name) {
+        Ok(file) => file,
+        Err(status) => return status,
+    };
+    if database != ":memory:" {
+        return fail(rt, "store refused");
+    }
+    let mut r = Counted::new(file);
+    let mut w = Counted::new(io::writer(rt));
+    match replay(rt.alloc(), &mut r, &mut w) {
+        Ok(_) => 0,
+        Err(ServeFault::Memory) => fail(rt, "out of memory"),
+        Err(ServeFault::Read) => fail(rt, "cannot read the file"),
+        Err(ServeFault::Write) => fail(rt, "cannot write the output"),
+    }
 }
 
 /// The exit status of a check, after why it failed was printed.

@@ -20,6 +20,18 @@ fn reads_a_call(rt: HostRuntime) -> Result<(), Fail> {
 }
 
 #[test]
+fn reads_a_call_of_replay(rt: HostRuntime) -> Result<(), Fail> {
+    for (database, file) in [(":memory:", "requests.http"), ("index.db", "-")] {
+        let words = ["codenav", "replay", database, file];
+        match read_call(rt.alloc(), words.as_slice()) {
+            Ok(call) => assert_eq!(rt; call, Call::Replay { database, file }),
+            Err(_) => panic!(rt; "{database:?} {file:?} are refused"),
+        }
+    }
+    Ok(())
+}
+
+#[test]
 fn refuses_words(rt: HostRuntime) {
     let table = [
         (["codenav"].as_slice(), ErrorKind::MissingSubcommand),
@@ -30,6 +42,14 @@ fn refuses_words(rt: HostRuntime) {
         (
             ["codenav", "check-tags"].as_slice(),
             ErrorKind::MissingRequiredArgument,
+        ),
+        (
+            ["codenav", "replay", ":memory:"].as_slice(),
+            ErrorKind::MissingRequiredArgument,
+        ),
+        (
+            ["codenav", "replay", ":memory:", "a", "b"].as_slice(),
+            ErrorKind::UnknownArgument,
         ),
         (
             ["codenav", "check", "a"].as_slice(),

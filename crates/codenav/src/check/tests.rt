@@ -1,101 +1,12 @@
 //! Reports of dumps, of readers that fail and of writers that fail.
 use super::*;
+use crate::samples::{
+    BASE, DOCUMENT, META_DATA, OTHER_RANGE, Pieces, RANGE, RESULT_SET, Slow, in_pieces, text_of,
+    with_line,
+};
 use lsif::Counted;
-use std::io;
-use std::io::{Read, Write};
 use std::process::Abort;
 use std::test::Fail;
-
-const META_DATA: &str =
-    "{\"id\":1,\"type\":\"vertex\",\"label\":\"metaData\",\"version\":\"0.6.0\",\"positionEncoding\":\"utf-16\"}";
-
-const DOCUMENT: &str =
-    "{\"id\":2,\"type\":\"vertex\",\"label\":\"document\",\"uri\":\"file:///a.ts\"}";
-
-const RANGE: &str =
-    "{\"id\":3,\"type\":\"vertex\",\"label\":\"range\",\"start\":{\"line\":0,\"character\":4},\"end\":{\"line\":0,\"character\":7}}";
-
-const OTHER_RANGE: &str =
-    "{\"id\":4,\"type\":\"vertex\",\"label\":\"range\",\"start\":{\"line\":2,\"character\":0},\"end\":{\"line\":2,\"character\":3}}";
-
-const RESULT_SET: &str = "{\"id\":5,\"type\":\"vertex\",\"label\":\"resultSet\"}";
-
-const NEXT: &str = "{\"id\":6,\"type\":\"edge\",\"label\":\"next\",\"outV\":3,\"inV\":5}";
-
-const OTHER_NEXT: &str = "{\"id\":7,\"type\":\"edge\",\"label\":\"next\",\"outV\":4,\"inV\":5}";
-
-const DEFINITION_RESULT: &str = "{\"id\":8,\"type\":\"vertex\",\"label\":\"definitionResult\"}";
-
-const DEFINITION: &str =
-    "{\"id\":9,\"type\":\"edge\",\"label\":\"textDocument/definition\",\"outV\":5,\"inV\":8}";
-
-const ITEM: &str =
-    "{\"id\":10,\"type\":\"edge\",\"label\":\"item\",\"outV\":8,\"inVs\":[3],\"shard\":2}";
-
-const CONTAINS: &str =
-    "{\"id\":11,\"type\":\"edge\",\"label\":\"contains\",\"outV\":2,\"inVs\":[3,4]}";
-
-/// The base dump: a document with two ranges, and a definition.
-const BASE: [&str; 11] = [
-    META_DATA,
-    DOCUMENT,
-    RANGE,
-    OTHER_RANGE,
-    RESULT_SET,
-    NEXT,
-    OTHER_NEXT,
-    DEFINITION_RESULT,
-    DEFINITION,
-    ITEM,
-    CONTAINS,
-];
-
-/// A reader that gives at most so many bytes at a time, and fails at the read of that number.
-#[derive(Drop)]
-struct Pieces<'a> {
-    bytes: &'a [u8],
-    most: usize,
-    fails_at: u32,
-    reads: u32,
-}
-
-impl Read for Pieces<'_> {
-    fn read(&mut self, buf: &mut [u8]) -> io::Result<usize> {
-        self.reads = self.reads.saturating_add(1);
-        if self.reads == self.fails_at {
-            return Err(io::Error::from(io::ErrorKind::Other));
-        }
-        let count = self.bytes.len().min(self.most).min(buf.len());
-        buf[..count].copy_from_slice(&self.bytes[..count]);
-        self.bytes = &self.bytes[count..];
-        Ok(count)
-    }
-}
-
-/// A writer that takes at most so many bytes at a time, and fails at the write of that number.
-#[derive(Drop)]
-struct Slow {
-    taken: Vec<u8>,
-    most: usize,
-    fails_at: u32,
-    writes: u32,
-}
-
-impl Write for Slow {
-    fn write(&mut self, bytes: &[u8]) -> io::Result<usize> {
-        self.writes = self.writes.saturating_add(1);
-        if self.writes == self.fails_at {
-            return Err(io::Error::from(io::ErrorKind::Other));
-        }
-        let count = bytes.len().min(self.most);
-        self.taken.extend_from_slice(&bytes[..count])?;
-        Ok(count)
-    }
-
-    fn flush(&mut self) -> io::Result<()> {
-        Ok(())
-    }
-}
 
 /// What is answered and written over such a reader and such a writer.
 fn check(
@@ -114,35 +25,6 @@ fn check(
     let answer = check_lsif(alloc, &mut r, &mut w);
     let Slow { taken, .. } = w.into_inner();
     (answer, taken)
-}
-
-/// A reader of these bytes that gives so many at a time.
-fn in_pieces(bytes: &[u8], most: usize) -> Pieces<'_> {
-    Pieces {
-        bytes,
-        most,
-        fails_at: 0,
-        reads: 0,
-    }
-}
-
-/// The text of these lines, each ended by a line feed.
-fn text_of(alloc: Global, lines: &[&str]) -> Result<String, Fail> {
-    let mut text = String::new(alloc);
-    for line in lines {
-        text.push_str(line)?;
-        text.push_str("\n")?;
-    }
-    Ok(text)
-}
-
-/// The base dump with this line, counted from 1, in the place of its own.
-fn with_line<'a>(number: usize, line: &'a str) -> [&'a str; 11] {
-    let mut lines = BASE;
-    if number >= 1 && number <= 11 {
-        lines[number - 1] = line;
-    }
-    lines
 }
 
 /// Asserts the report of a text, for several cuttings.

@@ -1,9 +1,0 @@
-use Rattle.std.proofs.Common.{◌≡◌, ◌∙◌, ap, subst, rules, Some, None}
-use Rattle.codenav.proofs.Judgings.{given_fault, long_fault}
-use Rattle.codenav.proofs.check.next_reading.Goals as goal
-
-pub returns-in-Err-Shape-clause-read : goal.returns-in-Err-Shape-clause-read
-returns-in-Err-Shape-clause-read g c = given_fault _ _ c.line.result.now c.advance.new.self.has_feed c.in-Err-Shape.code (search rules) (search rules)
-
-pub returns-in-Err-TooLong-clause-read : goal.returns-in-Err-TooLong-clause-read
-returns-in-Err-TooLong-clause-read g c = long_fault _ _ (search rules)
