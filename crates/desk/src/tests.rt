@@ -302,13 +302,17 @@ fn quotation_mark_in_a_uri(rt: HostRuntime) -> Result<(), Fail> {
 fn run_of_requests(rt: HostRuntime) -> Result<(), Fail> {
     let mut desk = PlainDesk::new(rt.alloc());
     let base = text(&rt, &BASE)?;
-    let later = base_with(&rt, 3, LATER)?;
+    let early = query(&rt, "app", "file:///a.ts", (2, 1))?;
+    let defined = query(&rt, "app", "file:///a.ts", (2, 1))?;
+    let unknown = query(&rt, "app", "file:///b.ts", (2, 1))?;
+    let outside = query(&rt, "app", "file:///a.ts", (2, 3))?;
+    let put = command(&rt, "app", "k1", &base)?;
     let requests = [
-        Request::Query(query(&rt, "app", "file:///a.ts", (2, 1))?),
-        Request::Command(command(&rt, "app", "k1", &base)?),
-        Request::Query(query(&rt, "app", "file:///a.ts", (2, 1))?),
-        Request::Command(command(&rt, "app", "k2", &later)?),
-        Request::Query(query(&rt, "app", "file:///a.ts", (2, 1))?),
+        Request::Query(early),
+        Request::Command(put),
+        Request::Query(defined),
+        Request::Query(unknown),
+        Request::Query(outside),
     ];
     let replies = run(rt.alloc(), &mut desk, &requests).map_err(|_| "out of memory")?;
     assert_eq!(rt; replies.len(), 5);
@@ -316,8 +320,8 @@ fn run_of_requests(rt: HostRuntime) -> Result<(), Fail> {
         (404, "{\"fault\":\"D01\",\"text\":\"project has no dump\"}"),
         (200, ACCEPTED),
         (200, DEFINED_AT_4),
-        (200, ACCEPTED),
-        (200, DEFINED_AT_5),
+        (404, "{\"fault\":\"D02\",\"text\":\"no such document\"}"),
+        (200, "{\"places\":[]}"),
     ];
     for (reply, (status, body)) in replies.iter().zip(wanted.iter()) {
         assert!(rt; is(reply, *status, body));
