@@ -6,7 +6,7 @@ use Rattle.std.specs.declared.cmp.Ordering.{Ordering}
 use Rattle.positions.specs.Span.{SpanValue}
 use Rattle.lsif.specs.declared.element.Property.{Property}
 use Rattle.lsif.specs.declared.element.Property.TheVariants.{Definitions, References, ReferenceResults}
-use Rattle.lsif.specs.Element.{IdValue, same_id, VertexValue, meta_data, project, document, range, result_set, definition_result, other_vertex, contains, next, definition, item, other_edge, ElementValue, vertex, edge}
+use Rattle.lsif.specs.Element.{IdValue, same_id, VertexValue, meta_data, project, document, range, result_set, definition_result, reference_result, hover_result, moniker, package_information, event, other_vertex, contains, next, definition, references, hover, moniker_edge, package_edge, attach, item, other_edge, ElementValue, vertex, edge}
 use Rattle.dump.specs.Graph.{vertex_at, is_among}
 use Rattle.dump.specs.Conditions.{are_definitions}
 use Rattle.dump.specs.Contained.{places_range, is_in}
@@ -30,6 +30,11 @@ at_to (Some project) span place at = absurd (not_in_nil place at)
 at_to (Some (range s)) span place at = absurd (not_in_nil place at)
 at_to (Some result_set) span place at = absurd (not_in_nil place at)
 at_to (Some definition_result) span place at = absurd (not_in_nil place at)
+at_to (Some reference_result) span place at = absurd (not_in_nil place at)
+at_to (Some (hover_result t)) span place at = absurd (not_in_nil place at)
+at_to (Some (moniker m)) span place at = absurd (not_in_nil place at)
+at_to (Some (package_information p)) span place at = absurd (not_in_nil place at)
+at_to (Some (event v)) span place at = absurd (not_in_nil place at)
 at_to (Some other_vertex) span place at = absurd (not_in_nil place at)
 
 at_from : (v : Option VertexValue) (place : PlaceValue) → v ≡ Some (document place.uri) → Contains (places_at v place.span) place
@@ -42,6 +47,11 @@ contained_to d r span place (edge i (contains from to)) here at =
     (from, any_from (places_range from r) d (edge i (contains from to)) here (and_of (same_id from from) (is_among r to) (same_id_self from) h.0), h.1)
 contained_to d r span place (edge i (next from to)) here at = absurd (not_in_nil place at)
 contained_to d r span place (edge i (definition from to)) here at = absurd (not_in_nil place at)
+contained_to d r span place (edge i (references from to)) here at = absurd (not_in_nil place at)
+contained_to d r span place (edge i (hover from to)) here at = absurd (not_in_nil place at)
+contained_to d r span place (edge i (moniker_edge from to)) here at = absurd (not_in_nil place at)
+contained_to d r span place (edge i (package_edge from to)) here at = absurd (not_in_nil place at)
+contained_to d r span place (edge i (attach from to)) here at = absurd (not_in_nil place at)
 contained_to d r span place (edge i (item e)) here at = absurd (not_in_nil place at)
 contained_to d r span place (edge i (other_edge from to)) here at = absurd (not_in_nil place at)
 contained_to d r span place (vertex i v) here at = absurd (not_in_nil place at)
@@ -53,6 +63,11 @@ contained_from d r container place (edge i (contains from to)) test e =
     if_in (is_among r to) (places_at (vertex_at d from) place.span) place b.1 (at_from (vertex_at d from) place (ap (vertex_at d) (same_id_eq from container b.0) ∙ e))
 contained_from d r container place (edge i (next from to)) test e = cc
 contained_from d r container place (edge i (definition from to)) test e = cc
+contained_from d r container place (edge i (references from to)) test e = cc
+contained_from d r container place (edge i (hover from to)) test e = cc
+contained_from d r container place (edge i (moniker_edge from to)) test e = cc
+contained_from d r container place (edge i (package_edge from to)) test e = cc
+contained_from d r container place (edge i (attach from to)) test e = cc
 contained_from d r container place (edge i (item f)) test e = cc
 contained_from d r container place (edge i (other_edge from to)) test e = cc
 contained_from d r container place (vertex i v) test e = cc
@@ -69,6 +84,11 @@ spanned_to d r place (Some (meta_data b)) is at = absurd (not_in_nil place at)
 spanned_to d r place (Some project) is at = absurd (not_in_nil place at)
 spanned_to d r place (Some result_set) is at = absurd (not_in_nil place at)
 spanned_to d r place (Some definition_result) is at = absurd (not_in_nil place at)
+spanned_to d r place (Some reference_result) is at = absurd (not_in_nil place at)
+spanned_to d r place (Some (hover_result t)) is at = absurd (not_in_nil place at)
+spanned_to d r place (Some (moniker m)) is at = absurd (not_in_nil place at)
+spanned_to d r place (Some (package_information p)) is at = absurd (not_in_nil place at)
+spanned_to d r place (Some (event v)) is at = absurd (not_in_nil place at)
 spanned_to d r place (Some other_vertex) is at = absurd (not_in_nil place at)
 
 range_from : (d : List ElementValue) (r : IdValue) (place : PlaceValue) → IsAt d r place → Contains (places_of_range d r) place
@@ -98,6 +118,11 @@ item_to d result place (edge i (item e)) here at =
 item_to d result place (edge i (contains from to)) here at = absurd (not_in_nil place at)
 item_to d result place (edge i (next from to)) here at = absurd (not_in_nil place at)
 item_to d result place (edge i (definition from to)) here at = absurd (not_in_nil place at)
+item_to d result place (edge i (references from to)) here at = absurd (not_in_nil place at)
+item_to d result place (edge i (hover from to)) here at = absurd (not_in_nil place at)
+item_to d result place (edge i (moniker_edge from to)) here at = absurd (not_in_nil place at)
+item_to d result place (edge i (package_edge from to)) here at = absurd (not_in_nil place at)
+item_to d result place (edge i (attach from to)) here at = absurd (not_in_nil place at)
 item_to d result place (edge i (other_edge from to)) here at = absurd (not_in_nil place at)
 item_to d result place (vertex i v) here at = absurd (not_in_nil place at)
 

@@ -2,7 +2,7 @@
 use Rattle.std.proofs.Common.{◌≡◌, ⊎_elim, ◌∙◌, ℕ, Bool, true, false, cond, List, [], ◌∷◌, refl, sym, ap, subst}
 use Rattle.std.specs.Prelude.{◌↔◌, Contains, bytes_eq, Option, Some, None, IfSome, IfNone, option_map}
 use Rattle.std.proofs.lemmas.Slice.Eq.{bytes_eq-Decides}
-use Rattle.lsif.specs.Element.{IdValue, VertexValue, meta_data, project, document, range, result_set, definition_result, other_vertex, ElementValue, vertex, edge}
+use Rattle.lsif.specs.Element.{IdValue, VertexValue, meta_data, project, document, range, result_set, definition_result, reference_result, hover_result, moniker, package_information, event, other_vertex, ElementValue, vertex, edge}
 use Rattle.dump.specs.Graph.{vertex_at}
 use Rattle.dump.specs.Places.{HasDocument}
 use Rattle.desk.specs.Documents.{document_in}
@@ -24,6 +24,11 @@ document_there uri (vertex i project ∷ rest) d e = contains_tail (vertex i pro
 document_there uri (vertex i (range s) ∷ rest) d e = contains_tail (vertex i (range s)) rest (vertex d (document uri)) (document_there uri rest d e)
 document_there uri (vertex i result_set ∷ rest) d e = contains_tail (vertex i result_set) rest (vertex d (document uri)) (document_there uri rest d e)
 document_there uri (vertex i definition_result ∷ rest) d e = contains_tail (vertex i definition_result) rest (vertex d (document uri)) (document_there uri rest d e)
+document_there uri (vertex i reference_result ∷ rest) d e = contains_tail (vertex i reference_result) rest (vertex d (document uri)) (document_there uri rest d e)
+document_there uri (vertex i (hover_result t) ∷ rest) d e = contains_tail (vertex i (hover_result t)) rest (vertex d (document uri)) (document_there uri rest d e)
+document_there uri (vertex i (moniker m) ∷ rest) d e = contains_tail (vertex i (moniker m)) rest (vertex d (document uri)) (document_there uri rest d e)
+document_there uri (vertex i (package_information p) ∷ rest) d e = contains_tail (vertex i (package_information p)) rest (vertex d (document uri)) (document_there uri rest d e)
+document_there uri (vertex i (event v) ∷ rest) d e = contains_tail (vertex i (event v)) rest (vertex d (document uri)) (document_there uri rest d e)
 document_there uri (vertex i other_vertex ∷ rest) d e = contains_tail (vertex i other_vertex) rest (vertex d (document uri)) (document_there uri rest d e)
 document_there uri (edge i w ∷ rest) d e = contains_tail (edge i w) rest (vertex d (document uri)) (document_there uri rest d e)
 
@@ -56,6 +61,11 @@ no_document uri (vertex i project ∷ rest) d e at = past (vertex i project) res
 no_document uri (vertex i (range s) ∷ rest) d e at = past (vertex i (range s)) rest uri d refl (no_document uri rest d e) at
 no_document uri (vertex i result_set ∷ rest) d e at = past (vertex i result_set) rest uri d refl (no_document uri rest d e) at
 no_document uri (vertex i definition_result ∷ rest) d e at = past (vertex i definition_result) rest uri d refl (no_document uri rest d e) at
+no_document uri (vertex i reference_result ∷ rest) d e at = past (vertex i reference_result) rest uri d refl (no_document uri rest d e) at
+no_document uri (vertex i (hover_result t) ∷ rest) d e at = past (vertex i (hover_result t)) rest uri d refl (no_document uri rest d e) at
+no_document uri (vertex i (moniker m) ∷ rest) d e at = past (vertex i (moniker m)) rest uri d refl (no_document uri rest d e) at
+no_document uri (vertex i (package_information p) ∷ rest) d e at = past (vertex i (package_information p)) rest uri d refl (no_document uri rest d e) at
+no_document uri (vertex i (event v) ∷ rest) d e at = past (vertex i (event v)) rest uri d refl (no_document uri rest d e) at
 no_document uri (vertex i other_vertex ∷ rest) d e at = past (vertex i other_vertex) rest uri d refl (no_document uri rest d e) at
 no_document uri (edge i w ∷ rest) d e at = past (edge i w) rest uri d refl (no_document uri rest d e) at
 

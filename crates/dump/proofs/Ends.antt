@@ -5,8 +5,8 @@ use Rattle.std.specs.Prelude.{Option, Some, None, is_some, Contains, if◌then�
 use Rattle.std.specs.List.{flat_map}
 use Rattle.std.proofs.lemmas.List.Elements.{Contains-push_cases}
 use Rattle.lsif.specs.declared.code.Code.{Code}
-use Rattle.lsif.specs.declared.code.Code.TheVariants.{L04, L06, L09, L10, L11, L12, L13, L14, L16, L19, L20}
-use Rattle.lsif.specs.Element.{IdValue, same_id, contains, next, definition, item, other_edge, ElementValue, vertex, edge}
+use Rattle.lsif.specs.declared.code.Code.TheVariants.{L04, L06, L09, L10, L11, L12, L13, L14, L16, L17, L18, L19, L20}
+use Rattle.lsif.specs.Element.{IdValue, same_id, contains, next, definition, references, hover, moniker_edge, package_edge, attach, item, other_edge, ElementValue, vertex, edge}
 use Rattle.dump.specs.Walks.{Pair, first_to, IsChain, ends, links, HasChain, Path, stays, goes, next_pairs, next_in}
 use Rattle.dump.specs.Conditions.{order_code, order_condition, has_used_id, joins_no_vertex, may_not_join, is_contained_again, is_conflicting, leaves_again, closes_cycle, has_used_uri}
 use Rattle.dump.specs.Steps as steps
@@ -117,16 +117,18 @@ pub no_code : (before : List ElementValue) (x : ElementValue) → order_code bef
 unfolding order_code
 no_code before x e =
     let p = order_condition before x in
-    let at_04 = find_none p L04 (L06 ∷ L09 ∷ L10 ∷ L11 ∷ L12 ∷ L13 ∷ L14 ∷ L16 ∷ L19 ∷ L20 ∷ []) e in
-    let at_06 = find_none p L06 (L09 ∷ L10 ∷ L11 ∷ L12 ∷ L13 ∷ L14 ∷ L16 ∷ L19 ∷ L20 ∷ []) at_04.1 in
-    let at_09 = find_none p L09 (L10 ∷ L11 ∷ L12 ∷ L13 ∷ L14 ∷ L16 ∷ L19 ∷ L20 ∷ []) at_06.1 in
-    let at_10 = find_none p L10 (L11 ∷ L12 ∷ L13 ∷ L14 ∷ L16 ∷ L19 ∷ L20 ∷ []) at_09.1 in
-    let at_11 = find_none p L11 (L12 ∷ L13 ∷ L14 ∷ L16 ∷ L19 ∷ L20 ∷ []) at_10.1 in
-    let at_12 = find_none p L12 (L13 ∷ L14 ∷ L16 ∷ L19 ∷ L20 ∷ []) at_11.1 in
-    let at_13 = find_none p L13 (L14 ∷ L16 ∷ L19 ∷ L20 ∷ []) at_12.1 in
-    let at_14 = find_none p L14 (L16 ∷ L19 ∷ L20 ∷ []) at_13.1 in
-    let at_16 = find_none p L16 (L19 ∷ L20 ∷ []) at_14.1 in
-    let at_19 = find_none p L19 (L20 ∷ []) at_16.1 in
+    let at_04 = find_none p L04 (L06 ∷ L09 ∷ L10 ∷ L11 ∷ L12 ∷ L13 ∷ L14 ∷ L16 ∷ L17 ∷ L18 ∷ L19 ∷ L20 ∷ []) e in
+    let at_06 = find_none p L06 (L09 ∷ L10 ∷ L11 ∷ L12 ∷ L13 ∷ L14 ∷ L16 ∷ L17 ∷ L18 ∷ L19 ∷ L20 ∷ []) at_04.1 in
+    let at_09 = find_none p L09 (L10 ∷ L11 ∷ L12 ∷ L13 ∷ L14 ∷ L16 ∷ L17 ∷ L18 ∷ L19 ∷ L20 ∷ []) at_06.1 in
+    let at_10 = find_none p L10 (L11 ∷ L12 ∷ L13 ∷ L14 ∷ L16 ∷ L17 ∷ L18 ∷ L19 ∷ L20 ∷ []) at_09.1 in
+    let at_11 = find_none p L11 (L12 ∷ L13 ∷ L14 ∷ L16 ∷ L17 ∷ L18 ∷ L19 ∷ L20 ∷ []) at_10.1 in
+    let at_12 = find_none p L12 (L13 ∷ L14 ∷ L16 ∷ L17 ∷ L18 ∷ L19 ∷ L20 ∷ []) at_11.1 in
+    let at_13 = find_none p L13 (L14 ∷ L16 ∷ L17 ∷ L18 ∷ L19 ∷ L20 ∷ []) at_12.1 in
+    let at_14 = find_none p L14 (L16 ∷ L17 ∷ L18 ∷ L19 ∷ L20 ∷ []) at_13.1 in
+    let at_16 = find_none p L16 (L17 ∷ L18 ∷ L19 ∷ L20 ∷ []) at_14.1 in
+    let at_17 = find_none p L17 (L18 ∷ L19 ∷ L20 ∷ []) at_16.1 in
+    let at_18 = find_none p L18 (L19 ∷ L20 ∷ []) at_17.1 in
+    let at_19 = find_none p L19 (L20 ∷ []) at_18.1 in
     record {
       fresh = at_04.0;
       ends = at_09.0;
@@ -152,6 +154,11 @@ one_more before (edge i (next a b)) e each v =
     subst (λ ps. HasChain ps v) (sym (pairs_more next_in before (edge i (next a b)))) (all_end (next_pairs before) a b (none_of (first_to (next_pairs before) a) no.single) apart each v)
 one_more before (edge i (contains a bs)) e each v = same_pairs before (edge i (contains a bs)) refl each v
 one_more before (edge i (definition a b)) e each v = same_pairs before (edge i (definition a b)) refl each v
+one_more before (edge i (references a b)) e each v = same_pairs before (edge i (references a b)) refl each v
+one_more before (edge i (hover a b)) e each v = same_pairs before (edge i (hover a b)) refl each v
+one_more before (edge i (moniker_edge a b)) e each v = same_pairs before (edge i (moniker_edge a b)) refl each v
+one_more before (edge i (package_edge a b)) e each v = same_pairs before (edge i (package_edge a b)) refl each v
+one_more before (edge i (attach a b)) e each v = same_pairs before (edge i (attach a b)) refl each v
 one_more before (edge i (item a)) e each v = same_pairs before (edge i (item a)) refl each v
 one_more before (edge i (other_edge a bs)) e each v = same_pairs before (edge i (other_edge a bs)) refl each v
 one_more before (vertex i w) e each v = same_pairs before (vertex i w) refl each v
@@ -188,6 +195,11 @@ single_one before (edge i (next a b)) e one =
     subst Single (sym (pairs_more next_in before (edge i (next a b)))) (single_more (next_pairs before) a b (none_of (first_to (next_pairs before) a) no.single) one)
 single_one before (edge i (contains a bs)) e one = same_single before (edge i (contains a bs)) refl one
 single_one before (edge i (definition a b)) e one = same_single before (edge i (definition a b)) refl one
+single_one before (edge i (references a b)) e one = same_single before (edge i (references a b)) refl one
+single_one before (edge i (hover a b)) e one = same_single before (edge i (hover a b)) refl one
+single_one before (edge i (moniker_edge a b)) e one = same_single before (edge i (moniker_edge a b)) refl one
+single_one before (edge i (package_edge a b)) e one = same_single before (edge i (package_edge a b)) refl one
+single_one before (edge i (attach a b)) e one = same_single before (edge i (attach a b)) refl one
 single_one before (edge i (item a)) e one = same_single before (edge i (item a)) refl one
 single_one before (edge i (other_edge a bs)) e one = same_single before (edge i (other_edge a bs)) refl one
 single_one before (vertex i w) e one = same_single before (vertex i w) refl one

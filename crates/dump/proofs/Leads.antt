@@ -2,7 +2,7 @@
 use Rattle.std.proofs.Common.{◌≡◌, ⊎_elim, ◌∙◌, ℕ, ◌+◌, ◌≤◌, Bool, true, false, List, [], ◌∷◌, length, length-append, map, refl, ap, sym, subst, arith}
 use Rattle.std.specs.Prelude.{Contains, Option, Some, None}
 use Rattle.std.proofs.lemmas.List.{length-map}
-use Rattle.lsif.specs.Element.{IdValue, same_id, contains, next, definition, item, other_edge, ElementValue, vertex, edge, element_value}
+use Rattle.lsif.specs.Element.{IdValue, same_id, contains, next, definition, references, hover, moniker_edge, package_edge, attach, item, other_edge, ElementValue, vertex, edge, element_value}
 use Rattle.lsif.specs.declared.element.Element.{Element}
 use Rattle.dump.specs.Walks.{Pair, next_in, next_pairs, IsChain, ends, links, first_to, reaches, Path, stays, goes}
 use Rattle.dump.specs.Steps.{IsSound}
@@ -16,6 +16,11 @@ next_count : (x : ElementValue) → length (next_in x) ≤ 1
 next_count (edge i (next x y)) = omega arith
 next_count (edge i (contains x ys)) = omega arith
 next_count (edge i (definition x y)) = omega arith
+next_count (edge i (references x y)) = omega arith
+next_count (edge i (hover x y)) = omega arith
+next_count (edge i (moniker_edge x y)) = omega arith
+next_count (edge i (package_edge x y)) = omega arith
+next_count (edge i (attach x y)) = omega arith
 next_count (edge i (item e)) = omega arith
 next_count (edge i (other_edge x ys)) = omega arith
 next_count (vertex i v) = omega arith

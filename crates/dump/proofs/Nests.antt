@@ -5,7 +5,7 @@ use Rattle.std.specs.Option.{option_or}
 use Rattle.std.proofs.lemmas.List.Folds.{find-append, list_any-append}
 use Rattle.positions.specs.Position.{PositionValue, is_before, later_of, earlier_of}
 use Rattle.positions.specs.Span.{SpanValue, nests, overlaps}
-use Rattle.lsif.specs.Element.{IdValue, same_id, VertexValue, meta_data, project, document, range, result_set, definition_result, other_vertex, contains, next, definition, item, other_edge, ElementValue, vertex, edge, element_id}
+use Rattle.lsif.specs.Element.{IdValue, same_id, VertexValue, meta_data, project, document, range, result_set, definition_result, reference_result, hover_result, moniker, package_information, event, other_vertex, contains, next, definition, references, hover, moniker_edge, package_edge, attach, item, other_edge, ElementValue, vertex, edge, element_id}
 use Rattle.dump.specs.Graph.{element_at, vertex_of, vertex_at, is_document, span_of, is_among}
 use Rattle.dump.specs.Contained.{places_range, is_in, spans_of, spans_named, spans_in, conflicts, any_conflicts, has_conflict, IsNested}
 use Rattle.dump.specs.Conditions.{are_vertices, may_contain}
@@ -112,6 +112,11 @@ named_fails : (d : List ElementValue) (p : SpanValue → Bool) (v : IdValue) (x 
 named_fails d p v (edge i (contains from to)) r e none at has = named_fails_by d p to r e (same_id from v) none at has
 named_fails d p v (edge i (next from to)) r e none at has = cc
 named_fails d p v (edge i (definition from to)) r e none at has = cc
+named_fails d p v (edge i (references from to)) r e none at has = cc
+named_fails d p v (edge i (hover from to)) r e none at has = cc
+named_fails d p v (edge i (moniker_edge from to)) r e none at has = cc
+named_fails d p v (edge i (package_edge from to)) r e none at has = cc
+named_fails d p v (edge i (attach from to)) r e none at has = cc
 named_fails d p v (edge i (item t)) r e none at has = cc
 named_fails d p v (edge i (other_edge from to)) r e none at has = cc
 named_fails d p v (vertex i w) r e none at has = cc
@@ -185,6 +190,11 @@ known_here d (edge i (contains from to)) free v r at =
     vertex_there (vertex_at d r) (all_among (λ j. is_some (vertex_at d j)) to r all.1 (and_both (same_id from v) (is_among r to) at).1)
 known_here d (edge i (next from to)) free v r at = cc
 known_here d (edge i (definition from to)) free v r at = cc
+known_here d (edge i (references from to)) free v r at = cc
+known_here d (edge i (hover from to)) free v r at = cc
+known_here d (edge i (moniker_edge from to)) free v r at = cc
+known_here d (edge i (package_edge from to)) free v r at = cc
+known_here d (edge i (attach from to)) free v r at = cc
 known_here d (edge i (item t)) free v r at = cc
 known_here d (edge i (other_edge from to)) free v r at = cc
 known_here d (vertex i w) free v r at = cc
@@ -207,6 +217,11 @@ range_is_no_document (Some project) e h t = cc
 range_is_no_document (Some (range s)) e h t = cc
 range_is_no_document (Some result_set) e h t = cc
 range_is_no_document (Some definition_result) e h t = cc
+range_is_no_document (Some reference_result) e h t = cc
+range_is_no_document (Some (hover_result w)) e h t = cc
+range_is_no_document (Some (moniker w)) e h t = cc
+range_is_no_document (Some (package_information w)) e h t = cc
+range_is_no_document (Some (event w)) e h t = cc
 range_is_no_document (Some other_vertex) e h t = cc
 
 -- a `contains` edge to a range leaves a document
@@ -218,6 +233,11 @@ leaves_document d (Some (meta_data b)) to r e may at has = cc
 leaves_document d (Some (range s)) to r e may at has = cc
 leaves_document d (Some result_set) to r e may at has = cc
 leaves_document d (Some definition_result) to r e may at has = cc
+leaves_document d (Some reference_result) to r e may at has = cc
+leaves_document d (Some (hover_result w)) to r e may at has = cc
+leaves_document d (Some (moniker w)) to r e may at has = cc
+leaves_document d (Some (package_information w)) to r e may at has = cc
+leaves_document d (Some (event w)) to r e may at has = cc
 leaves_document d (Some other_vertex) to r e may at has = cc
 
 -- what the targets of a `contains` edge without a code are to each other and to those before them
@@ -243,6 +263,11 @@ new_and_old d (edge i (contains from to)) free v r s e f at_r at_s has_r has_s =
     in_fails d (conflicts e) from d s f fails old has_s
 new_and_old d (edge i (next from to)) free v r s e f at_r at_s has_r has_s = cc
 new_and_old d (edge i (definition from to)) free v r s e f at_r at_s has_r has_s = cc
+new_and_old d (edge i (references from to)) free v r s e f at_r at_s has_r has_s = cc
+new_and_old d (edge i (hover from to)) free v r s e f at_r at_s has_r has_s = cc
+new_and_old d (edge i (moniker_edge from to)) free v r s e f at_r at_s has_r has_s = cc
+new_and_old d (edge i (package_edge from to)) free v r s e f at_r at_s has_r has_s = cc
+new_and_old d (edge i (attach from to)) free v r s e f at_r at_s has_r has_s = cc
 new_and_old d (edge i (item t)) free v r s e f at_r at_s has_r has_s = cc
 new_and_old d (edge i (other_edge from to)) free v r s e f at_r at_s has_r has_s = cc
 new_and_old d (vertex i w) free v r s e f at_r at_s has_r has_s = cc
@@ -257,6 +282,11 @@ new_and_new d (edge i (contains from to)) free v r s e f at_r at_s has_r has_s a
     beside d to r s e f clear.beside here_r.1 here_s.1 has_r has_s apart
 new_and_new d (edge i (next from to)) free v r s e f at_r at_s has_r has_s apart = cc
 new_and_new d (edge i (definition from to)) free v r s e f at_r at_s has_r has_s apart = cc
+new_and_new d (edge i (references from to)) free v r s e f at_r at_s has_r has_s apart = cc
+new_and_new d (edge i (hover from to)) free v r s e f at_r at_s has_r has_s apart = cc
+new_and_new d (edge i (moniker_edge from to)) free v r s e f at_r at_s has_r has_s apart = cc
+new_and_new d (edge i (package_edge from to)) free v r s e f at_r at_s has_r has_s apart = cc
+new_and_new d (edge i (attach from to)) free v r s e f at_r at_s has_r has_s apart = cc
 new_and_new d (edge i (item t)) free v r s e f at_r at_s has_r has_s apart = cc
 new_and_new d (edge i (other_edge from to)) free v r s e f at_r at_s has_r has_s apart = cc
 new_and_new d (vertex i w) free v r s e f at_r at_s has_r has_s apart = cc

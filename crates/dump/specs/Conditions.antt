@@ -2,13 +2,14 @@
 -- (LSIF 0.6.0, "Emitting constraints", "metaData", "contains").
 use Rattle.std.specs.Prelude.{ℕ, ◌==◌, ◌&&◌, ◌||◌, Bool, true, false, nat_le, not, List, [], ◌∷◌, length, bytes_eq, Option, Some, None, is_some, find, if◌then◌else◌}
 use Rattle.std.specs.List.{list_any, list_all}
-use Rattle.lsif.specs.Element.{IdValue, VertexValue, meta_data, project, document, range, result_set, definition_result, other_vertex, ItemValue, contains, next, definition, item, ElementValue, vertex, edge, element_id}
+use Rattle.lsif.specs.Element.{IdValue, VertexValue, meta_data, project, document, range, result_set, definition_result, reference_result, hover_result, moniker, package_information, other_vertex, ItemValue, contains, next, definition, references, hover, moniker_edge, package_edge, attach, item, ElementValue, vertex, edge, element_id}
 use Rattle.lsif.specs.declared.code.Code.{Code}
-use Rattle.lsif.specs.declared.code.Code.TheVariants.{L04, L06, L09, L10, L11, L12, L13, L14, L16, L19, L20, E01, E02}
-use Rattle.dump.specs.Graph.{element_at, vertex_at, is_document, is_range, ends, has_repeated}
+use Rattle.lsif.specs.declared.code.Code.TheVariants.{L04, L06, L09, L10, L11, L12, L13, L14, L16, L17, L18, L19, L20, E01, E02}
+use Rattle.dump.specs.Graph.{element_at, vertex_at, is_document, is_range, is_reference_result, ends, has_repeated}
 use Rattle.lsif.specs.declared.element.Property.{Property}
 use Rattle.lsif.specs.declared.element.Property.TheVariants.{Definitions, References, ReferenceResults}
-use Rattle.dump.specs.Walks.{first_to, reaches, next_pairs, definition_pairs}
+use Rattle.dump.specs.Walks.{first_to, reaches, next_pairs, definition_pairs, references_pairs, hover_pairs, package_pairs}
+use Rattle.dump.specs.Ended.{is_bad_event, is_late}
 use Rattle.dump.specs.Contained.{is_contained, is_in, spans_in, spans_of, any_conflicts, has_conflict}
 
 -- L04: an earlier element has this id
@@ -66,6 +67,24 @@ is_definition_result (Some definition_result) = true
 is_definition_result (Some v) = false
 is_definition_result None = false
 
+abbrev pub are_reference_results : List ElementValue → List IdValue → Bool
+are_reference_results before is = list_all (λ i. is_reference_result (vertex_at before i)) is
+
+abbrev pub is_hover_result : Option VertexValue → Bool
+is_hover_result (Some (hover_result s)) = true
+is_hover_result (Some v) = false
+is_hover_result None = false
+
+abbrev pub is_moniker : Option VertexValue → Bool
+is_moniker (Some (moniker m)) = true
+is_moniker (Some v) = false
+is_moniker None = false
+
+abbrev pub is_package : Option VertexValue → Bool
+is_package (Some (package_information p)) = true
+is_package (Some v) = false
+is_package None = false
+
 -- an `item` edge without a property has definitions
 abbrev pub are_definitions : Option Property → Bool
 are_definitions None = true
@@ -73,9 +92,17 @@ are_definitions (Some Definitions) = true
 are_definitions (Some References) = false
 are_definitions (Some ReferenceResults) = false
 
+-- a reference result has ranges as its definitions and its references, and other reference results
+abbrev pub may_be_of_references : List ElementValue → Option Property → List IdValue → Bool
+may_be_of_references before None to = false
+may_be_of_references before (Some Definitions) to = are_ranges before to
+may_be_of_references before (Some References) to = are_ranges before to
+may_be_of_references before (Some ReferenceResults) to = are_reference_results before to
+
 -- a definition result has ranges as its definitions; out of a vertex of another label any vertices may be items
 abbrev pub may_have_item : List ElementValue → Option VertexValue → ItemValue → Bool
 may_have_item before (Some definition_result) e = are_definitions e.property && are_ranges before e.targets
+may_have_item before (Some reference_result) e = may_be_of_references before e.property e.targets
 may_have_item before (Some other_vertex) e = true
 may_have_item before (Some v) e = false
 may_have_item before None e = false
@@ -85,6 +112,11 @@ abbrev pub may_not_join : List ElementValue → ElementValue → Bool
 may_not_join before (edge i (contains from to)) = not (may_contain before (vertex_at before from) to)
 may_not_join before (edge i (next from to)) = not (may_ask (vertex_at before from) && is_result_set (vertex_at before to))
 may_not_join before (edge i (definition from to)) = not (may_ask (vertex_at before from) && is_definition_result (vertex_at before to))
+may_not_join before (edge i (references from to)) = not (may_ask (vertex_at before from) && is_reference_result (vertex_at before to))
+may_not_join before (edge i (hover from to)) = not (may_ask (vertex_at before from) && is_hover_result (vertex_at before to))
+may_not_join before (edge i (moniker_edge from to)) = not (may_ask (vertex_at before from) && is_moniker (vertex_at before to))
+may_not_join before (edge i (package_edge from to)) = not (is_moniker (vertex_at before from) && is_package (vertex_at before to))
+may_not_join before (edge i (attach from to)) = not (is_moniker (vertex_at before from) && is_moniker (vertex_at before to))
 may_not_join before (edge i (item e)) = not (may_have_item before (vertex_at before e.source) e)
 may_not_join before (edge i e) = false
 may_not_join before (vertex i v) = false
@@ -108,6 +140,9 @@ is_conflicting before (vertex i v) = false
 abbrev pub leaves_again : List ElementValue → ElementValue → Bool
 leaves_again before (edge i (next from to)) = is_some (first_to (next_pairs before) from)
 leaves_again before (edge i (definition from to)) = is_some (first_to (definition_pairs before) from)
+leaves_again before (edge i (references from to)) = is_some (first_to (references_pairs before) from)
+leaves_again before (edge i (hover from to)) = is_some (first_to (hover_pairs before) from)
+leaves_again before (edge i (package_edge from to)) = is_some (first_to (package_pairs before) from)
 leaves_again before (edge i e) = false
 leaves_again before (vertex i v) = false
 
@@ -165,13 +200,15 @@ order_condition before x L12 = is_conflicting before x
 order_condition before x L13 = leaves_again before x
 order_condition before x L14 = closes_cycle before x
 order_condition before x L16 = has_no_place before x
+order_condition before x L17 = is_bad_event before x
+order_condition before x L18 = is_late before x
 order_condition before x L19 = has_used_uri before x
 order_condition before x L20 = is_past_limit before
 order_condition before x c = false
 
 -- the codes that ask something of the elements before, least first
 abbrev pub order_codes : List Code
-order_codes = L04 ∷ L06 ∷ L09 ∷ L10 ∷ L11 ∷ L12 ∷ L13 ∷ L14 ∷ L16 ∷ L19 ∷ L20 ∷ []
+order_codes = L04 ∷ L06 ∷ L09 ∷ L10 ∷ L11 ∷ L12 ∷ L13 ∷ L14 ∷ L16 ∷ L17 ∷ L18 ∷ L19 ∷ L20 ∷ []
 
 -- the least code whose condition holds
 unfoldable pub order_code : List ElementValue → ElementValue → Option Code
@@ -186,10 +223,17 @@ is_uncontained elements (edge i e) = false
 abbrev pub are_in : List ElementValue → IdValue → List IdValue → Bool
 are_in elements d is = list_all (is_in elements d) is
 
--- E02: the shard of an `item` edge is a document that doesn't contain a target
+-- an `item` edge has ranges, and not reference results
+abbrev pub has_ranges : Option Property → Bool
+has_ranges (Some ReferenceResults) = false
+has_ranges (Some p) = true
+has_ranges None = true
+
+-- E02: the shard of an `item` edge is a document that doesn't contain a target range
 abbrev pub is_misplaced_item : List ElementValue → ElementValue → Bool
 is_misplaced_item elements (edge i (item e)) =
-    has_effect (vertex_at elements e.source) && (is_document (vertex_at elements e.shard) && not (are_in elements e.shard e.targets))
+    has_effect (vertex_at elements e.source) && has_ranges e.property
+    && is_document (vertex_at elements e.shard) && not (are_in elements e.shard e.targets)
 is_misplaced_item elements (edge i e) = false
 is_misplaced_item elements (vertex i v) = false
 

@@ -2,7 +2,7 @@
 use Rattle.std.specs.Prelude.{◌||◌, Bool, true, false, List, [], ◌∷◌, Option, Some, None, option_and_then, find}
 use Rattle.std.specs.List.{list_any}
 use Rattle.positions.specs.Span.{SpanValue}
-use Rattle.lsif.specs.Element.{IdValue, same_id, VertexValue, document, range, contains, next, definition, item, other_edge, ElementValue, vertex, edge, element_id}
+use Rattle.lsif.specs.Element.{IdValue, same_id, VertexValue, document, range, reference_result, contains, next, definition, references, hover, moniker_edge, package_edge, attach, item, other_edge, ElementValue, vertex, edge, element_id}
 
 -- the element of this id: where no id is used twice there is one at most
 unfoldable pub element_at : List ElementValue → IdValue → Option ElementValue
@@ -26,6 +26,11 @@ is_range (Some (range e)) = true
 is_range (Some v) = false
 is_range None = false
 
+abbrev pub is_reference_result : Option VertexValue → Bool
+is_reference_result (Some reference_result) = true
+is_reference_result (Some v) = false
+is_reference_result None = false
+
 abbrev pub span_of : Option VertexValue → Option SpanValue
 span_of (Some (range e)) = Some e
 span_of (Some v) = None
@@ -37,6 +42,11 @@ ends (vertex i v) = []
 ends (edge i (contains from to)) = from ∷ to
 ends (edge i (next from to)) = from ∷ to ∷ []
 ends (edge i (definition from to)) = from ∷ to ∷ []
+ends (edge i (references from to)) = from ∷ to ∷ []
+ends (edge i (hover from to)) = from ∷ to ∷ []
+ends (edge i (moniker_edge from to)) = from ∷ to ∷ []
+ends (edge i (package_edge from to)) = from ∷ to ∷ []
+ends (edge i (attach from to)) = from ∷ to ∷ []
 ends (edge i (item e)) = e.source ∷ e.targets
 ends (edge i (other_edge from to)) = from ∷ to
 

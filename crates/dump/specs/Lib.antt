@@ -1,5 +1,6 @@
 pub mod Conditions
 pub mod Contained
+pub mod Ended
 pub mod Fault
 pub mod Graph
 pub mod Judging

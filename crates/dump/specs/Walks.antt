@@ -2,7 +2,7 @@
 -- range or a result set doesn't answer is forwarded along the `next` edge).
 use Rattle.std.specs.Prelude.{◌≡◌, Bool, List, [], ◌∷◌, if◌then◌else◌, ◌||◌, ◌&&◌, Option, Some, None, Contains}
 use Rattle.std.specs.List.{flat_map}
-use Rattle.lsif.specs.Element.{IdValue, same_id, next, definition, ElementValue, vertex, edge}
+use Rattle.lsif.specs.Element.{IdValue, same_id, next, definition, references, hover, package_edge, ElementValue, vertex, edge}
 
 abbrev pub Pair : Type 0
 Pair = IdValue × IdValue
@@ -19,11 +19,38 @@ definition_in (edge i (definition from to)) = (from, to) ∷ []
 definition_in (edge i e) = []
 definition_in (vertex i v) = []
 
+-- the source and the target of a `textDocument/references` edge
+abbrev pub references_in : ElementValue → List Pair
+references_in (edge i (references from to)) = (from, to) ∷ []
+references_in (edge i e) = []
+references_in (vertex i v) = []
+
+-- the source and the target of a `textDocument/hover` edge
+abbrev pub hover_in : ElementValue → List Pair
+hover_in (edge i (hover from to)) = (from, to) ∷ []
+hover_in (edge i e) = []
+hover_in (vertex i v) = []
+
+-- the source and the target of a `packageInformation` edge
+abbrev pub package_in : ElementValue → List Pair
+package_in (edge i (package_edge from to)) = (from, to) ∷ []
+package_in (edge i e) = []
+package_in (vertex i v) = []
+
 abbrev pub next_pairs : List ElementValue → List Pair
 next_pairs elements = flat_map next_in elements
 
 abbrev pub definition_pairs : List ElementValue → List Pair
 definition_pairs elements = flat_map definition_in elements
+
+abbrev pub references_pairs : List ElementValue → List Pair
+references_pairs elements = flat_map references_in elements
+
+abbrev pub hover_pairs : List ElementValue → List Pair
+hover_pairs elements = flat_map hover_in elements
+
+abbrev pub package_pairs : List ElementValue → List Pair
+package_pairs elements = flat_map package_in elements
 
 -- what a vertex is joined to by the first pair out of it
 abbrev pub first_to : List Pair → IdValue → Option IdValue

@@ -1,8 +1,8 @@
 //! Elements looked up by their ids.
 ghost use Rattle.std.specs.Prelude.{◌≡◌, map, is_some, option_map};
 ghost use Rattle.lsif.specs.Element.{id_value, id_values, vertex_value, element_value};
-ghost use Rattle.dump.specs.Graph.{element_at, vertex_at, is_document, is_range, span_of, is_among, has_repeated};
-ghost use Rattle.dump.specs.Conditions.{are_vertices, are_documents, are_ranges};
+ghost use Rattle.dump.specs.Graph.{element_at, vertex_at, is_document, is_range, is_reference_result, span_of, is_among, has_repeated};
+ghost use Rattle.dump.specs.Conditions.{are_vertices, are_documents, are_ranges, are_reference_results};
 
 use lsif::{Element, Id, Vertex};
 use positions::Span;
@@ -87,6 +87,24 @@ pub(crate) fn are_ranges(elements: &[Element], ids: &[Id]) -> bool
 {
     for id in ids {
         if !is_range(elements, id) {
+            return false;
+        }
+    }
+    true
+}
+
+pub(crate) fn is_reference_result(elements: &[Element], id: &Id) -> bool
+    ensures { result ≡ is_reference_result (vertex_at (map element_value elements.now) (id_value id.now)) }
+{
+    matches!(vertex_at(elements, id), Some(Vertex::ReferenceResult))
+}
+
+/// Whether each id is that of a reference result.
+pub(crate) fn are_reference_results(elements: &[Element], ids: &[Id]) -> bool
+    ensures { result ≡ are_reference_results (map element_value elements.now) (id_values ids.now) }
+{
+    for id in ids {
+        if !is_reference_result(elements, id) {
             return false;
         }
     }

@@ -3,6 +3,7 @@
 
 mod checker;
 mod contained;
+mod ended;
 mod fault;
 mod graph;
 mod laws;

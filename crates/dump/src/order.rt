@@ -2,19 +2,21 @@
 ghost use Rattle.std.specs.Prelude.{◌≡◌, ◌<◌, ◌≤◌, IfOk, IfNone, map, length};
 ghost use Rattle.std.specs.List.{list_any};
 ghost use Rattle.lsif.specs.Element.{id_value, id_values, item_value, element_value};
-ghost use Rattle.dump.specs.Conditions.{is_misplaced, joins_no_vertex, may_contain, may_ask, is_result_set, is_definition_result, are_definitions, may_have_item, may_not_join, is_contained_again, is_conflicting, leaves_again, closes_cycle, has_effect, is_place, has_no_place, is_misplaced_item, is_document_of, has_used_uri, order_code, is_uncontained, end_code, most_elements};
-ghost use Rattle.dump.specs.Graph.{vertex_at};
+ghost use Rattle.dump.specs.Conditions.{is_misplaced, joins_no_vertex, may_contain, may_ask, is_result_set, is_definition_result, is_hover_result, is_moniker, is_package, are_definitions, may_be_of_references, may_have_item, may_not_join, is_contained_again, is_conflicting, leaves_again, closes_cycle, has_effect, is_place, has_no_place, has_ranges, is_misplaced_item, is_document_of, has_used_uri, order_code, is_uncontained, end_code, most_elements};
+ghost use Rattle.dump.specs.Ended.{is_bad_event, is_closed, leaves_ended, is_late};
+ghost use Rattle.dump.specs.Graph.{vertex_at, ends, is_reference_result};
 ghost use Rattle.dump.specs.Steps.{end_fault_from, IsSound};
 
 use crate::contained::{
     any_conflicts, any_contained, are_in, has_conflict, is_contained, spans_in, spans_of,
 };
+use crate::ended::{any_closed, either_closed, has_ended, is_bad_event, is_closed};
 use crate::fault::LineFault;
 use crate::graph::{
-    are_documents, are_ranges, are_vertices, element_at, has_repeated, is_document, is_vertex,
-    vertex_at,
+    are_documents, are_ranges, are_reference_results, are_vertices, element_at, has_repeated,
+    is_document, is_reference_result, is_vertex, vertex_at,
 };
-use crate::walks::{definition_of, leads, next_of};
+use crate::walks::{definition_of, hover_of, leads, next_of, package_of, references_of};
 use lsif::{Code, Edge, Element, Id, Item, Property, Vertex};
 use std::alloc::{AllocError, Global};
 
@@ -41,9 +43,16 @@ fn joins_no_vertex(before: &[Element], element: &Element) -> bool
         Element::Edge(_, Edge::Contains(from, to) | Edge::Other(from, to)) => {
             !is_vertex(before, from) || !are_vertices(before, to)
         }
-        Element::Edge(_, Edge::Next(from, to) | Edge::Definition(from, to)) => {
-            !is_vertex(before, from) || !is_vertex(before, to)
-        }
+        Element::Edge(
+            _,
+            Edge::Next(from, to)
+            | Edge::Definition(from, to)
+            | Edge::References(from, to)
+            | Edge::Hover(from, to)
+            | Edge::Moniker(from, to)
+            | Edge::Package(from, to)
+            | Edge::Attach(from, to),
+        ) => { !is_vertex(before, from) || !is_vertex(before, to) }
         Element::Edge(_, Edge::Item(item)) => {
             !is_vertex(before, &item.source) || !are_vertices(before, &item.targets)
         }
@@ -83,11 +92,40 @@ fn is_definition_result(before: &[Element], id: &Id) -> bool
     matches!(vertex_at(before, id), Some(Vertex::DefinitionResult))
 }
 
+fn is_hover_result(before: &[Element], id: &Id) -> bool
+    ensures { result ≡ is_hover_result (vertex_at (map element_value before.now) (id_value id.now)) }
+{
+    matches!(vertex_at(before, id), Some(Vertex::HoverResult(_)))
+}
+
+fn is_moniker(before: &[Element], id: &Id) -> bool
+    ensures { result ≡ is_moniker (vertex_at (map element_value before.now) (id_value id.now)) }
+{
+    matches!(vertex_at(before, id), Some(Vertex::Moniker(_)))
+}
+
+fn is_package(before: &[Element], id: &Id) -> bool
+    ensures { result ≡ is_package (vertex_at (map element_value before.now) (id_value id.now)) }
+{
+    matches!(vertex_at(before, id), Some(Vertex::Package(_)))
+}
+
 /// An `item` edge without a property has definitions.
 fn are_definitions(property: Option<Property>) -> bool
     ensures { result ≡ are_definitions property }
 {
     matches!(property, None | Some(Property::Definitions))
+}
+
+/// A reference result has ranges as its definitions and its references, and other reference results.
+fn may_be_of_references(before: &[Element], item: &Item) -> bool
+    ensures { result ≡ may_be_of_references (map element_value before.now) item.now.property (id_values item.now.targets.items) }
+{
+    match item.property {
+        None => false,
+        Some(Property::Definitions | Property::References) => are_ranges(before, &item.targets),
+        Some(Property::ReferenceResults) => are_reference_results(before, &item.targets),
+    }
 }
 
 /// A definition result has ranges as its definitions; a vertex of another label any vertices.
@@ -98,6 +136,7 @@ fn may_have_item(before: &[Element], item: &Item) -> bool
         Some(Vertex::DefinitionResult) => {
             are_definitions(item.property) && are_ranges(before, &item.targets)
         }
+        Some(Vertex::ReferenceResult) => may_be_of_references(before, item),
         Some(Vertex::Other) => true,
         _ => false,
     }
@@ -114,6 +153,21 @@ fn may_not_join(before: &[Element], element: &Element) -> bool
         }
         Element::Edge(_, Edge::Definition(from, to)) => {
             !(may_ask(before, from) && is_definition_result(before, to))
+        }
+        Element::Edge(_, Edge::References(from, to)) => {
+            !(may_ask(before, from) && is_reference_result(before, to))
+        }
+        Element::Edge(_, Edge::Hover(from, to)) => {
+            !(may_ask(before, from) && is_hover_result(before, to))
+        }
+        Element::Edge(_, Edge::Moniker(from, to)) => {
+            !(may_ask(before, from) && is_moniker(before, to))
+        }
+        Element::Edge(_, Edge::Package(from, to)) => {
+            !(is_moniker(before, from) && is_package(before, to))
+        }
+        Element::Edge(_, Edge::Attach(from, to)) => {
+            !(is_moniker(before, from) && is_moniker(before, to))
         }
         Element::Edge(_, Edge::Item(item)) => !may_have_item(before, item),
         _ => false,
@@ -156,6 +210,9 @@ fn leaves_again(before: &[Element], element: &Element) -> bool
     match element {
         Element::Edge(_, Edge::Next(from, _)) => next_of(before, from).is_some(),
         Element::Edge(_, Edge::Definition(from, _)) => definition_of(before, from).is_some(),
+        Element::Edge(_, Edge::References(from, _)) => references_of(before, from).is_some(),
+        Element::Edge(_, Edge::Hover(from, _)) => hover_of(before, from).is_some(),
+        Element::Edge(_, Edge::Package(from, _)) => package_of(before, from).is_some(),
         _ => false,
     }
 }
@@ -198,6 +255,48 @@ fn has_no_place(before: &[Element], element: &Element) -> bool
         }
         _ => false,
     }
+}
+
+/// A `contains` edge leaves a document that has ended.
+fn leaves_ended(before: &[Element], element: &Element) -> bool
+    ensures { result ≡ leaves_ended (map element_value before.now) (element_value element.now) }
+{
+    match element {
+        Element::Edge(_, Edge::Contains(from, _)) => has_ended(before, from),
+        _ => false,
+    }
+}
+
+/// An end of an edge is a range that a document contains which has ended.
+fn names_closed(before: &[Element], element: &Element) -> bool
+    ensures { result ≡ list_any (is_closed (map element_value before.now)) (ends (element_value element.now)) }
+{
+    match element {
+        Element::Vertex(_, _) => false,
+        Element::Edge(_, Edge::Contains(from, to) | Edge::Other(from, to)) => {
+            is_closed(before, from) || any_closed(before, to)
+        }
+        Element::Edge(
+            _,
+            Edge::Next(from, to)
+            | Edge::Definition(from, to)
+            | Edge::References(from, to)
+            | Edge::Hover(from, to)
+            | Edge::Moniker(from, to)
+            | Edge::Package(from, to)
+            | Edge::Attach(from, to),
+        ) => either_closed(before, from, to),
+        Element::Edge(_, Edge::Item(item)) => {
+            is_closed(before, &item.source) || any_closed(before, &item.targets)
+        }
+    }
+}
+
+/// A `contains` edge leaves a document that has ended, or an edge names a range that one contains.
+fn is_late(before: &[Element], element: &Element) -> bool
+    ensures { result ≡ is_late (map element_value before.now) (element_value element.now) }
+{
+    leaves_ended(before, element) || names_closed(before, element)
 }
 
 fn is_document_of(uri: &str, element: &Element) -> bool
@@ -259,6 +358,10 @@ pub(crate) fn order_code(
         Some(Code::L14)
     } else if has_no_place(before, element) {
         Some(Code::L16)
+    } else if is_bad_event(before, element) {
+        Some(Code::L17)
+    } else if is_late(before, element) {
+        Some(Code::L18)
     } else if has_used_uri(before, element) {
         Some(Code::L19)
     } else if before.len() >= MOST_ELEMENTS {
@@ -279,13 +382,21 @@ fn is_uncontained(elements: &[Element], element: &Element) -> bool
     }
 }
 
-/// The shard of an `item` edge is a document that doesn't contain a target.
+/// Whether an `item` edge of this property has ranges, and not reference results.
+fn has_ranges(property: Option<Property>) -> bool
+    ensures { result ≡ has_ranges property }
+{
+    !matches!(property, Some(Property::ReferenceResults))
+}
+
+/// The shard of an `item` edge is a document that doesn't contain a target range.
 fn is_misplaced_item(elements: &[Element], element: &Element) -> bool
     ensures { result ≡ is_misplaced_item (map element_value elements.now) (element_value element.now) }
 {
     match element {
         Element::Edge(_, Edge::Item(item)) => {
             has_effect(elements, &item.source)
+                && has_ranges(item.property)
                 && is_document(elements, &item.shard)
                 && !are_in(elements, &item.shard, &item.targets)
         }

@@ -1,5 +1,6 @@
 pub mod Feeds
-pub mod IdLists
+pub mod Floats
+pub mod ItemLists
 pub mod LinesOf
 pub mod NextLines
 pub mod Seen

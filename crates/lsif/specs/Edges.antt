@@ -6,7 +6,7 @@ use Rattle.lsif.specs.declared.code.Code.{Code}
 use Rattle.lsif.specs.declared.code.Code.TheVariants.{L08, L15}
 use Rattle.lsif.specs.declared.element.Property.{Property}
 use Rattle.lsif.specs.declared.element.Property.TheVariants.{Definitions, References, ReferenceResults}
-use Rattle.lsif.specs.Element.{IdValue, ItemValue, EdgeValue, contains, next, definition, item, other_edge}
+use Rattle.lsif.specs.Element.{IdValue, ItemValue, EdgeValue, contains, next, definition, references, hover, moniker_edge, package_edge, attach, item, other_edge}
 use Rattle.lsif.specs.Shape.{◌>>=◌, some_or}
 use Rattle.lsif.specs.Ids.{ids_in, id_at}
 
@@ -60,6 +60,11 @@ edge_from label from d =
     if bytes_eq label (codes "contains") then some_or L08 (option_map (contains from) (targets_in d))
     else if bytes_eq label (codes "next") then some_or L08 (option_map (next from) (target_in d))
     else if bytes_eq label (codes "textDocument/definition") then some_or L08 (option_map (definition from) (target_in d))
+    else if bytes_eq label (codes "textDocument/references") then some_or L08 (option_map (references from) (target_in d))
+    else if bytes_eq label (codes "textDocument/hover") then some_or L08 (option_map (hover from) (target_in d))
+    else if bytes_eq label (codes "moniker") then some_or L08 (option_map (moniker_edge from) (target_in d))
+    else if bytes_eq label (codes "packageInformation") then some_or L08 (option_map (package_edge from) (target_in d))
+    else if bytes_eq label (codes "attach") then some_or L08 (option_map (attach from) (target_in d))
     else if bytes_eq label (codes "item") then (do
       i ← item_in from d
       Ok (item i))

@@ -4,6 +4,11 @@ use Rattle.lsif.specs.declared.code.Code.{Code}
 use Rattle.positions.specs.Span.{SpanValue}
 use Rattle.lsif.specs.declared.id.Id.{Id}
 use Rattle.lsif.specs.declared.id.Id.TheVariants as ids
+use Rattle.lsif.specs.declared.element.Moniker.{Moniker}
+use Rattle.lsif.specs.declared.element.MonikerKind.{MonikerKind}
+use Rattle.lsif.specs.declared.element.Package.{Package}
+use Rattle.lsif.specs.declared.element.Event.{Event}
+use Rattle.lsif.specs.declared.element.Event.TheVariants as events
 use Rattle.lsif.specs.declared.element.Vertex.{Vertex}
 use Rattle.lsif.specs.declared.element.Vertex.TheVariants as vertices
 use Rattle.lsif.specs.declared.element.Edge.{Edge}
@@ -18,7 +23,26 @@ pub data IdValue : Type 0 where
   number : ℕ → IdValue
   text : List ℕ → IdValue
 
--- what a vertex says: of metaData whether its version and encoding are supported, of a document its serialized URL
+-- a moniker: the name of a symbol across projects
+pub record MonikerValue : Type 0 where
+  pub scheme : List ℕ
+  pub identifier : List ℕ
+  pub kind : MonikerKind
+
+-- the package that a symbol is of
+pub record PackageValue : Type 0 where
+  pub manager : List ℕ
+  pub name : List ℕ
+  pub version : List ℕ
+
+-- an event: that the document of this id begins or ends, or something of another scope
+pub data EventValue : Type 0 where
+  begin_event : IdValue → EventValue
+  end_event : IdValue → EventValue
+  other_event : EventValue
+
+-- what a vertex says: of metaData whether its version and encoding are supported, of a document its serialized URL, of
+-- a hover result its contents as compact JSON
 pub data VertexValue : Type 0 where
   meta_data : Bool → VertexValue
   project : VertexValue
@@ -26,6 +50,11 @@ pub data VertexValue : Type 0 where
   range : SpanValue → VertexValue
   result_set : VertexValue
   definition_result : VertexValue
+  reference_result : VertexValue
+  hover_result : List ℕ → VertexValue
+  moniker : MonikerValue → VertexValue
+  package_information : PackageValue → VertexValue
+  event : EventValue → VertexValue
   other_vertex : VertexValue
 
 -- an `item` edge: its source, its targets, its property where it has one, and its shard
@@ -40,6 +69,11 @@ pub data EdgeValue : Type 0 where
   contains : IdValue → List IdValue → EdgeValue
   next : IdValue → IdValue → EdgeValue
   definition : IdValue → IdValue → EdgeValue
+  references : IdValue → IdValue → EdgeValue
+  hover : IdValue → IdValue → EdgeValue
+  moniker_edge : IdValue → IdValue → EdgeValue
+  package_edge : IdValue → IdValue → EdgeValue
+  attach : IdValue → IdValue → EdgeValue
   item : ItemValue → EdgeValue
   other_edge : IdValue → List IdValue → EdgeValue
 
@@ -72,6 +106,17 @@ id_value (ids.Text s) = text (string_bytes s)
 abbrev pub id_values : List Id → List IdValue
 id_values xs = map id_value xs
 
+abbrev pub moniker_value : Moniker → MonikerValue
+moniker_value m = record { scheme = string_bytes m.scheme; identifier = string_bytes m.identifier; kind = m.kind }
+
+abbrev pub package_value : Package → PackageValue
+package_value p = record { manager = string_bytes p.manager; name = string_bytes p.name; version = string_bytes p.version }
+
+abbrev pub event_value : Event → EventValue
+event_value (events.Begin i) = begin_event (id_value i)
+event_value (events.End i) = end_event (id_value i)
+event_value events.Other = other_event
+
 abbrev pub vertex_value : Vertex → VertexValue
 vertex_value (vertices.MetaData b) = meta_data b
 vertex_value vertices.Project = project
@@ -79,6 +124,11 @@ vertex_value (vertices.Document s) = document (string_bytes s)
 vertex_value (vertices.Range e) = range e
 vertex_value vertices.ResultSet = result_set
 vertex_value vertices.DefinitionResult = definition_result
+vertex_value vertices.ReferenceResult = reference_result
+vertex_value (vertices.HoverResult s) = hover_result (string_bytes s)
+vertex_value (vertices.Moniker m) = moniker (moniker_value m)
+vertex_value (vertices.Package p) = package_information (package_value p)
+vertex_value (vertices.Event e) = event (event_value e)
 vertex_value vertices.Other = other_vertex
 
 abbrev pub item_value : Item → ItemValue
@@ -93,6 +143,11 @@ abbrev pub edge_value : Edge → EdgeValue
 edge_value (edges.Contains from to) = contains (id_value from) (id_values to.items)
 edge_value (edges.Next from to) = next (id_value from) (id_value to)
 edge_value (edges.Definition from to) = definition (id_value from) (id_value to)
+edge_value (edges.References from to) = references (id_value from) (id_value to)
+edge_value (edges.Hover from to) = hover (id_value from) (id_value to)
+edge_value (edges.Moniker from to) = moniker_edge (id_value from) (id_value to)
+edge_value (edges.Package from to) = package_edge (id_value from) (id_value to)
+edge_value (edges.Attach from to) = attach (id_value from) (id_value to)
 edge_value (edges.Item i) = item (item_value i)
 edge_value (edges.Other from to) = other_edge (id_value from) (id_values to.items)
 

@@ -29,10 +29,14 @@ id_by None s = option_and_then text_id s
 unfoldable pub id_in : Data → Option IdValue
 id_in d = id_by (whole_number_in d) (as_str d)
 
+-- what the values of an array are, where each is something
+unfoldable pub each_in : {A : Type 0} → (Data → Option A) → Items → Option (List A)
+each_in f no_items = Some []
+each_in f (item d ds) = option_and_then (λ x. option_map (λ xs. x ∷ xs) (each_in f ds)) (f d)
+
 -- the ids that the values of an array are, where each is one
-unfoldable pub ids_in : Items → Option (List IdValue)
-ids_in no_items = Some []
-ids_in (item d ds) = option_and_then (λ i. option_map (λ is. i ∷ is) (ids_in ds)) (id_in d)
+abbrev pub ids_in : Items → Option (List IdValue)
+ids_in ds = each_in id_in ds
 
 -- the id that a member is
 abbrev pub id_at : List ℕ → Data → Option IdValue

@@ -3,9 +3,12 @@ pub mod Cutting
 pub mod Edges
 pub mod Element
 pub mod Ends
+pub mod Events
 pub mod Held
+pub mod Hovers
 pub mod Ids
 pub mod Lines
+pub mod Monikers
 pub mod Reading
 pub mod Sending
 pub mod Shape

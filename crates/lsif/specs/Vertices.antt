@@ -7,8 +7,11 @@ use Rattle.url.specs.Parser.{parse_url, Parsed}
 use Rattle.url.specs.Parts.{Parts, serialize}
 use Rattle.positions.specs.Position.{PositionValue, number_limit}
 use Rattle.positions.specs.Span.{SpanValue, is_span}
-use Rattle.lsif.specs.Element.{VertexValue, meta_data, project, document, range, result_set, definition_result, other_vertex}
+use Rattle.lsif.specs.Element.{VertexValue, meta_data, project, document, range, result_set, definition_result, reference_result, hover_result, moniker, package_information, event, other_vertex}
 use Rattle.lsif.specs.Ids.{whole_number_in, text_at}
+use Rattle.lsif.specs.Hovers.{hover_in}
+use Rattle.lsif.specs.Monikers.{moniker_in, package_in}
+use Rattle.lsif.specs.Events.{event_in}
 
 -- a whole number up to 2147483647
 abbrev pub coordinate_at : List ℕ → Data → Option ℕ
@@ -63,4 +66,9 @@ vertex_in label d =
     else if bytes_eq label (codes "range") then option_map range (span_in d)
     else if bytes_eq label (codes "resultSet") then Some result_set
     else if bytes_eq label (codes "definitionResult") then Some definition_result
+    else if bytes_eq label (codes "referenceResult") then Some reference_result
+    else if bytes_eq label (codes "hoverResult") then option_map hover_result (hover_in d)
+    else if bytes_eq label (codes "moniker") then option_map moniker (moniker_in d)
+    else if bytes_eq label (codes "packageInformation") then option_map package_information (package_in d)
+    else if bytes_eq label (codes "$event") then option_map event (event_in d)
     else Some other_vertex

@@ -138,6 +138,16 @@ fn edge_from(alloc: Global, label: &str, from: Id, value: &Value) -> Result<Edge
         joined(target(alloc, value)?.map(|to| Edge::Next(from, to)))
     } else if label == "textDocument/definition" {
         joined(target(alloc, value)?.map(|to| Edge::Definition(from, to)))
+    } else if label == "textDocument/references" {
+        joined(target(alloc, value)?.map(|to| Edge::References(from, to)))
+    } else if label == "textDocument/hover" {
+        joined(target(alloc, value)?.map(|to| Edge::Hover(from, to)))
+    } else if label == "moniker" {
+        joined(target(alloc, value)?.map(|to| Edge::Moniker(from, to)))
+    } else if label == "packageInformation" {
+        joined(target(alloc, value)?.map(|to| Edge::Package(from, to)))
+    } else if label == "attach" {
+        joined(target(alloc, value)?.map(|to| Edge::Attach(from, to)))
     } else if label == "item" {
         Ok(Edge::Item(item(alloc, from, value)?))
     } else {

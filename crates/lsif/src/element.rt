@@ -10,6 +10,42 @@ pub enum Profile {
     One,
 }
 
+/// Whether a symbol comes from another project, may be named in others, or is only known in its own (LSIF 0.6.0,
+/// "moniker").
+#[derive(Clone, Copy, Debug, PartialEq, Eq)]
+pub enum MonikerKind {
+    Import,
+    Export,
+    Local,
+}
+
+/// A `moniker`: the name of a symbol across projects. No text holds U+0000.
+#[derive(Debug, Drop)]
+pub struct Moniker {
+    pub scheme: String,
+    pub identifier: String,
+    pub kind: MonikerKind,
+}
+
+/// A `packageInformation`: the package that a symbol is of. No text holds U+0000; a version may be empty.
+#[derive(Debug, Drop)]
+pub struct Package {
+    pub manager: String,
+    pub name: String,
+    pub version: String,
+}
+
+/// What an `$event` tells (LSIF 0.6.0, "Events").
+#[derive(Debug, Drop)]
+pub enum Event {
+    /// The document of this id begins.
+    Begin(Id),
+    /// The document of this id ends.
+    End(Id),
+    /// Something of another scope.
+    Other,
+}
+
 /// What a vertex says (LSIF 0.6.0, "Vertices").
 #[derive(Debug, Drop)]
 pub enum Vertex {
@@ -25,6 +61,18 @@ pub enum Vertex {
     ResultSet,
     /// `definitionResult`.
     DefinitionResult,
+    /// `referenceResult`.
+    ReferenceResult,
+    /// `hoverResult`, and its contents as compact JSON with the members of objects in the order of their names' bytes: a
+    /// text; an object with `kind` and `value`, or with `language` and `value`; or an array of texts and of objects
+    /// with `language` and `value` (Language Server Protocol 3.17, "Hover").
+    HoverResult(String),
+    /// `moniker`.
+    Moniker(Moniker),
+    /// `packageInformation`.
+    Package(Package),
+    /// `$event`.
+    Event(Event),
     /// A vertex of another label.
     Other,
 }
@@ -59,6 +107,16 @@ pub enum Edge {
     Next(Id, Id),
     /// `textDocument/definition`.
     Definition(Id, Id),
+    /// `textDocument/references`.
+    References(Id, Id),
+    /// `textDocument/hover`.
+    Hover(Id, Id),
+    /// `moniker`.
+    Moniker(Id, Id),
+    /// `packageInformation`.
+    Package(Id, Id),
+    /// `attach`.
+    Attach(Id, Id),
     /// `item`.
     Item(Item),
     /// An edge of another label.

@@ -7,16 +7,21 @@ mod code;
 mod edges;
 mod element;
 mod ends;
+mod events;
 mod fault;
+mod hovers;
 mod id;
 mod lines;
+mod monikers;
 mod reading;
 mod sending;
 mod vertices;
 
 pub use buffer::Buffer;
 pub use code::Code;
-pub use element::{Edge, Element, Item, Profile, Property, Vertex};
+pub use element::{
+    Edge, Element, Event, Item, Moniker, MonikerKind, Package, Profile, Property, Vertex,
+};
 pub use ends::{Counted, Failed, Sink, Source, counted_law};
 pub use fault::ReadFault;
 pub use id::Id;

@@ -4,6 +4,9 @@ ghost use Rattle.lsif.specs.Vertices.{coordinate_at, position_in, span_in, is_su
 ghost use Rattle.serde_json.specs.View.{view};
 
 use crate::element::Vertex;
+use crate::events::event;
+use crate::hovers::hover;
+use crate::monikers::{moniker, package};
 use positions::{Position, Span};
 use serde_json::Value;
 use std::alloc::{AllocError, Global};
@@ -92,6 +95,16 @@ pub(crate) fn vertex(
         Ok(Some(Vertex::ResultSet))
     } else if label == "definitionResult" {
         Ok(Some(Vertex::DefinitionResult))
+    } else if label == "referenceResult" {
+        Ok(Some(Vertex::ReferenceResult))
+    } else if label == "hoverResult" {
+        Ok(hover(alloc, value)?.map(Vertex::HoverResult))
+    } else if label == "moniker" {
+        Ok(moniker(alloc, value)?.map(Vertex::Moniker))
+    } else if label == "packageInformation" {
+        Ok(package(alloc, value)?.map(Vertex::Package))
+    } else if label == "$event" {
+        Ok(event(alloc, value)?.map(Vertex::Event))
     } else {
         Ok(Some(Vertex::Other))
     }

@@ -27,17 +27,22 @@ fn check(
     (answer, taken)
 }
 
-/// Asserts the report of a text, for several cuttings.
-fn expect<R: AllocGlobal + Abort>(rt: &R, text: &str, wanted: &str) {
+/// Asserts the report of a text that is read and written in pieces of so many bytes.
+fn expect_in<R: AllocGlobal + Abort>(rt: &R, most: usize, text: &str, wanted: &str) {
     let status = if wanted.starts_with("ok ") {
         Status::Sound
     } else {
         Status::Faulty
     };
+    let (answer, written) = check(rt.alloc(), in_pieces(text.as_bytes(), most), most, 0);
+    assert_eq!(rt; answer, Ok(status), "{wanted}");
+    assert_eq!(rt; written.as_slice(), wanted.as_bytes(), "{wanted}");
+}
+
+/// Asserts the report of a text, for several cuttings.
+fn expect<R: AllocGlobal + Abort>(rt: &R, text: &str, wanted: &str) {
     for most in [1, 2, 7, 1_000_000] {
-        let (answer, written) = check(rt.alloc(), in_pieces(text.as_bytes(), most), most, 0);
-        assert_eq!(rt; answer, Ok(status), "{wanted}");
-        assert_eq!(rt; written.as_slice(), wanted.as_bytes(), "{wanted}");
+        expect_in(rt, most, text, wanted);
     }
 }
 
@@ -310,3 +315,5 @@ fn statuses(rt: HostRuntime) {
     assert_eq!(rt; Status::Faulty.exit_code(), 1);
     assert_eq!(rt; Report::Sound(3).status(), Status::Sound);
 }
+
+mod labels;

@@ -1,6 +1,6 @@
 use super::{LONGEST_LINE, read_element};
 use crate::code::Code;
-use crate::element::{Edge, Element, Vertex};
+use crate::element::{Edge, Element, MonikerKind, Vertex};
 use crate::fault::ReadFault;
 use crate::id::Id;
 use std::test::Fail;
@@ -241,6 +241,156 @@ fn meta_data_that_is_supported(rt: HostRuntime) -> Result<(), Fail> {
         )?;
         let element = read_element(rt.alloc(), line.as_bytes()).map_err(|_| "no element")?;
         assert_eq!(rt; is_supported(&element), supported, "{members}");
+    }
+    Ok(())
+}
+
+/// The contents of a hover result as they're kept, or a text that says there are none.
+fn contents_of(element: &Element) -> &str {
+    match element {
+        Element::Vertex(_, Vertex::HoverResult(contents)) => contents.as_str(),
+        _ => "no hover result",
+    }
+}
+
+#[test]
+fn contents_of_hovers(rt: HostRuntime) -> Result<(), Fail> {
+    let table: [(&str, Option<&str>); 20] = [
+        ("\"f\"", Some("\"f\"")),
+        ("\"a\\\"\\u000ab\"", Some("\"a\\\"\\nb\"")),
+        (
+            "{\"value\":\"f\",\"kind\":\"plaintext\",\"x\":1}",
+            Some("{\"kind\":\"plaintext\",\"value\":\"f\"}"),
+        ),
+        (
+            "{\"kind\":\"markdown\",\"value\":\"\",\"language\":\"c\"}",
+            Some("{\"kind\":\"markdown\",\"value\":\"\"}"),
+        ),
+        ("{\"kind\":\"html\",\"value\":\"f\"}", None),
+        (
+            "{\"kind\":\"html\",\"language\":\"c\",\"value\":\"f\"}",
+            None,
+        ),
+        ("{\"kind\":null,\"language\":\"c\",\"value\":\"f\"}", None),
+        ("{\"kind\":\"markdown\",\"value\":1}", None),
+        (
+            "{\"value\":\"f\",\"x\":1.5,\"language\":\"c\"}",
+            Some("{\"language\":\"c\",\"value\":\"f\"}"),
+        ),
+        ("{\"language\":\"c\"}", None),
+        ("{\"value\":\"f\"}", None),
+        ("[]", Some("[]")),
+        (
+            "[{\"value\":\"f\",\"language\":\"c\",\"x\":1},\"d\"]",
+            Some("[{\"language\":\"c\",\"value\":\"f\"},\"d\"]"),
+        ),
+        (
+            "[{\"kind\":\"html\",\"value\":\"f\",\"language\":\"c\"}]",
+            Some("[{\"language\":\"c\",\"value\":\"f\"}]"),
+        ),
+        ("[{\"kind\":\"markdown\",\"value\":\"f\"}]", None),
+        ("[\"d\",[\"d\"]]", None),
+        ("[1]", None),
+        ("null", None),
+        ("7", None),
+        ("{}", None),
+    ];
+    for (contents, wanted) in table {
+        let line = format!(in rt.alloc();
+            "{{\"id\":1,\"type\":\"vertex\",\"label\":\"hoverResult\",\"result\":{{\"contents\":{contents}}}}}"
+        )?;
+        match wanted {
+            None => { assert_eq!(rt; code(&rt, line.as_bytes())?, Some(Code::L07), "{contents}") }
+            Some(wanted) => {
+                let element = read_element(rt.alloc(), line.as_bytes()).map_err(|_| "no element")?;
+                assert_eq!(rt; contents_of(&element), wanted, "{contents}");
+            }
+        }
+    }
+    Ok(())
+}
+
+/// The kind of a moniker of these members.
+fn kind_of(rt: &HostRuntime, members: &str) -> Result<Option<MonikerKind>, Fail> {
+    let line = format!(in rt.alloc();
+        "{{\"id\":1,\"type\":\"vertex\",\"label\":\"moniker\",{members}}}"
+    )?;
+    match read_element(rt.alloc(), line.as_bytes()) {
+        Ok(Element::Vertex(_, Vertex::Moniker(moniker))) => Ok(Some(moniker.kind)),
+        Err(ReadFault::Shape(Code::L07)) => Ok(None),
+        _ => Err("neither a moniker nor L07")?,
+    }
+}
+
+#[test]
+fn kinds_of_monikers(rt: HostRuntime) -> Result<(), Fail> {
+    let table = [
+        (
+            "\"scheme\":\"s\",\"identifier\":\"i\"",
+            Some(MonikerKind::Local),
+        ),
+        (
+            "\"scheme\":\"s\",\"identifier\":\"i\",\"kind\":\"import\"",
+            Some(MonikerKind::Import),
+        ),
+        (
+            "\"scheme\":\"s\",\"identifier\":\"i\",\"kind\":\"export\"",
+            Some(MonikerKind::Export),
+        ),
+        (
+            "\"scheme\":\"\",\"identifier\":\"\",\"kind\":\"local\"",
+            Some(MonikerKind::Local),
+        ),
+        (
+            "\"scheme\":\"s\",\"identifier\":\"i\",\"kind\":\"Import\"",
+            None,
+        ),
+        ("\"scheme\":\"s\",\"identifier\":\"i\",\"kind\":null", None),
+        ("\"scheme\":\"s\",\"identifier\":null", None),
+        ("\"identifier\":\"i\"", None),
+        ("\"scheme\":\"a\\u0000\",\"identifier\":\"i\"", None),
+        ("\"scheme\":\"s\",\"identifier\":\"\\u0000b\"", None),
+    ];
+    for (members, wanted) in table {
+        assert_eq!(rt; kind_of(&rt, members)?, wanted, "{members}");
+    }
+    Ok(())
+}
+
+/// The version of a package.
+fn version_of(element: &Element) -> &str {
+    match element {
+        Element::Vertex(_, Vertex::Package(package)) => package.version.as_str(),
+        _ => "no package",
+    }
+}
+
+#[test]
+fn versions_of_packages(rt: HostRuntime) -> Result<(), Fail> {
+    for (members, wanted) in [
+        ("\"manager\":\"npm\",\"name\":\"lib\"", Some("")),
+        (
+            "\"manager\":\"npm\",\"name\":\"lib\",\"version\":\"1.0.0\"",
+            Some("1.0.0"),
+        ),
+        ("\"manager\":\"npm\",\"name\":\"lib\",\"version\":1", None),
+        (
+            "\"manager\":\"npm\",\"name\":\"lib\",\"version\":\"\\u0000\"",
+            None,
+        ),
+        ("\"manager\":\"npm\",\"version\":\"1.0.0\"", None),
+        ("\"name\":\"lib\",\"version\":\"1.0.0\"", None),
+    ] {
+        let line = format!(in rt.alloc();
+            "{{\"id\":1,\"type\":\"vertex\",\"label\":\"packageInformation\",{members}}}"
+        )?;
+        match wanted {
+            None => { assert_eq!(rt; code(&rt, line.as_bytes())?, Some(Code::L07), "{members}") }
+            Some(wanted) => {
+                let element = read_element(rt.alloc(), line.as_bytes()).map_err(|_| "no element")?;
+                assert_eq!(rt; version_of(&element), wanted, "{members}");
+            }
+        }
     }
     Ok(())
 }

@@ -1,23 +1,24 @@
 use Rattle.std.proofs.Common.{◌∙◌, sym, arith, append-nil}
 use Rattle.std.proofs.lemmas.List.{map-append}
 use Rattle.lsif.specs.Element.{id_value, id_values}
-use Rattle.lsif.proofs.IdLists.{rest_of-none, rest_of-end, front-next}
+use Rattle.lsif.specs.Ids.{id_in}
+use Rattle.lsif.proofs.ItemLists.{rest_of-none, rest_of-end, front-next}
 use Rattle.lsif.proofs.id.ids.Goals as goal
 
 pub returns-in_default : goal.returns-in_default
 returns-in_default c =
     let none = rw c.in_default.is at c.in_ok-id.ensures in
-    let rest = rest_of-none c.args.values.now c.loop-value.value-index c.value-item.result (omega arith) c.value-item.is (sym none) in
+    let rest = rest_of-none id_in c.args.values.now c.loop-value.value-index c.value-item.result (omega arith) c.value-item.is (sym none) in
     rw rest at c.loop-value.invariant
 
 pub loop-value-preserved : goal.loop-value-preserved
 loop-value-preserved c =
     let some = rw c.in-Some.is at c.in_ok-id.ensures in
-    let next = front-next c.args.values.now c.loop-value.value-index c.value-item.result (id_value c.in-Some.id) (id_values c.loop-value.found.items) (omega arith) c.value-item.is (sym some) in
+    let next = front-next id_in c.args.values.now c.loop-value.value-index c.value-item.result (id_value c.in-Some.id) (id_values c.loop-value.found.items) (omega arith) c.value-item.is (sym some) in
     rw (c.in_ok-push.ensures.items, map-append) (next ∙ c.loop-value.invariant)
 
 pub returns : goal.returns
 returns c =
-    let done = rest_of-end c.args.values.now c.loop-value.value-index (omega arith) in
+    let done = rest_of-end id_in c.args.values.now c.loop-value.value-index (omega arith) in
     let whole = rw done at c.loop-value.invariant in
     rw append-nil at whole

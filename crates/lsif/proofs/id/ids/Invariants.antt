@@ -2,7 +2,7 @@ use Rattle.std.proofs.Common.{◌≡◌, drop}
 use Rattle.lsif.specs.Element.{id_values}
 use Rattle.lsif.specs.Ids.{ids_in}
 use Rattle.serde_json.specs.View.{items_view}
-use Rattle.lsif.proofs.IdLists.{with_front}
+use Rattle.lsif.proofs.ItemLists.{with_front}
 use Rattle.lsif.proofs.id.ids.Given as goal
 
 abbrev pub invariant-loop-value : goal.invariant-loop-value
