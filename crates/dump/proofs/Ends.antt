@@ -9,6 +9,7 @@ use Rattle.lsif.specs.declared.code.Code.TheVariants.{L04, L06, L09, L10, L11, L
 use Rattle.lsif.specs.Element.{IdValue, same_id, contains, next, definition, references, hover, moniker_edge, package_edge, attach, item, other_edge, ElementValue, vertex, edge}
 use Rattle.dump.specs.Walks.{Pair, first_to, IsChain, ends, links, HasChain, Path, stays, goes, next_pairs, next_in}
 use Rattle.dump.specs.Conditions.{order_code, order_condition, has_used_id, joins_no_vertex, may_not_join, is_contained_again, is_conflicting, leaves_again, closes_cycle, has_used_uri}
+use Rattle.dump.specs.Ended.{is_bad_event}
 use Rattle.dump.specs.Steps as steps
 use Rattle.dump.specs.Steps.{Progress, running, stopped, advance, progress, IsSound}
 use Rattle.dump.proofs.SameIds.{same_id_eq, same_id_self}
@@ -111,6 +112,7 @@ pub record HasNoCode (before : List ElementValue) (x : ElementValue) : Type 0 wh
   pub conflict : is_conflicting before x ≡ false
   pub single : leaves_again before x ≡ false
   pub cycle : closes_cycle before x ≡ false
+  pub event : is_bad_event before x ≡ false
   pub uri : has_used_uri before x ≡ false
 
 pub no_code : (before : List ElementValue) (x : ElementValue) → order_code before x ≡ None → HasNoCode before x
@@ -137,6 +139,7 @@ no_code before x e =
       conflict = at_12.0;
       single = at_13.0;
       cycle = at_14.0;
+      event = at_17.0;
       uri = at_19.0;
     }
 

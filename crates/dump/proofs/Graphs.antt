@@ -46,17 +46,17 @@ conflict-miss xs k x whole lt e h inv = rw (drop_next xs k x lt e, h) at inv
 pub conflict-end : (xs : List SpanValue) (k : ℕ) (whole : Bool) → length xs ≤ k → has_conflict (drop k xs) ≡ whole → false ≡ whole
 conflict-end xs k whole le inv = rw (drop_end xs k le) at inv
 
-abbrev pub fault_from : List Element → ℕ → Option LineFault
-fault_from xs k = end_fault_from (map element_value xs) k (map element_value (drop k xs))
+abbrev pub fault_from : List ElementValue → List Element → ℕ → Option LineFault
+fault_from d xs k = end_fault_from d k (map element_value (drop k xs))
 
-pub fault-hit : (xs : List Element) (k : ℕ) (x : Element) (c : Code) (whole : Option LineFault) → k < length xs → x ≡ get_or xs k x → end_code (map element_value xs) (element_value x) ≡ Some c → fault_from xs k ≡ whole → Some (record { line = k + 1; code = c }) ≡ whole
+pub fault-hit : (d : List ElementValue) (xs : List Element) (k : ℕ) (x : Element) (c : Code) (whole : Option LineFault) → k < length xs → x ≡ get_or xs k x → end_code d (element_value x) ≡ Some c → fault_from d xs k ≡ whole → Some (record { line = k + 1; code = c }) ≡ whole
 unfolding end_fault_from
-fault-hit xs k x c whole lt e h inv = rw (drop_next xs k x lt e, h) at inv
+fault-hit d xs k x c whole lt e h inv = rw (drop_next xs k x lt e, h) at inv
 
-pub fault-miss : (xs : List Element) (k : ℕ) (x : Element) (whole : Option LineFault) → k < length xs → x ≡ get_or xs k x → end_code (map element_value xs) (element_value x) ≡ None → fault_from xs k ≡ whole → fault_from xs (k + 1) ≡ whole
+pub fault-miss : (d : List ElementValue) (xs : List Element) (k : ℕ) (x : Element) (whole : Option LineFault) → k < length xs → x ≡ get_or xs k x → end_code d (element_value x) ≡ None → fault_from d xs k ≡ whole → fault_from d xs (k + 1) ≡ whole
 unfolding end_fault_from
-fault-miss xs k x whole lt e h inv = rw (drop_next xs k x lt e, h) at inv
+fault-miss d xs k x whole lt e h inv = rw (drop_next xs k x lt e, h) at inv
 
-pub fault-end : (xs : List Element) (k : ℕ) (whole : Option LineFault) → length xs ≤ k → fault_from xs k ≡ whole → None ≡ whole
+pub fault-end : (d : List ElementValue) (xs : List Element) (k : ℕ) (whole : Option LineFault) → length xs ≤ k → fault_from d xs k ≡ whole → None ≡ whole
 unfolding end_fault_from
-fault-end xs k whole le inv = rw (drop_end xs k le) at inv
+fault-end d xs k whole le inv = rw (drop_end xs k le) at inv

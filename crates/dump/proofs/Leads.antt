@@ -1,9 +1,7 @@
 -- A walk along single pairs follows a chain.
-use Rattle.std.proofs.Common.{◌≡◌, ⊎_elim, ◌∙◌, ℕ, ◌+◌, ◌≤◌, Bool, true, false, List, [], ◌∷◌, length, length-append, map, refl, ap, sym, subst, arith}
+use Rattle.std.proofs.Common.{◌≡◌, ⊎_elim, ◌∙◌, ℕ, ◌+◌, ◌≤◌, Bool, true, false, List, [], ◌∷◌, length, length-append, refl, ap, sym, subst, arith}
 use Rattle.std.specs.Prelude.{Contains, Option, Some, None}
-use Rattle.std.proofs.lemmas.List.{length-map}
-use Rattle.lsif.specs.Element.{IdValue, same_id, contains, next, definition, references, hover, moniker_edge, package_edge, attach, item, other_edge, ElementValue, vertex, edge, element_value}
-use Rattle.lsif.specs.declared.element.Element.{Element}
+use Rattle.lsif.specs.Element.{IdValue, same_id, contains, next, definition, references, hover, moniker_edge, package_edge, attach, item, other_edge, ElementValue, vertex, edge}
 use Rattle.dump.specs.Walks.{Pair, next_in, next_pairs, IsChain, ends, links, first_to, reaches, Path, stays, goes}
 use Rattle.dump.specs.Steps.{IsSound}
 use Rattle.dump.proofs.SameIds.{same_id_eq, same_id_self}
@@ -25,12 +23,9 @@ next_count (edge i (item e)) = omega arith
 next_count (edge i (other_edge x ys)) = omega arith
 next_count (vertex i v) = omega arith
 
-no_more_pairs : (d : List ElementValue) → length (next_pairs d) ≤ length d
-no_more_pairs [] = omega arith
-no_more_pairs (x ∷ d) = omega (arith, length-append (next_in x) (next_pairs d), next_count x, no_more_pairs d)
-
-pub few_pairs : (xs : List Element) → length (next_pairs (map element_value xs)) ≤ length xs
-few_pairs xs = omega (arith, no_more_pairs (map element_value xs), length-map xs element_value)
+pub few_pairs : (d : List ElementValue) → length (next_pairs d) ≤ length d
+few_pairs [] = omega arith
+few_pairs (x ∷ d) = omega (arith, length-append (next_in x) (next_pairs d), next_count x, few_pairs d)
 
 -- ---- a way along single pairs is a chain
 
@@ -71,7 +66,7 @@ leads d from to h =
     let c = each_ends d h from in
     record { single = each_single d h; rest = c.0; chain = c.1; room = omega (arith, short c.0 (next_pairs d) from c.1); same = refl }
 
-same_bool : (a b : Bool) → (a ≡ true → b ≡ true) → (b ≡ true → a ≡ true) → a ≡ b
+pub same_bool : (a b : Bool) → (a ≡ true → b ≡ true) → (b ≡ true → a ≡ true) → a ≡ b
 same_bool true b to from = sym (to refl)
 same_bool false true to from = from refl
 same_bool false false to from = refl

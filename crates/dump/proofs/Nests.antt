@@ -15,33 +15,33 @@ use Rattle.dump.proofs.Ends.{HasNoCode, no_code, SoundAfter, sound_after}
 
 -- ---- tests
 
-or_none : (a b : Bool) → (a || b) ≡ false → (a ≡ false) × (b ≡ false)
+pub or_none : (a b : Bool) → (a || b) ≡ false → (a ≡ false) × (b ≡ false)
 or_none true b e = cc
 or_none false b e = (refl, e)
 
-or_some : (a b : Bool) → (a || b) ≡ true → (a ≡ true) ⊎ (b ≡ true)
+pub or_some : (a b : Bool) → (a || b) ≡ true → (a ≡ true) ⊎ (b ≡ true)
 or_some true b e = inl refl
 or_some false b e = inr e
 
-and_both : (a b : Bool) → (a && b) ≡ true → (a ≡ true) × (b ≡ true)
+pub and_both : (a b : Bool) → (a && b) ≡ true → (a ≡ true) × (b ≡ true)
 and_both true b e = (refl, e)
 and_both false b e = cc
 
-and_rest : (a b : Bool) → a ≡ true → (a && b) ≡ false → b ≡ false
+pub and_rest : (a b : Bool) → a ≡ true → (a && b) ≡ false → b ≡ false
 and_rest true b t e = e
 and_rest false b t e = cc
 
-not_false : (a : Bool) → not a ≡ false → a ≡ true
+pub not_false : (a : Bool) → not a ≡ false → a ≡ true
 not_false true e = refl
 not_false false e = cc
 
-true_not_false : {P : Type 0} (a : Bool) → a ≡ true → a ≡ false → P
+pub true_not_false : {P : Type 0} (a : Bool) → a ≡ true → a ≡ false → P
 true_not_false true t f = cc
 true_not_false false t f = cc
 
 -- ---- conflicts don't know which span comes first
 
-equal_places : (a b : PositionValue) → is_before a b ≡ false → is_before b a ≡ false → a ≡ b
+pub equal_places : (a b : PositionValue) → is_before a b ≡ false → is_before b a ≡ false → a ≡ b
 equal_places a b e f =
     let line : a.line ≡ b.line = grind (arith, e, f) in
     let character : a.character ≡ b.character = grind (arith, e, f) in
@@ -75,14 +75,14 @@ conflict_by false true false = refl
 conflict_by false false true = refl
 conflict_by false false false = refl
 
-either_conflict : (e f : SpanValue) → conflicts e f ≡ conflicts f e
+pub either_conflict : (e f : SpanValue) → conflicts e f ≡ conflicts f e
 either_conflict e f =
     let same : overlaps e f ≡ overlaps f e = ap₂ is_before (later_either e.start f.start) (earlier_either e.«end» f.«end») in
     rw same (conflict_by (nests e f) (nests f e) (overlaps f e))
 
 -- ---- members
 
-all_among : (p : IdValue → Bool) (is : List IdValue) (r : IdValue) → list_all p is ≡ true → is_among r is ≡ true → p r ≡ true
+pub all_among : (p : IdValue → Bool) (is : List IdValue) (r : IdValue) → list_all p is ≡ true → is_among r is ≡ true → p r ≡ true
 all_among p [] r all at = cc
 all_among p (i ∷ is) r all at =
     let both = and_both (p i) (list_all p is) all in
@@ -164,7 +164,7 @@ none_vertex None w e = cc
 none_vertex (Some y) w e = (y, refl)
 
 -- a vertex stays what it is
-kept_vertex : (d : List ElementValue) (x : ElementValue) (r : IdValue) (w : VertexValue) → vertex_at d r ≡ Some w → vertex_at (d ++ x ∷ []) r ≡ vertex_at d r
+pub kept_vertex : (d : List ElementValue) (x : ElementValue) (r : IdValue) (w : VertexValue) → vertex_at d r ≡ Some w → vertex_at (d ++ x ∷ []) r ≡ vertex_at d r
 unfolding element_at
 kept_vertex d x r w e =
     let found = none_vertex (element_at d r) w e in
@@ -179,7 +179,7 @@ in_more d x v r e =
       | inr new ↦ elim (or_some (places_range v r x) false new) [ inl now ↦ inr now | inr other ↦ cc ]
     ]
 
-vertex_there : (o : Option VertexValue) → is_some o ≡ true → (w : VertexValue) × (o ≡ Some w)
+pub vertex_there : (o : Option VertexValue) → is_some o ≡ true → (w : VertexValue) × (o ≡ Some w)
 vertex_there None e = cc
 vertex_there (Some w) e = (w, refl)
 
@@ -209,7 +209,7 @@ known_more d x known free v r at =
 
 -- ---- the new targets
 
-range_is_no_document : (o : Option VertexValue) (e : SpanValue) → span_of o ≡ Some e → is_document o ≡ true → ⊥
+pub range_is_no_document : (o : Option VertexValue) (e : SpanValue) → span_of o ≡ Some e → is_document o ≡ true → ⊥
 range_is_no_document None e h t = cc
 range_is_no_document (Some (document s)) e h t = cc
 range_is_no_document (Some (meta_data b)) e h t = cc

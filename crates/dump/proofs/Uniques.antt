@@ -14,15 +14,15 @@ use Rattle.dump.proofs.Ends.{HasNoCode, no_code, SoundAfter, sound_after}
 
 -- ---- members that pass a test
 
-or_left : (a b : Bool) → a ≡ true → (a || b) ≡ true
+pub or_left : (a b : Bool) → a ≡ true → (a || b) ≡ true
 or_left true b e = refl
 or_left false b e = cc
 
-or_right : (a b : Bool) → b ≡ true → (a || b) ≡ true
+pub or_right : (a b : Bool) → b ≡ true → (a || b) ≡ true
 or_right true b e = refl
 or_right false b e = e
 
-any_from : {X : Type 0} (p : X → Bool) (xs : List X) (x : X) → Contains xs x → p x ≡ true → list_any p xs ≡ true
+pub any_from : {X : Type 0} (p : X → Bool) (xs : List X) (x : X) → Contains xs x → p x ≡ true → list_any p xs ≡ true
 any_from p [] x at e = absurd (not_in_nil x at)
 any_from p (y ∷ xs) x at e = ⊎_elim (λ (s : y ≡ x). or_left (p y) (list_any p xs) (ap p s ∙ e)) (λ (t : Contains xs x). or_right (p y) (list_any p xs) (any_from p xs x t e)) (contains_cases y xs x at)
 
@@ -31,7 +31,7 @@ find_by p x xs y rest true passes e = let same : x ≡ y = cc in (subst (Contain
 find_by p x xs y rest false passes e = let r = rest e in (contains_tail x xs y r.0, r.1)
 
 -- what is found is a member that passes
-found_member : {X : Type 0} (p : X → Bool) (xs : List X) (y : X) → find p xs ≡ Some y → Contains xs y × (p y ≡ true)
+pub found_member : {X : Type 0} (p : X → Bool) (xs : List X) (y : X) → find p xs ≡ Some y → Contains xs y × (p y ≡ true)
 found_member p [] y e = cc
 found_member p (x ∷ xs) y e = find_by p x xs y (found_member p xs y) (p x) refl e
 

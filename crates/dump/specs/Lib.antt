@@ -3,8 +3,11 @@ pub mod Contained
 pub mod Ended
 pub mod Fault
 pub mod Graph
+pub mod Ids
+pub mod Index
 pub mod Judging
 pub mod Lines
 pub mod Places
+pub mod Spans
 pub mod Steps
 pub mod Walks

@@ -1,6 +1,6 @@
 -- Paths and chains over the pairs of vertices that edges of one label join (LSIF 0.6.0, "next": a request that a
 -- range or a result set doesn't answer is forwarded along the `next` edge).
-use Rattle.std.specs.Prelude.{◌≡◌, Bool, List, [], ◌∷◌, if◌then◌else◌, ◌||◌, ◌&&◌, Option, Some, None, Contains}
+use Rattle.std.specs.Prelude.{◌≡◌, Bool, false, List, [], ◌∷◌, if◌then◌else◌, ◌||◌, ◌&&◌, Option, Some, None, Contains}
 use Rattle.std.specs.List.{flat_map}
 use Rattle.lsif.specs.Element.{IdValue, same_id, next, definition, references, hover, package_edge, ElementValue, vertex, edge}
 
@@ -51,6 +51,14 @@ hover_pairs elements = flat_map hover_in elements
 
 abbrev pub package_pairs : List ElementValue → List Pair
 package_pairs elements = flat_map package_in elements
+
+-- the element is an edge out of this vertex, of the label whose edges have these pairs
+abbrev pub is_edge_from : (ElementValue → List Pair) → IdValue → ElementValue → Bool
+is_edge_from pairs_in x e = elim (pairs_in e) as (λ _. Bool) [ [] ↦ false | p ∷ ps ↦ same_id p.0 x ]
+
+-- the target of an edge of that label
+abbrev pub edge_target : (ElementValue → List Pair) → ElementValue → Option IdValue
+edge_target pairs_in e = elim (pairs_in e) as (λ _. Option IdValue) [ [] ↦ None | p ∷ ps ↦ Some p.1 ]
 
 -- what a vertex is joined to by the first pair out of it
 abbrev pub first_to : List Pair → IdValue → Option IdValue

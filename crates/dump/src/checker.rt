@@ -3,11 +3,11 @@ ghost use Rattle.lsif.specs.Code.{is_shape_code};
 ghost use Rattle.lsif.specs.Element.{element_value, reading_value};
 ghost use Rattle.dump.specs.declared.fault.FeedFault.TheVariants.{Line};
 
-use crate::contained::is_in;
 use crate::fault::{FeedFault, LineFault};
-use crate::graph::vertex_at;
+use crate::graph::Graph;
 use crate::laws::chain_law;
 use crate::order::{end_fault, order_code};
+use crate::vertices::vertex_at;
 use crate::walks::first_definition;
 use lsif::{Code, Element, Id, Profile, Vertex};
 use std::alloc::Global;
@@ -16,7 +16,7 @@ use std::marker::Model;
 /// Takes the readings of a dump's lines one after the other. At the first faulty line it stops for good.
 #[derive(Drop)]
 pub struct Checker {
-    elements: Vec<Element>,
+    graph: Graph,
     fault: Option<LineFault>,
 }
 
@@ -28,9 +28,9 @@ impl Model for Checker {
 
     ghost Value = { Progress };
 
-    ghost view = { λ c. progress_of c.fault (map element_value c.elements.items) };
+    ghost view = { λ c. progress_of c.fault c.graph };
 
-    ghost invariant = { λ c. (length c.elements.items ≤ most_elements) × IsSound (map element_value c.elements.items) };
+    ghost invariant = { λ c. (length c.graph ≤ most_elements) × IsSound c.graph };
 }
 
 impl Checker {
@@ -41,10 +41,24 @@ impl Checker {
     pub fn new(alloc: Global, _profile: Profile) -> Checker
         ensures { result ≡ running [] }
     {
-        Checker {
-            elements: Vec::new(alloc),
-            fault: None,
-        }
+        Checker::over(Graph::new(alloc))
+    }
+
+    /// A checker that has seen no line and looks elements up by a search of their list.
+    #[cfg(test)]
+    pub(crate) fn without_index(alloc: Global) -> Checker
+        ensures { result ≡ running [] }
+    {
+        Checker::over(Graph::without_index(alloc))
+    }
+
+    /// A checker that has seen no line, over the graph of no element.
+    fn over(graph: Graph) -> Checker
+        requires { graph ≡ [] }
+        ensures { result ≡ running [] }
+    {
+        let fault = None;
+        Checker { graph, fault }
     }
 
     /// Takes the next line: its element, or the fault of its shape. Answers the fault of the line, if it has one, and
@@ -56,15 +70,15 @@ impl Checker {
         if let Some(fault) = self.fault {
             return Err(FeedFault::Line(fault));
         }
-        let line = self.elements.len() as u32 + 1;
+        let line = self.graph.len() as u32 + 1;
         let element = match reading {
             Ok(element) => element,
             Err(code) => return Err(self.stop(LineFault { line, code })),
         };
-        match order_code(*self.elements.allocator(), &self.elements, &element)? {
+        match order_code(&self.graph, &element)? {
             Some(code) => Err(self.stop(LineFault { line, code })),
             None => {
-                self.elements.push(element)?;
+                self.graph.push(element)?;
                 Ok(())
             }
         }
@@ -83,19 +97,19 @@ impl Checker {
     pub fn finish(self) -> Result<CheckedDump, FeedFault>
         ensures { Finishes result self }
     {
-        let Checker { elements, fault } = self;
+        let Checker { graph, fault } = self;
         if let Some(fault) = fault {
             return Err(FeedFault::Line(fault));
         }
-        if elements.is_empty() {
+        if graph.is_empty() {
             return Err(FeedFault::Line(LineFault {
                 line: 1,
                 code: Code::L06,
             }));
         }
-        match end_fault(&elements) {
+        match end_fault(&graph) {
             Some(fault) => Err(FeedFault::Line(fault)),
-            None => Ok(CheckedDump { elements }),
+            None => Ok(CheckedDump { graph }),
         }
     }
 }
@@ -103,7 +117,7 @@ impl Checker {
 /// The elements of a dump that has no fault, in the order of their lines.
 #[derive(Drop)]
 pub struct CheckedDump {
-    elements: Vec<Element>,
+    graph: Graph,
 }
 
 impl Model for CheckedDump {
@@ -114,9 +128,9 @@ impl Model for CheckedDump {
 
     ghost Value = { List ElementValue };
 
-    ghost view = { λ d. map element_value d.elements.items };
+    ghost view = { λ d. d.graph };
 
-    ghost invariant = { λ d. (length d.elements.items ≤ most_elements) × IsSound (map element_value d.elements.items) × (end_fault (map element_value d.elements.items) ≡ None) };
+    ghost invariant = { λ d. (length d.graph ≤ most_elements) × IsSound d.graph × (end_fault d.graph ≡ None) };
 }
 
 impl CheckedDump {
@@ -135,7 +149,7 @@ impl CheckedDump {
         ensures few { length result.now ≤ most_elements }
         ensures faultless { IsFaultless (map Ok self.now) }
     {
-        &self.elements
+        self.graph.elements()
     }
 
     /// The definition result that a request at this vertex is answered by: that of the first vertex along the chain of
@@ -145,20 +159,20 @@ impl CheckedDump {
         ensures only { (other : Option IdValue) → FirstDefinition self.now (id_value vertex.now) other → other ≡ option_map (λ i. id_value i.now) result }
     {
         chain_law();
-        first_definition(self.elements(), vertex)
+        first_definition(&self.graph, vertex)
     }
 
     /// What the vertex of this id says. None where the id is an edge's, or nobody's.
     pub fn vertex_at(&self, id: &Id) -> Option<&Vertex>
         ensures { option_map (λ v. vertex_value v.now) result ≡ vertex_at self.now (id_value id.now) }
     {
-        vertex_at(self.elements(), id)
+        vertex_at(&self.graph, id)
     }
 
     /// Whether a `contains` edge out of this document names the range.
     pub fn is_in(&self, document: &Id, range: &Id) -> bool
         ensures { result ≡ is_in self.now (id_value document.now) (id_value range.now) }
     {
-        is_in(self.elements(), document, range)
+        self.graph.is_in(document, range)
     }
 }

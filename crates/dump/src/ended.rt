@@ -1,123 +1,56 @@
-//! Which documents have begun and ended.
-ghost use Rattle.std.specs.Prelude.{◌≡◌, map, [], ◌∷◌};
+//! Which documents may begin and end, and whose ranges aren't named any more.
+ghost use Rattle.std.specs.Prelude.{◌≡◌, [], ◌∷◌};
 ghost use Rattle.std.specs.List.{list_any};
 ghost use Rattle.lsif.specs.Element.{id_value, id_values, event_value, element_value};
-ghost use Rattle.dump.specs.Ended.{begins, has_begun, finishes, has_ended, may_not_happen, is_bad_event, closes_range, is_closed};
+ghost use Rattle.dump.specs.Ended.{may_not_happen, is_bad_event, is_closed};
+ghost use Rattle.dump.specs.Steps.{IsSound};
 
-use crate::graph::{is_among, is_document};
-use lsif::{Edge, Element, Event, Id, Vertex};
-
-/// Whether the element is the event that this document begins.
-fn begins(document: &Id, element: &Element) -> bool
-    ensures { result ≡ begins (id_value document.now) (element_value element.now) }
-{
-    match element {
-        Element::Vertex(_, Vertex::Event(Event::Begin(id))) => id.is(document),
-        _ => false,
-    }
-}
-
-/// Whether this document has begun.
-fn has_begun(elements: &[Element], document: &Id) -> bool
-    ensures { result ≡ has_begun (map element_value elements.now) (id_value document.now) }
-{
-    for element in elements {
-        if begins(document, element) {
-            return true;
-        }
-    }
-    false
-}
-
-/// Whether the element is the event that this document ends.
-fn finishes(document: &Id, element: &Element) -> bool
-    ensures { result ≡ finishes (id_value document.now) (element_value element.now) }
-{
-    match element {
-        Element::Vertex(_, Vertex::Event(Event::End(id))) => id.is(document),
-        _ => false,
-    }
-}
-
-/// Whether this document has ended.
-pub(crate) fn has_ended(elements: &[Element], document: &Id) -> bool
-    ensures { result ≡ has_ended (map element_value elements.now) (id_value document.now) }
-{
-    for element in elements {
-        if finishes(document, element) {
-            return true;
-        }
-    }
-    false
-}
+use crate::graph::Graph;
+use crate::vertices::is_document;
+use lsif::{Element, Event, Id, Vertex};
 
 /// A document begins once, and ends once after it began.
-fn may_not_happen(before: &[Element], event: &Event) -> bool
-    ensures { result ≡ may_not_happen (map element_value before.now) (event_value event.now) }
+fn may_not_happen(graph: &Graph, event: &Event) -> bool
+    ensures { result ≡ may_not_happen graph.now (event_value event.now) }
 {
     match event {
-        Event::Begin(id) => !is_document(before, id) || has_begun(before, id),
-        Event::End(id) => {
-            !is_document(before, id) || has_ended(before, id) || !has_begun(before, id)
-        }
+        Event::Begin(id) => !is_document(graph, id) || graph.has_begun(id),
+        Event::End(id) => { !is_document(graph, id) || graph.has_ended(id) || !graph.has_begun(id) }
         Event::Other => false,
     }
 }
 
 /// The event isn't of an earlier document, comes a second time, or is an end without a begin.
-pub(crate) fn is_bad_event(before: &[Element], element: &Element) -> bool
-    ensures { result ≡ is_bad_event (map element_value before.now) (element_value element.now) }
+pub(crate) fn is_bad_event(graph: &Graph, element: &Element) -> bool
+    ensures { result ≡ is_bad_event graph.now (element_value element.now) }
 {
     match element {
-        Element::Vertex(_, Vertex::Event(event)) => may_not_happen(before, event),
+        Element::Vertex(_, Vertex::Event(event)) => may_not_happen(graph, event),
         _ => false,
     }
-}
-
-/// Whether the element is a `contains` edge out of a document that has ended, and names the range.
-fn closes_range(elements: &[Element], range: &Id, element: &Element) -> bool
-    ensures { result ≡ closes_range (map element_value elements.now) (id_value range.now) (element_value element.now) }
-{
-    match element {
-        Element::Edge(_, Edge::Contains(from, to)) => {
-            is_among(range, to) && has_ended(elements, from)
-        }
-        _ => false,
-    }
-}
-
-/// Whether a document that has ended contains the range.
-#[tactic(auto, unfolding(crate::specs::Ended::is_closed))]
-pub(crate) fn is_closed(elements: &[Element], range: &Id) -> bool
-    ensures { result ≡ is_closed (map element_value elements.now) (id_value range.now) }
-{
-    for element in elements {
-        if closes_range(elements, range, element) {
-            return true;
-        }
-    }
-    false
 }
 
 /// Whether a document that has ended contains one of both.
-pub(crate) fn either_closed(elements: &[Element], first: &Id, second: &Id) -> bool
-    ensures { result ≡ list_any (is_closed (map element_value elements.now)) (id_value first.now ∷ id_value second.now ∷ []) }
+pub(crate) fn either_closed(graph: &Graph, first: &Id, second: &Id) -> bool
+    requires { IsSound graph.now }
+    ensures { result ≡ list_any (is_closed graph.now) (id_value first.now ∷ id_value second.now ∷ []) }
 {
-    if is_closed(elements, first) {
+    if graph.is_closed(first) {
         return true;
     }
-    if is_closed(elements, second) {
+    if graph.is_closed(second) {
         return true;
     }
     false
 }
 
 /// Whether a document that has ended contains one of the ranges.
-pub(crate) fn any_closed(elements: &[Element], ranges: &[Id]) -> bool
-    ensures { result ≡ list_any (is_closed (map element_value elements.now)) (id_values ranges.now) }
+pub(crate) fn any_closed(graph: &Graph, ranges: &[Id]) -> bool
+    requires { IsSound graph.now }
+    ensures { result ≡ list_any (is_closed graph.now) (id_values ranges.now) }
 {
     for range in ranges {
-        if is_closed(elements, range) {
+        if graph.is_closed(range) {
             return true;
         }
     }

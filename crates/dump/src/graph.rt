@@ -1,135 +1,265 @@
-//! Elements looked up by their ids.
-ghost use Rattle.std.specs.Prelude.{◌≡◌, map, is_some, option_map};
-ghost use Rattle.lsif.specs.Element.{id_value, id_values, vertex_value, element_value};
-ghost use Rattle.dump.specs.Graph.{element_at, vertex_at, is_document, is_range, is_reference_result, span_of, is_among, has_repeated};
-ghost use Rattle.dump.specs.Conditions.{are_vertices, are_documents, are_ranges, are_reference_results};
+//! The elements of a dump, and what is looked up among them.
+ghost use Rattle.std.specs.Prelude.{◌≡◌, ◌++◌, ◌||◌, ◌==◌, ◌∷◌, [], None, IfOk, IfSome, OnOk, OnErr, length, map, option_map};
+ghost use Rattle.std.specs.List.{list_any};
+ghost use Rattle.lsif.specs.Element.{id_value, id_values, element_value};
+ghost use Rattle.dump.specs.Conditions.{is_document_of, order_code};
+ghost use Rattle.dump.specs.Contained.{is_contained, is_in, spans_of, spans_in, any_conflicts, has_conflict};
+ghost use Rattle.dump.specs.Ended.{has_begun, has_ended, is_closed};
+ghost use Rattle.dump.specs.Graph.{element_at, has_repeated};
+ghost use Rattle.dump.specs.Index.{IsIndex};
+ghost use Rattle.dump.specs.Steps.{IsSound};
+ghost use Rattle.dump.specs.Walks.{first_to, next_pairs, definition_pairs, references_pairs, hover_pairs, package_pairs};
 
-use lsif::{Element, Id, Vertex};
-use positions::Span;
+use crate::ids::is_repeating;
+use crate::index::Index;
+use crate::search;
+use lsif::{Element, Id};
+use std::alloc::{AllocError, Global};
+use std::marker::Model;
+use std::mem::replace;
 
-/// The element of this id.
-pub(crate) fn element_at<'a>(elements: &'a [Element], id: &Id) -> Option<&'a Element>
-    ensures { option_map (λ e. element_value e.now) result ≡ element_at (map element_value elements.now) (id_value id.now) }
+/// The elements of the lines so far, and tables that lead to them. Without the tables they are looked up by a search of
+/// their list, which gives the same: so it is once memory was refused for the tables.
+#[derive(Drop)]
+pub(crate) struct Graph {
+    elements: Vec<Element>,
+    index: Option<Index>,
+}
+
+impl Model for Graph {
+    ghost use Rattle.std.specs.Prelude.{List, IfSome, map};
+    ghost use Rattle.lsif.specs.Element.{ElementValue, element_value};
+    ghost use Rattle.dump.specs.Index.{IsIndex};
+
+    ghost Value = { List ElementValue };
+
+    ghost view = { λ g. map element_value g.elements.items };
+
+    ghost invariant = { λ g. IfSome g.index (λ x. IsIndex x (map element_value g.elements.items)) };
+}
+
+/// The tables, where there are some, with the element that follows these.
+fn with_element(
+    index: Option<Index>,
+    elements: &[Element],
+    element: &Element,
+) -> Result<Option<Index>, AllocError>
+    requires index { IfSome index (λ x. IsIndex x (map element_value elements.now)) }
+    requires sound { IsSound (map element_value elements.now) }
+    requires free { order_code (map element_value elements.now) (element_value element.now) ≡ None }
+    ensures { IfOk result (λ o. IfSome o (λ x. IsIndex x (map element_value elements.now ++ element_value element.now ∷ []))) }
 {
-    for element in elements {
-        if element.id().is(id) {
-            return Some(element);
+    match index {
+        Some(mut index) => {
+            index.add(elements, element)?;
+            Ok(Some(index))
+        }
+        None => Ok(None),
+    }
+}
+
+impl Graph {
+    /// No element.
+    pub(crate) fn new(alloc: Global) -> Graph
+        ensures { result ≡ [] }
+    {
+        Graph {
+            elements: Vec::new(alloc),
+            index: Some(Index::new(alloc)),
         }
     }
-    None
-}
 
-/// What the vertex of this id says.
-pub(crate) fn vertex_at<'a>(elements: &'a [Element], id: &Id) -> Option<&'a Vertex>
-    ensures { option_map (λ v. vertex_value v.now) result ≡ vertex_at (map element_value elements.now) (id_value id.now) }
-{
-    match element_at(elements, id) {
-        Some(Element::Vertex(_, vertex)) => Some(vertex),
-        _ => None,
-    }
-}
-
-pub(crate) fn is_vertex(elements: &[Element], id: &Id) -> bool
-    ensures { result ≡ is_some (vertex_at (map element_value elements.now) (id_value id.now)) }
-{
-    vertex_at(elements, id).is_some()
-}
-
-pub(crate) fn is_document(elements: &[Element], id: &Id) -> bool
-    ensures { result ≡ is_document (vertex_at (map element_value elements.now) (id_value id.now)) }
-{
-    matches!(vertex_at(elements, id), Some(Vertex::Document(_)))
-}
-
-fn is_range(elements: &[Element], id: &Id) -> bool
-    ensures { result ≡ is_range (vertex_at (map element_value elements.now) (id_value id.now)) }
-{
-    matches!(vertex_at(elements, id), Some(Vertex::Range(_)))
-}
-
-/// The span of the range of this id.
-pub(crate) fn span_at(elements: &[Element], id: &Id) -> Option<Span>
-    ensures { result ≡ span_of (vertex_at (map element_value elements.now) (id_value id.now)) }
-{
-    match vertex_at(elements, id) {
-        Some(Vertex::Range(span)) => Some(*span),
-        _ => None,
-    }
-}
-
-/// Whether each id is that of a vertex.
-pub(crate) fn are_vertices(elements: &[Element], ids: &[Id]) -> bool
-    ensures { result ≡ are_vertices (map element_value elements.now) (id_values ids.now) }
-{
-    for id in ids {
-        if !is_vertex(elements, id) {
-            return false;
+    /// No element, and no tables.
+    #[cfg(test)]
+    pub(crate) fn without_index(alloc: Global) -> Graph
+        ensures { result ≡ [] }
+    {
+        Graph {
+            elements: Vec::new(alloc),
+            index: None,
         }
     }
-    true
-}
 
-/// Whether each id is that of a document.
-pub(crate) fn are_documents(elements: &[Element], ids: &[Id]) -> bool
-    ensures { result ≡ are_documents (map element_value elements.now) (id_values ids.now) }
-{
-    for id in ids {
-        if !is_document(elements, id) {
-            return false;
+    pub(crate) fn elements(&self) -> &[Element]
+        ensures { map element_value result.now ≡ self.now }
+    {
+        &self.elements
+    }
+
+    pub(crate) fn allocator(&self) -> Global {
+        *self.elements.allocator()
+    }
+
+    pub(crate) fn len(&self) -> usize
+        ensures { result ≡ length self.now }
+    {
+        self.elements.len()
+    }
+
+    pub(crate) fn is_empty(&self) -> bool
+        ensures { result ≡ (length self.now == 0) }
+    {
+        self.elements.is_empty()
+    }
+
+    /// Adds the element of the next line. Where memory is refused the elements stay as they are, and the tables are given
+    /// up.
+    pub(crate) fn push(&mut self, element: Element) -> Result<(), AllocError>
+        requires sound { IsSound self.old }
+        requires free { order_code self.old (element_value element) ≡ None }
+        ensures ok { OnOk result (self.new ≡ self.old ++ element_value element ∷ []) }
+        ensures err { OnErr result (self.new ≡ self.old) }
+    {
+        let index = with_element(self.index.take(), &self.elements, &element)?;
+        self.elements.push(element)?;
+        let _none = replace(&mut self.index, index);
+        Ok(())
+    }
+
+    /// The element of this id.
+    pub(crate) fn element_at(&self, id: &Id) -> Option<&Element>
+        ensures { option_map (λ e. element_value e.now) result ≡ element_at self.now (id_value id.now) }
+    {
+        match &self.index {
+            Some(index) => index.element_at(&self.elements, id),
+            None => search::element_at(&self.elements, id),
         }
     }
-    true
-}
 
-/// Whether each id is that of a range.
-pub(crate) fn are_ranges(elements: &[Element], ids: &[Id]) -> bool
-    ensures { result ≡ are_ranges (map element_value elements.now) (id_values ids.now) }
-{
-    for id in ids {
-        if !is_range(elements, id) {
-            return false;
+    /// Whether a document contains the range.
+    pub(crate) fn is_contained(&self, range: &Id) -> bool
+        ensures { result ≡ is_contained self.now (id_value range.now) }
+    {
+        match &self.index {
+            Some(index) => index.is_contained(&self.elements, range),
+            None => search::contained::is_contained(&self.elements, range),
         }
     }
-    true
-}
 
-pub(crate) fn is_reference_result(elements: &[Element], id: &Id) -> bool
-    ensures { result ≡ is_reference_result (vertex_at (map element_value elements.now) (id_value id.now)) }
-{
-    matches!(vertex_at(elements, id), Some(Vertex::ReferenceResult))
-}
-
-/// Whether each id is that of a reference result.
-pub(crate) fn are_reference_results(elements: &[Element], ids: &[Id]) -> bool
-    ensures { result ≡ are_reference_results (map element_value elements.now) (id_values ids.now) }
-{
-    for id in ids {
-        if !is_reference_result(elements, id) {
-            return false;
+    /// Whether a `contains` edge out of this vertex names the other.
+    pub(crate) fn is_in(&self, document: &Id, range: &Id) -> bool
+        requires { IsSound self.now }
+        ensures { result ≡ is_in self.now (id_value document.now) (id_value range.now) }
+    {
+        match &self.index {
+            Some(index) if index.is_document(&self.elements, document) => {
+                index.is_in(&self.elements, document, range)
+            }
+            _ => search::contained::is_in(&self.elements, document, range),
         }
     }
-    true
-}
 
-pub(crate) fn is_among(id: &Id, ids: &[Id]) -> bool
-    ensures { result ≡ is_among (id_value id.now) (id_values ids.now) }
-{
-    for other in ids {
-        if other.is(id) {
-            return true;
+    /// Whether an id stands in the list twice.
+    pub(crate) fn is_repeating(&self, ids: &[Id]) -> Result<bool, AllocError>
+        ensures { IfOk result (λ b. b ≡ has_repeated (id_values ids.now)) }
+    {
+        match &self.index {
+            Some(_) => is_repeating(self.allocator(), ids),
+            None => Ok(search::has_repeated(ids)),
         }
     }
-    false
-}
 
-/// Whether an id stands in the list twice.
-pub(crate) fn has_repeated(ids: &[Id]) -> bool
-    ensures { result ≡ has_repeated (id_values ids.now) }
-{
-    for (k, id) in ids.iter().enumerate() {
-        if is_among(id, &ids[k + 1..]) {
-            return true;
+    /// Whether the span of one of these ranges conflicts with that of a range that the document contains, or with
+    /// another's of them.
+    pub(crate) fn conflict(&self, document: &Id, ranges: &[Id]) -> Result<bool, AllocError>
+        ensures { IfOk result (λ b. b ≡ (any_conflicts (spans_of self.now (id_values ranges.now)) (spans_in self.now (id_value document.now)) || has_conflict (spans_of self.now (id_values ranges.now)))) }
+    {
+        match &self.index {
+            Some(index) => index.conflict(&self.elements, document, ranges),
+            None => {
+                search::contained::conflict(self.allocator(), &self.elements, document, ranges)
+            }
         }
     }
-    false
+
+    /// Whether this document has begun.
+    pub(crate) fn has_begun(&self, document: &Id) -> bool
+        ensures { result ≡ has_begun self.now (id_value document.now) }
+    {
+        match &self.index {
+            Some(index) => index.has_begun(&self.elements, document),
+            None => search::ended::has_begun(&self.elements, document),
+        }
+    }
+
+    /// Whether this document has ended.
+    pub(crate) fn has_ended(&self, document: &Id) -> bool
+        ensures { result ≡ has_ended self.now (id_value document.now) }
+    {
+        match &self.index {
+            Some(index) => index.has_ended(&self.elements, document),
+            None => search::ended::has_ended(&self.elements, document),
+        }
+    }
+
+    /// Whether a document that has ended contains the range.
+    pub(crate) fn is_closed(&self, range: &Id) -> bool
+        requires { IsSound self.now }
+        ensures { result ≡ is_closed self.now (id_value range.now) }
+    {
+        match &self.index {
+            Some(index) => index.is_closed(&self.elements, range),
+            None => search::ended::is_closed(&self.elements, range),
+        }
+    }
+
+    /// Whether a document has this serialized URL.
+    pub(crate) fn has_document_of(&self, uri: &str) -> bool
+        ensures { result ≡ list_any (is_document_of uri.now) self.now }
+    {
+        match &self.index {
+            Some(index) => index.has_document_of(&self.elements, uri),
+            None => search::any_document_of(&self.elements, uri),
+        }
+    }
+
+    /// The target of the `next` edge out of this vertex.
+    pub(crate) fn next_of(&self, id: &Id) -> Option<&Id>
+        ensures { option_map (λ i. id_value i.now) result ≡ first_to (next_pairs self.now) (id_value id.now) }
+    {
+        match &self.index {
+            Some(index) => index.next_of(&self.elements, id),
+            None => search::walks::next_of(&self.elements, id),
+        }
+    }
+
+    /// The target of the `textDocument/definition` edge out of this vertex.
+    pub(crate) fn definition_of(&self, id: &Id) -> Option<&Id>
+        ensures { option_map (λ i. id_value i.now) result ≡ first_to (definition_pairs self.now) (id_value id.now) }
+    {
+        match &self.index {
+            Some(index) => index.definition_of(&self.elements, id),
+            None => search::walks::definition_of(&self.elements, id),
+        }
+    }
+
+    /// The target of the `textDocument/references` edge out of this vertex.
+    pub(crate) fn references_of(&self, id: &Id) -> Option<&Id>
+        ensures { option_map (λ i. id_value i.now) result ≡ first_to (references_pairs self.now) (id_value id.now) }
+    {
+        match &self.index {
+            Some(index) => index.references_of(&self.elements, id),
+            None => search::walks::references_of(&self.elements, id),
+        }
+    }
+
+    /// The target of the `textDocument/hover` edge out of this vertex.
+    pub(crate) fn hover_of(&self, id: &Id) -> Option<&Id>
+        ensures { option_map (λ i. id_value i.now) result ≡ first_to (hover_pairs self.now) (id_value id.now) }
+    {
+        match &self.index {
+            Some(index) => index.hover_of(&self.elements, id),
+            None => search::walks::hover_of(&self.elements, id),
+        }
+    }
+
+    /// The target of the `packageInformation` edge out of this vertex.
+    pub(crate) fn package_of(&self, id: &Id) -> Option<&Id>
+        ensures { option_map (λ i. id_value i.now) result ≡ first_to (package_pairs self.now) (id_value id.now) }
+    {
+        match &self.index {
+            Some(index) => index.package_of(&self.elements, id),
+            None => search::walks::package_of(&self.elements, id),
+        }
+    }
 }

@@ -6,9 +6,14 @@ mod contained;
 mod ended;
 mod fault;
 mod graph;
+mod ids;
+mod index;
 mod laws;
 mod order;
 mod reading;
+mod search;
+mod spans;
+mod vertices;
 mod walks;
 
 pub use checker::{CheckedDump, Checker};
@@ -18,3 +23,7 @@ pub use reading::{DumpFault, read_dump};
 
 #[cfg(test)]
 mod tests;
+#[cfg(test)]
+mod tests_index;
+#[cfg(test)]
+mod tests_spans;

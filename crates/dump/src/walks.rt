@@ -1,92 +1,23 @@
-//! What edges lead to that leave a vertex once at most.
-ghost use Rattle.std.specs.Prelude.{◌≡◌, List, map, option_map};
-ghost use Rattle.lsif.specs.Element.{IdValue, id_value, element_value};
+//! What paths and chains of `next` edges lead to.
+ghost use Rattle.std.specs.Prelude.{◌≡◌, List, option_map};
+ghost use Rattle.lsif.specs.Element.{IdValue, id_value};
 ghost use Rattle.dump.specs.Steps.{IsSound};
-ghost use Rattle.dump.specs.Walks.{IsChain, HasChain, first_to, first_of_list, reaches, next_pairs, definition_pairs, references_pairs, hover_pairs, package_pairs};
+ghost use Rattle.dump.specs.Walks.{IsChain, HasChain, first_of_list, reaches, next_pairs, definition_pairs};
 
-use lsif::{Edge, Element, Id};
-
-/// The target of the `next` edge out of this vertex.
-pub(crate) fn next_of<'a>(elements: &'a [Element], id: &Id) -> Option<&'a Id>
-    ensures { option_map (λ i. id_value i.now) result ≡ first_to (next_pairs (map element_value elements.now)) (id_value id.now) }
-{
-    for element in elements {
-        if let Element::Edge(_, Edge::Next(from, to)) = element {
-            if from.is(id) {
-                return Some(to);
-            }
-        }
-    }
-    None
-}
-
-/// The target of the `textDocument/definition` edge out of this vertex.
-pub(crate) fn definition_of<'a>(elements: &'a [Element], id: &Id) -> Option<&'a Id>
-    ensures { option_map (λ i. id_value i.now) result ≡ first_to (definition_pairs (map element_value elements.now)) (id_value id.now) }
-{
-    for element in elements {
-        if let Element::Edge(_, Edge::Definition(from, to)) = element {
-            if from.is(id) {
-                return Some(to);
-            }
-        }
-    }
-    None
-}
-
-/// The target of the `textDocument/references` edge out of this vertex.
-pub(crate) fn references_of<'a>(elements: &'a [Element], id: &Id) -> Option<&'a Id>
-    ensures { option_map (λ i. id_value i.now) result ≡ first_to (references_pairs (map element_value elements.now)) (id_value id.now) }
-{
-    for element in elements {
-        if let Element::Edge(_, Edge::References(from, to)) = element {
-            if from.is(id) {
-                return Some(to);
-            }
-        }
-    }
-    None
-}
-
-/// The target of the `textDocument/hover` edge out of this vertex.
-pub(crate) fn hover_of<'a>(elements: &'a [Element], id: &Id) -> Option<&'a Id>
-    ensures { option_map (λ i. id_value i.now) result ≡ first_to (hover_pairs (map element_value elements.now)) (id_value id.now) }
-{
-    for element in elements {
-        if let Element::Edge(_, Edge::Hover(from, to)) = element {
-            if from.is(id) {
-                return Some(to);
-            }
-        }
-    }
-    None
-}
-
-/// The target of the `packageInformation` edge out of this vertex.
-pub(crate) fn package_of<'a>(elements: &'a [Element], id: &Id) -> Option<&'a Id>
-    ensures { option_map (λ i. id_value i.now) result ≡ first_to (package_pairs (map element_value elements.now)) (id_value id.now) }
-{
-    for element in elements {
-        if let Element::Edge(_, Edge::Package(from, to)) = element {
-            if from.is(id) {
-                return Some(to);
-            }
-        }
-    }
-    None
-}
+use crate::graph::Graph;
+use lsif::Id;
 
 /// Whether a path of `next` edges, of no step or more, goes from the one vertex to the other.
-pub(crate) fn leads(elements: &[Element], from: &Id, to: &Id) -> bool
-    requires { IsSound (map element_value elements.now) }
-    ensures { result ≡ reaches (next_pairs (map element_value elements.now)) (id_value from.now) (id_value to.now) }
+pub(crate) fn leads(graph: &Graph, from: &Id, to: &Id) -> bool
+    requires { IsSound graph.now }
+    ensures { result ≡ reaches (next_pairs graph.now) (id_value from.now) (id_value to.now) }
 {
     let mut place = from;
-    for _step in 0..elements.len() {
+    for _step in 0..graph.len() {
         if place.is(to) {
             return true;
         }
-        match next_of(elements, place) {
+        match graph.next_of(place) {
             Some(more) => place = more,
             None => return false,
         }
@@ -95,19 +26,19 @@ pub(crate) fn leads(elements: &[Element], from: &Id, to: &Id) -> bool
 }
 
 /// The definition result that the first vertex along the chain of `next` edges has, of those from this one on.
-pub(crate) fn first_definition<'a>(elements: &'a [Element], from: &'a Id) -> Option<&'a Id>
-    requires { HasChain (next_pairs (map element_value elements.now)) (id_value from.now) }
-    ensures { (xs : List IdValue) → IsChain (next_pairs (map element_value elements.now)) (id_value from.now) xs → option_map (λ i. id_value i.now) result ≡ first_of_list (definition_pairs (map element_value elements.now)) xs }
+pub(crate) fn first_definition<'a>(graph: &'a Graph, from: &'a Id) -> Option<&'a Id>
+    requires { HasChain (next_pairs graph.now) (id_value from.now) }
+    ensures { (xs : List IdValue) → IsChain (next_pairs graph.now) (id_value from.now) xs → option_map (λ i. id_value i.now) result ≡ first_of_list (definition_pairs graph.now) xs }
 {
     let mut place = from;
-    for _step in 0..elements.len() {
-        if let Some(result) = definition_of(elements, place) {
+    for _step in 0..graph.len() {
+        if let Some(result) = graph.definition_of(place) {
             return Some(result);
         }
-        match next_of(elements, place) {
+        match graph.next_of(place) {
             Some(more) => place = more,
             None => return None,
         }
     }
-    definition_of(elements, place)
+    graph.definition_of(place)
 }

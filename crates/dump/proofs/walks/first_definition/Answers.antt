@@ -1,12 +1,12 @@
-use Rattle.std.proofs.Common.{◌∙◌, arith, map}
-use Rattle.lsif.specs.Element.{id_value, element_value}
+use Rattle.std.proofs.Common.{◌∙◌, arith}
+use Rattle.lsif.specs.Element.{id_value}
 use Rattle.dump.specs.Walks.{next_pairs, definition_pairs}
 use Rattle.dump.proofs.Chains.{follows, last}
 use Rattle.dump.proofs.Leads.{few_pairs}
 use Rattle.dump.proofs.walks.first_definition.Goals as goal
 
 pub loop-step-init : goal.loop-step-init
-loop-step-init c = follows (next_pairs (map element_value c.args.elements.now)) (definition_pairs (map element_value c.args.elements.now)) (id_value c.args.from.now) c.requires.0 c.requires.1
+loop-step-init c = follows (next_pairs c.args.graph.now) (definition_pairs c.args.graph.now) (id_value c.args.from.now) c.requires.0 c.requires.1
 
 pub returns : goal.returns
-returns c = λ xs ends. c.definition_of-2.ensures ∙ last (next_pairs (map element_value c.args.elements.now)) (definition_pairs (map element_value c.args.elements.now)) (id_value c.args.from.now) (id_value c.loop-step.place.now) c.loop-step._step c.loop-step.invariant (omega (arith, few_pairs c.args.elements.now)) xs ends
+returns c = λ xs ends. c.definition_of-2.ensures ∙ last (next_pairs c.args.graph.now) (definition_pairs c.args.graph.now) (id_value c.args.from.now) (id_value c.loop-step.place.now) c.loop-step._step c.loop-step.invariant (omega (arith, few_pairs c.args.graph.now)) xs ends

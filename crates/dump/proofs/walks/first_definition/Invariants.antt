@@ -1,8 +1,7 @@
-use Rattle.std.proofs.Common.{map}
-use Rattle.lsif.specs.Element.{id_value, element_value}
+use Rattle.lsif.specs.Element.{id_value}
 use Rattle.dump.specs.Walks.{next_pairs, definition_pairs}
 use Rattle.dump.proofs.Chains.{Following}
 use Rattle.dump.proofs.walks.first_definition.Given as goal
 
 abbrev pub invariant-loop-step : goal.invariant-loop-step
-invariant-loop-step l = Following (next_pairs (map element_value l.elements)) (definition_pairs (map element_value l.elements)) (id_value l.from) (id_value l.place) l._step
+invariant-loop-step l = Following (next_pairs l.graph) (definition_pairs l.graph) (id_value l.from) (id_value l.place) l._step

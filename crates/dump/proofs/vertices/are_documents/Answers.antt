@@ -1,0 +1,14 @@
+use Rattle.std.proofs.Common.{sym, arith}
+use Rattle.lsif.specs.Element.{id_value}
+use Rattle.dump.specs.Graph.{vertex_at, is_document}
+use Rattle.dump.proofs.Lists.{all-hit, all-miss, all-end}
+use Rattle.dump.proofs.vertices.are_documents.Goals as goal
+
+pub returns-then-not-is_document : goal.returns-then-not-is_document
+returns-then-not-is_document c = all-hit (λ i. is_document (vertex_at c.args.graph.now i)) id_value c.args.ids.now c.loop-id.id-index c.id-item.result _ (omega arith) c.id-item.is (sym c.if-not-is_document.ensures) c.loop-id.invariant
+
+pub loop-id-preserved : goal.loop-id-preserved
+loop-id-preserved c = all-miss (λ i. is_document (vertex_at c.args.graph.now i)) id_value c.args.ids.now c.loop-id.id-index c.id-item.result _ (omega arith) c.id-item.is (sym c.if-not-is_document.ensures) c.loop-id.invariant
+
+pub returns : goal.returns
+returns c = all-end (λ i. is_document (vertex_at c.args.graph.now i)) id_value c.args.ids.now c.loop-id.id-index _ (omega arith) c.loop-id.invariant

@@ -1,0 +1,15 @@
+-- Tables from ids to values.
+use Rattle.std.specs.Prelude.{◌≡◌, ℕ, Bool, List, Option, nat_eq}
+use Rattle.std.specs.List.{position}
+use Rattle.std.specs.HashMap.{get, get_by_text}
+use Rattle.lsif.specs.Element.{IdValue, number, text}
+use Rattle.dump.specs.declared.ids.IdMap.{IdMap}
+
+-- what the table has at an id
+abbrev pub value_at : {V : Type 0} → IdMap V → IdValue → Option V
+value_at table (number n) = get nat_eq table.numbers n
+value_at table (text s) = get_by_text table.texts s
+
+-- the table leads from an id to the place of the first element that passes the id's test, and to none where no element does
+abbrev pub IsTable : {X : Type 0} → (IdValue → Option ℕ) → (IdValue → X → Bool) → List X → Type 0
+IsTable table test elements = (i : IdValue) → table i ≡ position (test i) elements

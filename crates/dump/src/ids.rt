@@ -1,0 +1,74 @@
+//! Tables from ids to values.
+ghost use Rattle.std.specs.Prelude.{◌≡◌, Some, None, IfOk, OnOk, OnErr, option_copied, if◌then◌else◌};
+ghost use Rattle.lsif.specs.Element.{IdValue, id_value, id_values, same_id};
+ghost use Rattle.dump.specs.Graph.{has_repeated};
+ghost use Rattle.dump.specs.Ids.{value_at};
+
+use lsif::Id;
+use std::alloc::{AllocError, Global};
+use std::collections::HashMap;
+
+/// A table from ids to values.
+#[derive(Drop)]
+pub(crate) struct IdMap<V> {
+    alloc: Global,
+    numbers: HashMap<u64, V>,
+    texts: HashMap<String, V>,
+}
+
+impl<V> IdMap<V> {
+    /// A table with no value.
+    pub(crate) fn new(alloc: Global) -> IdMap<V>
+        ensures { (i : IdValue) → value_at result i ≡ None }
+    {
+        IdMap {
+            alloc,
+            numbers: HashMap::new(alloc),
+            texts: HashMap::new(alloc),
+        }
+    }
+
+    /// The value at the id.
+    pub(crate) fn get(&self, id: &Id) -> Option<&V>
+        ensures { option_copied result ≡ value_at self.now (id_value id.now) }
+    {
+        match id {
+            Id::Number(n) => self.numbers.get(n),
+            Id::Text(text) => self.texts.get(text.as_str()),
+        }
+    }
+}
+
+impl<V: Drop> IdMap<V> {
+    /// Puts the value at the id. The value that was there is let go.
+    pub(crate) fn insert(&mut self, id: &Id, value: V) -> Result<(), AllocError>
+        ensures ok { OnOk result ((i : IdValue) → value_at self.new i
+            ≡ (if same_id (id_value id.now) i then Some value else value_at self.old i)) }
+        ensures err { OnErr result ((i : IdValue) → value_at self.new i ≡ value_at self.old i) }
+    {
+        match id {
+            Id::Number(n) => {
+                self.numbers.insert(*n, value)?;
+            }
+            Id::Text(text) => {
+                let key = String::from_str(self.alloc, text.as_str())?;
+                self.texts.insert(key, value)?;
+            }
+        }
+        Ok(())
+    }
+}
+
+/// Whether an id stands in the list twice.
+pub(crate) fn is_repeating(alloc: Global, ids: &[Id]) -> Result<bool, AllocError>
+    ensures { IfOk result (λ b. b ≡ has_repeated (id_values ids.now)) }
+{
+    let mut seen = IdMap::new(alloc);
+    for id in ids {
+        if seen.get(id).is_some() {
+            return Ok(true);
+        }
+        seen.insert(id, ())?;
+    }
+    Ok(false)
+}
