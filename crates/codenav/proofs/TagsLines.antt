@@ -1,13 +1,11 @@
 -- The lines that are lent, and what they say of a tags file.
-use Rattle.std.proofs.Common.{◌≡◌, ◌≢◌, ◌∙◌, ℕ, ◌<◌, ◌==◌, List, [], ◌∷◌, ◌++◌, Bool, true, false, length, map, Option, Some, None, Result, Ok, Err, refl, ap, sym, rules, arith}
+use Rattle.std.proofs.Common.{◌≡◌, ◌≢◌, ◌∙◌, ℕ, ◌<◌, ◌==◌, List, [], ◌∷◌, ◌++◌, Bool, true, false, length, map, Option, Some, None, Ok, Err, refl, ap, sym, arith}
 use Rattle.std.proofs.lemmas.Bool.{lt-ltb}
 use Rattle.std.proofs.lemmas.Bool.Decides.{nat_tests}
 use Rattle.lsif.specs.Lines as lent
 use Rattle.lsif.specs.Lines.{BeginsWith, GivesLine, GivesNone, HasLongLine, IsLine, onto_first}
 use Rattle.tags.specs.Bytes.{line_feed}
-use Rattle.tags.specs.Fault.{Reading}
 use Rattle.tags.specs.Lines.{Line, ended_line, handed, in_front, lines_of, longest_line, reading_of, readings_of}
-use Rattle.tags.specs.declared.code.Code.{Code}
 use Rattle.tags.specs.declared.code.Code.TheVariants.{T01}
 use Rattle.codenav.specs.TagsJudging.{BeginsSo, ReadsFirst, ReadsNone}
 

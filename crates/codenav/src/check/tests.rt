@@ -316,4 +316,5 @@ fn statuses(rt: HostRuntime) {
     assert_eq!(rt; Report::Sound(3).status(), Status::Sound);
 }
 
+mod check_all;
 mod labels;

@@ -20,21 +20,37 @@ fn push_short(text: &mut String, short: &str, around: &str) -> Result<(), Fail> 
     Ok(())
 }
 
+/// What becomes of one line, of this number.
+#[derive(Clone, Copy)]
+enum Change {
+    Without(usize),
+    With(usize, Short),
+}
+
+/// The element on the line of this number. None where the line is left out.
+fn element_on(line: usize, element: Short, change: Change) -> Option<Short> {
+    match change {
+        Change::Without(number) if number == line => None,
+        Change::With(number, other) if number == line => Some(other),
+        _ => Some(element),
+    }
+}
+
 /// The text of a metaData on line 1 and these elements on the lines after it. An element's id is the number of its line,
-/// or that as a text. The line of the number `left_out` is left out, and the others keep their ids.
+/// or that as a text. Where a line is left out the others keep their ids.
 fn dump_of(
     alloc: Global,
     elements: &[Short],
-    left_out: usize,
+    change: Change,
     with_texts: bool,
 ) -> Result<String, Fail> {
     let around = if with_texts { "\"" } else { "" };
     let mut text = String::from_str(alloc, META_DATA)?;
     text.push_str("\n")?;
-    for (k, (kind, label, members)) in elements.iter().enumerate() {
-        if k + 2 == left_out {
+    for (k, element) in elements.iter().enumerate() {
+        let Some((kind, label, members)) = element_on(k + 2, *element, change) else {
             continue;
-        }
+        };
         let front = format!(in alloc;
             "{{\"id\":{around}{}{around},\"type\":\"{kind}\",\"label\":\"{label}\"",
             k + 2
@@ -49,33 +65,57 @@ fn dump_of(
     Ok(text)
 }
 
-/// Asserts the report of a dump without this line, with ids that are numbers and with ids that are texts.
-fn expect_without<R: AllocGlobal + Abort>(
+/// Asserts the report of a dump with this change, with ids that are numbers and with ids that are texts.
+fn expect_changed<R: AllocGlobal + Abort>(
     rt: &R,
     elements: &[Short],
-    left_out: usize,
+    change: Change,
     wanted: &str,
 ) -> Result<(), Fail> {
-    let numbers = dump_of(rt.alloc(), elements, left_out, false)?;
+    let numbers = dump_of(rt.alloc(), elements, change, false)?;
     expect_in(rt, 4096, numbers.as_str(), wanted);
-    let texts = dump_of(rt.alloc(), elements, left_out, true)?;
+    let texts = dump_of(rt.alloc(), elements, change, true)?;
     expect_in(rt, 4096, texts.as_str(), wanted);
     Ok(())
 }
 
 /// Asserts the report of a dump.
 fn expect_of<R: AllocGlobal + Abort>(rt: &R, elements: &[Short], wanted: &str) -> Result<(), Fail> {
-    expect_without(rt, elements, 0, wanted)
+    expect_changed(rt, elements, Change::Without(0), wanted)
 }
 
-/// The same elements with another one on this line.
-fn with<const N: usize>(elements: [Short; N], line: usize, element: Short) -> [Short; N] {
-    let mut changed = elements;
-    if line >= 2 && line - 2 < N {
-        changed[line - 2] = element;
-    }
-    changed
+/// Asserts the report of a dump with another element on the line of this number.
+fn expect_with<R: AllocGlobal + Abort>(
+    rt: &R,
+    elements: &[Short],
+    line: usize,
+    element: Short,
+    wanted: &str,
+) -> Result<(), Fail> {
+    expect_changed(rt, elements, Change::With(line, element), wanted)
 }
+
+/// The base dump: a document with two ranges, and a definition.
+const BASE: [Short; 10] = [
+    ("vertex", "document", "'uri':'file:///a.ts'"),
+    (
+        "vertex",
+        "range",
+        "'start':{'line':0,'character':4},'end':{'line':0,'character':7}",
+    ),
+    (
+        "vertex",
+        "range",
+        "'start':{'line':2,'character':0},'end':{'line':2,'character':3}",
+    ),
+    ("vertex", "resultSet", ""),
+    ("edge", "next", "'outV':<3>,'inV':<5>"),
+    ("edge", "next", "'outV':<4>,'inV':<5>"),
+    ("vertex", "definitionResult", ""),
+    ("edge", "textDocument/definition", "'outV':<5>,'inV':<8>"),
+    ("edge", "item", "'outV':<8>,'inVs':[<3>],'shard':<2>"),
+    ("edge", "contains", "'outV':<2>,'inVs':[<3>,<4>]"),
+];
 
 /// A range in another one.
 const NESTED: [Short; 7] = [
@@ -172,6 +212,7 @@ const REFERENCES: [Short; 12] = [
 
 #[test]
 fn definitions_and_references(rt: HostRuntime) -> Result<(), Fail> {
+    expect_of(&rt, &BASE, "ok 11 elements\n")?;
     expect_of(&rt, &NESTED, "ok 8 elements\n")?;
     expect_of(&rt, &TOUCHING, "ok 15 elements\n")?;
     expect_of(&rt, &REFERENCES, "ok 13 elements\n")?;
@@ -259,7 +300,7 @@ fn definitions_and_references(rt: HostRuntime) -> Result<(), Fail> {
         ),
     ];
     for (line, element, wanted) in table {
-        expect_of(&rt, &with(REFERENCES, line, element), wanted)?;
+        expect_with(&rt, &REFERENCES, line, element, wanted)?;
     }
     Ok(())
 }
@@ -297,9 +338,11 @@ fn shards_of_references(rt: HostRuntime) -> Result<(), Fail> {
         "item",
         "'outV':<6>,'inVs':[<5>],'property':'references','shard':<4>",
     );
-    expect_of(
+    expect_with(
         &rt,
-        &with(SHARDS, 9, elsewhere),
+        &SHARDS,
+        9,
+        elsewhere,
         "line 9: E02 shard is not the document of a target\n",
     )?;
     let definition = (
@@ -307,9 +350,11 @@ fn shards_of_references(rt: HostRuntime) -> Result<(), Fail> {
         "item",
         "'outV':<6>,'inVs':[<5>],'property':'definitions','document':<4>",
     );
-    expect_of(
+    expect_with(
         &rt,
-        &with(SHARDS, 9, definition),
+        &SHARDS,
+        9,
+        definition,
         "line 9: E02 shard is not the document of a target\n",
     )
 }
@@ -400,7 +445,7 @@ fn hovers(rt: HostRuntime) -> Result<(), Fail> {
         ),
     ];
     for (line, element, wanted) in table {
-        expect_of(&rt, &with(HOVERS, line, element), wanted)?;
+        expect_with(&rt, &HOVERS, line, element, wanted)?;
     }
     Ok(())
 }
@@ -569,204 +614,9 @@ fn monikers(rt: HostRuntime) -> Result<(), Fail> {
         ),
     ];
     for (line, element, wanted) in table {
-        expect_of(&rt, &with(IMPORT, line, element), wanted)?;
+        expect_with(&rt, &IMPORT, line, element, wanted)?;
     }
     Ok(())
 }
 
-/// A range named after its document ended.
-const ENDED: [Short; 7] = [
-    ("vertex", "document", "'uri':'file:///v.ts'"),
-    (
-        "vertex",
-        "$event",
-        "'scope':'document','kind':'begin','data':<2>",
-    ),
-    (
-        "vertex",
-        "range",
-        "'start':{'line':0,'character':0},'end':{'line':0,'character':1}",
-    ),
-    ("edge", "contains", "'outV':<2>,'inVs':[<4>]"),
-    (
-        "vertex",
-        "$event",
-        "'scope':'document','kind':'end','data':<2>",
-    ),
-    ("vertex", "resultSet", ""),
-    ("edge", "next", "'outV':<4>,'inV':<7>"),
-];
-
-#[test]
-fn events(rt: HostRuntime) -> Result<(), Fail> {
-    expect_of(&rt, &ENDED, "line 8: L18 named after its document ended\n")?;
-    expect_without(&rt, &ENDED, 6, "ok 7 elements\n")?;
-    expect_without(&rt, &ENDED, 3, "line 5: L17 bad document event\n")?;
-    expect_without(&rt, &ENDED, 8, "ok 7 elements\n")?;
-    let table: [(usize, Short, &str); 17] = [
-        (
-            6,
-            (
-                "vertex",
-                "$event",
-                "'scope':'document','kind':'begin','data':<2>",
-            ),
-            "line 6: L17 bad document event\n",
-        ),
-        (
-            7,
-            (
-                "vertex",
-                "$event",
-                "'scope':'document','kind':'end','data':<2>",
-            ),
-            "line 7: L17 bad document event\n",
-        ),
-        (
-            7,
-            (
-                "vertex",
-                "$event",
-                "'scope':'document','kind':'begin','data':<2>",
-            ),
-            "line 7: L17 bad document event\n",
-        ),
-        (
-            3,
-            (
-                "vertex",
-                "$event",
-                "'scope':'document','kind':'begin','data':<1>",
-            ),
-            "line 3: L17 bad document event\n",
-        ),
-        (
-            3,
-            (
-                "vertex",
-                "$event",
-                "'scope':'document','kind':'begin','data':<9>",
-            ),
-            "line 3: L17 bad document event\n",
-        ),
-        (
-            6,
-            (
-                "vertex",
-                "$event",
-                "'scope':'document','kind':'end','data':<4>",
-            ),
-            "line 6: L17 bad document event\n",
-        ),
-        (
-            3,
-            (
-                "vertex",
-                "$event",
-                "'scope':'document','kind':'open','data':<2>",
-            ),
-            "line 3: L07 bad vertex member\n",
-        ),
-        (
-            3,
-            ("vertex", "$event", "'scope':'document','kind':'begin'"),
-            "line 3: L07 bad vertex member\n",
-        ),
-        (
-            3,
-            ("vertex", "$event", "'kind':'begin','data':<2>"),
-            "line 3: L07 bad vertex member\n",
-        ),
-        (
-            6,
-            ("vertex", "$event", "'scope':'project','kind':7,'data':[]"),
-            "ok 8 elements\n",
-        ),
-        (
-            8,
-            ("edge", "contains", "'outV':<2>,'inVs':[]"),
-            "line 8: L18 named after its document ended\n",
-        ),
-        (
-            8,
-            ("edge", "note", "'outV':<7>,'inVs':[<7>,<4>]"),
-            "line 8: L18 named after its document ended\n",
-        ),
-        (
-            8,
-            ("edge", "note", "'outV':<7>,'inV':<4>"),
-            "line 8: L18 named after its document ended\n",
-        ),
-        (
-            8,
-            ("edge", "note", "'outV':<4>,'inV':<7>"),
-            "line 8: L18 named after its document ended\n",
-        ),
-        (
-            8,
-            ("edge", "note", "'outV':<7>,'inV':<2>"),
-            "ok 8 elements\n",
-        ),
-        (
-            8,
-            ("edge", "item", "'outV':<3>,'inVs':[],'shard':<2>"),
-            "line 8: L10 edge may not join these\n",
-        ),
-        (
-            8,
-            ("edge", "contains", "'outV':<2>,'inVs':[<4>]"),
-            "line 8: L11 range contained before\n",
-        ),
-    ];
-    for (line, element, wanted) in table {
-        expect_of(&rt, &with(ENDED, line, element), wanted)?;
-    }
-    Ok(())
-}
-
-/// A project and a shard name a document that has ended.
-const AFTER_THE_END: [Short; 10] = [
-    ("vertex", "document", "'uri':'file:///v.ts'"),
-    (
-        "vertex",
-        "$event",
-        "'scope':'document','kind':'begin','data':<2>",
-    ),
-    ("vertex", "project", ""),
-    ("vertex", "document", "'uri':'file:///w.ts'"),
-    (
-        "vertex",
-        "range",
-        "'start':{'line':0,'character':0},'end':{'line':0,'character':1}",
-    ),
-    ("edge", "contains", "'outV':<2>,'inVs':[<6>]"),
-    (
-        "vertex",
-        "$event",
-        "'scope':'document','kind':'end','data':<2>",
-    ),
-    ("vertex", "definitionResult", ""),
-    ("edge", "contains", "'outV':<4>,'inVs':[<2>,<5>]"),
-    ("edge", "item", "'outV':<9>,'inVs':[],'shard':<2>"),
-];
-
-#[test]
-fn ended_documents(rt: HostRuntime) -> Result<(), Fail> {
-    expect_of(&rt, &AFTER_THE_END, "ok 11 elements\n")?;
-    let table: [(usize, Short, &str); 2] = [
-        (
-            11,
-            ("edge", "item", "'outV':<9>,'inVs':[<6>],'shard':<4>"),
-            "line 11: L18 named after its document ended\n",
-        ),
-        (
-            11,
-            ("edge", "item", "'outV':<9>,'inVs':[<6>],'shard':<6>"),
-            "line 11: L16 shard names no document or project\n",
-        ),
-    ];
-    for (line, element, wanted) in table {
-        expect_of(&rt, &with(AFTER_THE_END, line, element), wanted)?;
-    }
-    Ok(())
-}
+mod events;
