@@ -1,5 +1,5 @@
 -- The element that a line of a dump is, or the least fault of its shape (LSIF 0.6.0, "Emitting constraints").
-use Rattle.std.specs.Prelude.{◌≡◌, ℕ, nat_lt, true, List, length, codes, bytes_eq, Option, Some, None, option_map, Result, Ok, Err, ⊤, if◌then◌else◌}
+use Rattle.std.specs.Prelude.{ℕ, nat_lt, List, length, codes, bytes_eq, Option, None, option_map, Ok, Err, if◌then◌else◌}
 use Rattle.std.specs.Str.{is_utf8}
 use Rattle.serde_json.specs.Data.{Data}
 use Rattle.serde_json.specs.Read.{read}
@@ -8,7 +8,6 @@ use Rattle.lsif.specs.Ids.{id_at, text_at}
 use Rattle.lsif.specs.Shape.{◌>>=◌, some_or}
 use Rattle.lsif.specs.Vertices.{vertex_in}
 use Rattle.lsif.specs.Edges.{edge_in}
-use Rattle.lsif.specs.declared.code.Code.{Code}
 use Rattle.lsif.specs.declared.code.Code.TheVariants.{L01, L02, L03, L05, L07}
 
 -- ---- the reading of a line; the steps stand in the order of their codes

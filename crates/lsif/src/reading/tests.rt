@@ -316,9 +316,12 @@ fn kind_of(rt: &HostRuntime, members: &str) -> Result<Option<MonikerKind>, Fail>
         "{{\"id\":1,\"type\":\"vertex\",\"label\":\"moniker\",{members}}}"
     )?;
     match read_element(rt.alloc(), line.as_bytes()) {
-        Ok(Element::Vertex(_, Vertex::Moniker(moniker))) => Ok(Some(moniker.kind)),
+        Ok(Element::Vertex(_, vertex)) => match vertex {
+            Vertex::Moniker(moniker) => Ok(Some(moniker.kind)),
+            _ => Err("another vertex")?,
+        },
         Err(ReadFault::Shape(Code::L07)) => Ok(None),
-        _ => Err("neither a moniker nor L07")?,
+        _ => Err("neither a vertex nor L07")?,
     }
 }
 
