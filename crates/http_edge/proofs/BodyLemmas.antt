@@ -1,11 +1,11 @@
 -- A head, and then its body.
-use Rattle.std.proofs.Common.{◌≡◌, ◌≢◌, ℕ, ◌+◌, ◌-◌, ◌<◌, ◌≤◌, ◌⊎◌, inl, inr, Bool, true, false, List, [], ◌∷◌, ◌++◌, length, take, drop, Option, Some, None, refl, sym, ◌∙◌, ap, arith, append_assoc, length-append, zero, suc}
+use Rattle.std.proofs.Common.{◌≡◌, ℕ, ◌+◌, ◌<◌, ◌≤◌, inl, inr, List, [], ◌∷◌, ◌++◌, length, take, drop, Option, refl, sym, ◌∙◌, ap, arith, append_assoc, length-append, zero, suc}
 use Rattle.std.proofs.Math.Seq.{drop-nil}
 use Rattle.std.proofs.lemmas.List.{take-append-le, drop-append-le, take_all, drop_all, length-take, length-drop}
 use Rattle.lsif.specs.Ends.{AtEnd}
-use Rattle.http_edge.specs.Heads.{HeadValue, rejected, request_head, SettlesHead, IsHeadUnended}
+use Rattle.http_edge.specs.Heads.{request_head, SettlesHead}
 use Rattle.http_edge.specs.Items.{IsUnended}
-use Rattle.http_edge.specs.Requests.{ItemValue, refused, item_of}
+use Rattle.http_edge.specs.Requests.{refused, item_of}
 use Rattle.http_edge.specs.Serving.{GivesHead, Gives}
 use Rattle.http_edge.specs.declared.refusal.Refusal.TheVariants.{BodyCut}
 use Rattle.http_edge.proofs.ItemLemmas.{head-append, head_some}

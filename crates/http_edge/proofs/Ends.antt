@@ -1,9 +1,6 @@
 -- Laws of where a head ends.
-use Rattle.std.proofs.Common.{◌≡◌, ◌≢◌, ℕ, ◌+◌, ◌-◌, ◌<◌, ◌≤◌, ◌⊎◌, inl, inr, Bool, true, false, List, [], ◌∷◌, ◌++◌, length, take, drop, Option, Some, None, option_map, refl, sym, ◌∙◌, ap, arith, rules, append_assoc, subst, suc, zero, length-append, lit<}
+use Rattle.std.proofs.Common.{◌≡◌, ℕ, ◌≤◌, Bool, true, false, List, [], ◌∷◌, ◌++◌, length, Option, Some, None, option_map, refl, arith, suc}
 use Rattle.std.specs.Prelude.{if◌then◌else◌}
-use Rattle.std.proofs.lemmas.List.{take-append-le, drop-append-le, length-take}
-use Rattle.std.proofs.Math.Seq.{take-nil}
-use Rattle.std.proofs.lemmas.Grind.{common_steps}
 use Rattle.http_edge.specs.Heads.{is_end, find_head}
 
 is_end_append : (xs ys : List ℕ) → is_end xs ≡ true → is_end (xs ++ ys) ≡ true

@@ -1,19 +1,17 @@
 -- Where the head ends, step by step, and what it says.
-use Rattle.std.proofs.Common.{◌≡◌, ◌≢◌, ℕ, ◌+◌, ◌-◌, ◌<◌, ◌≤◌, inl, inr, Bool, true, false, List, [], ◌∷◌, ◌++◌, length, take, drop, map, get_or, Option, Some, None, Result, Ok, Err, option_map, refl, sym, ◌∙◌, ap, arith, rules, suc, zero, codes, add-one, min}
+use Rattle.std.proofs.Common.{◌≡◌, ℕ, ◌+◌, ◌-◌, ◌<◌, ◌≤◌, inl, Bool, true, false, List, [], ◌∷◌, length, take, drop, map, get_or, Option, Some, None, Result, option_map, refl, sym, ◌∙◌, ap, arith, suc, codes, add-one, min}
 use Rattle.std.proofs.lemmas.List.{length-take, length-map, drop_all, drop-take, take-take}
-use Rattle.std.specs.Prelude.{if◌then◌else◌, slice_range}
+use Rattle.std.specs.Prelude.{slice_range}
 use Rattle.std.proofs.Math.Seq.{drop-cons}
 use Rattle.std.proofs.lemmas.Grind.{common_steps}
 use Rattle.httparse.specs.Grammar.{RequestHead, ReadsRequest}
-use Rattle.httparse.specs.Spans.{header_bytes, span_bytes, IsWithin, IsRequestAt, IsRequestWithin}
-use Rattle.httparse.specs.declared.spans.Span.{Span}
+use Rattle.httparse.specs.Spans.{header_bytes, span_bytes, IsRequestAt, IsRequestWithin}
 use Rattle.httparse.specs.declared.spans.HeaderSpan.{HeaderSpan}
 use Rattle.httparse.specs.declared.spans.RequestSpans.{RequestSpans}
 use Rattle.http_edge.specs.Fields.{body_length}
 use Rattle.http_edge.specs.Heads.{same, is_end, find_head, head_limit, HeadValue, rejected, head_value, with_length, FitsIn, IsSaidBy, Says, SettlesHead, IsHeadUnended}
 use Rattle.http_edge.specs.declared.head.Head.{Head}
 use Rattle.http_edge.specs.declared.head.Head.TheVariants.{Refused, Request}
-use Rattle.http_edge.specs.declared.head.RequestLine.{RequestLine}
 use Rattle.http_edge.specs.declared.refusal.Refusal.{Refusal}
 use Rattle.http_edge.specs.declared.refusal.Refusal.TheVariants.{HeadTooLarge}
 use Rattle.http_edge.proofs.Ends.{find_head-within}

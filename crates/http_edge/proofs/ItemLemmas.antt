@@ -1,16 +1,13 @@
 -- Laws of how bytes are cut into items.
-use Rattle.std.proofs.Common.{◌≡◌, ◌≢◌, ℕ, ◌+◌, ◌-◌, ◌<◌, ◌≤◌, ◌⊎◌, inl, inr, Bool, true, false, List, [], ◌∷◌, ◌++◌, length, take, drop, Option, Some, None, option_map, refl, sym, ◌∙◌, ap, arith, rules, append_assoc, subst, suc, zero, length-append, lit<}
-use Rattle.std.specs.Prelude.{if◌then◌else◌}
+use Rattle.std.proofs.Common.{◌≡◌, ℕ, ◌<◌, ◌≤◌, inl, inr, Bool, true, false, List, [], ◌∷◌, ◌++◌, length, take, Option, Some, None, refl, sym, ◌∙◌, ap, arith, subst, suc, zero, length-append, lit<}
 use Rattle.std.proofs.lemmas.List.{take-append-le, drop-append-le, length-take}
 use Rattle.std.proofs.Math.Seq.{take-nil}
 use Rattle.std.proofs.lemmas.Grind.{common_steps}
-use Rattle.httparse.specs.Grammar.{RequestHead, ReadsRequest}
 use Rattle.httparse.proofs.GrammarLemmas.{request_unique}
-use Rattle.http_edge.specs.Heads.{is_end, find_head, HeadValue, rejected, request_head, IsHead, said_by, IsSaidBy, Says, SaysAt, head_limit, SettlesHeadAt, SettlesHead, IsHeadUnended}
-use Rattle.http_edge.specs.Items.{HasBody, Settles, IsBodyUnended, IsUnended}
-use Rattle.http_edge.specs.Requests.{ItemValue, refused}
+use Rattle.http_edge.specs.Heads.{find_head, HeadValue, rejected, request_head, said_by, IsSaidBy, SaysAt, head_limit, SettlesHeadAt, SettlesHead, IsHeadUnended}
+use Rattle.http_edge.specs.Items.{HasBody, Settles, IsUnended}
+use Rattle.http_edge.specs.Requests.{ItemValue}
 use Rattle.http_edge.specs.declared.refusal.Refusal.{Refusal}
-use Rattle.http_edge.specs.declared.refusal.Refusal.TheVariants.{BadHead, BodyCut}
 use Rattle.http_edge.proofs.Ends.{find_head-within, find_head-append}
 
 pub reads_unique : (head : List ℕ) (a b : HeadValue) → IsSaidBy head a → IsSaidBy head b → a ≡ b

@@ -1,15 +1,15 @@
 -- The route that the router finds for a path, and the parameter that it hands out.
-use Rattle.std.proofs.Common.{◌≡◌, ◌≢◌, ℕ, zero, suc, ◌+◌, ◌-◌, ◌<◌, ◌≤◌, ◌⊎◌, inl, inr, Bool, true, false, List, [], ◌∷◌, ◌++◌, length, length-append, append-nil, take, drop, get_or, Option, Some, None, option_map, refl, sym, ◌∙◌, ap, subst, arith, cond, codes, nat_eq, rules}
+use Rattle.std.proofs.Common.{◌≡◌, ◌≢◌, ℕ, suc, ◌+◌, ◌-◌, ◌<◌, ◌≤◌, ◌⊎◌, inl, inr, Bool, true, false, List, [], ◌∷◌, ◌++◌, length, length-append, append-nil, take, drop, get_or, Option, Some, None, option_map, refl, sym, ◌∙◌, ap, subst, arith, codes, nat_eq}
 use Rattle.std.specs.Prelude.{if◌then◌else◌, ◌==◌, ◌&&◌, nat_lt}
 use Rattle.std.specs.Cmp.Lexicographic.{pointwise}
-use Rattle.std.proofs.lemmas.Bool.{ne_eqb, eq-eqb, lt-ltb, le-leb, eqb-true, eqb-false}
+use Rattle.std.proofs.lemmas.Bool.{ne_eqb, lt-ltb, le-leb, eqb-true, eqb-false}
 use Rattle.std.specs.Str.{IsUtf8}
 use Rattle.std.proofs.lemmas.Str.{IsUtf8-between, IsCharBoundary-before_ascii, IsCharBoundary-after_ascii}
 use lib.Utf8.{encode}
 use Rattle.matchit.specs.Rows.{RowsOf, param_token}
 use Rattle.matchit.specs.Order.{lookup}
-use Rattle.matchit.specs.Params.{walk, wild_from, wild_stop, part_of, next_at, named, AllText}
-use Rattle.matchit.specs.Seek.{first, seek, param_step, or_else, own, segment, has_slash, longest_suffix, cuts, slash, step, with_suffix}
+use Rattle.matchit.specs.Params.{walk, wild_from, wild_stop, part_of, named, AllText}
+use Rattle.matchit.specs.Seek.{first, seek, param_step, segment, has_slash, longest_suffix, cuts, slash}
 use Rattle.matchit.specs.Router.{RouteOf}
 use Rattle.matchit.proofs.OnLiterals.{matchit_on_literals}
 use Rattle.http_edge.specs.Routes.{routes, suffix_of, first_segment, after_segment, after_prefix, route_after, with_project, below_projects, after_projects, route_of, NoSlash, IsPathOf}

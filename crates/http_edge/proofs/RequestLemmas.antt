@@ -1,6 +1,6 @@
 -- What requests ask.
-use Rattle.std.proofs.Common.{◌≡◌, ◌≢◌, ℕ, ◌<◌, ◌≤◌, ◌⊎◌, inl, inr, Bool, true, false, List, [], ◌∷◌, Option, Some, None, MatchOption, length, codes, refl, ap, sym, ◌∙◌}
-use Rattle.std.specs.Prelude.{if◌then◌else◌, ◌==◌, ◌&&◌, ◌||◌, not, slice_index}
+use Rattle.std.proofs.Common.{◌≡◌, ◌≢◌, ℕ, ◌⊎◌, inl, inr, Bool, true, false, List, [], ◌∷◌, Option, Some, None, MatchOption, length, codes, refl, ap, sym, ◌∙◌}
+use Rattle.std.specs.Prelude.{◌==◌, ◌||◌, not, slice_index}
 use Rattle.std.specs.Char.{is_digit, digit_value}
 use Rattle.std.specs.List.{list_all}
 use Rattle.std.specs.Str.{bytes_eq, IsUtf8, is_utf8}
@@ -10,7 +10,7 @@ use Rattle.std.proofs.lemmas.Str.{IsUtf8-from_is_utf8, is_utf8-from_IsUtf8}
 use Rattle.positions.specs.Position.{number_limit}
 use Rattle.desk.specs.Names.{IsNumberText}
 use Rattle.desk.specs.Requests.{RequestValue}
-use Rattle.http_edge.specs.Requests.{ItemValue, request, refused, path_in, query_in, is_number, number_in, with_form, with_method, with_route, route_in, request_of, item_of}
+use Rattle.http_edge.specs.Requests.{request, refused, path_in, query_in, is_number, number_in, with_form, with_method, with_route, route_in, request_of, item_of}
 use Rattle.http_edge.specs.Items.{ends}
 use Rattle.http_edge.specs.Routes.{method_of, route_of}
 use Rattle.http_edge.specs.declared.route.Route.{Route}

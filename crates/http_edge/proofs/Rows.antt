@@ -1,10 +1,10 @@
 -- What a router of literals and one parameter answers.
-use Rattle.std.proofs.Common.{length-append, ◌≡◌, ◌≢◌, ℕ, zero, suc, ◌+◌, ◌-◌, ◌<◌, ◌≤◌, ◌⊎◌, inl, inr, Bool, true, false, List, [], ◌∷◌, ◌++◌, length, take, drop, Option, Some, None, refl, sym, ◌∙◌, ap, arith, All, cond, nat_eq, ltb, subst}
+use Rattle.std.proofs.Common.{length-append, ◌≡◌, ◌≢◌, ℕ, zero, suc, ◌-◌, ◌<◌, ◌≤◌, Bool, true, false, List, [], ◌∷◌, ◌++◌, length, Option, Some, None, refl, sym, ◌∙◌, arith, cond, nat_eq}
 use Rattle.std.proofs.lemmas.Bool.{ne_eqb, eq-eqb}
 use Rattle.std.specs.Prelude.{◌==◌, ◌&&◌}
 use Rattle.matchit.specs.Rows.{RowsOf, param_token, catch_all_token}
 use Rattle.matchit.specs.Order.{lookup}
-use Rattle.matchit.specs.Seek.{own, step, or_else, seek, first, param_step, segment, has_slash, same_text, slash, longest_from, longest_suffix, with_suffix}
+use Rattle.matchit.specs.Seek.{own, step, or_else, seek, first, param_step, segment, has_slash, same_text, slash, longest_suffix, with_suffix}
 
 -- a row of bytes alone
 abbrev pub IsLiteral : List ℕ → Type 0

@@ -1,8 +1,7 @@
 -- Runs that go on by one item, and what surely comes first.
-use Rattle.std.proofs.Common.{◌≡◌, ℕ, ◌+◌, ◌-◌, ◌<◌, inl, inr, List, [], ◌∷◌, ◌++◌, length, Option, None, refl, sym, ◌∙◌, ap, arith, append_assoc, append-nil, subst, suc}
+use Rattle.std.proofs.Common.{◌≡◌, ℕ, ◌-◌, ◌<◌, inl, inr, List, [], ◌∷◌, ◌++◌, length, Option, None, refl, sym, ◌∙◌, ap, arith, append_assoc, append-nil, subst, suc}
 use Rattle.desk.specs.Machine.{State}
-use Rattle.lsif.specs.Ends.{AtEnd}
-use Rattle.http_edge.specs.Items.{Settles, SettlesAll, Requests, BeginsEach, IsPrefix}
+use Rattle.http_edge.specs.Items.{Settles, SettlesAll, BeginsEach}
 use Rattle.http_edge.specs.Requests.{ItemValue}
 use Rattle.http_edge.specs.Serving.{Answers, Run, joined, Gives, IsBegun}
 use Rattle.http_edge.proofs.ItemLemmas.{settles-append}

@@ -1,11 +1,11 @@
 -- What is sure of the items.
-use Rattle.std.proofs.Common.{◌≡◌, ◌≢◌, ℕ, ◌+◌, ◌-◌, ◌<◌, ◌≤◌, ◌⊎◌, inl, inr, Bool, true, false, List, [], ◌∷◌, ◌++◌, length, take, Option, Some, None, refl, sym, ◌∙◌, ap, subst, arith, append_assoc, append-nil, suc, zero, lit<, length-append, replicate, drop, option_map}
+use Rattle.std.proofs.Common.{◌≡◌, ℕ, ◌+◌, ◌-◌, ◌<◌, inl, inr, Bool, true, false, List, [], ◌∷◌, ◌++◌, length, take, Option, Some, None, refl, sym, ◌∙◌, ap, subst, arith, append_assoc, append-nil, suc, zero, length-append, replicate, drop, option_map}
 use Rattle.std.proofs.lemmas.List.{take-append-drop, length-replicate, drop_all}
 use Rattle.std.specs.Prelude.{◌&&◌, if◌then◌else◌}
-use Rattle.http_edge.specs.Heads.{is_end, find_head, head_limit, HeadValue, rejected, request_head, SettlesHeadAt, SettlesHead, IsHeadUnended}
-use Rattle.http_edge.specs.Items.{HasBody, Settles, IsBodyUnended, IsUnended, First, ends, Unless, Requests, IsPrefix, BeginsEach, Sure, SettlesAll, IsEnded}
+use Rattle.http_edge.specs.Heads.{is_end, find_head, head_limit, rejected, request_head, SettlesHead}
+use Rattle.http_edge.specs.Items.{Settles, IsUnended, First, ends, Unless, Requests, IsPrefix, BeginsEach, Sure, SettlesAll}
 use Rattle.http_edge.specs.Refusals.{ends_stream}
-use Rattle.http_edge.specs.Requests.{ItemValue, request, refused, item_of}
+use Rattle.http_edge.specs.Requests.{ItemValue, refused, item_of}
 use Rattle.http_edge.specs.Serving.{Gives, StopsWell}
 use Rattle.http_edge.specs.declared.refusal.Refusal.{Refusal}
 use Rattle.http_edge.specs.declared.refusal.Refusal.TheVariants.{BadHead, HeadTooLarge, BodyCut}

@@ -1,5 +1,5 @@
 -- What the fields of a head say of the body that follows it (RFC 9112, sections 5 and 6).
-use Rattle.std.specs.Prelude.{◌≡◌, ℕ, ◌+◌, ◌<◌, ◌≤◌, Bool, true, false, ◌&&◌, List, [], ◌∷◌, map, length, codes, if◌then◌else◌, nat_lt, nat_le, Result, Ok, Err, ⊤}
+use Rattle.std.specs.Prelude.{ℕ, Bool, ◌&&◌, List, [], ◌∷◌, map, length, codes, if◌then◌else◌, nat_lt, nat_le, Result, Ok, Err}
 use Rattle.std.specs.List.{list_all}
 use Rattle.std.specs.Char.{to_ascii_lowercase, is_ascii_digit}
 use Rattle.std.specs.Str.{bytes_eq}

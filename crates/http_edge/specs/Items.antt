@@ -1,5 +1,5 @@
 -- The items of a stream of bytes: its requests, one after the other.
-use Rattle.std.specs.Prelude.{◌≡◌, ◌≢◌, ℕ, ◌+◌, ◌<◌, ◌≤◌, ◌⊎◌, Bool, true, false, List, [], ◌∷◌, ◌++◌, length, take, drop, zero, suc}
+use Rattle.std.specs.Prelude.{◌≡◌, ◌≢◌, ℕ, ◌<◌, ◌≤◌, ◌⊎◌, Bool, true, false, List, [], ◌∷◌, ◌++◌, length, take, drop, zero, suc}
 use Rattle.http_edge.specs.Heads.{HeadValue, rejected, request_head, SettlesHead, IsHeadUnended}
 use Rattle.http_edge.specs.Refusals.{ends_stream}
 use Rattle.http_edge.specs.Requests.{ItemValue, request, refused, item_of}

@@ -1,5 +1,5 @@
 -- The text of replies (RFC 9112, sections 4 to 6).
-use Rattle.std.specs.Prelude.{ℕ, List, [], ◌∷◌, ◌++◌, ◌&&◌, length, codes, Option, Some, None, unwrap_or, if◌then◌else◌, nat_le, nat_lt}
+use Rattle.std.specs.Prelude.{ℕ, List, [], ◌++◌, ◌&&◌, length, codes, Option, Some, None, unwrap_or, if◌then◌else◌, nat_le, nat_lt}
 use Rattle.std.specs.Fmt.{decimal}
 use Rattle.http.specs.StatusCode.{reason_phrase}
 use Rattle.desk.specs.Reply.{ReplyValue}

@@ -1,5 +1,5 @@
 -- What a request asks of the desk, by its method, its target and its body.
-use Rattle.std.specs.Prelude.{◌≡◌, ℕ, Bool, true, false, List, [], ◌∷◌, Option, Some, None, codes, length, slice_index, if◌then◌else◌, ◌==◌, ◌&&◌, ◌||◌, not, nat_lt}
+use Rattle.std.specs.Prelude.{ℕ, Bool, true, false, List, [], ◌∷◌, Option, Some, None, codes, length, slice_index, if◌then◌else◌, ◌==◌, ◌&&◌, ◌||◌, not, nat_lt}
 use Rattle.std.specs.Str.{is_utf8, bytes_eq}
 use Rattle.std.specs.Char.{is_digit}
 use Rattle.std.specs.List.{list_all}

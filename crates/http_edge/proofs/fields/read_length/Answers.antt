@@ -1,4 +1,4 @@
-use Rattle.std.proofs.Common.{◌≡◌, ◌+◌, ◌-◌, ◌≤◌, rules, arith, length, get_or}
+use Rattle.std.proofs.Common.{arith, length, get_or}
 use Rattle.http_edge.proofs.FieldLemmas.{small_fits, is_digit_small}
 use Rattle.http_edge.proofs.fields.read_length.Goals as goal
 

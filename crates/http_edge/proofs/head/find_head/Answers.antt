@@ -1,4 +1,4 @@
-use Rattle.std.proofs.Common.{sym, ◌∙◌, ◌<◌, length}
+use Rattle.std.proofs.Common.{sym, ◌∙◌}
 use Rattle.std.proofs.lemmas.List.{take_rest}
 use Rattle.http_edge.proofs.HeadLemmas.{found_here, found_later, found_none}
 use Rattle.http_edge.proofs.head.find_head.Goals as goal

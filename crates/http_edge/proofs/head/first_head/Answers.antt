@@ -1,7 +1,4 @@
-use Rattle.std.proofs.Common.{◌≡◌, ◌<◌, ◌≤◌, sym, ◌∙◌, length, rules, arith, min}
-use Rattle.std.proofs.lemmas.Grind.{common_steps}
-use Rattle.std.proofs.lemmas.List.{length-take}
-use Rattle.http_edge.specs.Heads.{head_limit}
+use Rattle.std.proofs.Common.{arith}
 use Rattle.http_edge.proofs.HeadLemmas.{head_limit_is, found_fits, found_fits_more, settles_found, settles_long, head_unended}
 use Rattle.http_edge.proofs.head.first_head.Goals as goal
 

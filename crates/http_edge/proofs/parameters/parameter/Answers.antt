@@ -1,6 +1,5 @@
-use Rattle.std.proofs.Common.{◌≡◌, ◌∙◌, sym, ap}
-use Rattle.form_urlencoded.specs.Parse.{pairs_left}
-use Rattle.http_edge.specs.Parameters.{parameter_values, values_named}
+use Rattle.std.proofs.Common.{◌∙◌, sym}
+use Rattle.http_edge.specs.Parameters.{parameter_values}
 use Rattle.http_edge.proofs.PairLemmas.{more, ended}
 use Rattle.http_edge.proofs.parameters.parameter.Goals as goal
 

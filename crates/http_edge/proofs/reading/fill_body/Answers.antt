@@ -1,4 +1,4 @@
-use Rattle.std.proofs.Common.{◌≡◌, ◌+◌, ◌≤◌, ◌++◌, length, take, drop, sym, arith, refl, ◌∙◌, append_assoc, ap₂, ap}
+use Rattle.std.proofs.Common.{◌++◌, take, drop, sym, arith, ◌∙◌, append_assoc, ap}
 use Rattle.http_edge.proofs.MovedLemmas.{moves_more, sent_more}
 use Rattle.http_edge.proofs.reading.fill_body.Goals as goal
 

@@ -1,4 +1,4 @@
-use Rattle.std.proofs.Common.{◌≡◌, ◌++◌, refl, sym, ◌∙◌, ap, length, drop, inl, arith}
+use Rattle.std.proofs.Common.{◌++◌, refl, ◌∙◌, length, inl, arith}
 use Rattle.std.proofs.lemmas.List.{take_rest, drop_all}
 use Rattle.http_edge.specs.Fields.{body_limit}
 use Rattle.http_edge.specs.declared.refusal.Refusal.TheVariants.{BadHead, BodyCut}

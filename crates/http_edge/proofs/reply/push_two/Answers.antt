@@ -1,4 +1,3 @@
-use Rattle.std.proofs.Common.{◌++◌}
 use Rattle.http_edge.proofs.ReplyLemmas.{sends_more, sends_less}
 use Rattle.http_edge.proofs.reply.push_two.Goals as goal
 

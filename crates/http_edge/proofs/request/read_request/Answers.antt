@@ -1,4 +1,4 @@
-use Rattle.std.proofs.Common.{◌∙◌, sym}
+use Rattle.std.proofs.Common.{sym}
 use Rattle.http_edge.proofs.RequestLemmas.{asks_no_route, asks_other_method, asks_request, asks_nothing}
 use Rattle.http_edge.proofs.request.read_request.Goals as goal
 

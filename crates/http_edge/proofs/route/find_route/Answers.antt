@@ -1,6 +1,5 @@
-use Rattle.std.proofs.Common.{◌≡◌, refl, sym, ◌∙◌, ap, get_or, ◌<◌, ℕ, List, Some, ap₂}
+use Rattle.std.proofs.Common.{sym}
 use Rattle.http_edge.proofs.Paths.{found_is, not_found, given, not_given}
-use Rattle.http_edge.specs.declared.route.Route.{Route}
 use Rattle.http_edge.proofs.route.find_route.Goals as goal
 
 pub returns-in-Some : goal.returns-in-Some

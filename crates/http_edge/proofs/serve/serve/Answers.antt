@@ -1,8 +1,8 @@
-use Rattle.std.proofs.Common.{◌≡◌, ◌+◌, ◌<◌, ◌≤◌, ◌++◌, inl, inr, [], ◌∷◌, length, sym, arith, refl, ◌∙◌, append_assoc, length-append}
+use Rattle.std.proofs.Common.{◌≡◌, ◌<◌, ◌++◌, inl, inr, [], ◌∷◌, length, sym, arith, refl, ◌∙◌, length-append}
 use Rattle.http_edge.specs.Serving.{item_value}
 use Rattle.http_edge.proofs.MovedLemmas.{gains_refl, gains_more, moves_refl, moves_more, moves_or_more, gains_or_more}
 use Rattle.http_edge.proofs.Runs.{run-snoc, joined-snoc, begun}
-use Rattle.http_edge.proofs.Sures.{settled-append, settled-snoc, requests-full, requests-ended, requests-last, sure-full, gives_settles, stops-last, sure-unended}
+use Rattle.http_edge.proofs.Sures.{settled-append, settled-snoc, requests-full, requests-ended, sure-full, gives_settles, stops-last, sure-unended}
 use Rattle.http_edge.proofs.serve.serve.Goals as goal
 
 pub serving-init : goal.serving-init

@@ -1,4 +1,4 @@
-use Rattle.std.proofs.Common.{◌≡◌, ◌-◌, ◌≤◌, ◌++◌, ℕ, List, length}
+use Rattle.std.proofs.Common.{◌≡◌, ◌-◌, ◌≤◌, ℕ, List, length}
 use Rattle.lsif.specs.Ends.{Moves, Gains}
 use Rattle.http_edge.specs.Items.{SettlesAll}
 use Rattle.http_edge.specs.Requests.{ItemValue}
