@@ -1,16 +1,13 @@
 -- What tables tell of elements, and what an element more makes of them.
-use Rattle.std.proofs.Common.{◌≡◌, ◌∙◌, ◌||◌, ◌+◌, ◌++◌, ◌∷◌, [], ℕ, Bor, Bool, true, false, cond, List, length, map, refl, sym, ap, subst, Option, Some, None, option_and_then, is_some}
-use Rattle.std.specs.Prelude.{Contains, IfSome, option_map, option_copied}
+use Rattle.std.proofs.Common.{◌≡◌, ◌∙◌, ◌||◌, ◌+◌, ◌++◌, ◌∷◌, [], ℕ, Bor, Bool, true, false, cond, List, length, refl, sym, ap, Option, Some, None, option_and_then, is_some}
+use Rattle.std.specs.Prelude.{Contains, option_map, option_copied}
 use Rattle.std.specs.List.{list_any, position}
-use Rattle.std.proofs.lemmas.List.{map-append}
 use Rattle.std.proofs.lemmas.List.Folds.{list_any-append}
-use Rattle.lsif.specs.Element.{IdValue, same_id, meta_data, project, document, range, result_set, definition_result, reference_result, hover_result, moniker, package_information, event, other_vertex, begin_event, end_event, other_event, ElementValue, vertex, edge, element_value}
-use Rattle.lsif.specs.declared.element.Element.{Element}
-use Rattle.dump.specs.declared.index.Index.{Index}
+use Rattle.lsif.specs.Element.{IdValue, same_id, meta_data, project, document, range, result_set, definition_result, reference_result, hover_result, moniker, package_information, event, other_vertex, begin_event, end_event, other_event, ElementValue, vertex, edge}
 use Rattle.dump.specs.Conditions.{is_document_of}
 use Rattle.dump.specs.Ended.{begins, finishes}
 use Rattle.dump.specs.Ids.{IsTable}
-use Rattle.dump.specs.Index.{IsIndex, is_id, edge_source, begun_document, ended_document, entered}
+use Rattle.dump.specs.Index.{is_id, edge_source, begun_document, ended_document, entered}
 use Rattle.dump.specs.Walks.{Pair, is_edge_from}
 use Rattle.dump.proofs.Members.{contains_head, contains_tail}
 use Rattle.dump.proofs.Tables.{position-cons, position_hit, position_miss, position_kept}
@@ -103,10 +100,3 @@ last_or false false = refl
 -- whether one more is the document of a serialized URL
 pub document_more : (uri : List ℕ) (d : List ElementValue) (x : ElementValue) (had has : Bool) → had ≡ list_any (is_document_of uri) d → has ≡ (is_document_of uri x || had) → has ≡ list_any (is_document_of uri) (d ++ x ∷ [])
 document_more uri d x had has e f = f ∙ ap (λ b. is_document_of uri x || b) e ∙ last_or (list_any (is_document_of uri) d) (is_document_of uri x) ∙ sym (list_any-append (is_document_of uri) d (x ∷ []))
-
--- the tables of a list that got one element more
-pub index_of_more : (o : Option Index) (items old seen : List Element) (e : Element) → items ≡ old ++ e ∷ [] → seen ≡ old
-    → IfSome o (λ x. IsIndex x (map element_value seen ++ element_value e ∷ [])) → IfSome o (λ x. IsIndex x (map element_value items))
-index_of_more o items old seen e more same h =
-    subst (λ d. IfSome o (λ x. IsIndex x d)) (sym (ap (map element_value) more ∙ map-append element_value old (e ∷ [])))
-    (subst (λ s. IfSome o (λ x. IsIndex x (map element_value s ++ element_value e ∷ []))) same h)

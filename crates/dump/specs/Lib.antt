@@ -8,6 +8,7 @@ pub mod Index
 pub mod Judging
 pub mod Lines
 pub mod Places
+pub mod Results
 pub mod Spans
 pub mod Steps
 pub mod Walks

@@ -4,11 +4,11 @@ ghost use Rattle.lsif.specs.Element.{element_value, reading_value};
 ghost use Rattle.dump.specs.declared.fault.FeedFault.TheVariants.{Line};
 
 use crate::fault::{FeedFault, LineFault};
-use crate::graph::Graph;
+use crate::graph::{Graph, Request};
 use crate::laws::chain_law;
 use crate::order::{end_fault, order_code};
 use crate::vertices::vertex_at;
-use crate::walks::first_definition;
+use crate::walks::first_result;
 use lsif::{Code, Element, Id, Profile, Vertex};
 use std::alloc::Global;
 use std::marker::Model;
@@ -141,7 +141,8 @@ impl CheckedDump {
     ghost use Rattle.dump.specs.Graph.{vertex_at};
     ghost use Rattle.dump.specs.Contained.{is_in};
     ghost use Rattle.dump.specs.Fault.{IsFaultless};
-    ghost use Rattle.dump.specs.Places.{FirstDefinition};
+    ghost use Rattle.dump.specs.Places.{FirstDefinition, FirstReferences, FirstHover};
+    ghost use Rattle.dump.specs.Walks.{first_to, package_pairs};
 
     /// The elements: that of line 1 first.
     pub fn elements(&self) -> &[Element]
@@ -159,7 +160,34 @@ impl CheckedDump {
         ensures only { (other : Option IdValue) → FirstDefinition self.now (id_value vertex.now) other → other ≡ option_map (λ i. id_value i.now) result }
     {
         chain_law();
-        first_definition(&self.graph, vertex)
+        first_result(&self.graph, Request::Definition, vertex)
+    }
+
+    /// The reference result that a request at this vertex is answered by: that of the first vertex along the chain of
+    /// `next` edges from it that has one.
+    pub fn first_references<'a>(&'a self, vertex: &'a Id) -> Option<&'a Id>
+        ensures value { FirstReferences self.now (id_value vertex.now) (option_map (λ i. id_value i.now) result) }
+        ensures only { (other : Option IdValue) → FirstReferences self.now (id_value vertex.now) other → other ≡ option_map (λ i. id_value i.now) result }
+    {
+        chain_law();
+        first_result(&self.graph, Request::References, vertex)
+    }
+
+    /// The hover result that a request at this vertex is answered by: that of the first vertex along the chain of `next`
+    /// edges from it that has one.
+    pub fn first_hover<'a>(&'a self, vertex: &'a Id) -> Option<&'a Id>
+        ensures value { FirstHover self.now (id_value vertex.now) (option_map (λ i. id_value i.now) result) }
+        ensures only { (other : Option IdValue) → FirstHover self.now (id_value vertex.now) other → other ≡ option_map (λ i. id_value i.now) result }
+    {
+        chain_law();
+        first_result(&self.graph, Request::Hover, vertex)
+    }
+
+    /// The package that a `packageInformation` edge out of this moniker names.
+    pub fn package_of(&self, moniker: &Id) -> Option<&Id>
+        ensures { option_map (λ i. id_value i.now) result ≡ first_to (package_pairs self.now) (id_value moniker.now) }
+    {
+        self.graph.package_of(moniker)
     }
 
     /// What the vertex of this id says. None where the id is an edge's, or nobody's.

@@ -7,6 +7,7 @@ ghost use Rattle.dump.specs.Contained.{is_contained, is_in, spans_of, spans_in, 
 ghost use Rattle.dump.specs.Ended.{has_begun, has_ended, is_closed};
 ghost use Rattle.dump.specs.Graph.{element_at, has_repeated};
 ghost use Rattle.dump.specs.Index.{IsIndex};
+ghost use Rattle.dump.specs.Results.{result_pairs};
 ghost use Rattle.dump.specs.Steps.{IsSound};
 ghost use Rattle.dump.specs.Walks.{first_to, next_pairs, definition_pairs, references_pairs, hover_pairs, package_pairs};
 
@@ -16,7 +17,14 @@ use crate::search;
 use lsif::{Element, Id};
 use std::alloc::{AllocError, Global};
 use std::marker::Model;
-use std::mem::replace;
+
+/// What is asked at a position (Language Server Protocol 3.17).
+#[derive(Clone, Copy)]
+pub(crate) enum Request {
+    Definition,
+    References,
+    Hover,
+}
 
 /// The elements of the lines so far, and tables that lead to them. Without the tables they are looked up by a search of
 /// their list, which gives the same: so it is once memory was refused for the tables.
@@ -38,24 +46,28 @@ impl Model for Graph {
     ghost invariant = { λ g. IfSome g.index (λ x. IsIndex x (map element_value g.elements.items)) };
 }
 
-/// The tables, where there are some, with the element that follows these.
-fn with_element(
-    index: Option<Index>,
+/// Enters the element that follows these in the tables, where there are some.
+fn enter(
+    index: &mut Option<Index>,
     elements: &[Element],
     element: &Element,
-) -> Result<Option<Index>, AllocError>
-    requires index { IfSome index (λ x. IsIndex x (map element_value elements.now)) }
+) -> Result<(), AllocError>
+    requires index { IfSome index.old (λ x. IsIndex x (map element_value elements.now)) }
     requires sound { IsSound (map element_value elements.now) }
     requires free { order_code (map element_value elements.now) (element_value element.now) ≡ None }
-    ensures { IfOk result (λ o. IfSome o (λ x. IsIndex x (map element_value elements.now ++ element_value element.now ∷ []))) }
+    ensures { OnOk result (IfSome index.new (λ x. IsIndex x (map element_value elements.now ++ element_value element.now ∷ []))) }
 {
     match index {
-        Some(mut index) => {
-            index.add(elements, element)?;
-            Ok(Some(index))
-        }
-        None => Ok(None),
+        Some(index) => index.add(elements, element),
+        None => Ok(()),
     }
+}
+
+/// Gives up the tables.
+fn give_up(index: &mut Option<Index>)
+    ensures { index.new ≡ None }
+{
+    let _index = index.take();
 }
 
 impl Graph {
@@ -110,9 +122,14 @@ impl Graph {
         ensures ok { OnOk result (self.new ≡ self.old ++ element_value element ∷ []) }
         ensures err { OnErr result (self.new ≡ self.old) }
     {
-        let index = with_element(self.index.take(), &self.elements, &element)?;
-        self.elements.push(element)?;
-        let _none = replace(&mut self.index, index);
+        if let Err(refused) = enter(&mut self.index, &self.elements, &element) {
+            give_up(&mut self.index);
+            return Err(refused);
+        }
+        if let Err(refused) = self.elements.push(element) {
+            give_up(&mut self.index);
+            return Err(AllocError::from(refused));
+        }
         Ok(())
     }
 
@@ -250,6 +267,17 @@ impl Graph {
         match &self.index {
             Some(index) => index.hover_of(&self.elements, id),
             None => search::walks::hover_of(&self.elements, id),
+        }
+    }
+
+    /// The result that an edge out of this vertex names for the request.
+    pub(crate) fn result_of(&self, request: Request, id: &Id) -> Option<&Id>
+        ensures { option_map (λ i. id_value i.now) result ≡ first_to (result_pairs request self.now) (id_value id.now) }
+    {
+        match request {
+            Request::Definition => self.definition_of(id),
+            Request::References => self.references_of(id),
+            Request::Hover => self.hover_of(id),
         }
     }
 

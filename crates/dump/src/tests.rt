@@ -94,6 +94,56 @@ fn first_definition_along_a_chain_and_look_ups(rt: HostRuntime) -> Result<(), Fa
     Ok(())
 }
 
+/// Of the chain above a reference result 20 at 6 and a hover result 22 at 5; and a moniker 24 of the package 25.
+const RESULTS: [&str; 7] = [
+    "{\"id\":20,\"type\":\"vertex\",\"label\":\"referenceResult\"}",
+    "{\"id\":21,\"type\":\"edge\",\"label\":\"textDocument/references\",\"outV\":6,\"inV\":20}",
+    "{\"id\":22,\"type\":\"vertex\",\"label\":\"hoverResult\",\"result\":{\"contents\":\"x\"}}",
+    "{\"id\":23,\"type\":\"edge\",\"label\":\"textDocument/hover\",\"outV\":5,\"inV\":22}",
+    "{\"id\":24,\"type\":\"vertex\",\"label\":\"moniker\",\"scheme\":\"s\",\"identifier\":\"i\"}",
+    "{\"id\":25,\"type\":\"vertex\",\"label\":\"packageInformation\",\"manager\":\"m\",\"name\":\"n\"}",
+    "{\"id\":26,\"type\":\"edge\",\"label\":\"packageInformation\",\"outV\":24,\"inV\":25}",
+];
+
+/// Whether the id that is found is this number, or neither is there.
+fn is_number(found: Option<&Id>, wanted: Option<u64>) -> bool {
+    match (found, wanted) {
+        (Some(id), Some(number)) => id.is(&Id::Number(number)),
+        (None, None) => true,
+        _ => false,
+    }
+}
+
+#[test]
+fn first_references_and_hovers_and_packages(rt: HostRuntime) -> Result<(), Fail> {
+    let mut checker = Checker::new(rt.alloc(), Profile::One);
+    for line in [META_DATA, DOCUMENT] {
+        assert_eq!(rt; checker.feed(Ok(element(&rt, line)?)), Ok(()));
+    }
+    for line in CHAIN {
+        assert_eq!(rt; checker.feed(Ok(element(&rt, line)?)), Ok(()));
+    }
+    for line in RESULTS {
+        assert_eq!(rt; checker.feed(Ok(element(&rt, line)?)), Ok(()));
+    }
+    assert_eq!(rt; checker.feed(Ok(element(&rt, CONTAINS)?)), Ok(()));
+    let dump = checker.finish().map_err(|_| "a fault")?;
+    for (vertex, references, hover) in [
+        (3, Some(20), Some(22)),
+        (5, Some(20), Some(22)),
+        (6, Some(20), None),
+        (2, None, None),
+    ] {
+        let vertex = Id::Number(vertex);
+        assert!(rt; is_number(dump.first_references(&vertex), references));
+        assert!(rt; is_number(dump.first_hover(&vertex), hover));
+    }
+    let (moniker, package) = (Id::Number(24), Id::Number(25));
+    assert!(rt; is_number(dump.package_of(&moniker), Some(25)));
+    assert!(rt; is_number(dump.package_of(&package), None));
+    Ok(())
+}
+
 #[test]
 fn dump_of_a_reader(rt: HostRuntime) -> Result<(), Fail> {
     let text = format!(in rt.alloc(); "{META_DATA}\n{DOCUMENT}")?;

@@ -87,8 +87,8 @@ fn asking(rt: &HostRuntime, numbers: &mut Numbers) -> Result<Id, Fail> {
 }
 
 fn span(numbers: &mut Numbers) -> Result<Span, Fail> {
-    let start = numbers.below(6) as u32;
-    let length = numbers.below(4) as u32;
+    let start = u32::try_from(numbers.below(6)).unwrap_or(0);
+    let length = u32::try_from(numbers.below(4)).unwrap_or(0);
     let start = Position::new(0, start).ok_or("no position")?;
     let end = Position::new(0, start.character().saturating_add(length)).ok_or("no position")?;
     Ok(Span::new(start, end).ok_or("no span")?)
@@ -217,13 +217,12 @@ fn feed_all(
     seeds: &[u64],
     last: u64,
 ) -> Result<Result<(), FeedFault>, Fail> {
-    let mut place = 0;
-    for seed in seeds {
-        if checker.feed(Ok(element(rt, *seed, place)?)).is_err() {
+    for (place, seed) in seeds.iter().enumerate() {
+        if checker.feed(Ok(element(rt, *seed, place as u64)?)).is_err() {
             Err("an element that had no fault before has one")?;
         }
-        place += 1;
     }
+    let place = seeds.len() as u64;
     Ok(checker.feed(Ok(element(rt, last, place)?)))
 }
 

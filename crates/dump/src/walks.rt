@@ -2,9 +2,10 @@
 ghost use Rattle.std.specs.Prelude.{◌≡◌, List, option_map};
 ghost use Rattle.lsif.specs.Element.{IdValue, id_value};
 ghost use Rattle.dump.specs.Steps.{IsSound};
-ghost use Rattle.dump.specs.Walks.{IsChain, HasChain, first_of_list, reaches, next_pairs, definition_pairs};
+ghost use Rattle.dump.specs.Results.{result_pairs};
+ghost use Rattle.dump.specs.Walks.{IsChain, HasChain, first_of_list, reaches, next_pairs};
 
-use crate::graph::Graph;
+use crate::graph::{Graph, Request};
 use lsif::Id;
 
 /// Whether a path of `next` edges, of no step or more, goes from the one vertex to the other.
@@ -25,14 +26,14 @@ pub(crate) fn leads(graph: &Graph, from: &Id, to: &Id) -> bool
     place.is(to)
 }
 
-/// The definition result that the first vertex along the chain of `next` edges has, of those from this one on.
-pub(crate) fn first_definition<'a>(graph: &'a Graph, from: &'a Id) -> Option<&'a Id>
+/// The result that the first vertex along the chain of `next` edges has for this request, of those from this one on.
+pub(crate) fn first_result<'a>(graph: &'a Graph, request: Request, from: &'a Id) -> Option<&'a Id>
     requires { HasChain (next_pairs graph.now) (id_value from.now) }
-    ensures { (xs : List IdValue) → IsChain (next_pairs graph.now) (id_value from.now) xs → option_map (λ i. id_value i.now) result ≡ first_of_list (definition_pairs graph.now) xs }
+    ensures { (xs : List IdValue) → IsChain (next_pairs graph.now) (id_value from.now) xs → option_map (λ i. id_value i.now) result ≡ first_of_list (result_pairs request graph.now) xs }
 {
     let mut place = from;
     for _step in 0..graph.len() {
-        if let Some(result) = graph.definition_of(place) {
+        if let Some(result) = graph.result_of(request, place) {
             return Some(result);
         }
         match graph.next_of(place) {
@@ -40,5 +41,5 @@ pub(crate) fn first_definition<'a>(graph: &'a Graph, from: &'a Id) -> Option<&'a
             None => return None,
         }
     }
-    graph.definition_of(place)
+    graph.result_of(request, place)
 }

@@ -1,7 +1,0 @@
-use Rattle.lsif.specs.Element.{id_value}
-use Rattle.dump.specs.Walks.{next_pairs, definition_pairs}
-use Rattle.dump.proofs.Chains.{Following}
-use Rattle.dump.proofs.walks.first_definition.Given as goal
-
-abbrev pub invariant-loop-step : goal.invariant-loop-step
-invariant-loop-step l = Following (next_pairs l.graph) (definition_pairs l.graph) (id_value l.from) (id_value l.place) l._step
