@@ -41,3 +41,20 @@ fn a_shape_among_too_many_lines(rt: HostRuntime) -> Result<(), Fail> {
     push_line(rt.alloc(), &mut text, 100_001, "{}")?;
     expect_fault(&rt, text.as_str(), 100_001, "L03")
 }
+
+/// A chain of 49,997 `next` edges, and then the edge that closes it.
+#[test]
+fn a_long_chain_that_is_closed(rt: HostRuntime) -> Result<(), Fail> {
+    let mut text = text_of(rt.alloc(), &["metaData 0.6.0"])?;
+    for number in 2..50_000 {
+        push_line(rt.alloc(), &mut text, number, "resultSet")?;
+    }
+    for source in 2..49_999 {
+        let target = source + 1;
+        let edge = format!(in rt.alloc(); "next {source}>{target}")?;
+        push_line(rt.alloc(), &mut text, 49_998 + source, edge.as_str())?;
+    }
+    expect_in(&rt, 4096, text.as_str(), "ok 99996 elements\n");
+    push_line(rt.alloc(), &mut text, 99_997, "next 49999>2")?;
+    expect_fault(&rt, text.as_str(), 99_997, "L14")
+}
