@@ -12,6 +12,7 @@ use Rattle.dump.specs.Conditions.{order_code, order_condition, has_used_id, join
 use Rattle.dump.specs.Ended.{is_bad_event}
 use Rattle.dump.specs.Steps as steps
 use Rattle.dump.specs.Steps.{Progress, running, stopped, advance, progress, IsSound}
+use Rattle.dump.proofs.Bools.{absurd_true}
 use Rattle.dump.proofs.SameIds.{same_id_eq, same_id_self}
 use Rattle.dump.proofs.Members.{contains_head, contains_tail, not_in_nil}
 use Rattle.dump.proofs.Paths.{reaches_of}
@@ -93,9 +94,6 @@ pub pairs_more : (f : ElementValue → List Pair) (before : List ElementValue) (
 pairs_more f [] x = append-nil (f x)
 pairs_more f (e ∷ d) x = ap (λ ps. f e ++ ps) (pairs_more f d x) ∙ sym (append_assoc (f e) (flat_map f d) (f x))
 
-true_not_false : true ≡ false → ⊥
-true_not_false e = cc
-
 find_none : (p : Code → Bool) (c : Code) (cs : List Code) → find p (c ∷ cs) ≡ None → (p c ≡ false) × (find p cs ≡ None)
 find_none p c cs e = by (p c) refl e
   where
@@ -153,7 +151,7 @@ same_pairs before x e each v = subst (λ ps. HasChain ps v) (sym (pairs_more nex
 one_more : (before : List ElementValue) (x : ElementValue) → order_code before x ≡ None → ((v : IdValue) → HasChain (next_pairs before) v) → (v : IdValue) → HasChain (next_pairs (before ++ x ∷ [])) v
 one_more before (edge i (next a b)) e each v =
     let no = no_code before (edge i (next a b)) e in
-    let apart = λ (path : Path (next_pairs before) b a). let yes = reaches_of (next_pairs before) b a path in absurd (true_not_false (sym yes ∙ no.cycle)) in
+    let apart = λ (path : Path (next_pairs before) b a). let yes = reaches_of (next_pairs before) b a path in absurd (absurd_true (sym yes ∙ no.cycle)) in
     subst (λ ps. HasChain ps v) (sym (pairs_more next_in before (edge i (next a b)))) (all_end (next_pairs before) a b (none_of (first_to (next_pairs before) a) no.single) apart each v)
 one_more before (edge i (contains a bs)) e each v = same_pairs before (edge i (contains a bs)) refl each v
 one_more before (edge i (definition a b)) e each v = same_pairs before (edge i (definition a b)) refl each v

@@ -10,11 +10,12 @@ use Rattle.dump.specs.Graph.{vertex_at, is_document, span_of, is_among, ends}
 use Rattle.dump.specs.Conditions.{are_vertices, are_documents, may_contain}
 use Rattle.dump.specs.Contained.{contains_range, spans_of, spans_named, spans_in, conflicts, any_conflicts, has_conflict}
 use Rattle.dump.specs.Index.{contains_source, is_id, ranges_in, kept, IsClear, IsFilled}
+use Rattle.dump.proofs.Bools.{and_both, not_false}
 use Rattle.dump.proofs.Conflicts.{conflict_of_both, has_conflict-permutation}
 use Rattle.dump.proofs.Ends.{HasNoCode}
 use Rattle.dump.proofs.Known.{AreEndsKnown}
 use Rattle.dump.proofs.Members.{contains_head, contains_tail}
-use Rattle.dump.proofs.Nests.{and_both, not_false, kept_vertex, vertex_there}
+use Rattle.dump.proofs.Nests.{kept_vertex, vertex_there}
 use Rattle.dump.proofs.SameIds.{same_id_eq}
 
 -- ---- the ranges of an element

@@ -12,10 +12,10 @@ use Rattle.dump.specs.Conditions.{are_vertices}
 use Rattle.dump.specs.Ended.{finishes, has_begun, has_ended, closes_range, is_closed}
 use Rattle.dump.specs.Index.{contains_source, container, is_id, passes}
 use Rattle.dump.specs.Steps.{IsSound}
+use Rattle.dump.proofs.Bools.{or_none, or_some, and_both, and_rest, not_false, and_of, same_bool, absurd_true}
 use Rattle.dump.proofs.SameIds.{same_id_eq}
 use Rattle.dump.proofs.Members.{contains_head, contains_tail, contains_cases, not_in_nil}
-use Rattle.dump.proofs.Leads.{same_bool}
-use Rattle.dump.proofs.Nests.{or_none, or_some, and_both, and_rest, not_false, kept_vertex, vertex_there}
+use Rattle.dump.proofs.Nests.{kept_vertex, vertex_there}
 use Rattle.dump.proofs.Uniques.{any_from, found_member}
 use Rattle.dump.proofs.Ends.{HasNoCode, no_code, SoundAfter, sound_after}
 
@@ -30,10 +30,6 @@ module _ (P : List ElementValue → Type 0) (none : P []) (more : (d : List Elem
   holds elements h = holds_after elements [] (sound_after elements h) none
 
 -- ---- ends are vertices
-
-and_of : (a b : Bool) → a ≡ true → b ≡ true → (a && b) ≡ true
-and_of true b e f = f
-and_of false b e f = cc
 
 still_vertices : (d : List ElementValue) (x : ElementValue) (is : List IdValue) → are_vertices d is ≡ true → are_vertices (d ++ x ∷ []) is ≡ true
 still_vertices d x [] e = refl
@@ -116,9 +112,6 @@ ended_documents elements h = holds AreEndedDocuments (λ v at. cc) ended_more el
 
 -- ---- one edge contains a range
 
-true_false : true ≡ false → ⊥
-true_false e = cc
-
 any_among : (p : IdValue → Bool) (is : List IdValue) (r : IdValue) → list_any p is ≡ false → is_among r is ≡ true → p r ≡ false
 any_among p [] r none at = cc
 any_among p (i ∷ is) r none at =
@@ -151,7 +144,7 @@ one_or_other d x free known r y at old new =
     let now : contains_range d r x ≡ true = sym (same_contained d x x (not_false (are_vertices d (ends x)) free.ends) r) ∙ new in
     let yes : is_contained d r ≡ true = any_from (contains_range d r) d y at was in
     let none : is_contained d r ≡ false = new_contained d x free r now in
-    absurd (true_false (sym yes ∙ none))
+    absurd (absurd_true (sym yes ∙ none))
 
 one_more : (d : List ElementValue) (x : ElementValue) → HasNoCode d x → AreEndsKnown d × HasOneContainer d → AreEndsKnown (d ++ x ∷ []) × HasOneContainer (d ++ x ∷ [])
 one_more d x free both = (
@@ -192,7 +185,7 @@ none_found : {X : Type 0} (p : X → Bool) (xs : List X) (x : X) → find p xs �
 none_found p [] x e at has = not_in_nil x at
 none_found p (y ∷ xs) x e at has =
     let both = none_by y (find p xs) (p y) e in
-    ⊎_elim (λ (s : y ≡ x). true_false (sym has ∙ ap p (sym s) ∙ both.0)) (λ (t : Contains xs x). none_found p xs x both.1 t has) (contains_cases y xs x at)
+    ⊎_elim (λ (s : y ≡ x). absurd_true (sym has ∙ ap p (sym s) ∙ both.0)) (λ (t : Contains xs x). none_found p xs x both.1 t has) (contains_cases y xs x at)
 
 -- where one member at most passes the first test, and it alone may pass the second
 module _ {X : Type 0} (p q : X → Bool) (d : List X) (under : (z : X) → Contains d z → q z ≡ true → p z ≡ true)

@@ -1,16 +1,17 @@
 -- A walk along single pairs follows a chain.
-use Rattle.std.proofs.Common.{◌≡◌, ⊎_elim, ◌∙◌, ℕ, ◌+◌, ◌≤◌, Bool, true, false, List, [], ◌∷◌, length, length-append, refl, ap, sym, subst, arith}
+use Rattle.std.proofs.Common.{◌≡◌, ⊎_elim, ◌∙◌, ℕ, ◌+◌, ◌≤◌, true, false, List, [], ◌∷◌, length, length-append, refl, ap, sym, subst, arith}
 use Rattle.std.specs.Prelude.{Contains, Option, Some, None}
 use Rattle.lsif.specs.Element.{IdValue, same_id, contains, next, definition, references, hover, moniker_edge, package_edge, attach, item, other_edge, ElementValue, vertex, edge}
 use Rattle.dump.specs.Walks.{Pair, next_in, next_pairs, IsChain, ends, links, first_to, reaches, Path, stays, goes}
 use Rattle.dump.specs.Steps.{IsSound}
+use Rattle.dump.proofs.Bools.{same_bool}
 use Rattle.dump.proofs.SameIds.{same_id_eq, same_id_self}
 use Rattle.dump.proofs.Paths.{path_of, reaches_of, reaches_itself, joined}
 use Rattle.dump.proofs.Chains.{short, no_chain, chain_head}
 use Rattle.dump.proofs.Members.{contains_cases, contains_tail, not_in_nil}
 use Rattle.dump.proofs.Ends.{Single, each_ends, each_single, pair_of_first}
 
-next_count : (x : ElementValue) → length (next_in x) ≤ 1
+pub next_count : (x : ElementValue) → length (next_in x) ≤ 1
 next_count (edge i (next x y)) = omega arith
 next_count (edge i (contains x ys)) = omega arith
 next_count (edge i (definition x y)) = omega arith
@@ -65,11 +66,6 @@ pub leads : (d : List ElementValue) (from to : IdValue) → IsSound d → Leadin
 leads d from to h =
     let c = each_ends d h from in
     record { single = each_single d h; rest = c.0; chain = c.1; room = omega (arith, short c.0 (next_pairs d) from c.1); same = refl }
-
-pub same_bool : (a b : Bool) → (a ≡ true → b ≡ true) → (b ≡ true → a ≡ true) → a ≡ b
-same_bool true b to from = sym (to refl)
-same_bool false true to from = from refl
-same_bool false false to from = refl
 
 head_only : (ps : List Pair) → Single ps → (at to : IdValue) → IsChain ps at (at ∷ []) → reaches ps at to ≡ (same_id at to)
 head_only ps one at to c = same_bool (reaches ps at to) (same_id at to)

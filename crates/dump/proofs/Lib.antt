@@ -1,3 +1,4 @@
+pub mod Bools
 pub mod Chains
 pub mod Conflicts
 pub mod EachId

@@ -10,30 +10,11 @@ use Rattle.dump.specs.Graph.{element_at, vertex_of, vertex_at, is_document, span
 use Rattle.dump.specs.Contained.{places_range, is_in, spans_of, spans_named, spans_in, conflicts, any_conflicts, has_conflict, IsNested}
 use Rattle.dump.specs.Conditions.{are_vertices, may_contain}
 use Rattle.dump.specs.Steps.{IsSound}
+use Rattle.dump.proofs.Bools.{or_none, or_some, and_both, and_rest, not_false}
 use Rattle.dump.proofs.SameIds.{same_id_eq}
 use Rattle.dump.proofs.Ends.{HasNoCode, no_code, SoundAfter, sound_after}
 
 -- ---- tests
-
-pub or_none : (a b : Bool) → (a || b) ≡ false → (a ≡ false) × (b ≡ false)
-or_none true b e = cc
-or_none false b e = (refl, e)
-
-pub or_some : (a b : Bool) → (a || b) ≡ true → (a ≡ true) ⊎ (b ≡ true)
-or_some true b e = inl refl
-or_some false b e = inr e
-
-pub and_both : (a b : Bool) → (a && b) ≡ true → (a ≡ true) × (b ≡ true)
-and_both true b e = (refl, e)
-and_both false b e = cc
-
-pub and_rest : (a b : Bool) → a ≡ true → (a && b) ≡ false → b ≡ false
-and_rest true b t e = e
-and_rest false b t e = cc
-
-pub not_false : (a : Bool) → not a ≡ false → a ≡ true
-not_false true e = refl
-not_false false e = cc
 
 pub true_not_false : {P : Type 0} (a : Bool) → a ≡ true → a ≡ false → P
 true_not_false true t f = cc

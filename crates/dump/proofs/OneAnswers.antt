@@ -16,6 +16,7 @@ use Rattle.dump.specs.Contained.{is_in, conflicts}
 use Rattle.dump.specs.Steps.{IsSound}
 use Rattle.dump.specs.Walks.{Pair, first_to, IsChain, ends, links, first_of_list, next_pairs, definition_pairs}
 use Rattle.dump.specs.Places.{PlaceValue, FirstDefinition, IsInnermost, IsDefinitionPlace, position_cmp, place_cmp, IsListing, DefinitionPlaces, answered, unanswered}
+use Rattle.dump.proofs.Bools.{and_of}
 use Rattle.dump.proofs.Members.{contains_head, contains_tail, contains_cases, not_in_nil}
 use Rattle.dump.proofs.Nests.{nested}
 use Rattle.dump.proofs.SameIds.{same_id_eq, same_id_self}
@@ -55,7 +56,7 @@ module _ {X : Type 0} (R : X → X → Ordering) (asym : (x y : X) → R x y ≡
   one_listing : (P : X → Type 0) (xs ys : List X) → IsListing R P xs → IsListing R P ys → xs ≡ ys
   one_listing P xs ys a b = one_list xs ys a.rises b.rises (λ z at. (b.each z).1 ((a.each z).0 at)) (λ z at. (a.each z).1 ((b.each z).0 at))
 
-position_total : IsTotalOrder position_cmp
+pub position_total : IsTotalOrder position_cmp
 position_total = then_total (on_total (λ p. p.line) nat_cmp_total) (on_total (λ p. p.character) nat_cmp_total)
 
 place_total : IsTotalOrder place_cmp
@@ -90,10 +91,6 @@ one_first d x first second (xs, chain, e) (ys, other, f) =
 not_before : (p q : PositionValue) (t : Bool) → is_before p q ≡ t → (IsBefore p q → ⊥) → not t ≡ true
 not_before p q true e h = let k : IsBefore p q = grind arith in absurd (h k)
 not_before p q false e h = refl
-
-and_of : (a b : Bool) → a ≡ true → b ≡ true → (a && b) ≡ true
-and_of true b e f = f
-and_of false b e f = cc
 
 tests : (s t : SpanValue) → Nests s t → nests s t ≡ true
 tests s t h =

@@ -3,7 +3,7 @@ use Rattle.std.proofs.Common.{◌≡◌, ◌∙◌, ◌&&◌, ◌||◌, ℕ, ◌
 use Rattle.std.specs.declared.cmp.Ordering.{Ordering}
 use Rattle.std.specs.declared.cmp.Ordering.TheVariants.{Less, Equal, Greater}
 use Rattle.std.specs.Ordering.{nat_cmp, ordering_then, is_lt}
-use Rattle.std.specs.Cmp.{IsTotalOrder, nat_cmp_total, then_total, on_total}
+use Rattle.std.specs.Cmp.{IsTotalOrder, then_total, on_total}
 use Rattle.std.proofs.lemmas.Cmp.{back_total}
 use Rattle.std.proofs.lemmas.List.Sorted.{sorted_far, ranks_by}
 use Rattle.positions.specs.Position.{PositionValue, is_before, earlier_of}
@@ -11,7 +11,9 @@ use Rattle.positions.specs.Span.{SpanValue, nests, overlaps}
 use Rattle.dump.specs.Contained.{conflicts}
 use Rattle.dump.specs.Places.{position_cmp}
 use Rattle.dump.specs.Spans.{span_order, IsOrdered, is_passed}
-use Rattle.dump.proofs.Nests.{and_both, not_false, equal_places}
+use Rattle.dump.proofs.Bools.{and_both, not_false, absurd_true}
+use Rattle.dump.proofs.OneAnswers.{position_total}
+use Rattle.dump.proofs.Nests.{equal_places}
 
 -- ---- positions
 
@@ -69,9 +71,6 @@ not_after s t e =
           sym (less_before s.«end» t.«end») ∙ not_less_then (position_cmp t.start s.start) (position_cmp s.«end» t.«end») same e;
     }
 
-position_total : IsTotalOrder position_cmp
-position_total = then_total (on_total (λ p. p.line) nat_cmp_total) (on_total (λ p. p.character) nat_cmp_total)
-
 pub span_total : IsTotalOrder span_order
 span_total = then_total (on_total (λ s. s.start) position_total) (back_total (on_total (λ s. s.«end») position_total))
 
@@ -109,9 +108,6 @@ first_end b d e = rw e refl
 
 reaches : (s t : SpanValue) → is_before t.start s.start ≡ false → nests t s ≡ false → is_before s.«end» t.«end» ≡ true
 reaches s t e f = not_false (is_before s.«end» t.«end») (subst (λ b. (not b && not (is_before s.«end» t.«end»)) ≡ false) e f)
-
-true_not_false : true ≡ false → ⊥
-true_not_false e = cc
 
 true_is : (b : Bool) → (b ≡ false → true ≡ false) → b ≡ true
 true_is true h = refl
@@ -186,7 +182,7 @@ clear_around u s t e f clear = by_inner (nests u t) refl
     one_nests false false o a b = cc
 
     by_inner : (b : Bool) → nests u t ≡ b → conflicts u t ≡ false
-    by_inner true h = absurd (true_not_false (both_nest (nests s t) (nests t s) (overlaps s t) (nests_through s u t e h) f clear))
+    by_inner true h = absurd (absurd_true (both_nest (nests s t) (nests t s) (overlaps s t) (nests_through s u t e h) f clear))
     by_inner false h = one_nests (nests u t) (nests t u) (overlaps u t) h (nests_through t s u f e)
 
 pub conflicts_itself : (s : SpanValue) → conflicts s s ≡ true

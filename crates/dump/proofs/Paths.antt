@@ -1,30 +1,11 @@
 -- The test of a path.
-use Rattle.std.proofs.Common.{◌≡◌, ◌⊎◌, inl, inr, ⊎_elim, Bool, true, false, ◌||◌, ◌&&◌, List, [], ◌∷◌, refl, sym, ap, subst}
+use Rattle.std.proofs.Common.{◌≡◌, ⊎_elim, true, ◌&&◌, List, [], ◌∷◌, sym, ap, subst}
 use Rattle.std.specs.Prelude.{IsTrue, Contains, ◌↔◌}
 use Rattle.lsif.specs.Element.{IdValue, same_id}
+use Rattle.dump.proofs.Bools.{or_some, and_both, and_of, or_left, or_right}
 use Rattle.dump.proofs.SameIds.{same_id_eq, same_id_self}
 use Rattle.dump.specs.Walks.{Pair, Path, stays, goes, reaches}
 use Rattle.dump.proofs.Members.{contains_cases, contains_head, contains_tail, not_in_nil}
-
-pub or_cases : (a b : Bool) → (a || b) ≡ true → (a ≡ true) ⊎ (b ≡ true)
-or_cases true b e = inl refl
-or_cases false b e = inr e
-
-pub and_both : (a b : Bool) → (a && b) ≡ true → (a ≡ true) × (b ≡ true)
-and_both true b e = (refl, e)
-and_both false b e = cc
-
-or_left : (a b : Bool) → a ≡ true → (a || b) ≡ true
-or_left true b e = refl
-or_left false b e = cc
-
-or_right : (a b : Bool) → b ≡ true → (a || b) ≡ true
-or_right true b e = refl
-or_right false b e = e
-
-and_of : (a b : Bool) → a ≡ true → b ≡ true → (a && b) ≡ true
-and_of true b e f = f
-and_of false b e f = cc
 
 pub wider : (ps qs : List Pair) → ((q : Pair) → Contains ps q → Contains qs q) → (x y : IdValue) → Path ps x y → Path qs x y
 wider ps qs sub x y stays = stays
@@ -43,7 +24,7 @@ path_of (p ∷ ps) x y e =
     (λ (r : (reaches ps x p.0 && reaches ps p.1 y) ≡ true).
     let b = and_both (reaches ps x p.0) (reaches ps p.1 y) r in
     joined (p ∷ ps) x p.1 y (goes p.1 (more x p.0 (path_of ps x p.0 b.0)) (contains_head p ps)) (more p.1 y (path_of ps p.1 y b.1)))
-    (or_cases (reaches ps x y) (reaches ps x p.0 && reaches ps p.1 y) e)
+    (or_some (reaches ps x y) (reaches ps x p.0 && reaches ps p.1 y) e)
 
 tied : (x : IdValue) → (same_id x x) ≡ true
 tied x = same_id_self x
@@ -62,14 +43,14 @@ step (p ∷ ps) x y z e at = ⊎_elim
     let to : reaches ps x p.0 ≡ true = ⊎_elim
     (λ (l : reaches ps x y ≡ true). subst (λ v. reaches ps x v ≡ true) (sym source) l)
     (λ (r : (reaches ps x p.0 && reaches ps p.1 y) ≡ true). (and_both (reaches ps x p.0) (reaches ps p.1 y) r).0)
-    (or_cases (reaches ps x y) (reaches ps x p.0 && reaches ps p.1 y) e) in
+    (or_some (reaches ps x y) (reaches ps x p.0 && reaches ps p.1 y) e) in
     or_right (reaches ps x z) (reaches ps x p.0 && reaches ps p.1 z) (and_of (reaches ps x p.0) (reaches ps p.1 z) to (subst (λ v. reaches ps p.1 v ≡ true) target (reaches_itself ps p.1))))
     (λ (t : Contains ps (y, z)). ⊎_elim
     (λ (l : reaches ps x y ≡ true). or_left (reaches ps x z) (reaches ps x p.0 && reaches ps p.1 z) (step ps x y z l t))
     (λ (r : (reaches ps x p.0 && reaches ps p.1 y) ≡ true).
     let b = and_both (reaches ps x p.0) (reaches ps p.1 y) r in
     or_right (reaches ps x z) (reaches ps x p.0 && reaches ps p.1 z) (and_of (reaches ps x p.0) (reaches ps p.1 z) b.0 (step ps p.1 y z b.1 t)))
-    (or_cases (reaches ps x y) (reaches ps x p.0 && reaches ps p.1 y) e))
+    (or_some (reaches ps x y) (reaches ps x p.0 && reaches ps p.1 y) e))
     (contains_cases p ps (y, z) at)
 
 pub reaches_of : (ps : List Pair) (x y : IdValue) → Path ps x y → reaches ps x y ≡ true

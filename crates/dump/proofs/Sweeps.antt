@@ -8,6 +8,7 @@ use Rattle.std.proofs.lemmas.List.Quantifiers.{all_pairs_push}
 use Rattle.positions.specs.Span.{SpanValue, nests}
 use Rattle.dump.specs.Contained.{conflicts, any_conflicts, has_conflict}
 use Rattle.dump.specs.Spans.{IsOrdered, is_passed}
+use Rattle.dump.proofs.Bools.{or_false}
 use Rattle.dump.proofs.Lists.{drop_next, drop_end}
 use Rattle.dump.proofs.Passes.{NotAfter, each_not_after, passed, clear_later, stays_in, nests_through, clear_around}
 
@@ -38,10 +39,6 @@ or_regroup : (a b c : Bool) → ((a || (b || false)) || c) ≡ (a || (b || c))
 or_regroup true b c = refl
 or_regroup false true c = refl
 or_regroup false false c = refl
-
-or_none : (a : Bool) → (a || false) ≡ a
-or_none true = refl
-or_none false = refl
 
 -- ---- a step
 
@@ -117,7 +114,7 @@ module _ (spans opened : List SpanValue) (k n : ℕ) (t : SpanValue) (up : IsOrd
           let both : any_conflicts opened (drop k spans) ≡ (any_conflicts (take n opened) (drop k spans) || any_conflicts (drop n opened) (drop k spans)) =
           ap (λ us. any_conflicts us (drop k spans)) (sym (take-append-drop n opened)) ∙ list_any-append (λ s. list_any (conflicts s) (drop k spans)) (take n opened) (drop n opened) in
           let skip = any_skip (take n opened) t (drop (k + 1) spans) (λ i d within. let long = kept_long in rw (get_or-take n opened i d (omega arith)) (free i d (omega arith))) in
-          both ∙ ap (λ b. any_conflicts (take n opened) (drop k spans) || b) (none_past pass) ∙ or_none (any_conflicts (take n opened) (drop k spans)) ∙ ap (any_conflicts (take n opened)) next ∙ skip
+          both ∙ ap (λ b. any_conflicts (take n opened) (drop k spans) || b) (none_past pass) ∙ or_false (any_conflicts (take n opened) (drop k spans)) ∙ ap (any_conflicts (take n opened)) next ∙ skip
 
       answer_more : (any_conflicts (take n opened ++ t ∷ []) (drop (k + 1) spans) || has_conflict (drop (k + 1) spans)) ≡ has_conflict spans
       answer_more =

@@ -8,6 +8,7 @@ use Rattle.std.proofs.lemmas.Option.{slice_get_past}
 use Rattle.lsif.specs.Element.{IdValue, same_id, VertexValue, ItemValue, contains, next, definition, references, hover, moniker_edge, package_edge, attach, item, other_edge, ElementValue, vertex, edge}
 use Rattle.dump.specs.Ids.{IsTable}
 use Rattle.dump.specs.Walks.{Pair, first_to, next_in, next_pairs, definition_in, definition_pairs, references_in, references_pairs, hover_in, hover_pairs, package_in, package_pairs, is_edge_from, edge_target}
+use Rattle.dump.proofs.Leads.{next_count}
 use Rattle.dump.proofs.SameIds.{same_id_eq}
 
 -- ---- the place of the first item that passes
@@ -155,11 +156,8 @@ each_element P v c n d r h m p a t o (edge i (attach x y)) = a i x y
 each_element P v c n d r h m p a t o (edge i (item e)) = t i e
 each_element P v c n d r h m p a t o (edge i (other_edge x ys)) = o i x ys
 
-next_few : (x : ElementValue) → length (next_in x) ≤ 1
-next_few = each_element (λ x. length (next_in x) ≤ 1) (λ _ _. omega arith) (λ _ _ _. omega arith) (λ _ _ _. omega arith) (λ _ _ _. omega arith) (λ _ _ _. omega arith) (λ _ _ _. omega arith) (λ _ _ _. omega arith) (λ _ _ _. omega arith) (λ _ _ _. omega arith) (λ _ _. omega arith) (λ _ _ _. omega arith)
-
 pub first_to-next : (elements : List ElementValue) (i : IdValue) → first_to (next_pairs elements) i ≡ option_and_then (edge_target next_in) (find (is_edge_from next_in i) elements)
-first_to-next = first_to-edge next_in next_few
+first_to-next = first_to-edge next_in next_count
 
 definition_few : (x : ElementValue) → length (definition_in x) ≤ 1
 definition_few = each_element (λ x. length (definition_in x) ≤ 1) (λ _ _. omega arith) (λ _ _ _. omega arith) (λ _ _ _. omega arith) (λ _ _ _. omega arith) (λ _ _ _. omega arith) (λ _ _ _. omega arith) (λ _ _ _. omega arith) (λ _ _ _. omega arith) (λ _ _ _. omega arith) (λ _ _. omega arith) (λ _ _ _. omega arith)

@@ -1,5 +1,5 @@
 -- In a sound dump an id is that of one element, and a uri is that of one document.
-use Rattle.std.proofs.Common.{◌≡◌, inl, inr, ⊎_elim, ◌∙◌, ◌||◌, ℕ, Bool, true, false, cond, List, [], ◌∷◌, ◌++◌, find, append_assoc, append-nil, refl, sym, ap, subst}
+use Rattle.std.proofs.Common.{◌≡◌, inl, inr, ⊎_elim, ◌∙◌, ℕ, Bool, true, false, cond, List, [], ◌∷◌, ◌++◌, find, append_assoc, append-nil, refl, sym, ap, subst}
 use Rattle.std.specs.Prelude.{◌↔◌, Contains, Option, Some, None, is_some, option_and_then}
 use Rattle.std.specs.List.{list_any}
 use Rattle.std.proofs.lemmas.List.Elements.{Contains-push_cases}
@@ -8,19 +8,12 @@ use Rattle.lsif.specs.Element.{IdValue, same_id, VertexValue, document, ElementV
 use Rattle.dump.specs.Graph.{element_at, vertex_of, vertex_at}
 use Rattle.dump.specs.Conditions.{is_document_of, has_used_uri}
 use Rattle.dump.specs.Steps.{IsSound}
+use Rattle.dump.proofs.Bools.{or_left, or_right}
 use Rattle.dump.proofs.SameIds.{same_id_eq, same_id_self}
 use Rattle.dump.proofs.Members.{contains_head, contains_tail, contains_cases, not_in_nil}
 use Rattle.dump.proofs.Ends.{HasNoCode, no_code, SoundAfter, sound_after}
 
 -- ---- members that pass a test
-
-pub or_left : (a b : Bool) → a ≡ true → (a || b) ≡ true
-or_left true b e = refl
-or_left false b e = cc
-
-pub or_right : (a b : Bool) → b ≡ true → (a || b) ≡ true
-or_right true b e = refl
-or_right false b e = e
 
 pub any_from : {X : Type 0} (p : X → Bool) (xs : List X) (x : X) → Contains xs x → p x ≡ true → list_any p xs ≡ true
 any_from p [] x at e = absurd (not_in_nil x at)

@@ -8,11 +8,11 @@ use Rattle.dump.specs.Graph.{is_among, ends}
 use Rattle.dump.specs.Ids.{value_at}
 use Rattle.dump.specs.Index.{has_id, is_id}
 use Rattle.dump.specs.Walks.{is_edge_from, next_in, definition_in, references_in, hover_in, package_in}
+use Rattle.dump.proofs.Bools.{not_false}
 use Rattle.dump.proofs.Ends.{no_code}
 use Rattle.dump.proofs.Fills.{ranges_test, filled_from, fills}
 use Rattle.dump.proofs.Indexes.{position_same, table_enters, source_test, begun_test, ended_test, document_more}
 use Rattle.dump.proofs.Known.{ends_known, same_contained}
-use Rattle.dump.proofs.Nests.{not_false}
 use Rattle.dump.proofs.index.Index.add.Goals as goal
 
 pub returns : goal.returns
