@@ -7,7 +7,8 @@ use Rattle.lsif.specs.Element.{IdValue, same_id, meta_data, project, document, r
 use Rattle.dump.specs.Conditions.{is_document_of}
 use Rattle.dump.specs.Ended.{begins, finishes}
 use Rattle.dump.specs.Ids.{IsTable}
-use Rattle.dump.specs.Index.{is_id, edge_source, begun_document, ended_document, entered}
+use Rattle.dump.specs.Ids.{entered}
+use Rattle.dump.specs.Index.{is_id, passes, edge_source, begun_document, ended_document}
 use Rattle.dump.specs.Walks.{Pair, is_edge_from}
 use Rattle.dump.proofs.Members.{contains_head, contains_tail}
 use Rattle.dump.proofs.Tables.{position-cons, position_hit, position_miss, position_kept}
@@ -100,3 +101,8 @@ last_or false false = refl
 -- whether one more is the document of a serialized URL
 pub document_more : (uri : List ℕ) (d : List ElementValue) (x : ElementValue) (had has : Bool) → had ≡ list_any (is_document_of uri) d → has ≡ (is_document_of uri x || had) → has ≡ list_any (is_document_of uri) (d ++ x ∷ [])
 document_more uri d x had has e f = f ∙ ap (λ b. is_document_of uri x || b) e ∙ last_or (list_any (is_document_of uri) d) (is_document_of uri x) ∙ sym (list_any-append (is_document_of uri) d (x ∷ []))
+
+-- what no id passes
+pub passes_none : (test : IdValue → Bool) → ((i : IdValue) → test i ≡ false) → (o : Option IdValue) → passes test o ≡ false
+passes_none test none (Some i) = none i
+passes_none test none None = refl

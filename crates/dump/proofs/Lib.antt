@@ -18,6 +18,7 @@ pub mod Passes
 pub mod Paths
 pub mod Progresses
 pub mod Repeats
+pub mod Rows
 pub mod SameIds
 pub mod Sweeps
 pub mod Tables

@@ -1,6 +1,6 @@
 -- Repeated ids of a list that grows at its end.
-use Rattle.std.proofs.Common.{◌≡◌, ◌∙◌, ◌||◌, ℕ, ◌+◌, ◌<◌, ◌≤◌, Bool, true, false, List, [], ◌∷◌, ◌++◌, length, take, drop, get_or, Option, Some, None, if◌then◌else◌, Bor, refl, ap, sym}
-use Rattle.std.specs.Prelude.{is_some, option_copied}
+use Rattle.std.proofs.Common.{◌≡◌, ◌∙◌, ◌||◌, ℕ, ◌+◌, ◌<◌, ◌≤◌, Bool, true, false, List, [], ◌∷◌, ◌++◌, length, take, drop, get_or, Option, Some, if◌then◌else◌, refl, ap, sym}
+use Rattle.std.specs.Prelude.{is_some}
 use Rattle.std.proofs.lemmas.Bool.{or_parts}
 use Rattle.std.proofs.lemmas.List.{take_all, take_more, take-append-drop, map-append}
 use Rattle.std.proofs.lemmas.List.Folds.{list_any-append}
@@ -60,9 +60,6 @@ pub again-end : (xs : List Id) (k : ℕ) → length xs ≤ k → has_repeated (i
 again-end xs k le none = sym (rw (take_all k xs le) at none)
 
 -- a look-up that lends what it finds
-pub is_some-copied : {T : Type 0} (o : Option (Bor T)) → is_some (option_copied o) ≡ is_some o
-is_some-copied None = refl
-is_some-copied (Some x) = refl
 
 -- a table of the ids up to an index, and what one more makes of it
 pub seen_more : {V : Type 0} (xs : List Id) (k : ℕ) (x : Id) (v : V) (old new : IdValue → Option V) → k < length xs → x ≡ get_or xs k x

@@ -1,5 +1,5 @@
 -- Tables from ids to values.
-use Rattle.std.specs.Prelude.{◌≡◌, ℕ, Bool, List, Option, nat_eq}
+use Rattle.std.specs.Prelude.{◌≡◌, ℕ, Bool, List, Option, Some, None, nat_eq, if◌then◌else◌}
 use Rattle.std.specs.List.{position}
 use Rattle.std.specs.HashMap.{get, get_by_text}
 use Rattle.lsif.specs.Element.{IdValue, number, text}
@@ -13,3 +13,8 @@ value_at table (text s) = get_by_text table.texts s
 -- the table leads from an id to the place of the first element that passes the id's test, and to none where no element does
 abbrev pub IsTable : {X : Type 0} → (IdValue → Option ℕ) → (IdValue → X → Bool) → List X → Type 0
 IsTable table test elements = (i : IdValue) → table i ≡ position (test i) elements
+
+-- what a table has at an id after a value was entered there, or wasn't: the first value that was entered stays
+abbrev pub entered : {V : Type 0} → Bool → V → Option V → Option V
+entered here new (Some old) = Some old
+entered here new None = if here then Some new else None

@@ -53,11 +53,6 @@ ended_document (vertex i (event (end_event d))) = Some d
 ended_document (vertex i v) = None
 ended_document (edge i e) = None
 
--- what a table has at an id after a place was entered there, or wasn't: the first place that was entered stays
-abbrev pub entered : Bool → ℕ → Option ℕ → Option ℕ
-entered here place (Some k) = Some k
-entered here place None = if here then Some place else None
-
 -- the ranges that the element names, where it's a `contains` edge out of a document
 abbrev pub ranges_in : List ElementValue → ElementValue → List IdValue
 ranges_in d (edge i (contains from to)) = if is_document (vertex_at d from) then to else []

@@ -1,8 +1,8 @@
 //! Tables from ids to values.
-ghost use Rattle.std.specs.Prelude.{◌≡◌, Some, None, IfOk, OnOk, OnErr, option_copied, if◌then◌else◌};
+ghost use Rattle.std.specs.Prelude.{◌≡◌, true, Some, None, IfOk, OnOk, OnErr, option_copied, if◌then◌else◌};
 ghost use Rattle.lsif.specs.Element.{IdValue, id_value, id_values, same_id};
 ghost use Rattle.dump.specs.Graph.{has_repeated};
-ghost use Rattle.dump.specs.Ids.{value_at};
+ghost use Rattle.dump.specs.Ids.{value_at, entered};
 
 use lsif::Id;
 use std::alloc::{AllocError, Global};
@@ -28,6 +28,13 @@ impl<V> IdMap<V> {
         }
     }
 
+    /// Whether the table has no value.
+    pub(crate) fn is_empty(&self) -> bool
+        ensures { result ≡ true → (i : IdValue) → value_at self.now i ≡ None }
+    {
+        self.numbers.is_empty() && self.texts.is_empty()
+    }
+
     /// The value at the id.
     pub(crate) fn get(&self, id: &Id) -> Option<&V>
         ensures { option_copied result ≡ value_at self.now (id_value id.now) }
@@ -40,19 +47,33 @@ impl<V> IdMap<V> {
 }
 
 impl<V: Drop> IdMap<V> {
-    /// Puts the value at the id. The value that was there is let go.
-    pub(crate) fn insert(&mut self, id: &Id, value: V) -> Result<(), AllocError>
+    /// Puts the value at the id, and answers the one that was there.
+    pub(crate) fn insert(&mut self, id: &Id, value: V) -> Result<Option<V>, AllocError>
+        ensures old { IfOk result (λ old. old ≡ value_at self.old (id_value id.now)) }
         ensures ok { OnOk result ((i : IdValue) → value_at self.new i
             ≡ (if same_id (id_value id.now) i then Some value else value_at self.old i)) }
         ensures err { OnErr result ((i : IdValue) → value_at self.new i ≡ value_at self.old i) }
     {
         match id {
+            Id::Number(n) => Ok(self.numbers.insert(*n, value)?),
+            Id::Text(text) => {
+                let key = String::from_str(self.alloc, text.as_str())?;
+                Ok(self.texts.insert(key, value)?)
+            }
+        }
+    }
+
+    /// Puts the value at the id where the table has none yet.
+    pub(crate) fn enter(&mut self, id: &Id, value: V) -> Result<(), AllocError>
+        ensures { OnOk result ((i : IdValue) → value_at self.new i ≡ entered (same_id (id_value id.now) i) value (value_at self.old i)) }
+    {
+        match id {
             Id::Number(n) => {
-                self.numbers.insert(*n, value)?;
+                self.numbers.entry(*n)?.or_insert(value);
             }
             Id::Text(text) => {
                 let key = String::from_str(self.alloc, text.as_str())?;
-                self.texts.insert(key, value)?;
+                self.texts.entry(key)?.or_insert(value);
             }
         }
         Ok(())
@@ -65,10 +86,9 @@ pub(crate) fn is_repeating(alloc: Global, ids: &[Id]) -> Result<bool, AllocError
 {
     let mut seen = IdMap::new(alloc);
     for id in ids {
-        if seen.get(id).is_some() {
+        if seen.insert(id, ())?.is_some() {
             return Ok(true);
         }
-        seen.insert(id, ())?;
     }
     Ok(false)
 }

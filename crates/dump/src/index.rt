@@ -7,8 +7,8 @@ ghost use Rattle.dump.specs.Conditions.{is_document_of, order_code};
 ghost use Rattle.dump.specs.Contained.{is_contained, is_in, spans_of, spans_in, any_conflicts, has_conflict};
 ghost use Rattle.dump.specs.Ended.{has_begun, has_ended, is_closed};
 ghost use Rattle.dump.specs.Graph.{element_at, vertex_of, vertex_at, is_document, is_among};
-ghost use Rattle.dump.specs.Ids.{value_at};
-ghost use Rattle.dump.specs.Index.{IsIndex, IsFilled, kept, ranges_in, contains_source, container, edge_source, begun_document, ended_document, entered, is_id};
+ghost use Rattle.dump.specs.Ids.{value_at, entered};
+ghost use Rattle.dump.specs.Index.{IsIndex, IsFilled, kept, ranges_in, contains_source, container, edge_source, begun_document, ended_document, is_id};
 ghost use Rattle.dump.specs.Spans.{IsOrdered};
 ghost use Rattle.dump.specs.Steps.{IsSound};
 ghost use Rattle.dump.specs.Walks.{edge_target, first_to, next_in, definition_in, references_in, hover_in, package_in, next_pairs, definition_pairs, references_pairs, hover_pairs, package_pairs};
@@ -63,8 +63,8 @@ fn enter(table: &mut IdMap<usize>, id: Option<&Id>, place: usize) -> Result<(), 
     ensures { OnOk result ((i : IdValue) → value_at table.new i ≡ entered (is_id i (option_map (λ j. id_value j.now) id.entry)) place (value_at table.old i)) }
 {
     match id {
-        Some(id) if table.get(id).is_none() => table.insert(id, place),
-        _ => Ok(()),
+        Some(id) => table.enter(id, place),
+        None => Ok(()),
     }
 }
 
@@ -238,7 +238,8 @@ fn fill(
     match document {
         Some(document) => {
             let joined = merged(alloc, kept(table, document), spans)?;
-            table.insert(document, joined)
+            table.insert(document, joined)?;
+            Ok(())
         }
         None => Ok(()),
     }
@@ -330,6 +331,9 @@ impl Index {
         requires sound { IsSound (map element_value elements.now) }
         ensures { result ≡ is_closed (map element_value elements.now) (id_value range.now) }
     {
+        if self.ended.is_empty() {
+            return false;
+        }
         match self.container(elements, range) {
             Some(document) => self.has_ended(elements, document),
             None => false,

@@ -1,8 +1,8 @@
 //! What an element may not be after the elements before it, and what a whole dump may not have.
-ghost use Rattle.std.specs.Prelude.{◌≡◌, ◌<◌, ◌≤◌, IfOk, IfNone, length};
+ghost use Rattle.std.specs.Prelude.{◌≡◌, ◌<◌, ◌≤◌, ◌&&◌, ◌∷◌, IfOk, IfNone, length, not};
 ghost use Rattle.std.specs.List.{list_any};
 ghost use Rattle.lsif.specs.Element.{id_value, id_values, item_value, element_value};
-ghost use Rattle.dump.specs.Conditions.{is_misplaced, joins_no_vertex, may_contain, may_ask, is_result_set, is_definition_result, is_hover_result, is_moniker, is_package, are_definitions, may_be_of_references, may_have_item, may_not_join, is_contained_again, is_conflicting, leaves_again, closes_cycle, has_effect, is_place, has_no_place, has_ranges, is_misplaced_item, has_used_uri, order_code, is_uncontained, end_code, most_elements};
+ghost use Rattle.dump.specs.Conditions.{is_misplaced, are_vertices, joins_no_vertex, may_contain, may_ask, is_result_set, is_definition_result, is_hover_result, is_moniker, is_package, are_definitions, may_be_of_references, may_have_item, may_not_join, is_contained_again, is_conflicting, leaves_again, closes_cycle, has_effect, is_place, has_no_place, has_ranges, is_misplaced_item, has_used_uri, order_code, is_uncontained, end_code, most_elements};
 ghost use Rattle.dump.specs.Ended.{is_bad_event, is_closed, leaves_ended, is_late};
 ghost use Rattle.dump.specs.Graph.{vertex_at, ends, is_reference_result};
 ghost use Rattle.dump.specs.Steps.{end_fault_from, IsSound};
@@ -58,9 +58,9 @@ fn joins_no_vertex(graph: &Graph, element: &Element) -> bool
     }
 }
 
-/// A project contains documents, a document contains ranges.
-fn may_contain(graph: &Graph, from: &Id, to: &[Id]) -> bool
-    ensures { result ≡ may_contain graph.now (vertex_at graph.now (id_value from.now)) (id_values to.now) }
+/// Whether a `contains` edge joins what it may: a project contains documents, a document contains ranges.
+fn contents_fit(graph: &Graph, from: &Id, to: &[Id]) -> bool
+    ensures { result ≡ (are_vertices graph.now (id_value from.now ∷ id_values to.now) && may_contain graph.now (vertex_at graph.now (id_value from.now)) (id_values to.now)) }
 {
     match vertex_at(graph, from) {
         Some(Vertex::Project) => are_documents(graph, to),
@@ -127,49 +127,53 @@ fn may_be_of_references(graph: &Graph, item: &Item) -> bool
     }
 }
 
-/// A definition result has ranges as its definitions; a vertex of another label any vertices.
-fn may_have_item(graph: &Graph, item: &Item) -> bool
-    ensures { result ≡ may_have_item graph.now (vertex_at graph.now (id_value item.now.source)) (item_value item.now) }
+/// Whether an `item` edge joins what it may: a definition result has ranges as its definitions; a vertex of another label
+/// any vertices.
+fn item_fits(graph: &Graph, item: &Item) -> bool
+    ensures { result ≡ (are_vertices graph.now (id_value item.now.source ∷ id_values item.now.targets.items) && may_have_item graph.now (vertex_at graph.now (id_value item.now.source)) (item_value item.now)) }
 {
     match vertex_at(graph, &item.source) {
         Some(Vertex::DefinitionResult) => {
             are_definitions(item.property) && are_ranges(graph, &item.targets)
         }
         Some(Vertex::ReferenceResult) => may_be_of_references(graph, item),
-        Some(Vertex::Other) => true,
+        Some(Vertex::Other) => are_vertices(graph, &item.targets),
         _ => false,
     }
 }
 
-/// No row of the edge table has these kinds and this property.
-fn may_not_join(graph: &Graph, element: &Element) -> bool
-    ensures { result ≡ may_not_join graph.now (element_value element.now) }
+/// Whether the ends are earlier vertices, and a row of the edge table has their kinds and this property.
+fn fits(graph: &Graph, element: &Element) -> bool
+    ensures { result ≡ (not (joins_no_vertex graph.now (element_value element.now)) && not (may_not_join graph.now (element_value element.now))) }
 {
     match element {
-        Element::Edge(_, Edge::Contains(from, to)) => !may_contain(graph, from, to),
+        Element::Vertex(_, _) => true,
+        Element::Edge(_, Edge::Contains(from, to)) => contents_fit(graph, from, to),
         Element::Edge(_, Edge::Next(from, to)) => {
-            !(may_ask(graph, from) && is_result_set(graph, to))
+            may_ask(graph, from) && is_result_set(graph, to)
         }
         Element::Edge(_, Edge::Definition(from, to)) => {
-            !(may_ask(graph, from) && is_definition_result(graph, to))
+            may_ask(graph, from) && is_definition_result(graph, to)
         }
         Element::Edge(_, Edge::References(from, to)) => {
-            !(may_ask(graph, from) && is_reference_result(graph, to))
+            may_ask(graph, from) && is_reference_result(graph, to)
         }
         Element::Edge(_, Edge::Hover(from, to)) => {
-            !(may_ask(graph, from) && is_hover_result(graph, to))
+            may_ask(graph, from) && is_hover_result(graph, to)
         }
         Element::Edge(_, Edge::Moniker(from, to)) => {
-            !(may_ask(graph, from) && is_moniker(graph, to))
+            may_ask(graph, from) && is_moniker(graph, to)
         }
         Element::Edge(_, Edge::Package(from, to)) => {
-            !(is_moniker(graph, from) && is_package(graph, to))
+            is_moniker(graph, from) && is_package(graph, to)
         }
         Element::Edge(_, Edge::Attach(from, to)) => {
-            !(is_moniker(graph, from) && is_moniker(graph, to))
+            is_moniker(graph, from) && is_moniker(graph, to)
         }
-        Element::Edge(_, Edge::Item(item)) => !may_have_item(graph, item),
-        _ => false,
+        Element::Edge(_, Edge::Item(item)) => item_fits(graph, item),
+        Element::Edge(_, Edge::Other(from, to)) => {
+            is_vertex(graph, from) && are_vertices(graph, to)
+        }
     }
 }
 
@@ -245,7 +249,7 @@ fn has_no_place(graph: &Graph, element: &Element) -> bool
 {
     match element {
         Element::Edge(_, Edge::Item(item)) => {
-            has_effect(graph, &item.source) && !is_place(graph, &item.shard)
+            !is_place(graph, &item.shard) && has_effect(graph, &item.source)
         }
         _ => false,
     }
@@ -316,10 +320,12 @@ pub(crate) fn order_code(graph: &Graph, element: &Element) -> Result<Option<Code
         Some(Code::L04)
     } else if is_misplaced(graph, element) {
         Some(Code::L06)
-    } else if joins_no_vertex(graph, element) {
-        Some(Code::L09)
-    } else if may_not_join(graph, element) {
-        Some(Code::L10)
+    } else if !fits(graph, element) {
+        if joins_no_vertex(graph, element) {
+            Some(Code::L09)
+        } else {
+            Some(Code::L10)
+        }
     } else if is_contained_again(graph, element)? {
         Some(Code::L11)
     } else if is_conflicting(graph, element)? {
@@ -368,10 +374,10 @@ fn is_misplaced_item(graph: &Graph, element: &Element) -> bool
 {
     match element {
         Element::Edge(_, Edge::Item(item)) => {
-            has_effect(graph, &item.source)
-                && has_ranges(item.property)
+            has_ranges(item.property)
                 && is_document(graph, &item.shard)
                 && !are_in(graph, &item.shard, &item.targets)
+                && has_effect(graph, &item.source)
         }
         _ => false,
     }

@@ -2,7 +2,7 @@ use Rattle.std.proofs.Common.{◌≡◌, take}
 use Rattle.lsif.specs.Element.{IdValue, id_values}
 use Rattle.dump.specs.Graph.{is_among}
 use Rattle.dump.specs.Ids.{value_at}
-use Rattle.dump.specs.Index.{entered}
+use Rattle.dump.specs.Ids.{entered}
 use Rattle.dump.proofs.index.enter_all.Given as goal
 
 abbrev pub invariant-loop-id : goal.invariant-loop-id
