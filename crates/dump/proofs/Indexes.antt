@@ -1,6 +1,6 @@
 -- What tables tell of elements, and what an element more makes of them.
-use Rattle.std.proofs.Common.{◌≡◌, ◌∙◌, ◌||◌, ◌+◌, ◌++◌, ◌∷◌, [], ℕ, Bor, Bool, true, false, cond, List, length, refl, sym, ap, Option, Some, None, option_and_then, is_some}
-use Rattle.std.specs.Prelude.{Contains, option_map, option_copied}
+use Rattle.std.proofs.Common.{◌≡◌, ◌∙◌, ◌||◌, ◌+◌, ◌++◌, ◌∷◌, [], ℕ, Bool, true, false, cond, List, length, refl, sym, ap, Option, Some, None, option_and_then, is_some}
+use Rattle.std.specs.Prelude.{Contains, option_map}
 use Rattle.std.specs.List.{list_any, position}
 use Rattle.std.proofs.lemmas.List.Folds.{list_any-append}
 use Rattle.lsif.specs.Element.{IdValue, same_id, meta_data, project, document, range, result_set, definition_result, reference_result, hover_result, moniker, package_information, event, other_vertex, begin_event, end_event, other_event, ElementValue, vertex, edge}
@@ -12,11 +12,6 @@ use Rattle.dump.specs.Index.{is_id, passes, edge_source, begun_document, ended_d
 use Rattle.dump.specs.Walks.{Pair, is_edge_from}
 use Rattle.dump.proofs.Members.{contains_head, contains_tail}
 use Rattle.dump.proofs.Tables.{position-cons, position_hit, position_miss, position_kept}
-
--- whether a table has a place
-pub copied_some : {A : Type 0} (r : Option (Bor A)) (o : Option A) {b : Bool} → option_copied r ≡ o → is_some o ≡ b → is_some r ≡ b
-copied_some None o e f = ap is_some e ∙ f
-copied_some (Some x) o e f = ap is_some e ∙ f
 
 -- an element that the table leads to, and what is read off it
 pub led_some : {A B C : Type 0} (f : B → Option C) (g : A → B) (r : Option A) (o : Option B) (x : A) → r ≡ Some x → option_map g r ≡ o → f (g x) ≡ option_and_then f o

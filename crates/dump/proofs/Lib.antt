@@ -20,6 +20,7 @@ pub mod Progresses
 pub mod Repeats
 pub mod Rows
 pub mod SameIds
+pub mod Slots
 pub mod Sweeps
 pub mod Tables
 pub mod Uniques

@@ -1,5 +1,5 @@
 -- Repeated ids of a list that grows at its end.
-use Rattle.std.proofs.Common.{◌≡◌, ◌∙◌, ◌||◌, ℕ, ◌+◌, ◌<◌, ◌≤◌, Bool, true, false, List, [], ◌∷◌, ◌++◌, length, take, drop, get_or, Option, Some, if◌then◌else◌, refl, ap, sym}
+use Rattle.std.proofs.Common.{◌≡◌, ◌∙◌, ◌||◌, ℕ, ◌+◌, ◌<◌, ◌≤◌, Bool, true, false, List, [], ◌∷◌, ◌++◌, length, take, drop, get_or, Option, Some, None, if◌then◌else◌, refl, ap, sym}
 use Rattle.std.specs.Prelude.{is_some}
 use Rattle.std.proofs.lemmas.Bool.{or_parts}
 use Rattle.std.proofs.lemmas.List.{take_all, take_more, take-append-drop, map-append}
@@ -7,6 +7,7 @@ use Rattle.std.proofs.lemmas.List.Folds.{list_any-append}
 use Rattle.lsif.specs.declared.id.Id.{Id}
 use Rattle.lsif.specs.Element.{IdValue, id_value, id_values, same_id}
 use Rattle.dump.specs.Graph.{is_among, has_repeated}
+use Rattle.dump.specs.Ids.{entered}
 use Rattle.dump.proofs.Lists.{drop_next}
 use Rattle.dump.proofs.SameIds.{same_id_swap}
 
@@ -59,8 +60,6 @@ again-miss xs k x lt e h none = ap has_repeated (ids_more xs k x lt e) ∙ repea
 pub again-end : (xs : List Id) (k : ℕ) → length xs ≤ k → has_repeated (id_values (take k xs)) ≡ false → false ≡ has_repeated (id_values xs)
 again-end xs k le none = sym (rw (take_all k xs le) at none)
 
--- a look-up that lends what it finds
-
 -- a table of the ids up to an index, and what one more makes of it
 pub seen_more : {V : Type 0} (xs : List Id) (k : ℕ) (x : Id) (v : V) (old new : IdValue → Option V) → k < length xs → x ≡ get_or xs k x
     → ((i : IdValue) → is_some (old i) ≡ is_among i (id_values (take k xs)))
@@ -75,3 +74,20 @@ seen_more xs k x v old new lt e before is i = ap is_some (is i) ∙ by (same_id 
         plain : (c : Bool) → (c || false) ≡ c
         plain true = refl
         plain false = refl
+
+entered_twice : (here there : Bool) (place : ℕ) (o : Option ℕ) → entered there place (entered here place o) ≡ entered (here || (there || false)) place o
+entered_twice here there place (Some old) = refl
+entered_twice true there place None = refl
+entered_twice false true place None = refl
+entered_twice false false place None = refl
+
+-- a place entered at the ids up to an index, and at one more
+pub entered_more : (xs : List Id) (k : ℕ) (x : Id) (place : ℕ) (first old new : IdValue → Option ℕ) → k < length xs → x ≡ get_or xs k x
+    → ((i : IdValue) → old i ≡ entered (is_among i (id_values (take k xs))) place (first i))
+    → ((i : IdValue) → new i ≡ entered (same_id (id_value x) i) place (old i))
+    → (i : IdValue) → new i ≡ entered (is_among i (id_values (take (k + 1) xs))) place (first i)
+entered_more xs k x place first old new lt e before is i =
+    is i
+    ∙ ap (entered (same_id (id_value x) i) place) (before i)
+    ∙ entered_twice (is_among i (id_values (take k xs))) (same_id (id_value x) i) place (first i)
+    ∙ sym (ap (λ here. entered here place (first i)) (ap (is_among i) (ids_more xs k x lt e) ∙ among_push _ (id_value x) i))

@@ -1,14 +1,20 @@
 -- Tables from ids to values.
-use Rattle.std.specs.Prelude.{◌≡◌, ℕ, Bool, List, Option, Some, None, nat_eq, if◌then◌else◌}
+use Rattle.std.specs.Prelude.{◌≡◌, ℕ, Bool, List, Option, Some, None, nat_eq, nat_lt, get_or, if◌then◌else◌}
 use Rattle.std.specs.List.{position}
 use Rattle.std.specs.HashMap.{get, get_by_text}
 use Rattle.lsif.specs.Element.{IdValue, number, text}
 use Rattle.dump.specs.declared.ids.IdMap.{IdMap}
+use Rattle.dump.specs.declared.place_map.PlaceMap.{PlaceMap}
 
 -- what the table has at an id
 abbrev pub value_at : {V : Type 0} → IdMap V → IdValue → Option V
 value_at table (number n) = get nat_eq table.numbers n
 value_at table (text s) = get_by_text table.texts s
+
+-- the place that the table has at an id: numbers below the bound have a slot each
+abbrev pub place_at : PlaceMap → IdValue → Option ℕ
+place_at table (number n) = if nat_lt n table.bound then get_or table.slots.items n None else value_at table.others (number n)
+place_at table (text s) = value_at table.others (text s)
 
 -- the table leads from an id to the place of the first element that passes the id's test, and to none where no element does
 abbrev pub IsTable : {X : Type 0} → (IdValue → Option ℕ) → (IdValue → X → Bool) → List X → Type 0

@@ -10,7 +10,7 @@ use Rattle.dump.specs.Conditions.{is_document_of}
 use Rattle.dump.specs.Contained.{contains_range, spans_in, has_conflict}
 use Rattle.dump.specs.Ended.{begins, finishes}
 use Rattle.dump.specs.Graph.{vertex_at, is_document}
-use Rattle.dump.specs.Ids.{value_at, IsTable}
+use Rattle.dump.specs.Ids.{value_at, place_at, IsTable}
 use Rattle.dump.specs.Spans.{IsOrdered}
 use Rattle.dump.specs.Walks.{Pair, next_in, definition_in, references_in, hover_in, package_in, is_edge_from}
 
@@ -77,14 +77,14 @@ IsFilled false targets old new = new ≡ old
 -- edge that names a range, the event that a document begins or ends; the serialized URLs are those of documents; and of each
 -- document the spans of its ranges are kept in order
 pub record IsIndex (x : Index) (d : List ElementValue) : Type 0 where
-  pub elements : IsTable (value_at x.elements) has_id d
-  pub next : IsTable (value_at x.next) (is_edge_from next_in) d
-  pub definition : IsTable (value_at x.definition) (is_edge_from definition_in) d
-  pub references : IsTable (value_at x.references) (is_edge_from references_in) d
-  pub hover : IsTable (value_at x.hover) (is_edge_from hover_in) d
-  pub package_information : IsTable (value_at x.package) (is_edge_from package_in) d
-  pub contained : IsTable (value_at x.contained) (contains_range d) d
-  pub begun : IsTable (value_at x.begun) begins d
-  pub ended : IsTable (value_at x.ended) finishes d
+  pub elements : IsTable (place_at x.elements) has_id d
+  pub next : IsTable (place_at x.next) (is_edge_from next_in) d
+  pub definition : IsTable (place_at x.definition) (is_edge_from definition_in) d
+  pub references : IsTable (place_at x.references) (is_edge_from references_in) d
+  pub hover : IsTable (place_at x.hover) (is_edge_from hover_in) d
+  pub package_information : IsTable (place_at x.package) (is_edge_from package_in) d
+  pub contained : IsTable (place_at x.contained) (contains_range d) d
+  pub begun : IsTable (place_at x.begun) begins d
+  pub ended : IsTable (place_at x.ended) finishes d
   pub documents : (uri : List ℕ) → is_some (get_by_text x.documents uri) ≡ list_any (is_document_of uri) d
   pub spans : (v : IdValue) → IsPermutation (spans_in d v) (kept (value_at x.spans v)) × IsClear (kept (value_at x.spans v))

@@ -7,60 +7,65 @@ ghost use Rattle.dump.specs.Conditions.{is_document_of, order_code};
 ghost use Rattle.dump.specs.Contained.{is_contained, is_in, spans_of, spans_in, any_conflicts, has_conflict};
 ghost use Rattle.dump.specs.Ended.{has_begun, has_ended, is_closed};
 ghost use Rattle.dump.specs.Graph.{element_at, vertex_of, vertex_at, is_document, is_among};
-ghost use Rattle.dump.specs.Ids.{value_at, entered};
+ghost use Rattle.dump.specs.Ids.{value_at, place_at, entered};
 ghost use Rattle.dump.specs.Index.{IsIndex, IsFilled, kept, ranges_in, contains_source, container, edge_source, begun_document, ended_document, is_id};
 ghost use Rattle.dump.specs.Spans.{IsOrdered};
 ghost use Rattle.dump.specs.Steps.{IsSound};
 ghost use Rattle.dump.specs.Walks.{edge_target, first_to, next_in, definition_in, references_in, hover_in, package_in, next_pairs, definition_pairs, references_pairs, hover_pairs, package_pairs};
 
 use crate::ids::IdMap;
+use crate::place_map::PlaceMap;
 use crate::spans::{conflict_after, merged};
 use lsif::{Edge, Element, Event, Id, Vertex};
 use positions::Span;
 use std::alloc::{AllocError, Global};
 use std::collections::HashMap;
 
+/// Ids below it have a slot each in the tables that have much to hold: more than a dump has elements, so that dumps whose
+/// elements are numbered in turn need nothing else.
+const SLOTS: u32 = 131072;
+
 /// Tables that lead from ids to the places of elements in their list, counted from 0.
 #[derive(Drop)]
 pub(crate) struct Index {
     alloc: Global,
     /// The element of an id.
-    elements: IdMap<usize>,
+    elements: PlaceMap,
     /// The `next` edge out of a vertex.
-    next: IdMap<usize>,
+    next: PlaceMap,
     /// The `textDocument/definition` edge out of a vertex.
-    definition: IdMap<usize>,
+    definition: PlaceMap,
     /// The `textDocument/references` edge out of a vertex.
-    references: IdMap<usize>,
+    references: PlaceMap,
     /// The `textDocument/hover` edge out of a vertex.
-    hover: IdMap<usize>,
+    hover: PlaceMap,
     /// The `packageInformation` edge out of a vertex.
-    package: IdMap<usize>,
+    package: PlaceMap,
     /// The `contains` edge out of a document that names a range.
-    contained: IdMap<usize>,
+    contained: PlaceMap,
     /// The spans of a document's ranges, in order.
     spans: IdMap<Vec<Span>>,
     /// The event that a document begins.
-    begun: IdMap<usize>,
+    begun: PlaceMap,
     /// The event that a document ends.
-    ended: IdMap<usize>,
+    ended: PlaceMap,
     /// The document of a serialized URL.
     documents: HashMap<String, usize>,
 }
 
 /// The element that the table leads to.
-fn first<'a>(table: &IdMap<usize>, elements: &'a [Element], id: &Id) -> Option<&'a Element>
-    ensures { option_map (λ e. element_value e.now) result ≡ option_and_then (slice_get (map element_value elements.now)) (value_at table.now (id_value id.now)) }
+fn first<'a>(table: &PlaceMap, elements: &'a [Element], id: &Id) -> Option<&'a Element>
+    ensures { option_map (λ e. element_value e.now) result ≡ option_and_then (slice_get (map element_value elements.now)) (place_at table.now (id_value id.now)) }
 {
     match table.get(id) {
-        Some(place) => elements.get(*place),
+        Some(place) => elements.get(place),
         None => None,
     }
 }
 
 /// Enters the place where the table has none yet.
-fn enter(table: &mut IdMap<usize>, id: Option<&Id>, place: usize) -> Result<(), AllocError>
-    ensures { OnOk result ((i : IdValue) → value_at table.new i ≡ entered (is_id i (option_map (λ j. id_value j.now) id.entry)) place (value_at table.old i)) }
+fn enter(table: &mut PlaceMap, id: Option<&Id>, place: usize) -> Result<(), AllocError>
+    ensures { OnOk result ((i : IdValue) → place_at table.new i ≡ entered (is_id i (option_map (λ j. id_value j.now) id.entry)) place (place_at table.old i)) }
 {
     match id {
         Some(id) => table.enter(id, place),
@@ -69,8 +74,8 @@ fn enter(table: &mut IdMap<usize>, id: Option<&Id>, place: usize) -> Result<(), 
 }
 
 /// Enters the place at each of the ids where the table has none yet.
-fn enter_all(table: &mut IdMap<usize>, ids: &[Id], place: usize) -> Result<(), AllocError>
-    ensures { OnOk result ((i : IdValue) → value_at table.new i ≡ entered (is_among i (id_values ids.now)) place (value_at table.old i)) }
+fn enter_all(table: &mut PlaceMap, ids: &[Id], place: usize) -> Result<(), AllocError>
+    ensures { OnOk result ((i : IdValue) → place_at table.new i ≡ entered (is_among i (id_values ids.now)) place (place_at table.old i)) }
 {
     for id in ids {
         enter(table, Some(id), place)?;
@@ -268,16 +273,16 @@ impl Index {
     {
         Index {
             alloc,
-            elements: IdMap::new(alloc),
-            next: IdMap::new(alloc),
-            definition: IdMap::new(alloc),
-            references: IdMap::new(alloc),
-            hover: IdMap::new(alloc),
-            package: IdMap::new(alloc),
-            contained: IdMap::new(alloc),
+            elements: PlaceMap::new(alloc, SLOTS),
+            next: PlaceMap::new(alloc, SLOTS),
+            definition: PlaceMap::new(alloc, 0),
+            references: PlaceMap::new(alloc, 0),
+            hover: PlaceMap::new(alloc, 0),
+            package: PlaceMap::new(alloc, 0),
+            contained: PlaceMap::new(alloc, SLOTS),
             spans: IdMap::new(alloc),
-            begun: IdMap::new(alloc),
-            ended: IdMap::new(alloc),
+            begun: PlaceMap::new(alloc, 0),
+            ended: PlaceMap::new(alloc, 0),
             documents: HashMap::new(alloc),
         }
     }

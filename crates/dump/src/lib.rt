@@ -10,6 +10,7 @@ mod ids;
 mod index;
 mod laws;
 mod order;
+mod place_map;
 mod reading;
 mod search;
 mod spans;
@@ -25,5 +26,7 @@ pub use reading::{DumpFault, read_dump};
 mod tests;
 #[cfg(test)]
 mod tests_index;
+#[cfg(test)]
+mod tests_place_map;
 #[cfg(test)]
 mod tests_spans;

@@ -57,11 +57,12 @@ const PACKAGES: (u64, u64) = (26, 2);
 
 const VERTICES: u64 = 29;
 
-/// The id of a place in the dump: a number, or for each third place a text.
+/// The id of a place in the dump: a text, a number that has a slot, or one that has none.
 fn id(rt: &HostRuntime, place: u64) -> Result<Id, Fail> {
     match place % 3 {
         0 => Ok(Id::Text(format!(in rt.alloc(); "{place}")?)),
-        _ => Ok(Id::Number(place)),
+        1 => Ok(Id::Number(place)),
+        _ => Ok(Id::Number(place.wrapping_add(131072))),
     }
 }
 

@@ -5,7 +5,7 @@ use Rattle.dump.specs.Conditions.{are_vertices}
 use Rattle.dump.specs.Contained.{contains_range, spans_of}
 use Rattle.dump.specs.Ended.{begins, finishes}
 use Rattle.dump.specs.Graph.{is_among, ends}
-use Rattle.dump.specs.Ids.{value_at}
+use Rattle.dump.specs.Ids.{value_at, place_at}
 use Rattle.dump.specs.Index.{has_id, is_id}
 use Rattle.dump.specs.Walks.{is_edge_from, next_in, definition_in, references_in, hover_in, package_in}
 use Rattle.dump.proofs.Bools.{not_false}
@@ -24,24 +24,24 @@ returns c =
     let known = ends_known d c.requires.sound in
     let free = no_code d x c.requires.free in
     record {
-      elements = table_enters (value_at c.args.self.now.elements) (value_at c.enter.new.table) has_id has_id d x n _ long c.in_ok-enter.ensures
+      elements = table_enters (place_at c.args.self.now.elements) (place_at c.enter.new.table) has_id has_id d x n _ long c.in_ok-enter.ensures
           (λ i. ap (λ j. same_id j i) (sym c.id.ensures)) (λ i. refl) c.requires.index.elements;
-      next = table_enters (value_at c.args.self.now.next) (value_at c.enter-2.new.table) (is_edge_from next_in) (is_edge_from next_in) d x n _ long c.in_ok-enter-2.ensures
+      next = table_enters (place_at c.args.self.now.next) (place_at c.enter-2.new.table) (is_edge_from next_in) (is_edge_from next_in) d x n _ long c.in_ok-enter-2.ensures
           (λ i. source_test next_in x i ∙ ap (is_id i) (sym c.next_source.ensures)) (λ i. refl) c.requires.index.next;
-      definition = table_enters (value_at c.args.self.now.definition) (value_at c.enter-3.new.table) (is_edge_from definition_in) (is_edge_from definition_in) d x n _ long c.in_ok-enter-3.ensures
+      definition = table_enters (place_at c.args.self.now.definition) (place_at c.enter-3.new.table) (is_edge_from definition_in) (is_edge_from definition_in) d x n _ long c.in_ok-enter-3.ensures
           (λ i. source_test definition_in x i ∙ ap (is_id i) (sym c.definition_source.ensures)) (λ i. refl) c.requires.index.definition;
-      references = table_enters (value_at c.args.self.now.references) (value_at c.enter-4.new.table) (is_edge_from references_in) (is_edge_from references_in) d x n _ long c.in_ok-enter-4.ensures
+      references = table_enters (place_at c.args.self.now.references) (place_at c.enter-4.new.table) (is_edge_from references_in) (is_edge_from references_in) d x n _ long c.in_ok-enter-4.ensures
           (λ i. source_test references_in x i ∙ ap (is_id i) (sym c.references_source.ensures)) (λ i. refl) c.requires.index.references;
-      hover = table_enters (value_at c.args.self.now.hover) (value_at c.enter-5.new.table) (is_edge_from hover_in) (is_edge_from hover_in) d x n _ long c.in_ok-enter-5.ensures
+      hover = table_enters (place_at c.args.self.now.hover) (place_at c.enter-5.new.table) (is_edge_from hover_in) (is_edge_from hover_in) d x n _ long c.in_ok-enter-5.ensures
           (λ i. source_test hover_in x i ∙ ap (is_id i) (sym c.hover_source.ensures)) (λ i. refl) c.requires.index.hover;
-      package_information = table_enters (value_at c.args.self.now.«package») (value_at c.enter-6.new.table) (is_edge_from package_in) (is_edge_from package_in) d x n _ long c.in_ok-enter-6.ensures
+      package_information = table_enters (place_at c.args.self.now.«package») (place_at c.enter-6.new.table) (is_edge_from package_in) (is_edge_from package_in) d x n _ long c.in_ok-enter-6.ensures
           (λ i. source_test package_in x i ∙ ap (is_id i) (sym c.package_source.ensures)) (λ i. refl) c.requires.index.package_information;
-      contained = table_enters (value_at c.args.self.now.contained) (value_at c.enter_all.new.table) (contains_range d) (contains_range (d ++ x ∷ [])) d x n _ long c.in_ok-enter_all.ensures
+      contained = table_enters (place_at c.args.self.now.contained) (place_at c.enter_all.new.table) (contains_range d) (contains_range (d ++ x ∷ [])) d x n _ long c.in_ok-enter_all.ensures
           (λ i. same_contained d x x (not_false (are_vertices d (ends x)) free.ends) i ∙ sym (ranges_test d x i) ∙ ap (is_among i) (sym c.ranges_of-ranges.ensures))
           (λ i. position_same (contains_range (d ++ x ∷ []) i) (contains_range d i) d (λ y at. same_contained d x y (known y at) i)) c.requires.index.contained;
-      begun = table_enters (value_at c.args.self.now.begun) (value_at c.enter-7.new.table) begins begins d x n _ long c.in_ok-enter-7.ensures
+      begun = table_enters (place_at c.args.self.now.begun) (place_at c.enter-7.new.table) begins begins d x n _ long c.in_ok-enter-7.ensures
           (λ i. begun_test x i ∙ ap (is_id i) (sym c.begun_document.ensures)) (λ i. refl) c.requires.index.begun;
-      ended = table_enters (value_at c.args.self.now.ended) (value_at c.enter-8.new.table) finishes finishes d x n _ long c.in_ok-enter-8.ensures
+      ended = table_enters (place_at c.args.self.now.ended) (place_at c.enter-8.new.table) finishes finishes d x n _ long c.in_ok-enter-8.ensures
           (λ i. ended_test x i ∙ ap (is_id i) (sym c.ended_document.ensures)) (λ i. refl) c.requires.index.ended;
       documents = λ uri. document_more uri d x _ _ (c.requires.index.documents uri) (c.in_ok-enter_document.ensures uri);
       spans = fills d x free known (value_at c.args.self.now.spans) (value_at c.fill.new.table) c.requires.index.spans

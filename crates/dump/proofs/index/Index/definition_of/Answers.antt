@@ -1,6 +1,6 @@
 use Rattle.std.proofs.Common.{◌∙◌, sym, map}
 use Rattle.lsif.specs.Element.{id_value, element_value}
-use Rattle.dump.specs.Ids.{value_at}
+use Rattle.dump.specs.Ids.{place_at}
 use Rattle.dump.specs.Walks.{edge_target, is_edge_from, definition_in}
 use Rattle.dump.proofs.Indexes.{led_some, led_none}
 use Rattle.dump.proofs.Tables.{table-item, first_to-definition}
@@ -8,10 +8,10 @@ use Rattle.dump.proofs.index.Index.definition_of.Goals as goal
 
 pub returns-in-Some : goal.returns-in-Some
 returns-in-Some c =
-    let found = c.first.ensures ∙ table-item (value_at c.args.self.now.definition) (is_edge_from definition_in) (map element_value c.args.elements.now) c.requires.definition (id_value c.args.id.now) in
+    let found = c.first.ensures ∙ table-item (place_at c.args.self.now.definition) (is_edge_from definition_in) (map element_value c.args.elements.now) c.requires.definition (id_value c.args.id.now) in
     c.definition_target.ensures ∙ led_some (edge_target definition_in) _ _ _ _ c.in-Some.is found ∙ sym (first_to-definition (map element_value c.args.elements.now) (id_value c.args.id.now))
 
 pub returns-in-None : goal.returns-in-None
 returns-in-None c =
-    let found = c.first.ensures ∙ table-item (value_at c.args.self.now.definition) (is_edge_from definition_in) (map element_value c.args.elements.now) c.requires.definition (id_value c.args.id.now) in
+    let found = c.first.ensures ∙ table-item (place_at c.args.self.now.definition) (is_edge_from definition_in) (map element_value c.args.elements.now) c.requires.definition (id_value c.args.id.now) in
     led_none (edge_target definition_in) _ _ _ c.in-None.is found ∙ sym (first_to-definition (map element_value c.args.elements.now) (id_value c.args.id.now))

@@ -1,0 +1,44 @@
+-- Places of numbers below a bound, which have a slot each, and of all other ids.
+use Rattle.std.proofs.Common.{◌≡◌, ◌∙◌, ◌==◌, ℕ, Bool, true, false, nat_eq, nat_lt, List, [], ◌∷◌, length, get_or, if◌then◌else◌, refl, sym, ap, arith, Option, Some, None}
+use Rattle.std.specs.Prelude.{Result, Ok, Err, OnOk}
+use Rattle.dump.specs.Ids.{entered}
+
+no_length : (k : ℕ) → true ≡ (k == 0) → k ≡ 0
+no_length k e = grind (arith, e)
+
+pub get_past : (slots : List (Option ℕ)) (k n : ℕ) → length slots ≡ k → true ≡ (k == 0) → get_or slots n None ≡ None
+get_past [] k n same e = refl
+get_past (o ∷ os) k n same e = absurd (omega (arith, same, no_length k e))
+
+pub slot_or_none : (b : Bool) (o p : Option ℕ) → o ≡ None → p ≡ None → (if b then o else p) ≡ None
+slot_or_none true o p e f = e
+slot_or_none false o p e f = f
+
+pub entered_not : {V : Type 0} (new : V) (o : Option V) → entered false new o ≡ o
+entered_not new (Some old) = refl
+entered_not new None = refl
+
+apart : (n m b : ℕ) → nat_lt n b ≡ false → nat_lt m b ≡ true → nat_eq n m ≡ false
+apart n m b e f = grind (arith, e, f)
+
+-- a number that has no slot is entered
+pub number_entered : (b n m place : ℕ) (slots : List (Option ℕ)) (old new : Option ℕ) → nat_lt n b ≡ false → new ≡ entered (nat_eq n m) place old
+    → (if nat_lt m b then get_or slots m None else new) ≡ entered (nat_eq n m) place (if nat_lt m b then get_or slots m None else old)
+number_entered b n m place slots old new past e = by (nat_lt m b) refl
+  where
+    by : (c : Bool) → nat_lt m b ≡ c → (if c then get_or slots m None else new) ≡ entered (nat_eq n m) place (if c then get_or slots m None else old)
+    by true below = sym (ap (λ here. entered here place (get_or slots m None)) (apart n m b past below) ∙ entered_not place (get_or slots m None))
+    by false past_too = e
+
+-- a text is entered
+pub text_entered : (b m place : ℕ) (slots : List (Option ℕ)) (old new : Option ℕ) → new ≡ entered false place old
+    → (if nat_lt m b then get_or slots m None else new) ≡ entered false place (if nat_lt m b then get_or slots m None else old)
+text_entered b m place slots old new e = by (nat_lt m b)
+  where
+    by : (c : Bool) → (if c then get_or slots m None else new) ≡ entered false place (if c then get_or slots m None else old)
+    by true = sym (entered_not place (get_or slots m None))
+    by false = e
+
+pub on_ok : {X E P Q : Type 0} (r : Result X E) → (P → Q) → OnOk r P → OnOk r Q
+on_ok (Ok x) to p = to p
+on_ok (Err e) to p = p
