@@ -1,0 +1,234 @@
+"""Tries edits that the check must refuse, many in one check: see bench/edits.sh.
+
+An edit is a file of lines `file: PATH`, `old: TEXT` and `new: TEXT`, as in crates/NAME/must-fail. A batch has edits
+of different functions. It is applied to a copy of the crate, over what earlier checks kept in out/, and each function
+that an edit changed must be among those that aren't proved. An edit outside functions, of a constant or of a member
+that only proofs have, has a batch of its own, and something must not be proved.
+"""
+
+import argparse
+import pathlib
+import re
+import shutil
+import subprocess
+import sys
+import tempfile
+import time
+from dataclasses import dataclass, field
+
+TOP = pathlib.Path(__file__).resolve().parent.parent
+FUNCTION = re.compile(r"\s*(?:pub(?:\([a-z]+\))?\s+)?(?:const\s+|unsafe\s+)*fn\s+(\w+)")
+VERDICT = re.compile(r"^fn (\S+): (.*)$", re.M)
+NOT_PROVED = re.compile(r"not proved|no proof")
+THROUGH_ANOTHER = re.compile(r"it calls|it passes|a call of")
+
+
+class BadEdit(Exception):
+    """An edit that can't be applied, and why."""
+
+
+@dataclass
+class Edit:
+    path: pathlib.Path
+    crate: str
+    pairs: list = field(default_factory=list)  # (file, old text, new text)
+
+    def __str__(self):
+        return f"{self.crate}/{self.path.stem}"
+
+
+def read_edit(path, crate):
+    edit, file, old = Edit(path, crate), None, None
+    for line in path.read_text(encoding="utf-8").splitlines():
+        word, _, text = line.partition(": ")
+        if word == "file":
+            file = text.strip()
+        elif word == "old":
+            old = text
+        elif word in ("new", "new:") and file and old:
+            edit.pairs.append((file, old, text))
+            old = None
+    if not edit.pairs:
+        raise BadEdit(f"{edit}: it has no 'file:', 'old:' and 'new:' lines")
+    return edit
+
+
+def edits_of(crate, with_must_fail):
+    folders = [TOP / "edits" / crate]
+    if with_must_fail:
+        folders.append(TOP / "crates" / crate / "must-fail")
+    return [read_edit(path, crate) for folder in folders for path in sorted(folder.glob("*.edit"))]
+
+
+def applied(edit, texts):
+    """The texts of a crate's files with an edit, and the functions that it changes: a set of (file, name), where the
+    name is none outside functions."""
+    texts, functions = dict(texts), set()
+    for file, old, new in edit.pairs:
+        if file not in texts:
+            texts[file] = (TOP / "crates" / edit.crate / file).read_text(encoding="utf-8")
+        count = texts[file].count(old)
+        if count != 1:
+            raise BadEdit(f"{edit}: an 'old:' text stands in {file} {count} times, and not once")
+        at = texts[file].index(old)
+        functions.add((file, function_at(texts[file], at)))
+        texts[file] = texts[file][:at] + new + texts[file][at + len(old) :]
+    return texts, functions
+
+
+def function_at(text, at):
+    """The name of the function that a place of a text lies in, by the layout of `rt fmt`, or none."""
+    lines = text[: text.find("\n", at)].split("\n")
+    found = FUNCTION.match(lines[-1])
+    if found:
+        return found[1]
+    within = len(lines[-1]) - len(lines[-1].lstrip())
+    for line in reversed(lines[:-1]):
+        indent = len(line) - len(line.lstrip())
+        if not line.strip() or indent >= within:
+            continue
+        found = FUNCTION.match(line)
+        if found:
+            return found[1]
+        # The brace below a contract, and the end of a head of several lines, stand as deep as the `fn` above them.
+        within = indent + 1 if line.strip() == "{" or line.lstrip().startswith(")") else indent
+    return None
+
+
+def batches_of(edits):
+    """Lists of edits, each with the texts that they make and the functions of each."""
+    left = list(edits)
+    while left:
+        texts, taken, batch, later = {}, set(), [], []
+        for edit in left:
+            _, functions = applied(edit, {})
+            is_alone = any(name is None for _, name in functions)
+            if functions & taken or (is_alone and batch) or (None, None) in taken:
+                later.append(edit)
+                continue
+            try:
+                texts, _ = applied(edit, texts)
+            except BadEdit:
+                later.append(edit)
+                continue
+            taken |= functions | ({(None, None)} if is_alone else set())
+            batch.append((edit, functions))
+        left = later
+        yield batch, texts
+
+
+def symbols_of(crate, file, name):
+    """A pattern of the names that the check gives the functions of a name in a file."""
+    module = pathlib.PurePath(file).with_suffix("").parts[1:]
+    module = [] if module in (("lib",), ("main",)) else [it for it in module if it != "mod"]
+    return re.compile("::".join([crate, *module]) + r"(?:::[A-Z]\w*)?::" + name + "$")
+
+
+class Copy:
+    """A copy of the repository, with what earlier checks kept, in which edits are tried."""
+
+    def __init__(self, folder):
+        self.folder = pathlib.Path(folder)
+        for name in ("crates.txt", "HANDLES"):
+            shutil.copy(TOP / name, self.folder / name)
+        shutil.copytree(TOP / "crates", self.folder / "crates")
+
+    def check(self, crate, texts):
+        """What a check of the crate with these texts says of each function, or nothing where it didn't get there."""
+        folder = self.folder / "crates" / crate
+        own = {file: (folder / file).read_text(encoding="utf-8") for file in texts}
+        for file, text in texts.items():
+            (folder / file).write_text(text, encoding="utf-8")
+        ran = subprocess.run(["rt", "check"], cwd=folder, stdin=subprocess.DEVNULL, capture_output=True, text=True, errors="replace")
+        for file, text in own.items():
+            (folder / file).write_text(text, encoding="utf-8")
+        return dict(VERDICT.findall(ran.stdout)), ran
+
+
+def verdict_of(edit, functions, said):
+    """Whether an edit was refused, or none where only what it calls was."""
+    if any(name is None for _, name in functions):
+        return any(NOT_PROVED.search(words) for words in said.values())
+    is_open = False
+    for file, name in functions:
+        pattern = symbols_of(edit.crate, file, name)
+        words = [it for symbol, it in said.items() if pattern.match(symbol) and NOT_PROVED.search(it)]
+        if any(not THROUGH_ANOTHER.search(it) for it in words):
+            return True
+        is_open = is_open or bool(words)
+    return None if is_open else False
+
+
+def tried(copy, crate, batch, texts):
+    """Tries a batch, and where that doesn't reach the prover or leaves something open, its parts: (edit, what came of it)."""
+    said, ran = copy.check(crate, texts)
+    if not said and len(batch) == 1:
+        first = next((it for it in ran.stdout.splitlines() if "error" in it), "it didn't reach the prover")
+        return [(batch[0][0], f"BAD EDIT: {first[:160]}")]
+    verdicts = [(edit, functions, verdict_of(edit, functions, said) if said else None) for edit, functions in batch]
+    if len(batch) == 1:
+        return [(edit, "refused" if verdict is not False else "NOT REFUSED") for edit, _, verdict in verdicts]
+    done = [(edit, "refused" if verdict else "NOT REFUSED") for edit, _, verdict in verdicts if verdict is not None]
+    for half in halves([(edit, functions) for edit, functions, verdict in verdicts if verdict is None], not said):
+        again = {}
+        for edit, _ in half:
+            again, _ = applied(edit, again)
+        done += tried(copy, crate, half, again)
+    return done
+
+
+def halves(batch, is_split):
+    """A batch that stopped before the prover in halves; of another, what it left open one by one."""
+    if not is_split:
+        return [[it] for it in batch]
+    middle = len(batch) // 2
+    return [batch[:middle], batch[middle:]]
+
+
+def try_crate(copy, crate, edits):
+    """Tries a crate's edits, prints what came of each, and answers how many weren't refused."""
+    start, count, failed = time.monotonic(), 0, 0
+    for batch, texts in batches_of(edits):
+        count += 1
+        for edit, word in tried(copy, crate, batch, texts):
+            print(f"{edit}: {word}", flush=True)
+            failed += word != "refused"
+    print(f"{crate}: {len(edits)} edits in {count} batches, {time.monotonic() - start:.0f} s", flush=True)
+    return failed
+
+
+def unfit(edits):
+    """Says of each edit that can't be applied why, and answers how many they are."""
+    failed = 0
+    for edit in edits:
+        try:
+            applied(edit, {})
+        except (BadEdit, OSError) as error:
+            print(error)
+            failed += 1
+    return failed
+
+
+def main():
+    parser = argparse.ArgumentParser(prog="bench/edits.sh", description="Tries the edits that the check must refuse, in batches.")
+    parser.add_argument("--fits", action="store_true", help="tell which texts don't stand exactly once, and try nothing")
+    parser.add_argument("--all", action="store_true", help="try the edits of must-fail/ too")
+    parser.add_argument("names", nargs="*", metavar="NAME", help="a crate (default: every one)")
+    words = parser.parse_args()
+    listed = [line.split(":")[0].split()[0] for line in (TOP / "crates.txt").read_text().splitlines() if ":" in line and not line.startswith("#")]
+    crates = words.names or listed
+    edits = {crate: edits_of(crate, words.all or words.fits) for crate in crates}
+    failed = unfit([it for of_crate in edits.values() for it in of_crate])
+    count = sum(map(len, edits.values()))
+    if words.fits or failed:
+        print(f"edits: {count - failed} of {count} fit")
+        return 1 if failed else 0
+    with tempfile.TemporaryDirectory(prefix="codenav-edits-") as folder:
+        copy = Copy(folder)
+        failed = sum(try_crate(copy, crate, edits[crate]) for crate in crates if edits[crate])
+    print(f"edits: {count - failed} of {count} refused")
+    return 1 if failed else 0
+
+
+if __name__ == "__main__":
+    sys.exit(main())
