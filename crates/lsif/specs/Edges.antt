@@ -4,6 +4,8 @@ use Rattle.serde_json.specs.Data.{Data}
 use Rattle.serde_json.specs.Find.{get, as_str, as_array}
 use Rattle.lsif.specs.declared.code.Code.{Code}
 use Rattle.lsif.specs.declared.code.Code.TheVariants.{L08, L15}
+use Rattle.lsif.specs.declared.edges.EdgeLabel.{EdgeLabel}
+use Rattle.lsif.specs.declared.edges.EdgeLabel.TheVariants as labels
 use Rattle.lsif.specs.declared.element.Property.{Property}
 use Rattle.lsif.specs.declared.element.Property.TheVariants.{Definitions, References, ReferenceResults}
 use Rattle.lsif.specs.Element.{IdValue, ItemValue, EdgeValue, contains, next, definition, references, hover, moniker_edge, package_edge, attach, item, other_edge}
@@ -54,24 +56,37 @@ item_in from d = do
   shard ← some_or L15 (shard_in d)
   Ok (record { source = from; targets = to; property = property; shard = shard })
 
+-- which label a text is
+abbrev pub edge_label : List ℕ → EdgeLabel
+edge_label text =
+    if bytes_eq text (codes "contains") then labels.Contains
+    else if bytes_eq text (codes "next") then labels.Next
+    else if bytes_eq text (codes "textDocument/definition") then labels.Definition
+    else if bytes_eq text (codes "textDocument/references") then labels.References
+    else if bytes_eq text (codes "textDocument/hover") then labels.Hover
+    else if bytes_eq text (codes "moniker") then labels.Moniker
+    else if bytes_eq text (codes "packageInformation") then labels.Package
+    else if bytes_eq text (codes "attach") then labels.Attach
+    else if bytes_eq text (codes "item") then labels.Item
+    else labels.Other
+
 -- what an edge of this label out of this source joins
-unfoldable pub edge_from : List ℕ → IdValue → Data → Result EdgeValue Code
-edge_from label from d =
-    if bytes_eq label (codes "contains") then some_or L08 (option_map (contains from) (targets_in d))
-    else if bytes_eq label (codes "next") then some_or L08 (option_map (next from) (target_in d))
-    else if bytes_eq label (codes "textDocument/definition") then some_or L08 (option_map (definition from) (target_in d))
-    else if bytes_eq label (codes "textDocument/references") then some_or L08 (option_map (references from) (target_in d))
-    else if bytes_eq label (codes "textDocument/hover") then some_or L08 (option_map (hover from) (target_in d))
-    else if bytes_eq label (codes "moniker") then some_or L08 (option_map (moniker_edge from) (target_in d))
-    else if bytes_eq label (codes "packageInformation") then some_or L08 (option_map (package_edge from) (target_in d))
-    else if bytes_eq label (codes "attach") then some_or L08 (option_map (attach from) (target_in d))
-    else if bytes_eq label (codes "item") then (do
-      i ← item_in from d
-      Ok (item i))
-    else some_or L08 (option_map (other_edge from) (ends_in d))
+unfoldable pub edge_from : EdgeLabel → IdValue → Data → Result EdgeValue Code
+edge_from labels.Contains from d = some_or L08 (option_map (contains from) (targets_in d))
+edge_from labels.Next from d = some_or L08 (option_map (next from) (target_in d))
+edge_from labels.Definition from d = some_or L08 (option_map (definition from) (target_in d))
+edge_from labels.References from d = some_or L08 (option_map (references from) (target_in d))
+edge_from labels.Hover from d = some_or L08 (option_map (hover from) (target_in d))
+edge_from labels.Moniker from d = some_or L08 (option_map (moniker_edge from) (target_in d))
+edge_from labels.Package from d = some_or L08 (option_map (package_edge from) (target_in d))
+edge_from labels.Attach from d = some_or L08 (option_map (attach from) (target_in d))
+edge_from labels.Item from d = do
+  i ← item_in from d
+  Ok (item i)
+edge_from labels.Other from d = some_or L08 (option_map (other_edge from) (ends_in d))
 
 -- what an edge of this label joins, or the least fault of its shape
 unfoldable pub edge_in : List ℕ → Data → Result EdgeValue Code
 edge_in label d = do
   from ← some_or L08 (id_at (codes "outV") d)
-  edge_from label from d
+  edge_from (edge_label label) from d

@@ -7,6 +7,8 @@ use Rattle.url.specs.Parser.{parse_url, Parsed}
 use Rattle.url.specs.Parts.{Parts, serialize}
 use Rattle.positions.specs.Position.{PositionValue, number_limit}
 use Rattle.positions.specs.Span.{SpanValue, is_span}
+use Rattle.lsif.specs.declared.vertices.VertexLabel.{VertexLabel}
+use Rattle.lsif.specs.declared.vertices.VertexLabel.TheVariants as labels
 use Rattle.lsif.specs.Element.{VertexValue, meta_data, project, document, range, result_set, definition_result, reference_result, hover_result, moniker, package_information, event, other_vertex}
 use Rattle.lsif.specs.Ids.{whole_number_in, text_at}
 use Rattle.lsif.specs.Hovers.{hover_in}
@@ -57,18 +59,36 @@ is_supported d =
     is_text (codes "0.6.0") (get (codes "version") d)
     && is_absent_or_text (codes "utf-16") (get (codes "positionEncoding") d)
 
+-- which label a text is
+abbrev pub vertex_label : List ℕ → VertexLabel
+vertex_label text =
+    if bytes_eq text (codes "metaData") then labels.MetaData
+    else if bytes_eq text (codes "project") then labels.Project
+    else if bytes_eq text (codes "document") then labels.Document
+    else if bytes_eq text (codes "range") then labels.Range
+    else if bytes_eq text (codes "resultSet") then labels.ResultSet
+    else if bytes_eq text (codes "definitionResult") then labels.DefinitionResult
+    else if bytes_eq text (codes "referenceResult") then labels.ReferenceResult
+    else if bytes_eq text (codes "hoverResult") then labels.HoverResult
+    else if bytes_eq text (codes "moniker") then labels.Moniker
+    else if bytes_eq text (codes "packageInformation") then labels.Package
+    else if bytes_eq text (codes "$event") then labels.Event
+    else labels.Other
+
 -- what a vertex of this label says, where the members that are read are of their forms
-unfoldable pub vertex_in : List ℕ → Data → Option VertexValue
-vertex_in label d =
-    if bytes_eq label (codes "metaData") then Some (meta_data (is_supported d))
-    else if bytes_eq label (codes "project") then Some project
-    else if bytes_eq label (codes "document") then option_map document (uri_in d)
-    else if bytes_eq label (codes "range") then option_map range (span_in d)
-    else if bytes_eq label (codes "resultSet") then Some result_set
-    else if bytes_eq label (codes "definitionResult") then Some definition_result
-    else if bytes_eq label (codes "referenceResult") then Some reference_result
-    else if bytes_eq label (codes "hoverResult") then option_map hover_result (hover_in d)
-    else if bytes_eq label (codes "moniker") then option_map moniker (moniker_in d)
-    else if bytes_eq label (codes "packageInformation") then option_map package_information (package_in d)
-    else if bytes_eq label (codes "$event") then option_map event (event_in d)
-    else Some other_vertex
+unfoldable pub vertex_of : VertexLabel → Data → Option VertexValue
+vertex_of labels.MetaData d = Some (meta_data (is_supported d))
+vertex_of labels.Project d = Some project
+vertex_of labels.Document d = option_map document (uri_in d)
+vertex_of labels.Range d = option_map range (span_in d)
+vertex_of labels.ResultSet d = Some result_set
+vertex_of labels.DefinitionResult d = Some definition_result
+vertex_of labels.ReferenceResult d = Some reference_result
+vertex_of labels.HoverResult d = option_map hover_result (hover_in d)
+vertex_of labels.Moniker d = option_map moniker (moniker_in d)
+vertex_of labels.Package d = option_map package_information (package_in d)
+vertex_of labels.Event d = option_map event (event_in d)
+vertex_of labels.Other d = Some other_vertex
+
+abbrev pub vertex_in : List ℕ → Data → Option VertexValue
+vertex_in label d = vertex_of (vertex_label label) d

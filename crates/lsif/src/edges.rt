@@ -1,6 +1,6 @@
 ghost use Rattle.std.specs.Prelude.{◌≡◌, IfOk, IfErr, option_map, codes};
 ghost use Rattle.lsif.specs.Element.{id_value, id_values, item_value, edge_value};
-ghost use Rattle.lsif.specs.Edges.{targets_in, ends_in, target_in, property_of, property_in, shard_in, item_in, edge_from, edge_in};
+ghost use Rattle.lsif.specs.Edges.{targets_in, ends_in, target_in, property_of, property_in, shard_in, item_in, edge_label, edge_from, edge_in};
 ghost use Rattle.lsif.specs.Shape.{Gives, IsShapeFault, some_or};
 ghost use Rattle.serde_json.specs.View.{view};
 
@@ -10,6 +10,48 @@ use crate::fault::ReadFault;
 use crate::id::{Id, ids, member_id};
 use serde_json::Value;
 use std::alloc::{AllocError, Global};
+
+/// The label of an edge (LSIF 0.6.0, "Edges"): one that says something, or any other.
+#[derive(Clone, Copy)]
+pub(crate) enum EdgeLabel {
+    Contains,
+    Next,
+    Definition,
+    References,
+    Hover,
+    Moniker,
+    Package,
+    Attach,
+    Item,
+    Other,
+}
+
+/// Which label a text is.
+fn edge_label(text: &str) -> EdgeLabel
+    ensures { result ≡ edge_label text.now }
+{
+    if text == "contains" {
+        EdgeLabel::Contains
+    } else if text == "next" {
+        EdgeLabel::Next
+    } else if text == "textDocument/definition" {
+        EdgeLabel::Definition
+    } else if text == "textDocument/references" {
+        EdgeLabel::References
+    } else if text == "textDocument/hover" {
+        EdgeLabel::Hover
+    } else if text == "moniker" {
+        EdgeLabel::Moniker
+    } else if text == "packageInformation" {
+        EdgeLabel::Package
+    } else if text == "attach" {
+        EdgeLabel::Attach
+    } else if text == "item" {
+        EdgeLabel::Item
+    } else {
+        EdgeLabel::Other
+    }
+}
 
 /// The targets of an edge that names them in `inVs`. None where it doesn't, or names one in `inV`.
 #[tactic(auto, unfolding(crate::specs::Edges::targets_in))]
@@ -128,30 +170,21 @@ fn joined(edge: Option<Edge>) -> Result<Edge, ReadFault>
 
 /// What an edge of this label out of this source joins.
 #[tactic(auto, unfolding(crate::specs::Edges::edge_from))]
-fn edge_from(alloc: Global, label: &str, from: Id, value: &Value) -> Result<Edge, ReadFault>
-    ensures reading { Gives edge_value result (edge_from label.now (id_value from) (view value.now)) }
+fn edge_from(alloc: Global, label: EdgeLabel, from: Id, value: &Value) -> Result<Edge, ReadFault>
+    ensures reading { Gives edge_value result (edge_from label (id_value from) (view value.now)) }
     ensures shape { IfErr result IsShapeFault }
 {
-    if label == "contains" {
-        joined(targets(alloc, value)?.map(|to| Edge::Contains(from, to)))
-    } else if label == "next" {
-        joined(target(alloc, value)?.map(|to| Edge::Next(from, to)))
-    } else if label == "textDocument/definition" {
-        joined(target(alloc, value)?.map(|to| Edge::Definition(from, to)))
-    } else if label == "textDocument/references" {
-        joined(target(alloc, value)?.map(|to| Edge::References(from, to)))
-    } else if label == "textDocument/hover" {
-        joined(target(alloc, value)?.map(|to| Edge::Hover(from, to)))
-    } else if label == "moniker" {
-        joined(target(alloc, value)?.map(|to| Edge::Moniker(from, to)))
-    } else if label == "packageInformation" {
-        joined(target(alloc, value)?.map(|to| Edge::Package(from, to)))
-    } else if label == "attach" {
-        joined(target(alloc, value)?.map(|to| Edge::Attach(from, to)))
-    } else if label == "item" {
-        Ok(Edge::Item(item(alloc, from, value)?))
-    } else {
-        joined(ends(alloc, value)?.map(|to| Edge::Other(from, to)))
+    match label {
+        EdgeLabel::Contains => joined(targets(alloc, value)?.map(|to| Edge::Contains(from, to))),
+        EdgeLabel::Next => joined(target(alloc, value)?.map(|to| Edge::Next(from, to))),
+        EdgeLabel::Definition => joined(target(alloc, value)?.map(|to| Edge::Definition(from, to))),
+        EdgeLabel::References => joined(target(alloc, value)?.map(|to| Edge::References(from, to))),
+        EdgeLabel::Hover => joined(target(alloc, value)?.map(|to| Edge::Hover(from, to))),
+        EdgeLabel::Moniker => joined(target(alloc, value)?.map(|to| Edge::Moniker(from, to))),
+        EdgeLabel::Package => joined(target(alloc, value)?.map(|to| Edge::Package(from, to))),
+        EdgeLabel::Attach => joined(target(alloc, value)?.map(|to| Edge::Attach(from, to))),
+        EdgeLabel::Item => Ok(Edge::Item(item(alloc, from, value)?)),
+        EdgeLabel::Other => joined(ends(alloc, value)?.map(|to| Edge::Other(from, to))),
     }
 }
 
@@ -164,5 +197,5 @@ pub(crate) fn edge(alloc: Global, label: &str, value: &Value) -> Result<Edge, Re
     let Some(from) = member_id(alloc, value, "outV")? else {
         return Err(ReadFault::Shape(Code::L08));
     };
-    edge_from(alloc, label, from, value)
+    edge_from(alloc, edge_label(label), from, value)
 }

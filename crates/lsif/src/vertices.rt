@@ -1,6 +1,6 @@
 ghost use Rattle.std.specs.Prelude.{◌≡◌, IfOk, option_map, codes, string_bytes};
 ghost use Rattle.lsif.specs.Element.{vertex_value};
-ghost use Rattle.lsif.specs.Vertices.{coordinate_at, position_in, span_in, is_supported, uri_in, vertex_in};
+ghost use Rattle.lsif.specs.Vertices.{coordinate_at, position_in, span_in, is_supported, uri_in, vertex_label, vertex_of, vertex_in};
 ghost use Rattle.serde_json.specs.View.{view};
 
 use crate::element::Vertex;
@@ -74,8 +74,76 @@ fn uri(alloc: Global, value: &Value) -> Result<Option<String>, AllocError>
     }
 }
 
+/// The label of a vertex (LSIF 0.6.0, "Vertices"): one that says something, or any other.
+#[derive(Clone, Copy)]
+pub(crate) enum VertexLabel {
+    MetaData,
+    Project,
+    Document,
+    Range,
+    ResultSet,
+    DefinitionResult,
+    ReferenceResult,
+    HoverResult,
+    Moniker,
+    Package,
+    Event,
+    Other,
+}
+
+/// Which label a text is.
+fn vertex_label(text: &str) -> VertexLabel
+    ensures { result ≡ vertex_label text.now }
+{
+    if text == "metaData" {
+        VertexLabel::MetaData
+    } else if text == "project" {
+        VertexLabel::Project
+    } else if text == "document" {
+        VertexLabel::Document
+    } else if text == "range" {
+        VertexLabel::Range
+    } else if text == "resultSet" {
+        VertexLabel::ResultSet
+    } else if text == "definitionResult" {
+        VertexLabel::DefinitionResult
+    } else if text == "referenceResult" {
+        VertexLabel::ReferenceResult
+    } else if text == "hoverResult" {
+        VertexLabel::HoverResult
+    } else if text == "moniker" {
+        VertexLabel::Moniker
+    } else if text == "packageInformation" {
+        VertexLabel::Package
+    } else if text == "$event" {
+        VertexLabel::Event
+    } else {
+        VertexLabel::Other
+    }
+}
+
 /// What a vertex of this label says. None where a member that is read isn't of its form.
-#[tactic(auto, unfolding(crate::specs::Vertices::vertex_in))]
+#[tactic(auto, unfolding(crate::specs::Vertices::vertex_of))]
+fn vertex_of(alloc: Global, label: VertexLabel, value: &Value) -> Result<Option<Vertex>, AllocError>
+    ensures { IfOk result (λ o. option_map vertex_value o ≡ vertex_of label (view value.now)) }
+{
+    match label {
+        VertexLabel::MetaData => Ok(Some(Vertex::MetaData(is_supported(value)))),
+        VertexLabel::Project => Ok(Some(Vertex::Project)),
+        VertexLabel::Document => Ok(uri(alloc, value)?.map(Vertex::Document)),
+        VertexLabel::Range => Ok(span(value).map(Vertex::Range)),
+        VertexLabel::ResultSet => Ok(Some(Vertex::ResultSet)),
+        VertexLabel::DefinitionResult => Ok(Some(Vertex::DefinitionResult)),
+        VertexLabel::ReferenceResult => Ok(Some(Vertex::ReferenceResult)),
+        VertexLabel::HoverResult => Ok(hover(alloc, value)?.map(Vertex::HoverResult)),
+        VertexLabel::Moniker => Ok(moniker(alloc, value)?.map(Vertex::Moniker)),
+        VertexLabel::Package => Ok(package(alloc, value)?.map(Vertex::Package)),
+        VertexLabel::Event => Ok(event(alloc, value)?.map(Vertex::Event)),
+        VertexLabel::Other => Ok(Some(Vertex::Other)),
+    }
+}
+
+/// What a vertex of the label that a text is says. None where a member that is read isn't of its form.
 pub(crate) fn vertex(
     alloc: Global,
     label: &str,
@@ -83,29 +151,5 @@ pub(crate) fn vertex(
 ) -> Result<Option<Vertex>, AllocError>
     ensures { IfOk result (λ o. option_map vertex_value o ≡ vertex_in label.now (view value.now)) }
 {
-    if label == "metaData" {
-        Ok(Some(Vertex::MetaData(is_supported(value))))
-    } else if label == "project" {
-        Ok(Some(Vertex::Project))
-    } else if label == "document" {
-        Ok(uri(alloc, value)?.map(Vertex::Document))
-    } else if label == "range" {
-        Ok(span(value).map(Vertex::Range))
-    } else if label == "resultSet" {
-        Ok(Some(Vertex::ResultSet))
-    } else if label == "definitionResult" {
-        Ok(Some(Vertex::DefinitionResult))
-    } else if label == "referenceResult" {
-        Ok(Some(Vertex::ReferenceResult))
-    } else if label == "hoverResult" {
-        Ok(hover(alloc, value)?.map(Vertex::HoverResult))
-    } else if label == "moniker" {
-        Ok(moniker(alloc, value)?.map(Vertex::Moniker))
-    } else if label == "packageInformation" {
-        Ok(package(alloc, value)?.map(Vertex::Package))
-    } else if label == "$event" {
-        Ok(event(alloc, value)?.map(Vertex::Event))
-    } else {
-        Ok(Some(Vertex::Other))
-    }
+    vertex_of(alloc, vertex_label(label), value)
 }
