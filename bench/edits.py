@@ -96,7 +96,7 @@ def function_at(text, at):
 
 
 def batches_of(edits):
-    """Lists of edits, each with the texts that they make and the functions of each."""
+    """Lists of edits that can stand together, each with the functions that it changes."""
     left = list(edits)
     while left:
         texts, taken, batch, later = {}, set(), [], []
@@ -114,7 +114,7 @@ def batches_of(edits):
             taken |= functions | ({(None, None)} if is_alone else set())
             batch.append((edit, functions))
         left = later
-        yield batch, texts
+        yield batch
 
 
 def symbols_of(crate, file, name):
@@ -139,7 +139,7 @@ class Copy:
         own = {file: (folder / file).read_text(encoding="utf-8") for file in texts}
         for file, text in texts.items():
             (folder / file).write_text(text, encoding="utf-8")
-        ran = subprocess.run(["rt", "check"], cwd=folder, stdin=subprocess.DEVNULL, capture_output=True, text=True, errors="replace")
+        ran = subprocess.run(["rt", "check", "--jobs", "2"], cwd=folder, stdin=subprocess.DEVNULL, capture_output=True, text=True, errors="replace")
         for file, text in own.items():
             (folder / file).write_text(text, encoding="utf-8")
         return dict(VERDICT.findall(ran.stdout)), ran
@@ -159,38 +159,33 @@ def verdict_of(edit, functions, said):
     return None if is_open else False
 
 
-def tried(copy, crate, batch, texts):
-    """Tries a batch, and where that doesn't reach the prover or leaves something open, its parts: (edit, what came of it)."""
+def tried(copy, crate, batch):
+    """Tries a batch of edits with their functions, and where that stops before the prover or leaves something open, parts
+    of it: pairs of an edit and what came of it."""
+    texts = {}
+    for edit, _ in batch:
+        texts, _ = applied(edit, texts)
     said, ran = copy.check(crate, texts)
-    if not said and len(batch) == 1:
+    verdicts = [verdict_of(edit, functions, said) for edit, functions in batch]
+    if len(batch) == 1 and not said:
         first = next((it for it in ran.stdout.splitlines() if "error" in it), "it didn't reach the prover")
         return [(batch[0][0], f"BAD EDIT: {first[:160]}")]
-    verdicts = [(edit, functions, verdict_of(edit, functions, said) if said else None) for edit, functions in batch]
     if len(batch) == 1:
-        return [(edit, "refused" if verdict is not False else "NOT REFUSED") for edit, _, verdict in verdicts]
-    done = [(edit, "refused" if verdict else "NOT REFUSED") for edit, _, verdict in verdicts if verdict is not None]
-    for half in halves([(edit, functions) for edit, functions, verdict in verdicts if verdict is None], not said):
-        again = {}
-        for edit, _ in half:
-            again, _ = applied(edit, again)
-        done += tried(copy, crate, half, again)
+        return [(batch[0][0], "NOT REFUSED" if verdicts[0] is False else "refused")]
+    done = [(it[0], "refused" if verdict else "NOT REFUSED") for it, verdict in zip(batch, verdicts) if said and verdict is not None]
+    left = [it for it, verdict in zip(batch, verdicts) if not said or verdict is None]
+    middle = len(left) // 2 if len(left) == len(batch) else 0
+    for part in (left[:middle], left[middle:]):
+        done += tried(copy, crate, part) if part else []
     return done
-
-
-def halves(batch, is_split):
-    """A batch that stopped before the prover in halves; of another, what it left open one by one."""
-    if not is_split:
-        return [[it] for it in batch]
-    middle = len(batch) // 2
-    return [batch[:middle], batch[middle:]]
 
 
 def try_crate(copy, crate, edits):
     """Tries a crate's edits, prints what came of each, and answers how many weren't refused."""
     start, count, failed = time.monotonic(), 0, 0
-    for batch, texts in batches_of(edits):
+    for batch in batches_of(edits):
         count += 1
-        for edit, word in tried(copy, crate, batch, texts):
+        for edit, word in tried(copy, crate, batch):
             print(f"{edit}: {word}", flush=True)
             failed += word != "refused"
     print(f"{crate}: {len(edits)} edits in {count} batches, {time.monotonic() - start:.0f} s", flush=True)
