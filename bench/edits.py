@@ -161,7 +161,7 @@ def verdict_of(edit, functions, said):
 
 def tried(copy, crate, batch):
     """Tries a batch of edits with their functions, and where that stops before the prover or leaves something open, parts
-    of it: pairs of an edit and what came of it."""
+    of it: each edit and what came of it."""
     texts = {}
     for edit, _ in batch:
         texts, _ = applied(edit, texts)
@@ -169,15 +169,18 @@ def tried(copy, crate, batch):
     verdicts = [verdict_of(edit, functions, said) for edit, functions in batch]
     if len(batch) == 1 and not said:
         first = next((it for it in ran.stdout.splitlines() if "error" in it), "it didn't reach the prover")
-        return [(batch[0][0], f"BAD EDIT: {first[:160]}")]
+        yield batch[0][0], f"BAD EDIT: {first[:160]}"
+        return
     if len(batch) == 1:
-        return [(batch[0][0], "NOT REFUSED" if verdicts[0] is False else "refused")]
-    done = [(it[0], "refused" if verdict else "NOT REFUSED") for it, verdict in zip(batch, verdicts) if said and verdict is not None]
+        yield batch[0][0], "NOT REFUSED" if verdicts[0] is False else "refused"
+        return
     left = [it for it, verdict in zip(batch, verdicts) if not said or verdict is None]
+    for it, verdict in zip(batch, verdicts):
+        if it not in left:
+            yield it[0], "refused" if verdict else "NOT REFUSED"
     middle = len(left) // 2 if len(left) == len(batch) else 0
-    for part in (left[:middle], left[middle:]):
-        done += tried(copy, crate, part) if part else []
-    return done
+    for part in filter(None, (left[:middle], left[middle:])):
+        yield from tried(copy, crate, part)
 
 
 def try_crate(copy, crate, edits):
@@ -210,7 +213,11 @@ def main():
     parser.add_argument("--all", action="store_true", help="try the edits of must-fail/ too")
     parser.add_argument("names", nargs="*", metavar="NAME", help="a crate (default: every one)")
     words = parser.parse_args()
-    listed = [line.split(":")[0].split()[0] for line in (TOP / "crates.txt").read_text().splitlines() if ":" in line and not line.startswith("#")]
+    listed = re.findall(r"^(\w+).*:", (TOP / "crates.txt").read_text(encoding="utf-8"), re.M)
+    folders = [it.name for it in (TOP / "edits").iterdir()]
+    unknown = sorted({*words.names, *folders} - {*listed})
+    if unknown:
+        parser.error(f"crates.txt lists no {', '.join(unknown)}")
     crates = words.names or listed
     edits = {crate: edits_of(crate, words.all or words.fits) for crate in crates}
     failed = unfit([it for of_crate in edits.values() for it in of_crate])
