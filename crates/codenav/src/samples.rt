@@ -1,55 +1,124 @@
-//! Dumps, readers and writers that the tests share.
+//! Dumps written in short, and readers and writers that move so many bytes at a time, which the tests share.
 use std::alloc::Global;
 use std::io;
 use std::io::{Read, Write};
 use std::test::Fail;
 
-pub(crate) const META_DATA: &str =
-    "{\"id\":1,\"type\":\"vertex\",\"label\":\"metaData\",\"version\":\"0.6.0\",\"positionEncoding\":\"utf-16\"}";
+/// A document with two ranges, both defined at the first by way of a result set.
+pub(crate) const BASE: &str = "metaData 'version':'0.6.0','positionEncoding':'utf-16'
+document file:///a.ts
+range 0:4 0:7
+range 2:0 2:3
+resultSet
+next 3>5
+next 4>5
+definitionResult
+textDocument/definition 5>8
+item 8>[3] @2
+contains 2>[3,4]";
 
-pub(crate) const DOCUMENT: &str =
-    "{\"id\":2,\"type\":\"vertex\",\"label\":\"document\",\"uri\":\"file:///a.ts\"}";
+/// A position that is given as `0:4`.
+fn position(alloc: Global, short: &str) -> Result<String, Fail> {
+    let (line, character) = short.split_once(':').ok_or("no position")?;
+    Ok(format!(in alloc; "{{'line':{line},'character':{character}}}")?)
+}
 
-pub(crate) const RANGE: &str =
-    "{\"id\":3,\"type\":\"vertex\",\"label\":\"range\",\"start\":{\"line\":0,\"character\":4},\"end\":{\"line\":0,\"character\":7}}";
+/// The members of a vertex besides its id, type and label.
+fn vertex_members(alloc: Global, label: &str, short: &str) -> Result<String, Fail> {
+    if short.is_empty() {
+        return Ok(String::new(alloc));
+    }
+    if short.starts_with('\'') {
+        return Ok(format!(in alloc; ",{short}")?);
+    }
+    let (first, second) = short.split_once(' ').unwrap_or((short, ""));
+    Ok(match label {
+        "metaData" => format!(in alloc; ",'version':'{short}'")?,
+        "document" => format!(in alloc; ",'uri':'{short}'")?,
+        "range" => {
+            let start = position(alloc, first)?;
+            let end = position(alloc, second)?;
+            format!(in alloc; ",'start':{start},'end':{end}")?
+        }
+        "$event" => { format!(in alloc; ",'scope':'document','kind':'{first}','data':<{second}>")? }
+        _ => return Err(Fail::from("no such members")),
+    })
+}
 
-pub(crate) const OTHER_RANGE: &str =
-    "{\"id\":4,\"type\":\"vertex\",\"label\":\"range\",\"start\":{\"line\":2,\"character\":0},\"end\":{\"line\":2,\"character\":3}}";
+/// The members of an edge besides its id, type, label and source.
+fn edge_members(alloc: Global, short: &str) -> Result<String, Fail> {
+    let (targets, rest) = short.split_once(' ').unwrap_or((short, ""));
+    let mut text = match targets.strip_prefix('[') {
+        Some("]") => String::from_str(alloc, ",'inVs':[]")?,
+        Some(list) => {
+            let list = list.replace(alloc, ",", ">,<")?;
+            let list = list.replace(alloc, "]", ">]")?;
+            format!(in alloc; ",'inVs':[<{list}")?
+        }
+        None => format!(in alloc; ",'inV':<{targets}>")?,
+    };
+    if let Some((property, shard)) = rest.split_once('@') {
+        if let Some((property, _)) = property.split_once(' ') {
+            text.push_str(format!(in alloc; ",'property':'{property}'")?.as_str())?;
+        }
+        text.push_str(format!(in alloc; ",'shard':<{shard}>")?.as_str())?;
+    } else if !rest.is_empty() {
+        text.push_str(format!(in alloc; ",{rest}")?.as_str())?;
+    }
+    Ok(text)
+}
 
-pub(crate) const RESULT_SET: &str = "{\"id\":5,\"type\":\"vertex\",\"label\":\"resultSet\"}";
+/// An element in full, but for its marks: `'` for a quotation mark, and `<3>` where an id is named.
+fn element(alloc: Global, id: &str, short: &str) -> Result<String, Fail> {
+    let (label, rest) = short.split_once(' ').unwrap_or((short, ""));
+    if let Some((source, rest)) = rest.split_once('>') {
+        let members = edge_members(alloc, rest)?;
+        Ok(format!(in alloc;
+            "{{'id':<{id}>,'type':'edge','label':'{label}','outV':<{source}>{members}}}"
+        )?)
+    } else {
+        let members = vertex_members(alloc, label, rest)?;
+        Ok(format!(in alloc; "{{'id':<{id}>,'type':'vertex','label':'{label}'{members}}}")?)
+    }
+}
 
-pub(crate) const NEXT: &str =
-    "{\"id\":6,\"type\":\"edge\",\"label\":\"next\",\"outV\":3,\"inV\":5}";
+/// Adds the line of this number, written in short: `document file:///a.ts`, `range 0:0 0:4`, `$event begin 2`,
+/// `next 3>5`, `contains 2>[3,4]`, `item 5>[6] references @2`, where `@2` is the shard; or a label and all members, as
+/// `project 'name':'a'`. The id is the line's number, unless it stands before, as in `#3 resultSet`. A line that is empty
+/// or begins with `{` is written as it is, but for its marks. Ids stand in these quotation marks, or in none.
+pub(crate) fn push_line(
+    text: &mut String,
+    number: usize,
+    short: &str,
+    around: &str,
+) -> Result<(), Fail> {
+    let alloc = *text.allocator();
+    let marked = if short.is_empty() || short.starts_with('{') {
+        String::from_str(alloc, short)?
+    } else if let Some(rest) = short.strip_prefix('#') {
+        let (id, rest) = rest.split_once(' ').ok_or("no element after the id")?;
+        element(alloc, id, rest)?
+    } else {
+        element(alloc, format!(in alloc; "{number}")?.as_str(), short)?
+    };
+    for c in marked.chars() {
+        match c {
+            '\'' => text.push('"')?,
+            '<' | '>' => text.push_str(around)?,
+            _ => text.push(c)?,
+        }
+    }
+    Ok(text.push('\n')?)
+}
 
-pub(crate) const OTHER_NEXT: &str =
-    "{\"id\":7,\"type\":\"edge\",\"label\":\"next\",\"outV\":4,\"inV\":5}";
-
-pub(crate) const DEFINITION_RESULT: &str =
-    "{\"id\":8,\"type\":\"vertex\",\"label\":\"definitionResult\"}";
-
-pub(crate) const DEFINITION: &str =
-    "{\"id\":9,\"type\":\"edge\",\"label\":\"textDocument/definition\",\"outV\":5,\"inV\":8}";
-
-pub(crate) const ITEM: &str =
-    "{\"id\":10,\"type\":\"edge\",\"label\":\"item\",\"outV\":8,\"inVs\":[3],\"shard\":2}";
-
-pub(crate) const CONTAINS: &str =
-    "{\"id\":11,\"type\":\"edge\",\"label\":\"contains\",\"outV\":2,\"inVs\":[3,4]}";
-
-/// The base dump: a document with two ranges, and a definition.
-pub(crate) const BASE: [&str; 11] = [
-    META_DATA,
-    DOCUMENT,
-    RANGE,
-    OTHER_RANGE,
-    RESULT_SET,
-    NEXT,
-    OTHER_NEXT,
-    DEFINITION_RESULT,
-    DEFINITION,
-    ITEM,
-    CONTAINS,
-];
+/// The text of a dump whose lines are written in short.
+pub(crate) fn text_of(alloc: Global, dump: &str) -> Result<String, Fail> {
+    let mut text = String::new(alloc);
+    for (k, line) in dump.lines().enumerate() {
+        push_line(&mut text, k.saturating_add(1), line, "")?;
+    }
+    Ok(text)
+}
 
 /// A reader that gives at most so many bytes at a time, and fails at the read of that number.
 #[derive(Drop)]
@@ -98,7 +167,7 @@ impl Write for Slow {
     }
 }
 
-/// A reader of these bytes that gives so many at a time.
+/// A reader of these bytes that gives so many at a time, and doesn't fail.
 pub(crate) fn in_pieces(bytes: &[u8], most: usize) -> Pieces<'_> {
     Pieces {
         bytes,
@@ -108,21 +177,12 @@ pub(crate) fn in_pieces(bytes: &[u8], most: usize) -> Pieces<'_> {
     }
 }
 
-/// The text of these lines, each ended by a line feed.
-pub(crate) fn text_of(alloc: Global, lines: &[&str]) -> Result<String, Fail> {
-    let mut text = String::new(alloc);
-    for line in lines {
-        text.push_str(line)?;
-        text.push_str("\n")?;
+/// A writer that takes so many bytes at a time, and fails at the write of that number, where it isn't 0.
+pub(crate) fn slow_writer(alloc: Global, most: usize, fails_at: u32) -> Slow {
+    Slow {
+        taken: Vec::new(alloc),
+        most,
+        fails_at,
+        writes: 0,
     }
-    Ok(text)
-}
-
-/// The base dump with this line, counted from 1, in the place of its own.
-pub(crate) fn with_line<'a>(number: usize, line: &'a str) -> [&'a str; 11] {
-    let mut lines = BASE;
-    if number >= 1 && number <= 11 {
-        lines[number - 1] = line;
-    }
-    lines
 }

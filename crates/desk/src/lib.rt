@@ -32,5 +32,3 @@ pub use running::{RunFault, run};
 
 #[cfg(test)]
 mod tests;
-#[cfg(test)]
-mod tests_walks;

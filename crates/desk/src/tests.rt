@@ -1,99 +1,223 @@
-//! Worked requests to a desk in memory.
+//! Requests to a desk in memory with their replies, and each of the crate's functions called once.
+use crate::in_memory::InMemory;
 use crate::{
-    Code, Command, Desk, DocUri, Key, PlainDesk, ProjectName, Query, Reply, Request, judgement_law,
-    read_number, run,
+    Code, Command, Desk, DocUri, Key, PlainDesk, ProjectName, Query, Reply, Request,
+    definition_places, has_document, judgement_law, read_number, run,
 };
+use dump::{CheckedDump, read_dump};
 use positions::Position;
+use std::alloc::Global;
 use std::test::Fail;
 
 /// Ranges 3 at 0:4 to 0:7 and 4 at 2:0 to 2:3 of `file:///a.ts`, both defined at range 3 by way of a result set.
-const BASE: [&str; 11] = [
-    "{\"id\":1,\"type\":\"vertex\",\"label\":\"metaData\",\"version\":\"0.6.0\",\"positionEncoding\":\"utf-16\"}",
-    "{\"id\":2,\"type\":\"vertex\",\"label\":\"document\",\"uri\":\"file:///a.ts\"}",
-    "{\"id\":3,\"type\":\"vertex\",\"label\":\"range\",\"start\":{\"line\":0,\"character\":4},\"end\":{\"line\":0,\"character\":7}}",
-    "{\"id\":4,\"type\":\"vertex\",\"label\":\"range\",\"start\":{\"line\":2,\"character\":0},\"end\":{\"line\":2,\"character\":3}}",
-    "{\"id\":5,\"type\":\"vertex\",\"label\":\"resultSet\"}",
-    "{\"id\":6,\"type\":\"edge\",\"label\":\"next\",\"outV\":3,\"inV\":5}",
-    "{\"id\":7,\"type\":\"edge\",\"label\":\"next\",\"outV\":4,\"inV\":5}",
-    "{\"id\":8,\"type\":\"vertex\",\"label\":\"definitionResult\"}",
-    "{\"id\":9,\"type\":\"edge\",\"label\":\"textDocument/definition\",\"outV\":5,\"inV\":8}",
-    "{\"id\":10,\"type\":\"edge\",\"label\":\"item\",\"outV\":8,\"inVs\":[3],\"shard\":2}",
-    "{\"id\":11,\"type\":\"edge\",\"label\":\"contains\",\"outV\":2,\"inVs\":[3,4]}",
-];
+const BASE: &str =
+    r#"{"id":1,"type":"vertex","label":"metaData","version":"0.6.0","positionEncoding":"utf-16"}
+{"id":2,"type":"vertex","label":"document","uri":"file:///a.ts"}
+{"id":3,"type":"vertex","label":"range","start":{"line":0,"character":4},"end":{"line":0,"character":7}}
+{"id":4,"type":"vertex","label":"range","start":{"line":2,"character":0},"end":{"line":2,"character":3}}
+{"id":5,"type":"vertex","label":"resultSet"}
+{"id":6,"type":"edge","label":"next","outV":3,"inV":5}
+{"id":7,"type":"edge","label":"next","outV":4,"inV":5}
+{"id":8,"type":"vertex","label":"definitionResult"}
+{"id":9,"type":"edge","label":"textDocument/definition","outV":5,"inV":8}
+{"id":10,"type":"edge","label":"item","outV":8,"inVs":[3],"shard":2}
+{"id":11,"type":"edge","label":"contains","outV":2,"inVs":[3,4]}
+"#;
 
 /// Range 3 at 0:0 to 0:20 of `file:///n.ts` has a definition result; range 4 at 0:5 to 0:8 within it has none.
-const NESTED: [&str; 8] = [
-    "{\"id\":1,\"type\":\"vertex\",\"label\":\"metaData\",\"version\":\"0.6.0\",\"positionEncoding\":\"utf-16\"}",
-    "{\"id\":2,\"type\":\"vertex\",\"label\":\"document\",\"uri\":\"file:///n.ts\"}",
-    "{\"id\":3,\"type\":\"vertex\",\"label\":\"range\",\"start\":{\"line\":0,\"character\":0},\"end\":{\"line\":0,\"character\":20}}",
-    "{\"id\":4,\"type\":\"vertex\",\"label\":\"range\",\"start\":{\"line\":0,\"character\":5},\"end\":{\"line\":0,\"character\":8}}",
-    "{\"id\":5,\"type\":\"vertex\",\"label\":\"definitionResult\"}",
-    "{\"id\":6,\"type\":\"edge\",\"label\":\"textDocument/definition\",\"outV\":3,\"inV\":5}",
-    "{\"id\":7,\"type\":\"edge\",\"label\":\"item\",\"outV\":5,\"inVs\":[3],\"shard\":2}",
-    "{\"id\":8,\"type\":\"edge\",\"label\":\"contains\",\"outV\":2,\"inVs\":[4,3]}",
-];
+const NESTED: &str =
+    r#"{"id":1,"type":"vertex","label":"metaData","version":"0.6.0","positionEncoding":"utf-16"}
+{"id":2,"type":"vertex","label":"document","uri":"file:///n.ts"}
+{"id":3,"type":"vertex","label":"range","start":{"line":0,"character":0},"end":{"line":0,"character":20}}
+{"id":4,"type":"vertex","label":"range","start":{"line":0,"character":5},"end":{"line":0,"character":8}}
+{"id":5,"type":"vertex","label":"definitionResult"}
+{"id":6,"type":"edge","label":"textDocument/definition","outV":3,"inV":5}
+{"id":7,"type":"edge","label":"item","outV":5,"inVs":[3],"shard":2}
+{"id":8,"type":"edge","label":"contains","outV":2,"inVs":[4,3]}
+"#;
 
 /// Ranges of `file:///u.ts`, each defined at itself: 3 at 0:0 to 0:5, 4 at 0:5 to 0:9 and the empty range 5 at 0:5.
-const TOUCHING: [&str; 15] = [
-    "{\"id\":1,\"type\":\"vertex\",\"label\":\"metaData\",\"version\":\"0.6.0\",\"positionEncoding\":\"utf-16\"}",
-    "{\"id\":2,\"type\":\"vertex\",\"label\":\"document\",\"uri\":\"file:///u.ts\"}",
-    "{\"id\":3,\"type\":\"vertex\",\"label\":\"range\",\"start\":{\"line\":0,\"character\":0},\"end\":{\"line\":0,\"character\":5}}",
-    "{\"id\":4,\"type\":\"vertex\",\"label\":\"range\",\"start\":{\"line\":0,\"character\":5},\"end\":{\"line\":0,\"character\":9}}",
-    "{\"id\":5,\"type\":\"vertex\",\"label\":\"range\",\"start\":{\"line\":0,\"character\":5},\"end\":{\"line\":0,\"character\":5}}",
-    "{\"id\":6,\"type\":\"vertex\",\"label\":\"definitionResult\"}",
-    "{\"id\":7,\"type\":\"vertex\",\"label\":\"definitionResult\"}",
-    "{\"id\":8,\"type\":\"vertex\",\"label\":\"definitionResult\"}",
-    "{\"id\":9,\"type\":\"edge\",\"label\":\"textDocument/definition\",\"outV\":3,\"inV\":6}",
-    "{\"id\":10,\"type\":\"edge\",\"label\":\"textDocument/definition\",\"outV\":4,\"inV\":7}",
-    "{\"id\":11,\"type\":\"edge\",\"label\":\"textDocument/definition\",\"outV\":5,\"inV\":8}",
-    "{\"id\":12,\"type\":\"edge\",\"label\":\"item\",\"outV\":6,\"inVs\":[3],\"shard\":2}",
-    "{\"id\":13,\"type\":\"edge\",\"label\":\"item\",\"outV\":7,\"inVs\":[4],\"shard\":2}",
-    "{\"id\":14,\"type\":\"edge\",\"label\":\"item\",\"outV\":8,\"inVs\":[5],\"shard\":2}",
-    "{\"id\":15,\"type\":\"edge\",\"label\":\"contains\",\"outV\":2,\"inVs\":[3,4,5]}",
+const TOUCHING: &str =
+    r#"{"id":1,"type":"vertex","label":"metaData","version":"0.6.0","positionEncoding":"utf-16"}
+{"id":2,"type":"vertex","label":"document","uri":"file:///u.ts"}
+{"id":3,"type":"vertex","label":"range","start":{"line":0,"character":0},"end":{"line":0,"character":5}}
+{"id":4,"type":"vertex","label":"range","start":{"line":0,"character":5},"end":{"line":0,"character":9}}
+{"id":5,"type":"vertex","label":"range","start":{"line":0,"character":5},"end":{"line":0,"character":5}}
+{"id":6,"type":"vertex","label":"definitionResult"}
+{"id":7,"type":"vertex","label":"definitionResult"}
+{"id":8,"type":"vertex","label":"definitionResult"}
+{"id":9,"type":"edge","label":"textDocument/definition","outV":3,"inV":6}
+{"id":10,"type":"edge","label":"textDocument/definition","outV":4,"inV":7}
+{"id":11,"type":"edge","label":"textDocument/definition","outV":5,"inV":8}
+{"id":12,"type":"edge","label":"item","outV":6,"inVs":[3],"shard":2}
+{"id":13,"type":"edge","label":"item","outV":7,"inVs":[4],"shard":2}
+{"id":14,"type":"edge","label":"item","outV":8,"inVs":[5],"shard":2}
+{"id":15,"type":"edge","label":"contains","outV":2,"inVs":[3,4,5]}
+"#;
+
+/// Range 3 of `file:///c.ts` at 0:0 to 0:9 with two results along its chain, the first of them at itself; in it range 4 at
+/// 0:2 to 0:4 without a result, and range 15 at 0:6 to 0:8 with a result of no items.
+const CHAINED: &str =
+    r#"{"id":1,"type":"vertex","label":"metaData","version":"0.6.0","positionEncoding":"utf-16"}
+{"id":2,"type":"vertex","label":"document","uri":"file:///c.ts"}
+{"id":3,"type":"vertex","label":"range","start":{"line":0,"character":0},"end":{"line":0,"character":9}}
+{"id":4,"type":"vertex","label":"range","start":{"line":0,"character":2},"end":{"line":0,"character":4}}
+{"id":5,"type":"vertex","label":"resultSet"}
+{"id":6,"type":"vertex","label":"resultSet"}
+{"id":7,"type":"edge","label":"next","outV":3,"inV":5}
+{"id":8,"type":"edge","label":"next","outV":5,"inV":6}
+{"id":9,"type":"vertex","label":"definitionResult"}
+{"id":10,"type":"vertex","label":"definitionResult"}
+{"id":11,"type":"edge","label":"textDocument/definition","outV":5,"inV":9}
+{"id":12,"type":"edge","label":"textDocument/definition","outV":6,"inV":10}
+{"id":13,"type":"edge","label":"item","outV":9,"inVs":[3],"shard":2}
+{"id":14,"type":"edge","label":"item","outV":10,"inVs":[4],"shard":2}
+{"id":15,"type":"vertex","label":"range","start":{"line":0,"character":6},"end":{"line":0,"character":8}}
+{"id":16,"type":"vertex","label":"definitionResult"}
+{"id":17,"type":"edge","label":"textDocument/definition","outV":15,"inV":16}
+{"id":18,"type":"edge","label":"contains","outV":2,"inVs":[3,4,15]}
+"#;
+
+/// A result that names range 5 twice in one item and range 6 in two, of documents `b.ts` and `a.ts`.
+const REPEATED: &str =
+    r#"{"id":1,"type":"vertex","label":"metaData","version":"0.6.0","positionEncoding":"utf-16"}
+{"id":2,"type":"vertex","label":"document","uri":"file:///b.ts"}
+{"id":3,"type":"vertex","label":"document","uri":"file:///a.ts"}
+{"id":4,"type":"vertex","label":"project"}
+{"id":5,"type":"vertex","label":"range","start":{"line":1,"character":0},"end":{"line":1,"character":3}}
+{"id":6,"type":"vertex","label":"range","start":{"line":0,"character":2},"end":{"line":0,"character":6}}
+{"id":7,"type":"vertex","label":"range","start":{"line":0,"character":0},"end":{"line":0,"character":1}}
+{"id":8,"type":"vertex","label":"definitionResult"}
+{"id":9,"type":"edge","label":"textDocument/definition","outV":5,"inV":8}
+{"id":10,"type":"edge","label":"item","outV":8,"inVs":[5,6,5],"shard":2}
+{"id":11,"type":"edge","label":"item","outV":8,"inVs":[6,7],"shard":4}
+{"id":12,"type":"edge","label":"contains","outV":2,"inVs":[5,6]}
+{"id":13,"type":"edge","label":"contains","outV":3,"inVs":[7]}
+"#;
+
+/// What is put, by its name.
+const BODIES: [(&str, &str); 6] = [
+    ("base", BASE),
+    ("nested", NESTED),
+    ("touching", TOUCHING),
+    ("chained", CHAINED),
+    ("nothing", ""),
+    ("brace", "{"),
 ];
 
-const ACCEPTED: &str = "{\"accepted\":\"lsif\",\"count\":11}";
+/// Requests to a desk that is new at first, and below each its reply: a status and a body. A request is written in short:
+/// `put PROJECT KEY BODY` or `ask PROJECT URL LINE:CHARACTER`. A body is a name; a name and a line's number, for the
+/// lines before that one; or a name, a number and a text, for the lines with the text in the place of that one.
+const SCENARIOS: [&str; 6] = [
+    // Faulty bodies change nothing.
+    r#"put app k1 nothing
+422 {"fault":"L06","line":1,"text":"metaData missing, wrong or repeated"}
+put app k1 base 11
+422 {"fault":"E01","line":3,"text":"range in no document"}
+put app k1 base 10 {"id":10,"type":"edge","label":"item","outV":8,"inVs":[3],"shard":2,"property":"x"}
+422 {"fault":"L15","line":10,"text":"bad item property or shard"}
+put app k1 base 4 {"id":4,"type":"vertex","label":"range","start":{"line":0,"character":6},"end":{"line":0,"character":9}}
+422 {"fault":"L12","line":11,"text":"range equal to or overlapping another"}
+put app k1 base 7 {"id":7,"type":"edge","label":"next","outV":5,"inV":5}
+422 {"fault":"L14","line":7,"text":"next closes a cycle"}
+put app k1 base 1 {"id":9007199254740992,"type":"vertex","label":"metaData","version":"0.6.0"}
+422 {"fault":"L03","line":1,"text":"no valid id"}
+ask app file:///a.ts 2:1
+404 {"fault":"D01","text":"project has no dump"}
+put app k1 base 1 {"id":9007199254740991,"type":"vertex","label":"metaData","version":"0.6.0"}
+200 {"accepted":"lsif","count":11}"#,
+    // Only the last accepted dump answers, by the innermost range that has a result. An end is exclusive, and an empty
+    // range covers nothing.
+    r#"put app k1 nested
+200 {"accepted":"lsif","count":8}
+ask app file:///n.ts 0:6
+200 {"places":[{"end":{"character":20,"line":0},"project":"app","start":{"character":0,"line":0},"uri":"file:///n.ts"}]}
+ask app file:///n.ts 0:19
+200 {"places":[{"end":{"character":20,"line":0},"project":"app","start":{"character":0,"line":0},"uri":"file:///n.ts"}]}
+put app k2 touching
+200 {"accepted":"lsif","count":15}
+ask app file:///u.ts 0:4
+200 {"places":[{"end":{"character":5,"line":0},"project":"app","start":{"character":0,"line":0},"uri":"file:///u.ts"}]}
+ask app file:///u.ts 0:5
+200 {"places":[{"end":{"character":9,"line":0},"project":"app","start":{"character":5,"line":0},"uri":"file:///u.ts"}]}
+ask app file:///u.ts 0:9
+200 {"places":[]}
+ask app file:///n.ts 0:6
+404 {"fault":"D02","text":"no such document"}
+put app k3 chained
+200 {"accepted":"lsif","count":18}
+ask app file:///c.ts 0:3
+200 {"places":[{"end":{"character":9,"line":0},"project":"app","start":{"character":0,"line":0},"uri":"file:///c.ts"}]}
+ask app file:///c.ts 0:7
+200 {"places":[]}"#,
+    // The same key again has its reply again, whatever its body, and changes nothing; another project's key is another.
+    r#"put app k1 base
+200 {"accepted":"lsif","count":11}
+put app k2 base 3 {"id":3,"type":"vertex","label":"range","start":{"line":0,"character":5},"end":{"line":0,"character":7}}
+200 {"accepted":"lsif","count":11}
+put app k1 base
+200 {"accepted":"lsif","count":11}
+ask app file:///a.ts 2:1
+200 {"places":[{"end":{"character":7,"line":0},"project":"app","start":{"character":5,"line":0},"uri":"file:///a.ts"}]}
+put app k2 brace
+200 {"accepted":"lsif","count":11}
+put lib k1 brace
+422 {"fault":"L02","line":1,"text":"not JSON"}"#,
+    // A refused upload changes nothing and keeps no key.
+    r#"put app k1 base
+200 {"accepted":"lsif","count":11}
+put app k2 base 11
+422 {"fault":"E01","line":3,"text":"range in no document"}
+ask app file:///a.ts 2:1
+200 {"places":[{"end":{"character":7,"line":0},"project":"app","start":{"character":4,"line":0},"uri":"file:///a.ts"}]}
+put app k2 base 3 {"id":3,"type":"vertex","label":"range","start":{"line":0,"character":5},"end":{"line":0,"character":7}}
+200 {"accepted":"lsif","count":11}
+ask app file:///a.ts 2:1
+200 {"places":[{"end":{"character":7,"line":0},"project":"app","start":{"character":5,"line":0},"uri":"file:///a.ts"}]}"#,
+    // A URL may hold a quotation mark, which JSON escapes.
+    r#"put app k1 base 2 {"id":2,"type":"vertex","label":"document","uri":"x:a\"b"}
+200 {"accepted":"lsif","count":11}
+ask app x:a"b 0:4
+200 {"places":[{"end":{"character":7,"line":0},"project":"app","start":{"character":4,"line":0},"uri":"x:a\"b"}]}"#,
+    // A document without ranges, asked for by a URL that isn't serialized.
+    r#"put app k1 base 3
+200 {"accepted":"lsif","count":2}
+ask app FILE:///a.ts 0:0
+200 {"places":[]}"#,
+];
 
-const DEFINED_AT_4: &str =
-    "{\"places\":[{\"end\":{\"character\":7,\"line\":0},\"project\":\"app\",\"start\":{\"character\":4,\"line\":0},\"uri\":\"file:///a.ts\"}]}";
-
-const DEFINED_AT_5: &str =
-    "{\"places\":[{\"end\":{\"character\":7,\"line\":0},\"project\":\"app\",\"start\":{\"character\":5,\"line\":0},\"uri\":\"file:///a.ts\"}]}";
-
-const UNCONTAINED: &str = "{\"fault\":\"E01\",\"line\":3,\"text\":\"range in no document\"}";
-
-/// Range 3 of the base dump, with its start at 0:5.
-const LATER: &str =
-    "{\"id\":3,\"type\":\"vertex\",\"label\":\"range\",\"start\":{\"line\":0,\"character\":5},\"end\":{\"line\":0,\"character\":7}}";
-
-/// The lines, each ended by a line feed.
-fn text(rt: &HostRuntime, lines: &[&str]) -> Result<String, Fail> {
-    let mut text = String::new(rt.alloc());
-    for line in lines {
-        text.push_str(line)?;
-        text.push('\n')?;
-    }
-    Ok(text)
-}
-
-/// The base dump with another line in place of this one, counted from 1.
-fn base_with(rt: &HostRuntime, number: usize, other: &str) -> Result<String, Fail> {
-    let mut text = String::new(rt.alloc());
-    for (k, line) in BASE.iter().enumerate() {
-        text.push_str(if k + 1 == number { other } else { line })?;
-        text.push('\n')?;
+/// The body that is written in short.
+fn body(alloc: Global, short: &str) -> Result<String, Fail> {
+    let (name, change) = short.split_once(' ').unwrap_or((short, "0"));
+    let (number, other) = match change.split_once(' ') {
+        Some((number, other)) => (number, Some(other)),
+        None => (change, None),
+    };
+    let number = number.parse::<usize>()?;
+    let mut text = String::new(alloc);
+    for (_, whole) in BODIES.iter().filter(|(other, _)| *other == name) {
+        for (k, line) in whole.lines().enumerate() {
+            if k.saturating_add(1) != number {
+                text.push_str(line)?;
+            } else if let Some(other) = other {
+                text.push_str(other)?;
+            } else {
+                break;
+            }
+            text.push('\n')?;
+        }
     }
     Ok(text)
 }
 
 fn command<'a>(
-    rt: &HostRuntime,
+    alloc: Global,
     project: &str,
     key: &str,
     body: &'a str,
 ) -> Result<Command<'a>, Fail> {
-    let project = ProjectName::read(rt.alloc(), project)?.ok_or("no project's name")?;
-    let key = Key::read(rt.alloc(), key)?.ok_or("no key")?;
+    let project = ProjectName::read(alloc, project)?.ok_or("no project's name")?;
+    let key = Key::read(alloc, key)?.ok_or("no key")?;
     Ok(Command::PutDump {
         project,
         key,
@@ -101,237 +225,126 @@ fn command<'a>(
     })
 }
 
-fn query(rt: &HostRuntime, project: &str, uri: &str, at: (u32, u32)) -> Result<Query, Fail> {
-    let project = ProjectName::read(rt.alloc(), project)?.ok_or("no project's name")?;
-    let uri = DocUri::read(rt.alloc(), uri)?.ok_or("no URL")?;
-    let at = Position::new(at.0, at.1).ok_or("no position")?;
+fn query(alloc: Global, project: &str, uri: &str, at: &str) -> Result<Query, Fail> {
+    let project = ProjectName::read(alloc, project)?.ok_or("no project's name")?;
+    let uri = DocUri::read(alloc, uri)?.ok_or("no URL")?;
+    let (line, character) = at.split_once(':').ok_or("no position")?;
+    let line = read_number(line).ok_or("no line")?;
+    let character = read_number(character).ok_or("no character")?;
+    let at = Position::new(line, character).ok_or("no position")?;
     Ok(Query::Definition { project, uri, at })
 }
 
-fn put(rt: &HostRuntime, desk: &mut PlainDesk, key: &str, body: &str) -> Result<Reply, Fail> {
-    Ok(desk.apply(&command(rt, "app", key, body)?))
+/// The reply to a request that is written in short.
+fn reply_to(alloc: Global, desk: &mut PlainDesk, request: &str) -> Result<Reply, Fail> {
+    let (verb, rest) = request.split_once(' ').ok_or("no request")?;
+    let (project, rest) = rest.split_once(' ').ok_or("no project")?;
+    let (name, rest) = rest.split_once(' ').ok_or("no key or URL")?;
+    if verb == "put" {
+        let body = body(alloc, rest)?;
+        Ok(desk.apply(&command(alloc, project, name, body.as_str())?))
+    } else {
+        Ok(desk.ask(&query(alloc, project, name, rest)?))
+    }
 }
 
-fn definition(
-    rt: &HostRuntime,
-    desk: &mut PlainDesk,
-    uri: &str,
-    at: (u32, u32),
-) -> Result<Reply, Fail> {
-    Ok(desk.ask(&query(rt, "app", uri, at)?))
-}
-
-fn is(reply: &Reply, status: u16, body: &str) -> bool {
-    reply.status() == status && reply.body() == body
-}
-
-#[test]
-fn definition_of_the_base_dump(rt: HostRuntime) -> Result<(), Fail> {
-    let mut desk = PlainDesk::new(rt.alloc());
-    let body = text(&rt, &BASE)?;
-    let reply = put(&rt, &mut desk, "k1", &body)?;
-    assert!(rt; is(&reply, 200, ACCEPTED));
-    let reply = definition(&rt, &mut desk, "file:///a.ts", (2, 1))?;
-    assert!(rt; is(&reply, 200, DEFINED_AT_4));
-    assert_eq!(rt; reply.body().len(), 115);
-    let reply = definition(&rt, &mut desk, "file:///a.ts", (2, 3))?;
-    assert!(rt; is(&reply, 200, "{\"places\":[]}"));
-    let reply = definition(&rt, &mut desk, "file:///a.ts", (2147483647, 2147483647))?;
-    assert!(rt; is(&reply, 200, "{\"places\":[]}"));
-    let reply = definition(&rt, &mut desk, "file:///b.ts", (2, 1))?;
-    assert!(rt;
-        is(
-            &reply,
-            404,
-            "{\"fault\":\"D02\",\"text\":\"no such document\"}"
-        )
-    );
-    let reply = desk.ask(&query(&rt, "lib", "file:///a.ts", (2, 1))?);
-    assert!(rt;
-        is(
-            &reply,
-            404,
-            "{\"fault\":\"D01\",\"text\":\"project has no dump\"}"
-        )
-    );
-    Ok(())
+/// The reply's status and body.
+fn text_of(alloc: Global, reply: &Reply) -> Result<String, Fail> {
+    Ok(format!(in alloc; "{} {}", reply.status(), reply.body())?)
 }
 
 #[test]
-fn faulty_bodies(rt: HostRuntime) -> Result<(), Fail> {
-    let mut desk = PlainDesk::new(rt.alloc());
-    let reply = put(&rt, &mut desk, "k1", "")?;
-    let wanted = "{\"fault\":\"L06\",\"line\":1,\"text\":\"metaData missing, wrong or repeated\"}";
-    assert!(rt; is(&reply, 422, wanted));
-    let reply = put(&rt, &mut desk, "k1", &text(&rt, &BASE[..10])?)?;
-    assert!(rt; is(&reply, 422, UNCONTAINED));
-    let item =
-        "{\"id\":10,\"type\":\"edge\",\"label\":\"item\",\"outV\":8,\"inVs\":[3],\"shard\":2,\"property\":\"x\"}";
-    let reply = put(&rt, &mut desk, "k1", &base_with(&rt, 10, item)?)?;
-    let wanted = "{\"fault\":\"L15\",\"line\":10,\"text\":\"bad item property or shard\"}";
-    assert!(rt; is(&reply, 422, wanted));
-    let range =
-        "{\"id\":4,\"type\":\"vertex\",\"label\":\"range\",\"start\":{\"line\":0,\"character\":6},\"end\":{\"line\":0,\"character\":9}}";
-    let reply = put(&rt, &mut desk, "k1", &base_with(&rt, 4, range)?)?;
-    let wanted =
-        "{\"fault\":\"L12\",\"line\":11,\"text\":\"range equal to or overlapping another\"}";
-    assert!(rt; is(&reply, 422, wanted));
-    let next = "{\"id\":7,\"type\":\"edge\",\"label\":\"next\",\"outV\":5,\"inV\":5}";
-    let reply = put(&rt, &mut desk, "k1", &base_with(&rt, 7, next)?)?;
-    assert!(rt;
-        is(
-            &reply,
-            422,
-            "{\"fault\":\"L14\",\"line\":7,\"text\":\"next closes a cycle\"}"
-        )
-    );
-    let reply = definition(&rt, &mut desk, "file:///a.ts", (2, 1))?;
-    assert!(rt;
-        is(
-            &reply,
-            404,
-            "{\"fault\":\"D01\",\"text\":\"project has no dump\"}"
-        )
-    );
+fn requests_and_replies(rt: HostRuntime) -> Result<(), Fail> {
+    for scenario in SCENARIOS {
+        let mut desk = PlainDesk::new(rt.alloc());
+        let mut found = String::new(rt.alloc());
+        for (k, line) in scenario.lines().enumerate() {
+            if k % 2 == 0 {
+                let reply = reply_to(rt.alloc(), &mut desk, line)?;
+                found = text_of(rt.alloc(), &reply)?;
+            } else {
+                assert_eq!(rt; found.as_str(), line);
+            }
+        }
+    }
     Ok(())
 }
 
-#[test]
-fn greatest_id(rt: HostRuntime) -> Result<(), Fail> {
-    let mut desk = PlainDesk::new(rt.alloc());
-    let meta_data =
-        "{\"id\":9007199254740992,\"type\":\"vertex\",\"label\":\"metaData\",\"version\":\"0.6.0\"}";
-    let reply = put(&rt, &mut desk, "k1", &base_with(&rt, 1, meta_data)?)?;
-    assert!(rt;
-        is(
-            &reply,
-            422,
-            "{\"fault\":\"L03\",\"line\":1,\"text\":\"no valid id\"}"
-        )
-    );
-    let meta_data =
-        "{\"id\":9007199254740991,\"type\":\"vertex\",\"label\":\"metaData\",\"version\":\"0.6.0\"}";
-    let reply = put(&rt, &mut desk, "k1", &base_with(&rt, 1, meta_data)?)?;
-    assert!(rt; is(&reply, 200, ACCEPTED));
-    Ok(())
-}
-
-#[test]
-fn innermost_range_that_has_a_result(rt: HostRuntime) -> Result<(), Fail> {
-    let mut desk = PlainDesk::new(rt.alloc());
-    put(&rt, &mut desk, "k1", &text(&rt, &NESTED)?)?;
-    let reply = definition(&rt, &mut desk, "file:///n.ts", (0, 6))?;
-    let wanted =
-        "{\"places\":[{\"end\":{\"character\":20,\"line\":0},\"project\":\"app\",\"start\":{\"character\":0,\"line\":0},\"uri\":\"file:///n.ts\"}]}";
-    assert!(rt; is(&reply, 200, wanted));
-    put(&rt, &mut desk, "k2", &text(&rt, &TOUCHING)?)?;
-    let reply = definition(&rt, &mut desk, "file:///u.ts", (0, 5))?;
-    let wanted =
-        "{\"places\":[{\"end\":{\"character\":9,\"line\":0},\"project\":\"app\",\"start\":{\"character\":5,\"line\":0},\"uri\":\"file:///u.ts\"}]}";
-    assert!(rt; is(&reply, 200, wanted));
-    let reply = definition(&rt, &mut desk, "file:///n.ts", (0, 6))?;
-    assert!(rt;
-        is(
-            &reply,
-            404,
-            "{\"fault\":\"D02\",\"text\":\"no such document\"}"
-        )
-    );
-    Ok(())
-}
-
-#[test]
-fn repeat_after_a_newer_upload(rt: HostRuntime) -> Result<(), Fail> {
-    let mut desk = PlainDesk::new(rt.alloc());
-    let base = text(&rt, &BASE)?;
-    let later = base_with(&rt, 3, LATER)?;
-    let reply = put(&rt, &mut desk, "k1", &base)?;
-    assert!(rt; is(&reply, 200, ACCEPTED));
-    let reply = put(&rt, &mut desk, "k2", &later)?;
-    assert!(rt; is(&reply, 200, ACCEPTED));
-    let reply = put(&rt, &mut desk, "k1", &base)?;
-    assert!(rt; is(&reply, 200, ACCEPTED));
-    let reply = definition(&rt, &mut desk, "file:///a.ts", (2, 1))?;
-    assert!(rt; is(&reply, 200, DEFINED_AT_5));
-    // The body of a repeat isn't judged.
-    let reply = put(&rt, &mut desk, "k2", "{")?;
-    assert!(rt; is(&reply, 200, ACCEPTED));
-    // Another project's key is another key.
-    let reply = desk.apply(&command(&rt, "lib", "k1", "{")?);
-    assert!(rt;
-        is(
-            &reply,
-            422,
-            "{\"fault\":\"L02\",\"line\":1,\"text\":\"not JSON\"}"
-        )
-    );
-    Ok(())
-}
-
-#[test]
-fn refused_upload_keeps_no_key(rt: HostRuntime) -> Result<(), Fail> {
-    let mut desk = PlainDesk::new(rt.alloc());
-    let base = text(&rt, &BASE)?;
-    let later = base_with(&rt, 3, LATER)?;
-    put(&rt, &mut desk, "k1", &base)?;
-    let reply = put(&rt, &mut desk, "k2", &text(&rt, &BASE[..10])?)?;
-    assert!(rt; is(&reply, 422, UNCONTAINED));
-    let reply = definition(&rt, &mut desk, "file:///a.ts", (2, 1))?;
-    assert!(rt; is(&reply, 200, DEFINED_AT_4));
-    let reply = put(&rt, &mut desk, "k2", &later)?;
-    assert!(rt; is(&reply, 200, ACCEPTED));
-    let reply = definition(&rt, &mut desk, "file:///a.ts", (2, 1))?;
-    assert!(rt; is(&reply, 200, DEFINED_AT_5));
-    Ok(())
-}
-
-/// A URL may hold a quotation mark, which JSON escapes.
-#[test]
-fn quotation_mark_in_a_uri(rt: HostRuntime) -> Result<(), Fail> {
-    let mut desk = PlainDesk::new(rt.alloc());
-    let document = "{\"id\":2,\"type\":\"vertex\",\"label\":\"document\",\"uri\":\"x:a\\\"b\"}";
-    put(&rt, &mut desk, "k1", &base_with(&rt, 2, document)?)?;
-    let reply = definition(&rt, &mut desk, "x:a\"b", (0, 4))?;
-    let wanted =
-        "{\"places\":[{\"end\":{\"character\":7,\"line\":0},\"project\":\"app\",\"start\":{\"character\":4,\"line\":0},\"uri\":\"x:a\\\"b\"}]}";
-    assert!(rt; is(&reply, 200, wanted));
-    Ok(())
-}
-
+/// The definitions of the base dump, and a project and a document that aren't there.
 #[test]
 fn run_of_requests(rt: HostRuntime) -> Result<(), Fail> {
     let mut desk = PlainDesk::new(rt.alloc());
-    let base = text(&rt, &BASE)?;
-    let early = query(&rt, "app", "file:///a.ts", (2, 1))?;
-    let defined = query(&rt, "app", "file:///a.ts", (2, 1))?;
-    let unknown = query(&rt, "app", "file:///b.ts", (2, 1))?;
-    let outside = query(&rt, "app", "file:///a.ts", (2, 3))?;
-    let put = command(&rt, "app", "k1", &base)?;
-    let requests = [
-        Request::Query(early),
-        Request::Command(put),
-        Request::Query(defined),
-        Request::Query(unknown),
-        Request::Query(outside),
-    ];
-    let replies = run(rt.alloc(), &mut desk, &requests).map_err(|_| "out of memory")?;
-    assert_eq!(rt; replies.len(), 5);
-    let wanted = [
-        (404, "{\"fault\":\"D01\",\"text\":\"project has no dump\"}"),
-        (200, ACCEPTED),
-        (200, DEFINED_AT_4),
-        (404, "{\"fault\":\"D02\",\"text\":\"no such document\"}"),
-        (200, "{\"places\":[]}"),
-    ];
-    for (reply, (status, body)) in replies.iter().zip(wanted.iter()) {
-        assert!(rt; is(reply, *status, body));
+    let early = query(rt.alloc(), "app", "file:///a.ts", "2:1")?;
+    let put = command(rt.alloc(), "app", "k1", BASE)?;
+    let mut requests = Vec::new(rt.alloc());
+    requests.push(Request::Query(early))?;
+    requests.push(Request::Command(put))?;
+    for (project, uri, at) in [
+        ("app", "file:///a.ts", "2:1"),
+        ("app", "file:///a.ts", "0:4"),
+        ("app", "file:///b.ts", "2:1"),
+        ("app", "file:///a.ts", "2:3"),
+        ("app", "file:///a.ts", "2147483647:2147483647"),
+        ("lib", "file:///a.ts", "2:1"),
+    ] {
+        requests.push(Request::Query(query(rt.alloc(), project, uri, at)?))?;
     }
+    let replies = run(rt.alloc(), &mut desk, &requests).map_err(|_| "out of memory")?;
+    let wanted = r#"404 {"fault":"D01","text":"project has no dump"}
+200 {"accepted":"lsif","count":11}
+200 {"places":[{"end":{"character":7,"line":0},"project":"app","start":{"character":4,"line":0},"uri":"file:///a.ts"}]}
+200 {"places":[{"end":{"character":7,"line":0},"project":"app","start":{"character":4,"line":0},"uri":"file:///a.ts"}]}
+404 {"fault":"D02","text":"no such document"}
+200 {"places":[]}
+200 {"places":[]}
+404 {"fault":"D01","text":"project has no dump"}
+"#;
+    let mut found = String::new(rt.alloc());
+    for reply in &replies {
+        found.push_str(text_of(rt.alloc(), reply)?.as_str())?;
+        found.push('\n')?;
+    }
+    assert_eq!(rt; found.as_str(), wanted);
     judgement_law();
     Ok(())
 }
 
+fn checked(alloc: Global, text: &str) -> Result<CheckedDump, Fail> {
+    Ok(read_dump(alloc, &mut InMemory::new(text.as_bytes())).map_err(|_| "a fault")?)
+}
+
+/// Places come in order and once.
 #[test]
-fn replies_of_codes(rt: HostRuntime) {
+fn places_and_documents_of_a_dump(rt: HostRuntime) -> Result<(), Fail> {
+    let dump = checked(rt.alloc(), REPEATED)?;
+    let at = Position::new(1, 2).ok_or("no position")?;
+    let mut found = String::new(rt.alloc());
+    for place in &definition_places(rt.alloc(), &dump, "file:///b.ts", at)? {
+        let (start, end) = (place.span.start(), place.span.end());
+        let text = format!(in rt.alloc();
+            "{} {}:{} {}:{}\n",
+            place.uri.as_str(),
+            start.line(),
+            start.character(),
+            end.line(),
+            end.character()
+        )?;
+        found.push_str(text.as_str())?;
+    }
+    let wanted = "file:///a.ts 0:0 0:1\nfile:///b.ts 0:2 0:6\nfile:///b.ts 1:0 1:3\n";
+    assert_eq!(rt; found.as_str(), wanted);
+    assert!(rt; has_document(&dump, "file:///a.ts"));
+    assert!(rt; has_document(&dump, "file:///b.ts"));
+    assert!(rt; !has_document(&dump, "file:///c.ts"));
+    assert!(rt; !has_document(&dump, "file:///a.t"));
+    let base = checked(rt.alloc(), BASE)?;
+    let at = Position::new(2, 1).ok_or("no position")?;
+    assert!(rt; definition_places(rt.alloc(), &base, "file:///b.ts", at)?.is_empty());
+    Ok(())
+}
+
+#[test]
+fn replies_of_codes(rt: HostRuntime) -> Result<(), Fail> {
     let wanted = [
         (Code::D01, 404, "D01", "project has no dump"),
         (Code::D02, 404, "D02", "no such document"),
@@ -340,30 +353,26 @@ fn replies_of_codes(rt: HostRuntime) {
         (Code::S02, 503, "S02", "out of memory"),
     ];
     for (code, status, name, text) in wanted {
-        assert_eq!(rt; code.status(), status);
-        assert_eq!(rt; code.name(), name);
-        assert_eq!(rt; code.text(), text);
+        assert_eq!(rt;
+            (code.status(), code.name(), code.text()),
+            (status, name, text)
+        );
     }
-    let reply = Reply::refused(Code::D03);
-    assert!(rt;
-        is(
-            &reply,
-            400,
-            "{\"fault\":\"D03\",\"text\":\"bad parameter\"}"
-        )
+    let reply = text_of(rt.alloc(), &Reply::refused(Code::D03))?;
+    assert_eq!(rt;
+        reply.as_str(),
+        r#"400 {"fault":"D03","text":"bad parameter"}"#
     );
-    let reply = Reply::out_of_memory();
-    assert!(rt;
-        is(
-            &reply,
-            503,
-            "{\"fault\":\"S02\",\"text\":\"out of memory\"}"
-        )
+    let reply = text_of(rt.alloc(), &Reply::out_of_memory())?;
+    assert_eq!(rt;
+        reply.as_str(),
+        r#"503 {"fault":"S02","text":"out of memory"}"#
     );
+    Ok(())
 }
 
 #[test]
-fn forms_of_names(rt: HostRuntime) -> Result<(), Fail> {
+fn forms_of_names_and_numbers(rt: HostRuntime) -> Result<(), Fail> {
     let longest = "abcdefghijklmnopqrstuvwxyz0123456789_-abcdefghijklmnopqrstuvwxyz";
     assert_eq!(rt; longest.len(), 64);
     let name = ProjectName::read(rt.alloc(), longest)?.ok_or("no project's name")?;
@@ -371,25 +380,18 @@ fn forms_of_names(rt: HostRuntime) -> Result<(), Fail> {
     let key = Key::read(rt.alloc(), "Az0_-")?.ok_or("no key")?;
     assert_eq!(rt; key.as_str(), "Az0_-");
     let too_long = format!(in rt.alloc(); "{longest}a")?;
-    assert!(rt; ProjectName::read(rt.alloc(), &too_long)?.is_none());
-    assert!(rt; Key::read(rt.alloc(), &too_long)?.is_none());
-    for text in ["", "A", "a.b", "a b", "é"] {
-        assert!(rt; ProjectName::read(rt.alloc(), text)?.is_none());
+    for text in ["", "A", "a.b", "a b", "é", too_long.as_str()] {
+        assert!(rt; ProjectName::read(rt.alloc(), text)?.is_none(), "{text}");
     }
-    for text in ["", "a.b", "a/b", "é"] {
-        assert!(rt; Key::read(rt.alloc(), text)?.is_none());
+    for text in ["", "a.b", "a/b", "é", too_long.as_str()] {
+        assert!(rt; Key::read(rt.alloc(), text)?.is_none(), "{text}");
     }
     let uri = DocUri::read(rt.alloc(), "FILE:///a/../b.ts")?.ok_or("no URL")?;
     assert_eq!(rt; uri.as_str(), "file:///b.ts");
     assert!(rt; DocUri::read(rt.alloc(), "a.ts")?.is_none());
-    Ok(())
-}
-
-#[test]
-fn forms_of_numbers(rt: HostRuntime) {
-    assert_eq!(rt; read_number("0"), Some(0));
-    assert_eq!(rt; read_number("10"), Some(10));
-    assert_eq!(rt; read_number("2147483647"), Some(2147483647));
+    for (text, number) in [("0", 0), ("10", 10), ("2147483647", 2147483647)] {
+        assert_eq!(rt; read_number(text), Some(number));
+    }
     for text in [
         "",
         "00",
@@ -401,6 +403,7 @@ fn forms_of_numbers(rt: HostRuntime) {
         "2147483648",
         "4294967296",
     ] {
-        assert_eq!(rt; read_number(text), None);
+        assert_eq!(rt; read_number(text), None, "{text}");
     }
+    Ok(())
 }

@@ -1,34 +1,33 @@
 //! The calls of the program, and words that are none.
 use super::*;
-use std::test::Fail;
 
 #[test]
-fn reads_a_call(rt: HostRuntime) -> Result<(), Fail> {
+fn calls(rt: HostRuntime) {
     for file in ["dump.lsif", "-", "a b/c"] {
-        let words = ["codenav", "check-lsif", file];
-        match read_call(rt.alloc(), words.as_slice()) {
-            Ok(call) => assert_eq!(rt; call, Call::CheckLsif { file }),
-            Err(_) => panic!(rt; "{file:?} is refused"),
-        }
-        let words = ["codenav", "check-tags", file];
-        match read_call(rt.alloc(), words.as_slice()) {
-            Ok(call) => assert_eq!(rt; call, Call::CheckTags { file }),
-            Err(_) => panic!(rt; "{file:?} is refused"),
+        let lsif = ["codenav", "check-lsif", file];
+        let tags = ["codenav", "check-tags", file];
+        let memory = ["codenav", "replay", ":memory:", file];
+        let other = ["codenav", "replay", "index.db", file];
+        let (database, index) = (":memory:", "index.db");
+        let table = [
+            (lsif.as_slice(), Call::CheckLsif { file }),
+            (tags.as_slice(), Call::CheckTags { file }),
+            (memory.as_slice(), Call::Replay { database, file }),
+            (
+                other.as_slice(),
+                Call::Replay {
+                    database: index,
+                    file,
+                },
+            ),
+        ];
+        for (words, wanted) in table {
+            match read_call(rt.alloc(), words) {
+                Ok(call) => assert_eq!(rt; call, wanted),
+                Err(_) => panic!(rt; "{words:?} are refused"),
+            }
         }
     }
-    Ok(())
-}
-
-#[test]
-fn reads_a_call_of_replay(rt: HostRuntime) -> Result<(), Fail> {
-    for (database, file) in [(":memory:", "requests.http"), ("index.db", "-")] {
-        let words = ["codenav", "replay", database, file];
-        match read_call(rt.alloc(), words.as_slice()) {
-            Ok(call) => assert_eq!(rt; call, Call::Replay { database, file }),
-            Err(_) => panic!(rt; "{database:?} {file:?} are refused"),
-        }
-    }
-    Ok(())
 }
 
 #[test]

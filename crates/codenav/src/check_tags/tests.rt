@@ -1,59 +1,12 @@
 //! Reports of tags files, of readers that fail and of writers that fail.
 use super::*;
+use crate::samples::{Pieces, Slow, in_pieces, slow_writer};
 use lsif::Counted;
-use std::io;
-use std::io::{Read, Write};
 use std::process::Abort;
 use std::test::Fail;
 
-/// A reader that gives at most so many bytes at a time, and fails at the read of that number.
-#[derive(Drop)]
-struct Pieces<'a> {
-    bytes: &'a [u8],
-    most: usize,
-    fails_at: u32,
-    reads: u32,
-}
-
-impl Read for Pieces<'_> {
-    fn read(&mut self, buf: &mut [u8]) -> io::Result<usize> {
-        self.reads = self.reads.saturating_add(1);
-        if self.reads == self.fails_at {
-            return Err(io::Error::from(io::ErrorKind::Other));
-        }
-        let count = self.bytes.len().min(self.most).min(buf.len());
-        buf[..count].copy_from_slice(&self.bytes[..count]);
-        self.bytes = &self.bytes[count..];
-        Ok(count)
-    }
-}
-
-/// A writer that takes at most so many bytes at a time, and fails at the write of that number.
-#[derive(Drop)]
-struct Slow {
-    taken: Vec<u8>,
-    most: usize,
-    fails_at: u32,
-    writes: u32,
-}
-
-impl Write for Slow {
-    fn write(&mut self, bytes: &[u8]) -> io::Result<usize> {
-        self.writes = self.writes.saturating_add(1);
-        if self.writes == self.fails_at {
-            return Err(io::Error::from(io::ErrorKind::Other));
-        }
-        let count = bytes.len().min(self.most);
-        self.taken.extend_from_slice(&bytes[..count])?;
-        Ok(count)
-    }
-
-    fn flush(&mut self) -> io::Result<()> {
-        Ok(())
-    }
-}
-
-/// What is answered and written over such a reader and such a writer.
+/// What is answered and written over a reader, where the writer takes so many bytes at a time and fails at the write of
+/// that number.
 fn check(
     alloc: Global,
     reader: Pieces<'_>,
@@ -61,41 +14,28 @@ fn check(
     fails_at: u32,
 ) -> (Result<Status, CheckFault>, Vec<u8>) {
     let mut r = Counted::new(reader);
-    let mut w = Counted::new(Slow {
-        taken: Vec::new(alloc),
-        most,
-        fails_at,
-        writes: 0,
-    });
+    let mut w = Counted::new(slow_writer(alloc, most, fails_at));
     let answer = super::check_tags(alloc, &mut r, &mut w);
     let Slow { taken, .. } = w.into_inner();
     (answer, taken)
 }
 
-/// A reader of these bytes that gives so many at a time.
-fn in_pieces(bytes: &[u8], most: usize) -> Pieces<'_> {
-    Pieces {
-        bytes,
-        most,
-        fails_at: 0,
-        reads: 0,
-    }
-}
-
-/// Asserts the report of these bytes, where they come so many at a time.
-fn expect_by<R: AllocGlobal + Abort>(rt: &R, bytes: &[u8], most: usize, wanted: &str) {
+/// Asserts the report of these bytes, for several cuttings.
+fn expect<R: AllocGlobal + Abort>(rt: &R, bytes: &[u8], wanted: &str) {
     let status = if wanted.starts_with("ok ") {
         Status::Sound
     } else {
         Status::Faulty
     };
-    let (answer, written) = check(rt.alloc(), in_pieces(bytes, most), 7, 0);
-    assert_eq!(rt; answer, Ok(status), "{wanted}");
-    assert_eq!(rt; written.as_slice(), wanted.as_bytes(), "{wanted}");
+    for most in [1, 2, 7, 1_000_000] {
+        let (answer, written) = check(rt.alloc(), in_pieces(bytes, most), 7, 0);
+        assert_eq!(rt; answer, Ok(status), "{wanted}");
+        assert_eq!(rt; written.as_slice(), wanted.as_bytes(), "{wanted}");
+    }
 }
 
 #[test]
-fn check_tags(rt: HostRuntime) {
+fn tags_files(rt: HostRuntime) {
     let table = [
         ("", "ok 0 tags\n"),
         ("x\tf.c\t1\r\n", "ok 1 tags\n"),
@@ -126,25 +66,28 @@ fn check_tags(rt: HostRuntime) {
         ("!_TAG_FILE_FORMAT\t2\t//\n", "ok 0 tags\n"),
     ];
     for (text, wanted) in table {
-        for most in [1, 2, 7, 1_000_000] {
-            expect_by(&rt, text.as_bytes(), most, wanted);
-        }
+        expect(&rt, text.as_bytes(), wanted);
     }
-    let bytes = b"x\tf.c\t1\n\xff\tf.c\t1\n".as_slice();
-    expect_by(&rt, bytes, 7, "line 2: T02 not UTF-8\n");
+    expect(&rt, b"x\tf.c\t1\n\xff\tf.c\t1\n", "line 2: T02 not UTF-8\n");
 }
 
 #[test]
-fn lines_that_are_too_long(rt: HostRuntime) -> Result<(), Fail> {
+fn long_lines(rt: HostRuntime) -> Result<(), Fail> {
     let mut text = Vec::from_slice(rt.alloc(), b"x\tf.c\t1;\"\tf\tnote:".as_slice())?;
     for _ in text.len()..65_535 {
         text.push(b'n')?;
     }
     text.extend_from_slice(b"\r\n")?;
-    expect_by(&rt, text.as_slice(), 4096, "ok 1 tags\n");
+    expect(&rt, text.as_slice(), "ok 1 tags\n");
     text.truncate(65_535);
     text.extend_from_slice(b"n\r\ny\tf.c\t1\n")?;
-    expect_by(&rt, text.as_slice(), 4096, "line 1: T01 line too long\n");
+    expect(&rt, text.as_slice(), "line 1: T01 line too long\n");
+    let mut fields = String::from_str(rt.alloc(), "x\tf.c\t1;\"\tf")?;
+    for number in 1..71 {
+        fields.push_str(format!(in rt.alloc(); "\tk{number}:v{number}")?.as_str())?;
+    }
+    fields.push('\n')?;
+    expect(&rt, fields.as_bytes(), "ok 1 tags\n");
     Ok(())
 }
 
@@ -154,14 +97,9 @@ fn lines_that_are_too_many(rt: HostRuntime) -> Result<(), Fail> {
     for _ in 0..100_000 {
         text.extend_from_slice(b"x\tf\t1\n")?;
     }
-    expect_by(&rt, text.as_slice(), 4096, "ok 100000 tags\n");
+    expect(&rt, text.as_slice(), "ok 100000 tags\n");
     text.extend_from_slice(b"x\tf\t1")?;
-    expect_by(
-        &rt,
-        text.as_slice(),
-        4096,
-        "line 100001: T11 too many lines\n",
-    );
+    expect(&rt, text.as_slice(), "line 100001: T11 too many lines\n");
     Ok(())
 }
 
@@ -185,14 +123,4 @@ fn readers_and_writers_that_fail(rt: HostRuntime) {
     let (answer, written) = check(rt.alloc(), in_pieces(text, 7), 0, 0);
     assert_eq!(rt; answer, Err(CheckFault::Write));
     assert!(rt; written.is_empty());
-}
-
-#[test]
-fn statuses(rt: HostRuntime) {
-    assert_eq!(rt; TagsReport::Sound(3).status(), Status::Sound);
-    let fault = LineFault {
-        line: 1,
-        code: Code::T04,
-    };
-    assert_eq!(rt; TagsReport::Faulty(fault).status(), Status::Faulty);
 }

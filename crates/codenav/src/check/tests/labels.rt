@@ -1,622 +1,212 @@
-//! Reports of dumps with vertices and edges of each label.
-use super::{META_DATA, expect_in};
-use std::alloc::Global;
-use std::process::Abort;
+//! Reports of dumps with vertices and edges of each label, with ids that are numbers and with ids that are texts.
+use super::expect_rows;
+use crate::samples::BASE;
 use std::test::Fail;
 
-/// An element in short: its type, its label and its other members. A quotation mark is written `'`, and the number of a
-/// line stands between `<` and `>` where the id of the element on it is named.
-type Short = (&'static str, &'static str, &'static str);
-
-/// Adds a text written in short, with these quotation marks around ids.
-fn push_short(text: &mut String, short: &str, around: &str) -> Result<(), Fail> {
-    for c in short.chars() {
-        match c {
-            '\'' => text.push_str("\"")?,
-            '<' | '>' => text.push_str(around)?,
-            _ => text.push(c)?,
-        }
-    }
-    Ok(())
-}
-
-/// What becomes of one line, of this number.
-#[derive(Clone, Copy)]
-enum Change {
-    Without(usize),
-    With(usize, Short),
-}
-
-/// The element on the line of this number. None where the line is left out.
-fn element_on(line: usize, element: Short, change: Change) -> Option<Short> {
-    match change {
-        Change::Without(number) if number == line => None,
-        Change::With(number, other) if number == line => Some(other),
-        _ => Some(element),
-    }
-}
-
-/// The text of a metaData on line 1 and these elements on the lines after it. An element's id is the number of its line,
-/// or that as a text. Where a line is left out the others keep their ids.
-fn dump_of(
-    alloc: Global,
-    elements: &[Short],
-    change: Change,
-    with_texts: bool,
-) -> Result<String, Fail> {
-    let around = if with_texts { "\"" } else { "" };
-    let mut text = String::from_str(alloc, META_DATA)?;
-    text.push_str("\n")?;
-    for (k, element) in elements.iter().enumerate() {
-        let Some((kind, label, members)) = element_on(k + 2, *element, change) else {
-            continue;
-        };
-        let front = format!(in alloc;
-            "{{\"id\":{around}{}{around},\"type\":\"{kind}\",\"label\":\"{label}\"",
-            k + 2
-        )?;
-        text.push_str(front.as_str())?;
-        if !members.is_empty() {
-            text.push_str(",")?;
-        }
-        push_short(&mut text, members, around)?;
-        text.push_str("}\n")?;
-    }
-    Ok(text)
-}
-
-/// Asserts the report of a dump with this change, with ids that are numbers and with ids that are texts.
-fn expect_changed<R: AllocGlobal + Abort>(
-    rt: &R,
-    elements: &[Short],
-    change: Change,
-    wanted: &str,
-) -> Result<(), Fail> {
-    let numbers = dump_of(rt.alloc(), elements, change, false)?;
-    expect_in(rt, 4096, numbers.as_str(), wanted);
-    let texts = dump_of(rt.alloc(), elements, change, true)?;
-    expect_in(rt, 4096, texts.as_str(), wanted);
-    Ok(())
-}
-
-/// Asserts the report of a dump.
-fn expect_of<R: AllocGlobal + Abort>(rt: &R, elements: &[Short], wanted: &str) -> Result<(), Fail> {
-    expect_changed(rt, elements, Change::Without(0), wanted)
-}
-
-/// Asserts the report of a dump with another element on the line of this number.
-fn expect_with<R: AllocGlobal + Abort>(
-    rt: &R,
-    elements: &[Short],
-    line: usize,
-    element: Short,
-    wanted: &str,
-) -> Result<(), Fail> {
-    expect_changed(rt, elements, Change::With(line, element), wanted)
-}
-
-/// The base dump: a document with two ranges, and a definition.
-const BASE: [Short; 10] = [
-    ("vertex", "document", "'uri':'file:///a.ts'"),
-    (
-        "vertex",
-        "range",
-        "'start':{'line':0,'character':4},'end':{'line':0,'character':7}",
-    ),
-    (
-        "vertex",
-        "range",
-        "'start':{'line':2,'character':0},'end':{'line':2,'character':3}",
-    ),
-    ("vertex", "resultSet", ""),
-    ("edge", "next", "'outV':<3>,'inV':<5>"),
-    ("edge", "next", "'outV':<4>,'inV':<5>"),
-    ("vertex", "definitionResult", ""),
-    ("edge", "textDocument/definition", "'outV':<5>,'inV':<8>"),
-    ("edge", "item", "'outV':<8>,'inVs':[<3>],'shard':<2>"),
-    ("edge", "contains", "'outV':<2>,'inVs':[<3>,<4>]"),
-];
-
 /// A range in another one.
-const NESTED: [Short; 7] = [
-    ("vertex", "document", "'uri':'file:///n.ts'"),
-    (
-        "vertex",
-        "range",
-        "'start':{'line':0,'character':0},'end':{'line':0,'character':20}",
-    ),
-    (
-        "vertex",
-        "range",
-        "'start':{'line':0,'character':5},'end':{'line':0,'character':8}",
-    ),
-    ("vertex", "definitionResult", ""),
-    ("edge", "textDocument/definition", "'outV':<3>,'inV':<5>"),
-    ("edge", "item", "'outV':<5>,'inVs':[<3>],'shard':<2>"),
-    ("edge", "contains", "'outV':<2>,'inVs':[<4>,<3>]"),
-];
+const NESTED: &str = "metaData 0.6.0
+document file:///n.ts
+range 0:0 0:20
+range 0:5 0:8
+definitionResult
+textDocument/definition 3>5
+item 5>[3] @2
+contains 2>[4,3]";
 
 /// Ranges that touch, and an empty one.
-const TOUCHING: [Short; 14] = [
-    ("vertex", "document", "'uri':'file:///u.ts'"),
-    (
-        "vertex",
-        "range",
-        "'start':{'line':0,'character':0},'end':{'line':0,'character':5}",
-    ),
-    (
-        "vertex",
-        "range",
-        "'start':{'line':0,'character':5},'end':{'line':0,'character':9}",
-    ),
-    (
-        "vertex",
-        "range",
-        "'start':{'line':0,'character':5},'end':{'line':0,'character':5}",
-    ),
-    ("vertex", "definitionResult", ""),
-    ("vertex", "definitionResult", ""),
-    ("vertex", "definitionResult", ""),
-    ("edge", "textDocument/definition", "'outV':<3>,'inV':<6>"),
-    ("edge", "textDocument/definition", "'outV':<4>,'inV':<7>"),
-    ("edge", "textDocument/definition", "'outV':<5>,'inV':<8>"),
-    ("edge", "item", "'outV':<6>,'inVs':[<3>],'shard':<2>"),
-    ("edge", "item", "'outV':<7>,'inVs':[<4>],'shard':<2>"),
-    ("edge", "item", "'outV':<8>,'inVs':[<5>],'shard':<2>"),
-    ("edge", "contains", "'outV':<2>,'inVs':[<3>,<4>,<5>]"),
-];
+const TOUCHING: &str = "metaData 0.6.0
+document file:///u.ts
+range 0:0 0:5
+range 0:5 0:9
+range 0:5 0:5
+definitionResult
+definitionResult
+definitionResult
+textDocument/definition 3>6
+textDocument/definition 4>7
+textDocument/definition 5>8
+item 6>[3] @2
+item 7>[4] @2
+item 8>[5] @2
+contains 2>[3,4,5]";
 
 /// Reference results that name each other.
-const REFERENCES: [Short; 12] = [
-    ("vertex", "document", "'uri':'file:///c.ts'"),
-    (
-        "vertex",
-        "range",
-        "'start':{'line':0,'character':0},'end':{'line':0,'character':1}",
-    ),
-    (
-        "vertex",
-        "range",
-        "'start':{'line':1,'character':0},'end':{'line':1,'character':1}",
-    ),
-    ("vertex", "referenceResult", ""),
-    ("vertex", "referenceResult", ""),
-    ("edge", "textDocument/references", "'outV':<4>,'inV':<6>"),
-    (
-        "edge",
-        "item",
-        "'outV':<5>,'inVs':[<6>],'property':'referenceResults','shard':<2>",
-    ),
-    (
-        "edge",
-        "item",
-        "'outV':<6>,'inVs':[<5>],'property':'referenceResults','shard':<2>",
-    ),
-    (
-        "edge",
-        "item",
-        "'outV':<5>,'inVs':[<3>],'property':'definitions','shard':<2>",
-    ),
-    (
-        "edge",
-        "item",
-        "'outV':<6>,'inVs':[<4>],'property':'references','shard':<2>",
-    ),
-    (
-        "edge",
-        "item",
-        "'outV':<5>,'inVs':[<4>],'property':'references','shard':<2>",
-    ),
-    ("edge", "contains", "'outV':<2>,'inVs':[<3>,<4>]"),
-];
+const REFERENCES: &str = "metaData 0.6.0
+document file:///c.ts
+range 0:0 0:1
+range 1:0 1:1
+referenceResult
+referenceResult
+textDocument/references 4>6
+item 5>[6] referenceResults @2
+item 6>[5] referenceResults @2
+item 5>[3] definitions @2
+item 6>[4] references @2
+item 5>[4] references @2
+contains 2>[3,4]";
 
-#[test]
-fn definitions_and_references(rt: HostRuntime) -> Result<(), Fail> {
-    expect_of(&rt, &BASE, "ok 11 elements\n")?;
-    expect_of(&rt, &NESTED, "ok 8 elements\n")?;
-    expect_of(&rt, &TOUCHING, "ok 15 elements\n")?;
-    expect_of(&rt, &REFERENCES, "ok 13 elements\n")?;
-    let table: [(usize, Short, &str); 13] = [
-        (
-            8,
-            (
-                "edge",
-                "item",
-                "'outV':<5>,'inVs':[<3>],'property':'referenceResults','shard':<2>",
-            ),
-            "line 8: L10 edge may not join these\n",
-        ),
-        (
-            10,
-            ("edge", "item", "'outV':<5>,'inVs':[<3>],'shard':<2>"),
-            "line 10: L10 edge may not join these\n",
-        ),
-        (
-            10,
-            ("edge", "item", "'outV':<5>,'inVs':[],'shard':<2>"),
-            "line 10: L10 edge may not join these\n",
-        ),
-        (
-            11,
-            (
-                "edge",
-                "item",
-                "'outV':<6>,'inVs':[<5>],'property':'references','shard':<2>",
-            ),
-            "line 11: L10 edge may not join these\n",
-        ),
-        (
-            10,
-            (
-                "edge",
-                "item",
-                "'outV':<5>,'inVs':[<3>,<6>],'property':'definitions','shard':<2>",
-            ),
-            "line 10: L10 edge may not join these\n",
-        ),
-        (
-            9,
-            (
-                "edge",
-                "item",
-                "'outV':<6>,'inVs':[<5>],'property':'referenceResults','shard':<3>",
-            ),
-            "line 9: L16 shard names no document or project\n",
-        ),
-        (
-            9,
-            ("edge", "textDocument/references", "'outV':<4>,'inV':<5>"),
-            "line 9: L13 second edge of a single kind\n",
-        ),
-        (
-            9,
-            ("edge", "textDocument/references", "'outV':<3>,'inV':<6>"),
-            "ok 13 elements\n",
-        ),
-        (
-            9,
-            ("edge", "textDocument/references", "'outV':<2>,'inV':<6>"),
-            "line 9: L10 edge may not join these\n",
-        ),
-        (
-            9,
-            ("edge", "textDocument/definition", "'outV':<4>,'inV':<6>"),
-            "line 9: L10 edge may not join these\n",
-        ),
-        (
-            9,
-            ("edge", "textDocument/references", "'outV':<3>,'inV':<4>"),
-            "line 9: L10 edge may not join these\n",
-        ),
-        (
-            9,
-            ("edge", "textDocument/references", "'outV':<3>,'inV':<13>"),
-            "line 9: L09 vertex not emitted before\n",
-        ),
-        (
-            9,
-            ("edge", "textDocument/references", "'outV':<3>,'inVs':[<6>]"),
-            "line 9: L08 bad edge ends\n",
-        ),
-    ];
-    for (line, element, wanted) in table {
-        expect_with(&rt, &REFERENCES, line, element, wanted)?;
-    }
-    Ok(())
-}
+const OF_REFERENCES: &str = "ok 13
+8 L10 | 8 item 5>[3] referenceResults @2
+10 L10 | 10 item 5>[3] @2
+10 L10 | 10 item 5>[] @2
+11 L10 | 11 item 6>[5] references @2
+10 L10 | 10 item 5>[3,6] definitions @2
+9 L16 | 9 item 6>[5] referenceResults @3
+9 L13 | 9 textDocument/references 4>5
+ok 13 | 9 textDocument/references 3>6
+9 L10 | 9 textDocument/references 2>6
+9 L10 | 9 textDocument/definition 4>6
+9 L10 | 9 textDocument/references 3>4
+9 L09 | 9 textDocument/references 3>13
+9 L08 | 9 textDocument/references 3>[6]";
 
 /// A document and a project, which hold one range.
-const SHARDS: [Short; 9] = [
-    ("vertex", "document", "'uri':'file:///a.ts'"),
-    ("vertex", "project", ""),
-    ("vertex", "document", "'uri':'file:///b.ts'"),
-    (
-        "vertex",
-        "range",
-        "'start':{'line':0,'character':0},'end':{'line':0,'character':1}",
-    ),
-    ("vertex", "referenceResult", ""),
-    ("vertex", "resultSet", ""),
-    (
-        "edge",
-        "item",
-        "'outV':<6>,'inVs':[<6>],'property':'referenceResults','shard':<4>",
-    ),
-    (
-        "edge",
-        "item",
-        "'outV':<6>,'inVs':[<5>],'property':'references','shard':<3>",
-    ),
-    ("edge", "contains", "'outV':<2>,'inVs':[<5>]"),
-];
+const SHARDS: &str = "metaData 0.6.0
+document file:///a.ts
+project
+document file:///b.ts
+range 0:0 0:1
+referenceResult
+resultSet
+item 6>[6] referenceResults @4
+item 6>[5] references @3
+contains 2>[5]";
 
-#[test]
-fn shards_of_references(rt: HostRuntime) -> Result<(), Fail> {
-    expect_of(&rt, &SHARDS, "ok 10 elements\n")?;
-    let elsewhere = (
-        "edge",
-        "item",
-        "'outV':<6>,'inVs':[<5>],'property':'references','shard':<4>",
-    );
-    expect_with(
-        &rt,
-        &SHARDS,
-        9,
-        elsewhere,
-        "line 9: E02 shard is not the document of a target\n",
-    )?;
-    let definition = (
-        "edge",
-        "item",
-        "'outV':<6>,'inVs':[<5>],'property':'definitions','document':<4>",
-    );
-    expect_with(
-        &rt,
-        &SHARDS,
-        9,
-        definition,
-        "line 9: E02 shard is not the document of a target\n",
-    )
-}
+const OF_SHARDS: &str = "ok 10
+9 E02 | 9 item 6>[5] references @4
+9 E02 | 9 item 6>[5] 'property':'definitions','document':<4>";
 
 /// A hover at a range.
-const HOVERS: [Short; 5] = [
-    ("vertex", "document", "'uri':'file:///h.ts'"),
-    (
-        "vertex",
-        "range",
-        "'start':{'line':0,'character':0},'end':{'line':0,'character':3}",
-    ),
-    (
-        "vertex",
-        "hoverResult",
-        "'result':{'contents':[{'value':'f','language':'c','x':1},'d']}",
-    ),
-    ("edge", "textDocument/hover", "'outV':<3>,'inV':<4>"),
-    ("edge", "contains", "'outV':<2>,'inVs':[<3>]"),
-];
+const HOVERS: &str = "metaData 0.6.0
+document file:///h.ts
+range 0:0 0:3
+hoverResult 'result':{'contents':[{'value':'f','language':'c','x':1},'d']}
+textDocument/hover 3>4
+contains 2>[3]";
 
-#[test]
-fn hovers(rt: HostRuntime) -> Result<(), Fail> {
-    expect_of(&rt, &HOVERS, "ok 6 elements\n")?;
-    let table: [(usize, Short, &str); 11] = [
-        (
-            4,
-            (
-                "vertex",
-                "hoverResult",
-                "'result':{'contents':{'kind':'html','value':'f'}}",
-            ),
-            "line 4: L07 bad vertex member\n",
-        ),
-        (
-            4,
-            (
-                "vertex",
-                "hoverResult",
-                "'result':{'contents':{'kind':'markdown','value':'f'}}",
-            ),
-            "ok 6 elements\n",
-        ),
-        (
-            4,
-            ("vertex", "hoverResult", "'result':{'contents':null}"),
-            "line 4: L07 bad vertex member\n",
-        ),
-        (
-            4,
-            ("vertex", "hoverResult", "'result':[]"),
-            "line 4: L07 bad vertex member\n",
-        ),
-        (
-            4,
-            ("vertex", "hoverResult", ""),
-            "line 4: L07 bad vertex member\n",
-        ),
-        (
-            5,
-            ("edge", "textDocument/hover", "'outV':<4>,'inV':<4>"),
-            "line 5: L10 edge may not join these\n",
-        ),
-        (
-            5,
-            ("edge", "textDocument/hover", "'outV':<3>,'inV':<2>"),
-            "line 5: L10 edge may not join these\n",
-        ),
-        (
-            5,
-            ("edge", "textDocument/hover", "'outV':<3>,'inVs':[<4>]"),
-            "line 5: L08 bad edge ends\n",
-        ),
-        (
-            6,
-            ("edge", "textDocument/hover", "'outV':<3>,'inV':<4>"),
-            "line 6: L13 second edge of a single kind\n",
-        ),
-        (
-            5,
-            ("edge", "textDocument/definition", "'outV':<3>,'inV':<4>"),
-            "line 5: L10 edge may not join these\n",
-        ),
-        (
-            5,
-            ("edge", "hover", "'outV':<2>,'inV':<3>"),
-            "ok 6 elements\n",
-        ),
-    ];
-    for (line, element, wanted) in table {
-        expect_with(&rt, &HOVERS, line, element, wanted)?;
-    }
-    Ok(())
-}
+const OF_HOVERS: &str = "ok 6
+4 L07 | 4 hoverResult 'result':{'contents':{'kind':'html','value':'f'}}
+ok 6 | 4 hoverResult 'result':{'contents':{'kind':'markdown','value':'f'}}
+4 L07 | 4 hoverResult 'result':{'contents':null}
+4 L07 | 4 hoverResult 'result':[]
+4 L07 | 4 hoverResult
+5 L10 | 5 textDocument/hover 4>4
+5 L10 | 5 textDocument/hover 3>2
+5 L08 | 5 textDocument/hover 3>[4]
+6 L13 | 6 textDocument/hover 3>4
+5 L10 | 5 textDocument/definition 3>4
+ok 6 | 5 hover 2>3";
 
 /// A range with an import moniker.
-const IMPORT: [Short; 7] = [
-    ("vertex", "document", "'uri':'file:///app.ts'"),
-    (
-        "vertex",
-        "range",
-        "'start':{'line':1,'character':0},'end':{'line':1,'character':3}",
-    ),
-    (
-        "vertex",
-        "moniker",
-        "'kind':'import','scheme':'npm','identifier':'lib::f'",
-    ),
-    (
-        "vertex",
-        "packageInformation",
-        "'manager':'npm','name':'lib','version':'1.0.0'",
-    ),
-    ("edge", "moniker", "'outV':<3>,'inV':<4>"),
-    ("edge", "packageInformation", "'outV':<4>,'inV':<5>"),
-    ("edge", "contains", "'outV':<2>,'inVs':[<3>]"),
-];
+const IMPORT: &str = "metaData 0.6.0
+document file:///app.ts
+range 1:0 1:3
+moniker 'kind':'import','scheme':'npm','identifier':'lib::f'
+packageInformation 'manager':'npm','name':'lib','version':'1.0.0'
+moniker 3>4
+packageInformation 4>5
+contains 2>[3]";
+
+const OF_IMPORT: &str = r"ok 8
+ok 8 | 4 moniker 'scheme':'npm','identifier':'lib::f'
+4 L07 | 4 moniker 'kind':null,'scheme':'npm','identifier':'lib::f'
+4 L07 | 4 moniker 'scheme':'npm','identifier':'\u0000'
+4 L07 | 4 moniker 'scheme':7,'identifier':'f'
+ok 8 | 5 packageInformation 'manager':'npm','name':'lib'
+5 L07 | 5 packageInformation 'manager':'npm','name':'lib','version':null
+5 L07 | 5 packageInformation 'manager':'npm'
+6 L10 | 6 moniker 2>4
+6 L10 | 6 moniker 3>5
+6 L08 | 6 moniker 3>[4]
+ok 8 | 7 moniker 3>4
+7 L13 | 6 packageInformation 4>5
+6 L10 | 6 packageInformation 3>5
+6 L10 | 6 packageInformation 4>4
+ok 8 | 6 attach 4>4
+6 L10 | 6 attach 4>5
+6 L10 | 6 attach 3>4
+ok 8 | 6 attach
+ok 8 | 6 range 5>4
+6 L10 | 6 item 4>[] @2";
 
 /// A range with an export moniker and a definition.
-const EXPORT: [Short; 10] = [
-    ("vertex", "document", "'uri':'file:///lib.ts'"),
-    (
-        "vertex",
-        "range",
-        "'start':{'line':0,'character':9},'end':{'line':0,'character':10}",
-    ),
-    (
-        "vertex",
-        "moniker",
-        "'kind':'export','scheme':'npm','identifier':'lib::f'",
-    ),
-    (
-        "vertex",
-        "packageInformation",
-        "'manager':'npm','name':'lib','version':'1.0.0'",
-    ),
-    ("edge", "moniker", "'outV':<3>,'inV':<4>"),
-    ("edge", "packageInformation", "'outV':<4>,'inV':<5>"),
-    ("vertex", "definitionResult", ""),
-    ("edge", "textDocument/definition", "'outV':<3>,'inV':<8>"),
-    ("edge", "item", "'outV':<8>,'inVs':[<3>],'shard':<2>"),
-    ("edge", "contains", "'outV':<2>,'inVs':[<3>]"),
-];
+const EXPORT: &str = "metaData 0.6.0
+document file:///lib.ts
+range 0:9 0:10
+moniker 'kind':'export','scheme':'npm','identifier':'lib::f'
+packageInformation 'manager':'npm','name':'lib','version':'1.0.0'
+moniker 3>4
+packageInformation 4>5
+definitionResult
+textDocument/definition 3>8
+item 8>[3] @2
+contains 2>[3]";
+
+/// A range named after its document ended.
+const ENDED: &str = "metaData 0.6.0
+document file:///v.ts
+$event begin 2
+range 0:0 0:1
+contains 2>[4]
+$event end 2
+resultSet
+next 4>7";
+
+const OF_ENDED: &str = "8 L18
+ok 7 | 6 -
+5 L17 | 3 -
+ok 7 | 8 -
+6 L17 | 6 $event begin 2
+7 L17 | 7 $event end 2
+7 L17 | 7 $event begin 2
+3 L17 | 3 $event begin 1
+3 L17 | 3 $event begin 9
+6 L17 | 6 $event end 4
+3 L07 | 3 $event open 2
+3 L07 | 3 $event 'scope':'document','kind':'begin'
+3 L07 | 3 {'id':<3>,'type':'vertex','label':'$event','kind':'begin','data':<2>}
+ok 8 | 6 $event 'scope':'project','kind':7,'data':[]
+8 L18 | 8 contains 2>[]
+8 L18 | 8 note 7>[7,4]
+8 L18 | 8 note 7>4
+8 L18 | 8 note 4>7
+ok 8 | 8 note 7>2
+8 L10 | 8 item 3>[] @2
+8 L11 | 8 contains 2>[4]";
+
+/// A project and a shard name a document that has ended.
+const AFTER_THE_END: &str = "metaData 0.6.0
+document file:///v.ts
+$event begin 2
+project
+document file:///w.ts
+range 0:0 0:1
+contains 2>[6]
+$event end 2
+definitionResult
+contains 4>[2,5]
+item 9>[] @2";
+
+const OF_AFTER_THE_END: &str = "ok 11
+11 L18 | 11 item 9>[6] @4
+11 L16 | 11 item 9>[6] @6";
 
 #[test]
-fn monikers(rt: HostRuntime) -> Result<(), Fail> {
-    expect_of(&rt, &IMPORT, "ok 8 elements\n")?;
-    expect_of(&rt, &EXPORT, "ok 11 elements\n")?;
-    let table: [(usize, Short, &str); 20] = [
-        (
-            4,
-            ("vertex", "moniker", "'scheme':'npm','identifier':'lib::f'"),
-            "ok 8 elements\n",
-        ),
-        (
-            4,
-            (
-                "vertex",
-                "moniker",
-                "'kind':null,'scheme':'npm','identifier':'lib::f'",
-            ),
-            "line 4: L07 bad vertex member\n",
-        ),
-        (
-            4,
-            ("vertex", "moniker", "'scheme':'npm','identifier':'\\u0000'"),
-            "line 4: L07 bad vertex member\n",
-        ),
-        (
-            4,
-            ("vertex", "moniker", "'scheme':7,'identifier':'f'"),
-            "line 4: L07 bad vertex member\n",
-        ),
-        (
-            5,
-            (
-                "vertex",
-                "packageInformation",
-                "'manager':'npm','name':'lib'",
-            ),
-            "ok 8 elements\n",
-        ),
-        (
-            5,
-            (
-                "vertex",
-                "packageInformation",
-                "'manager':'npm','name':'lib','version':null",
-            ),
-            "line 5: L07 bad vertex member\n",
-        ),
-        (
-            5,
-            ("vertex", "packageInformation", "'manager':'npm'"),
-            "line 5: L07 bad vertex member\n",
-        ),
-        (
-            6,
-            ("edge", "moniker", "'outV':<2>,'inV':<4>"),
-            "line 6: L10 edge may not join these\n",
-        ),
-        (
-            6,
-            ("edge", "moniker", "'outV':<3>,'inV':<5>"),
-            "line 6: L10 edge may not join these\n",
-        ),
-        (
-            6,
-            ("edge", "moniker", "'outV':<3>,'inVs':[<4>]"),
-            "line 6: L08 bad edge ends\n",
-        ),
-        (
-            7,
-            ("edge", "moniker", "'outV':<3>,'inV':<4>"),
-            "ok 8 elements\n",
-        ),
-        (
-            6,
-            ("edge", "packageInformation", "'outV':<4>,'inV':<5>"),
-            "line 7: L13 second edge of a single kind\n",
-        ),
-        (
-            6,
-            ("edge", "packageInformation", "'outV':<3>,'inV':<5>"),
-            "line 6: L10 edge may not join these\n",
-        ),
-        (
-            6,
-            ("edge", "packageInformation", "'outV':<4>,'inV':<4>"),
-            "line 6: L10 edge may not join these\n",
-        ),
-        (
-            6,
-            ("edge", "attach", "'outV':<4>,'inV':<4>"),
-            "ok 8 elements\n",
-        ),
-        (
-            6,
-            ("edge", "attach", "'outV':<4>,'inV':<5>"),
-            "line 6: L10 edge may not join these\n",
-        ),
-        (
-            6,
-            ("edge", "attach", "'outV':<3>,'inV':<4>"),
-            "line 6: L10 edge may not join these\n",
-        ),
-        (6, ("vertex", "attach", ""), "ok 8 elements\n"),
-        (
-            6,
-            ("edge", "range", "'outV':<5>,'inV':<4>"),
-            "ok 8 elements\n",
-        ),
-        (
-            6,
-            ("edge", "item", "'outV':<4>,'inVs':[],'shard':<2>"),
-            "line 6: L10 edge may not join these\n",
-        ),
-    ];
-    for (line, element, wanted) in table {
-        expect_with(&rt, &IMPORT, line, element, wanted)?;
+fn elements_of_each_label(rt: HostRuntime) -> Result<(), Fail> {
+    for (dump, rows) in [
+        (BASE, "ok 11"),
+        (NESTED, "ok 8"),
+        (TOUCHING, "ok 15"),
+        (REFERENCES, OF_REFERENCES),
+        (SHARDS, OF_SHARDS),
+        (HOVERS, OF_HOVERS),
+        (IMPORT, OF_IMPORT),
+        (EXPORT, "ok 11"),
+        (ENDED, OF_ENDED),
+        (AFTER_THE_END, OF_AFTER_THE_END),
+    ] {
+        expect_rows(&rt, dump, rows, &[4096], "")?;
+        expect_rows(&rt, dump, rows, &[4096], "\"")?;
     }
     Ok(())
 }
-
-mod events;
