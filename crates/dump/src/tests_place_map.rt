@@ -1,3 +1,4 @@
+//! The first place of each id, with slots for small numbers and without.
 use crate::place_map::PlaceMap;
 use lsif::Id;
 use std::test::Fail;
@@ -27,11 +28,7 @@ fn first_place_of_each_id(rt: HostRuntime) -> Result<(), Fail> {
     assert_eq!(rt; map.get(&Id::Number(1)), None);
     assert_eq!(rt; map.get(&Id::Number(5)), None);
     assert_eq!(rt; map.get(&text(&rt, "3")?), None);
-    Ok(())
-}
 
-#[test]
-fn map_of_ids_without_a_slot(rt: HostRuntime) -> Result<(), Fail> {
     let mut map = PlaceMap::new(rt.alloc(), 0);
     map.enter(&Id::Number(0), 5)?;
     map.enter(&Id::Number(0), 6)?;

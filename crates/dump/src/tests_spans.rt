@@ -1,3 +1,4 @@
+//! Spans in the order that they're kept in, and the conflicts of spans with others and with each other.
 use crate::spans::{conflict_after, conflict_in_order, merged};
 use positions::{Position, Span};
 use std::test::Fail;
@@ -54,8 +55,16 @@ fn both_lists_in_one_order(rt: HostRuntime) -> Result<(), Fail> {
     Ok(())
 }
 
+const NESTED: [Ends; 5] = [
+    (0, 0, 9, 0),
+    (1, 0, 3, 0),
+    (1, 2, 1, 5),
+    (2, 0, 2, 8),
+    (4, 0, 4, 4),
+];
+
 #[test]
-fn conflict_of_one_target(rt: HostRuntime) -> Result<(), Fail> {
+fn conflicts(rt: HostRuntime) -> Result<(), Fail> {
     let other = [(1, 4, 1, 9)];
     let table = [
         ("equal", (1, 4, 1, 9), true),
@@ -91,28 +100,20 @@ fn conflict_of_one_target(rt: HostRuntime) -> Result<(), Fail> {
             "{name}, both new"
         );
     }
-    Ok(())
-}
-
-#[test]
-fn conflict_among_several(rt: HostRuntime) -> Result<(), Fail> {
-    let nested = [
-        (0, 0, 9, 0),
-        (1, 0, 3, 0),
-        (1, 2, 1, 5),
-        (2, 0, 2, 8),
-        (4, 0, 4, 4),
-    ];
-    assert!(rt; !is_conflict(&rt, &[], &[])?);
-    assert!(rt; !is_conflict(&rt, &nested, &[])?);
-    assert!(rt; !is_conflict(&rt, &[], &nested)?);
-    assert!(rt; !is_conflict(&rt, &nested, &[(4, 4, 4, 9), (1, 5, 1, 7)])?);
-    assert!(rt; is_conflict(&rt, &nested, &[(2, 5, 3, 5)])?);
-    assert!(rt; is_conflict(&rt, &nested, &[(4, 2, 4, 9)])?);
-    assert!(rt; is_conflict(&rt, &nested, &[(2, 0, 2, 8)])?);
-    assert!(rt; is_conflict(&rt, &nested, &[(1, 3, 9, 1)])?);
-    assert!(rt; is_conflict(&rt, &nested, &[(5, 0, 5, 4), (5, 2, 5, 6)])?);
-    assert!(rt; is_conflict(&rt, &nested, &[(5, 0, 5, 0), (5, 0, 5, 0)])?);
-    assert!(rt; is_conflict(&rt, &nested, &[(8, 0, 8, 4), (5, 0, 5, 4), (8, 0, 8, 4)])?);
+    for (others, targets, expected) in [
+        ([].as_slice(), [].as_slice(), false),
+        (&NESTED, &[], false),
+        (&[], &NESTED, false),
+        (&NESTED, &[(4, 4, 4, 9), (1, 5, 1, 7)], false),
+        (&NESTED, &[(2, 5, 3, 5)], true),
+        (&NESTED, &[(4, 2, 4, 9)], true),
+        (&NESTED, &[(2, 0, 2, 8)], true),
+        (&NESTED, &[(1, 3, 9, 1)], true),
+        (&NESTED, &[(5, 0, 5, 4), (5, 2, 5, 6)], true),
+        (&NESTED, &[(5, 0, 5, 0), (5, 0, 5, 0)], true),
+        (&NESTED, &[(8, 0, 8, 4), (5, 0, 5, 4), (8, 0, 8, 4)], true),
+    ] {
+        assert_eq!(rt; is_conflict(&rt, others, targets)?, expected, "{targets:?}");
+    }
     Ok(())
 }

@@ -1,3 +1,4 @@
+//! Limits, order and packed forms of positions, and what spans cover, nest and overlap.
 use crate::{Position, Span};
 use std::test::Fail;
 

@@ -1,12 +1,55 @@
+//! Tags files that are read or counted, their faults and their limits; and the parts and the escapes of lines.
 use crate::{
     Code, LineFault, SplitFault, TagChecker, TagReader, TagsFault, count_law, decode, escape_law,
     grammar_law, lines_law, read_tags, split, state_law,
 };
+use std::alloc::Global;
+use std::process::Abort;
 use std::test::Fail;
 
+/// Texts, and the number of their tags, or the first faulty line and its code. `␉` stands for a tab, `␊` for LF and `␍`
+/// for CR.
+const TEXTS: &str = r#"
+ => 0
+x␉f.c␉1␍␊ => 1
+x␉f.c␉2147483647 => 1
+x␉f.c␉?a/b?␊ => 1
+x␉f.c␉//;"␊ => 1
+x␉f.c␉/a\\/␊ => 1
+x␉f.c␉/a\/␉b/;"␉f␊ => 1
+b␉f.c␉2␊a␉f.c␉1␊ => 2
+!_TAG_FILE_SORTED␉1␉//␊a␉f.c␉1␊a␉f.c␉2␊ => 2
+!_TAG_FILE_SORTED␉1␉␊!_TAG_FILE_SORTED␉2␉␊b␉f␉1␊a␉f␉1␊ => 2
+!_TAG_FILE_SORTED␉1␉␊A\\␉f␉1␊A\a␉f␉1␊ => 2
+!_TAG_FILE_FORMAT␉2␉\q␊!_TAG_FILE_FORMAT2␉1␉␊ => 0
+!\x5fTAG_X␉f␉1␊x␉f␉1␊ => 2
+x␉f.c␉1␍ => 1 T03
+␊ => 1 T04
+x␉f.c␊ => 1 T04
+x␉␉1␊ => 1 T04
+!_TAG_X␉␊ => 1 T04
+\q␉f.c␉1␊ => 1 T05
+x␉\x80␉/␊ => 1 T05
+x␉f.c␉1;"␉a:\q␉␊ => 1 T05
+x␉f.c␉1;"␉1a:\q␊ => 1 T05
+x␉f.c␉010␊ => 1 T06
+x␉f.c␉2147483648␊ => 1 T06
+x␉f.c␉10;/x;"␊ => 1 T06
+x␉f.c␉1;"f␊ => 1 T06
+x␉f.c␉1;"␉f␉kind:g␊ => 1 T07
+x␉f.c␉1;"␉␊ => 1 T07
+x␉f.c␉1;"␉kind:␊ => 1 T07
+x␉f.c␉1;"␉a\q:b␊ => 1 T07
+!_TAG_FILE_FORMAT␉␉␊ => 1 T08
+x␉f.c␉1␊!_TAG_FILE_FORMAT␉1␉␊ => 2 T08
+x␉f.c␉1␊!_TAG_X␉␉␊ => 2 T09
+!_TAG_FILE_SORTED␉1␉//␊b␉f.c␉2␊a␉f.c␉1␊ => 3 T10
+!_TAG_FILE_SORTED␉1␉//␊aa␉f.c␉2␊a␉f.c␉1 => 3 T10
+"#;
+
 /// What a checker says of a text.
-fn check(rt: &HostRuntime, text: &str) -> Result<u32, TagsFault> {
-    let mut checker = TagChecker::new(rt.alloc());
+fn check(alloc: Global, text: &str) -> Result<u32, TagsFault> {
+    let mut checker = TagChecker::new(alloc);
     for line in text.split_inclusive('\n') {
         match line.strip_suffix('\n') {
             Some(line) => checker.feed(Ok(line.as_bytes()), true)?,
@@ -17,9 +60,9 @@ fn check(rt: &HostRuntime, text: &str) -> Result<u32, TagsFault> {
 }
 
 /// The number of tags of a text.
-fn count(rt: &HostRuntime, text: &str) -> Result<usize, Fail> {
-    let tags = read_tags(rt.alloc(), text.as_bytes())?;
-    Ok(tags.len())
+fn count(alloc: Global, text: &str) -> Result<u32, TagsFault> {
+    let tags = read_tags(alloc, text.as_bytes())?;
+    Ok(u32::try_from(tags.len()).unwrap_or(u32::MAX))
 }
 
 /// The fault of a text.
@@ -30,82 +73,64 @@ fn fault(rt: &HostRuntime, text: &[u8]) -> Option<LineFault> {
     }
 }
 
-#[test]
-fn accepted(rt: HostRuntime) -> Result<(), Fail> {
-    let table = [
-        ("", 0),
-        ("x\tf.c\t1\r\n", 1),
-        ("x\tf.c\t2147483647", 1),
-        ("x\tf.c\t?a/b?\n", 1),
-        ("x\tf.c\t//;\"\n", 1),
-        ("x\tf.c\t/a\\\\/\n", 1),
-        ("x\tf.c\t/a\\/\tb/;\"\tf\n", 1),
-        ("b\tf.c\t2\na\tf.c\t1\n", 2),
-        ("!_TAG_FILE_SORTED\t1\t//\na\tf.c\t1\na\tf.c\t2\n", 2),
-        (
-            "!_TAG_FILE_SORTED\t1\t\n!_TAG_FILE_SORTED\t2\t\nb\tf\t1\na\tf\t1\n",
-            2,
-        ),
-        ("!_TAG_FILE_SORTED\t1\t\nA\\\\\tf\t1\nA\\a\tf\t1\n", 2),
-        ("!_TAG_FILE_FORMAT\t2\t\\q\n!_TAG_FILE_FORMAT2\t1\t\n", 0),
-        ("!\\x5fTAG_X\tf\t1\nx\tf\t1\n", 2),
-    ];
-    for (text, tags) in table {
-        assert_eq!(rt; count(&rt, text)?, tags, "{text}");
-        assert_eq!(rt; check(&rt, text), Ok(tags as u32), "{text}");
+/// What is read of a text: the number of its tags, or its first faulty line and the code.
+fn verdict(alloc: Global, read: Result<u32, TagsFault>) -> Result<String, Fail> {
+    match read {
+        Ok(tags) => Ok(format!(in alloc; "{tags}")?),
+        Err(TagsFault::Line(fault)) => {
+            let (line, code) = (fault.line, fault.code.name());
+            Ok(format!(in alloc; "{line} {code}")?)
+        }
+        Err(TagsFault::Memory) => Err("out of memory")?,
     }
+}
+
+/// Asserts what is read of a text, where the tags are kept and where they are counted.
+fn expect<R: AllocGlobal + Abort>(rt: &R, text: &str, wanted: &str) -> Result<(), Fail> {
+    let kept = count(rt.alloc(), text);
+    assert_eq!(rt; verdict(rt.alloc(), kept)?.as_str(), wanted, "{text}");
+    let counted = check(rt.alloc(), text);
+    assert_eq!(rt; verdict(rt.alloc(), counted)?.as_str(), wanted, "{text}");
     Ok(())
 }
 
 #[test]
-fn refused(rt: HostRuntime) -> Result<(), Fail> {
-    let table = [
-        ("x\tf.c\t1\r", 1, Code::T03),
-        ("x\u{7f}\tf.c\t1\n", 1, Code::T03),
-        ("\n", 1, Code::T04),
-        ("x\tf.c\n", 1, Code::T04),
-        ("x\t\t1\n", 1, Code::T04),
-        ("!_TAG_X\t\n", 1, Code::T04),
-        ("\\q\tf.c\t1\n", 1, Code::T05),
-        ("x\t\\x80\t/\n", 1, Code::T05),
-        ("x\tf.c\t1;\"\ta:\\q\t\n", 1, Code::T05),
-        ("x\tf.c\t1;\"\t1a:\\q\n", 1, Code::T05),
-        ("x\tf.c\t010\n", 1, Code::T06),
-        ("x\tf.c\t2147483648\n", 1, Code::T06),
-        ("x\tf.c\t10;/x;\"\n", 1, Code::T06),
-        ("x\tf.c\t1;\"f\n", 1, Code::T06),
-        ("x\tf.c\t1;\"\tf\tkind:g\n", 1, Code::T07),
-        ("x\tf.c\t1;\"\t\n", 1, Code::T07),
-        ("x\tf.c\t1;\"\tkind:\n", 1, Code::T07),
-        ("x\tf.c\t1;\"\ta\\q:b\n", 1, Code::T07),
-        ("!_TAG_FILE_FORMAT\t\t\n", 1, Code::T08),
-        ("x\tf.c\t1\n!_TAG_FILE_FORMAT\t1\t\n", 2, Code::T08),
-        ("x\tf.c\t1\n!_TAG_X\t\t\n", 2, Code::T09),
-        (
-            "!_TAG_FILE_SORTED\t1\t//\nb\tf.c\t2\na\tf.c\t1\n",
-            3,
-            Code::T10,
-        ),
-        (
-            "!_TAG_FILE_SORTED\t1\t//\naa\tf.c\t2\na\tf.c\t1",
-            3,
-            Code::T10,
-        ),
-    ];
-    for (text, line, code) in table {
-        assert_eq!(rt;
-            fault(&rt, text.as_bytes()),
-            Some(LineFault { line, code }),
-            "{text}"
-        );
-        let refused = Err(TagsFault::Line(LineFault { line, code }));
-        assert_eq!(rt; check(&rt, text), refused, "{text}");
+fn accepted_and_refused(rt: HostRuntime) -> Result<(), Fail> {
+    expect(&rt, "x\u{7f}\tf.c\t1\n", "1 T03")?;
+    for row in TEXTS.trim_matches('\n').lines() {
+        let (text, wanted) = row.split_once(" => ").ok_or("no row")?;
+        let text = text.replace(rt.alloc(), '␉', "\t")?;
+        let text = text.replace(rt.alloc(), '␊', "\n")?;
+        let text = text.replace(rt.alloc(), '␍', "\r")?;
+        expect(&rt, text.as_str(), wanted)?;
     }
     let code = Code::T02;
     assert_eq!(rt;
         fault(&rt, b"x\tf.c\t1\n\xff\t"),
         Some(LineFault { line: 2, code })
     );
+    Ok(())
+}
+
+/// A line of many fields doesn't end in want of memory.
+#[test]
+fn many_fields(rt: HostRuntime) -> Result<(), Fail> {
+    let mut text = String::from_str(rt.alloc(), "x\tf.c\t1;\"\tf")?;
+    for number in 0..69 {
+        text.push_str(format!(in rt.alloc(); "\tname{number}:value{number}")?.as_str())?;
+    }
+    assert_eq!(rt; check(rt.alloc(), text.as_str()), Ok(1));
+    let tags = read_tags(rt.alloc(), text.as_bytes())?;
+    assert_eq!(rt; tags.len(), 1);
+    let tag = &tags[0];
+    assert_eq!(rt; tag.kind.as_deref(), Some("f"));
+    assert_eq!(rt; tag.fields.len(), 69);
+    for (number, field) in tag.fields.iter().enumerate() {
+        let name = format!(in rt.alloc(); "name{number}")?;
+        assert_eq!(rt; field.name.as_str(), name.as_str());
+        let value = format!(in rt.alloc(); "value{number}")?;
+        assert_eq!(rt; field.value.as_str(), value.as_str());
+    }
     Ok(())
 }
 

@@ -1,4 +1,5 @@
-//! Streams of requests over a desk that only counts them.
+//! Streams of requests over a desk that only counts them. In a table's row `|` stands for CR LF, `=>` comes before the
+//! names of the replies, and a row that begins with `#` says something of those below it.
 use super::*;
 use desk::{Code, Command, Query};
 use lsif::Counted;
@@ -7,41 +8,115 @@ use std::io::{ErrorKind, Read, Write};
 use std::process::Abort;
 use std::test::Fail;
 
-const H01: &str =
-    "HTTP/1.1 400 Bad Request\r\nConnection: close\r\nContent-Type: application/json\r\nContent-Length: 33\r\n\r\n{\"fault\":\"H01\",\"text\":\"bad head\"}";
+/// Names of replies, and what is written.
+const REPLIES: &str = r#"
+H01 => HTTP/1.1 400 Bad Request|Connection: close|Content-Type: application/json|Content-Length: 33||{"fault":"H01","text":"bad head"}
+H02 => HTTP/1.1 431 Request Header Fields Too Large|Connection: close|Content-Type: application/json|Content-Length: 39||{"fault":"H02","text":"head too large"}
+H03 => HTTP/1.1 411 Length Required|Connection: close|Content-Type: application/json|Content-Length: 40||{"fault":"H03","text":"length required"}
+H04 => HTTP/1.1 413 Payload Too Large|Connection: close|Content-Type: application/json|Content-Length: 39||{"fault":"H04","text":"body too large"}
+H05 => HTTP/1.1 400 Bad Request|Connection: close|Content-Type: application/json|Content-Length: 33||{"fault":"H05","text":"body cut"}
+H06 => HTTP/1.1 404 Not Found|Connection: close|Content-Type: application/json|Content-Length: 38||{"fault":"H06","text":"no such route"}
+H08 => HTTP/1.1 501 Not Implemented|Connection: close|Content-Type: application/json|Content-Length: 54||{"fault":"H08","text":"transfer coding not supported"}
+D03 => HTTP/1.1 400 Bad Request|Connection: close|Content-Type: application/json|Content-Length: 38||{"fault":"D03","text":"bad parameter"}
+D01 => HTTP/1.1 404 Not Found|Connection: close|Content-Type: application/json|Content-Length: 44||{"fault":"D01","text":"project has no dump"}
+S01 => HTTP/1.1 503 Service Unavailable|Connection: close|Content-Type: application/json|Content-Length: 38||{"fault":"S01","text":"store refused"}
+H07_PUT => HTTP/1.1 405 Method Not Allowed|Connection: close|Content-Type: application/json|Allow: PUT|Content-Length: 43||{"fault":"H07","text":"method not allowed"}
+H07_GET => HTTP/1.1 405 Method Not Allowed|Connection: close|Content-Type: application/json|Allow: GET|Content-Length: 43||{"fault":"H07","text":"method not allowed"}
+"#;
 
-const H02: &str =
-    "HTTP/1.1 431 Request Header Fields Too Large\r\nConnection: close\r\nContent-Type: application/json\r\nContent-Length: 39\r\n\r\n{\"fault\":\"H02\",\"text\":\"head too large\"}";
+const PUT: &str = "PUT /projects/app/lsif?key=k1 HTTP/1.1\r\nContent-Length: 5\r\n\r\n";
 
-const H03: &str =
-    "HTTP/1.1 411 Length Required\r\nConnection: close\r\nContent-Type: application/json\r\nContent-Length: 40\r\n\r\n{\"fault\":\"H03\",\"text\":\"length required\"}";
+const GET: &str =
+    "GET /projects/app/definition?uri=file:///a.ts&line=2&character=1 HTTP/1.1\r\n\r\n";
 
-const H04: &str =
-    "HTTP/1.1 413 Payload Too Large\r\nConnection: close\r\nContent-Type: application/json\r\nContent-Length: 39\r\n\r\n{\"fault\":\"H04\",\"text\":\"body too large\"}";
+const SHORT_PUT: &str = "PUT /projects/a/lsif?key=k HTTP/1.1\r\nContent-Length: 1\r\n\r\n";
 
-const H05: &str =
-    "HTTP/1.1 400 Bad Request\r\nConnection: close\r\nContent-Type: application/json\r\nContent-Length: 33\r\n\r\n{\"fault\":\"H05\",\"text\":\"body cut\"}";
+const SHORT_GET: &str = "GET /x HTTP/1.1\r\n\r\n";
 
-const H06: &str =
-    "HTTP/1.1 404 Not Found\r\nConnection: close\r\nContent-Type: application/json\r\nContent-Length: 38\r\n\r\n{\"fault\":\"H06\",\"text\":\"no such route\"}";
+/// Heads and bodies that are refused.
+const REFUSED: &str = r#"
+GET|| => H01
+|| => H01
+GET /projects HTTP/1.1| => H01
+GET /x HTTP/1.1|Content-Length: 0|Content-Length: 0|| => H01
+GET /x HTTP/1.1|Content-Length:|| => H01
+GET /x HTTP/1.1|Content-Length: 1a|| => H01
+GET /x HTTP/1.1|content-length: 00000000000000000000|| => H01
+GET /x HTTP/1.1|content-length: 0000000000000000000|| => H06
+PUT /projects/app/lsif?key=k HTTP/1.1|| => H03
+GET /x HTTP/1.1|Content-Length: 8388609|| => H04
+GET /x HTTP/1.1|Content-Length: 3||ab => H05
+GET /x HTTP/1.1|Content-Length: 3||abc => H06
+GET /x HTTP/1.1|| => H06
+GET /projects//lsif HTTP/1.1|| => H06
+GET /projects/app/lsif/ HTTP/1.1|| => H06
+GET /projects/app HTTP/1.1|| => H06
+GET /projects/app/lsif?key=k HTTP/1.1|| => H07_PUT
+PUT /projects/app/definition HTTP/1.1|Content-Length: 0|| => H07_GET
+put /projects/app/lsif?key=k HTTP/1.1|| => H07_PUT
+GET /x HTTP/1.1|transfer-encoding: chunked|| => H08
+"#;
 
-const H08: &str =
-    "HTTP/1.1 501 Not Implemented\r\nConnection: close\r\nContent-Type: application/json\r\nContent-Length: 54\r\n\r\n{\"fault\":\"H08\",\"text\":\"transfer coding not supported\"}";
+/// Of two refusals that hold of one request, the one that is tried first.
+const ORDERED: &str = r#"
+# a head that doesn't read, though it has a transfer coding
+GET  HTTP/1.1|Transfer-Encoding: a|| => H01
+# a transfer coding, and two lengths, none for a PUT, or one too large
+GET /x HTTP/1.1|Transfer-Encoding: a|Content-Length: 1|Content-Length: 1|| => H08
+PUT /x HTTP/1.1|Transfer-Encoding: a|| => H08
+PUT /x HTTP/1.1|Transfer-Encoding: a|Content-Length: 8388609|| => H08
+# a length that isn't one, and too large
+PUT /x HTTP/1.1|Content-Length: 99999999999999999999|| => H01
+# no length, and no route
+PUT /x HTTP/1.1|| => H03
+# too large, and cut
+GET /x HTTP/1.1|Content-Length: 8388609||abc => H04
+# cut, and no route
+GET /x HTTP/1.1|Content-Length: 4||abc => H05
+# no route, and a method that no route takes
+POST /x HTTP/1.1|| => H06
+# another method, and a missing parameter
+GET /projects/app/lsif HTTP/1.1|| => H07_PUT
+# a missing parameter, and a project without a dump
+GET /projects/app/definition HTTP/1.1|| => D03
+"#;
 
-const D03: &str =
-    "HTTP/1.1 400 Bad Request\r\nConnection: close\r\nContent-Type: application/json\r\nContent-Length: 38\r\n\r\n{\"fault\":\"D03\",\"text\":\"bad parameter\"}";
+/// Before a query: after some refusals nothing is served, after the others the stream goes on.
+const FOLLOWED: &str = r#"
+GET|| => H01
+PUT /x HTTP/1.1|| => H03
+GET /x HTTP/1.1|Content-Length: 8388609|| => H04
+GET /x HTTP/1.1|Transfer-Encoding: a|| => H08
+GET /x HTTP/1.1|Content-Length: 2||ab => H06 D01
+GET /projects/app/lsif HTTP/1.1|| => H07_PUT D01
+GET /projects/app/definition HTTP/1.1|| => D03 D01
+"#;
 
-const D01: &str =
-    "HTTP/1.1 404 Not Found\r\nConnection: close\r\nContent-Type: application/json\r\nContent-Length: 44\r\n\r\n{\"fault\":\"D01\",\"text\":\"project has no dump\"}";
+/// Parameters of a query.
+const QUERIES: &str = r#"
+line=2&character=1 => D03
+uri=file:///a.ts&character=1 => D03
+uri=file:///a.ts&line=2 => D03
+uri=file:///a.ts&line=2&character=1&line=2 => D03
+uri=file:///a.ts&line=2&character=1&%6cine=2 => D03
+uri=a.ts&line=2&character=1 => D03
+uri=file:///a.ts&line=02&character=1 => D03
+uri=file:///a.ts&line=-2&character=1 => D03
+uri=file:///a.ts&line=&character=1 => D03
+uri=file:///a.ts&line=2&character=2147483648 => D03
+uri=file:///a.ts&line=2&character=99999999999 => D03
+uri=file:///a.ts&line=2147483647&character=2147483647 => D01
+character=0&line=0&uri=file%3A%2F%2F%2Fa.ts&other=1&other=2 => D01
+"#;
 
-const S01: &str =
-    "HTTP/1.1 503 Service Unavailable\r\nConnection: close\r\nContent-Type: application/json\r\nContent-Length: 38\r\n\r\n{\"fault\":\"S01\",\"text\":\"store refused\"}";
-
-const H07_PUT: &str =
-    "HTTP/1.1 405 Method Not Allowed\r\nConnection: close\r\nContent-Type: application/json\r\nAllow: PUT\r\nContent-Length: 43\r\n\r\n{\"fault\":\"H07\",\"text\":\"method not allowed\"}";
-
-const H07_GET: &str =
-    "HTTP/1.1 405 Method Not Allowed\r\nConnection: close\r\nContent-Type: application/json\r\nAllow: GET\r\nContent-Length: 43\r\n\r\n{\"fault\":\"H07\",\"text\":\"method not allowed\"}";
+/// Targets of an upload.
+const UPLOADS: &str = r#"
+/projects/app/lsif => D03
+/projects/app/lsif?key= => D03
+/projects/app/lsif?key=a.b => D03
+/projects/app/lsif?key=a&key=a => D03
+/projects/App/lsif?key=a => D03
+"#;
 
 /// A desk that has no dump and keeps none: it counts what it's asked.
 #[derive(Drop)]
@@ -181,241 +256,129 @@ fn joined(alloc: Global, texts: &[&str]) -> Result<String, Fail> {
     Ok(text)
 }
 
-/// Asserts the replies to a stream.
-fn expect<R: AllocGlobal + Abort>(rt: &R, stream: &[u8], replies: &[&str]) -> Result<(), Fail> {
-    let wanted = joined(rt.alloc(), replies)?;
-    let served = serve_over(
-        rt.alloc(),
-        in_pieces(stream, usize::MAX),
-        any_writer(rt.alloc()),
-        1000,
-    );
-    assert_eq!(rt; served.written.as_slice(), wanted.as_bytes(), "{wanted}");
-    assert_eq!(rt;
-        served.answer,
-        Ok(u32::try_from(replies.len()).unwrap_or(u32::MAX)),
-        "{wanted}"
-    );
-    Ok(())
+/// The reply of this name, as it stands in the table.
+fn reply(name: &str) -> Option<&'static str> {
+    for row in REPLIES.lines() {
+        if let Some((found, text)) = row.split_once(" => ") {
+            if found == name {
+                return Some(text);
+            }
+        }
+    }
+    None
 }
 
-const PUT: &str = "PUT /projects/app/lsif?key=k1 HTTP/1.1\r\nContent-Length: 5\r\n\r\n";
+/// The replies of these names, one after the other.
+fn replies(alloc: Global, names: &str) -> Result<String, Fail> {
+    let mut text = String::new(alloc);
+    for name in names.split_whitespace() {
+        text.push_str(reply(name).ok_or("no such reply")?)?;
+    }
+    Ok(text.replace(alloc, '|', "\r\n")?)
+}
 
-const GET: &str =
-    "GET /projects/app/definition?uri=file:///a.ts&line=2&character=1 HTTP/1.1\r\n\r\n";
+/// How many names there are.
+fn count(names: &str) -> u32 {
+    u32::try_from(names.split_whitespace().count()).unwrap_or(u32::MAX)
+}
 
-const SHORT_PUT: &str = "PUT /projects/a/lsif?key=k HTTP/1.1\r\nContent-Length: 1\r\n\r\n";
-
-const SHORT_GET: &str = "GET /x HTTP/1.1\r\n\r\n";
-
-#[test]
-fn a_put_and_a_query(rt: HostRuntime) -> Result<(), Fail> {
-    let stream = joined(rt.alloc(), &[PUT, "hello", GET])?;
+/// Asserts the replies to a stream, by their names.
+fn expect<R: AllocGlobal + Abort>(rt: &R, stream: &str, names: &str) -> Result<(), Fail> {
+    let wanted = replies(rt.alloc(), names)?;
     let served = serve_over(
         rt.alloc(),
         in_pieces(stream.as_bytes(), usize::MAX),
         any_writer(rt.alloc()),
-        9,
+        1000,
     );
-    assert_eq!(rt; served.answer, Ok(2));
-    assert_eq!(rt;
-        served.written.as_slice(),
-        joined(rt.alloc(), &[S01, D01])?.as_bytes()
-    );
-    assert_eq!(rt; (served.desk.commands, served.desk.queries), (1, 1));
-    assert_eq!(rt; served.desk.body, 5);
-    assert_eq!(rt; (served.desk.line, served.desk.character), (2, 1));
-    expect(&rt, b"", &[])
+    assert_eq!(rt; served.written.as_slice(), wanted.as_bytes(), "{stream}");
+    assert_eq!(rt; served.answer, Ok(count(names)), "{stream}");
+    Ok(())
+}
+
+/// Asserts the replies to the streams of a table, whose rows have these texts around them.
+fn expect_all<R: AllocGlobal + Abort>(
+    rt: &R,
+    before: &str,
+    table: &str,
+    after: &str,
+) -> Result<(), Fail> {
+    for row in table.trim_matches('\n').lines() {
+        if row.starts_with('#') {
+            continue;
+        }
+        let (part, names) = row.split_once(" => ").ok_or("no row")?;
+        let stream = format!(in rt.alloc(); "{before}{part}{after}")?;
+        expect(rt, stream.replace(rt.alloc(), '|', "\r\n")?.as_str(), names)?;
+    }
+    Ok(())
 }
 
 #[test]
-fn refusals_of_heads(rt: HostRuntime) -> Result<(), Fail> {
+fn puts_and_queries(rt: HostRuntime) -> Result<(), Fail> {
+    let two = joined(rt.alloc(), &[PUT, "hello", GET])?;
+    let three = joined(rt.alloc(), &[PUT, "hello", GET, GET])?;
+    let four = joined(rt.alloc(), &[PUT, "hello", GET, PUT, "hallo", GET])?;
     let table = [
-        ("GET\r\n\r\n", H01),
-        ("\r\n\r\n", H01),
-        ("GET /projects HTTP/1.1\r\n", H01),
-        ("GET /projects HTTP/1.1\nA: b\n\nC: d\r\n\r\n", H01),
-        (
-            "GET /x HTTP/1.1\r\nContent-Length: 0\r\nContent-Length: 0\r\n\r\n",
-            H01,
-        ),
-        ("GET /x HTTP/1.1\r\nContent-Length:\r\n\r\n", H01),
-        ("GET /x HTTP/1.1\r\nContent-Length: 1a\r\n\r\n", H01),
-        (
-            "GET /x HTTP/1.1\r\ncontent-length: 00000000000000000000\r\n\r\n",
-            H01,
-        ),
-        (
-            "GET /x HTTP/1.1\r\ncontent-length: 0000000000000000000\r\n\r\n",
-            H06,
-        ),
-        ("PUT /projects/app/lsif?key=k HTTP/1.1\r\n\r\n", H03),
-        ("GET /x HTTP/1.1\r\nContent-Length: 8388609\r\n\r\n", H04),
-        ("GET /x HTTP/1.1\r\nContent-Length: 3\r\n\r\nab", H05),
-        ("GET /x HTTP/1.1\r\nContent-Length: 3\r\n\r\nabc", H06),
-        ("GET /x HTTP/1.1\r\n\r\n", H06),
-        ("GET /projects//lsif HTTP/1.1\r\n\r\n", H06),
-        ("GET /projects/app/lsif/ HTTP/1.1\r\n\r\n", H06),
-        ("GET /projects/app HTTP/1.1\r\n\r\n", H06),
-        ("GET /projects/app/lsif?key=k HTTP/1.1\r\n\r\n", H07_PUT),
-        (
-            "PUT /projects/app/definition HTTP/1.1\r\nContent-Length: 0\r\n\r\n",
-            H07_GET,
-        ),
-        ("put /projects/app/lsif?key=k HTTP/1.1\r\n\r\n", H07_PUT),
-        ("GET /x HTTP/1.1\r\ntransfer-encoding: chunked\r\n\r\n", H08),
+        ("", usize::MAX, 9, "", (0, 0)),
+        (two.as_str(), usize::MAX, 9, "S01 D01", (1, 1)),
+        (four.as_str(), 1, 9, "S01 D01 S01 D01", (2, 2)),
+        (four.as_str(), 2, 9, "S01 D01 S01 D01", (2, 2)),
+        (four.as_str(), 7, 9, "S01 D01 S01 D01", (2, 2)),
+        (three.as_str(), usize::MAX, 0, "", (0, 0)),
+        (three.as_str(), usize::MAX, 1, "S01", (1, 0)),
+        (three.as_str(), usize::MAX, 2, "S01 D01", (1, 1)),
     ];
-    for (stream, reply) in table {
-        expect(&rt, stream.as_bytes(), &[reply])?;
+    for (stream, most, limit, names, counts) in table {
+        let mut writer = any_writer(rt.alloc());
+        writer.most = most;
+        let served = serve_over(
+            rt.alloc(),
+            in_pieces(stream.as_bytes(), most),
+            writer,
+            limit,
+        );
+        let wanted = replies(rt.alloc(), names)?;
+        assert_eq!(rt; served.written.as_slice(), wanted.as_bytes(), "{names}");
+        assert_eq!(rt; served.answer, Ok(count(names)), "{names}");
+        let (commands, queries) = (served.desk.commands, served.desk.queries);
+        assert_eq!(rt; (commands, queries), counts, "{names}");
+        if commands > 0 {
+            assert_eq!(rt; served.desk.body, 5);
+        }
+        if queries > 0 {
+            assert_eq!(rt; (served.desk.line, served.desk.character), (2, 1));
+        }
     }
     Ok(())
+}
+
+#[test]
+fn refusals(rt: HostRuntime) -> Result<(), Fail> {
+    expect(&rt, "GET /projects HTTP/1.1\nA: b\n\nC: d\r\n\r\n", "H01")?;
+    expect_all(&rt, "", REFUSED, "")?;
+    expect_all(&rt, "", ORDERED, "")?;
+    expect_all(&rt, "", FOLLOWED, GET)?;
+    expect_all(&rt, "GET /projects/app/definition?", QUERIES, " HTTP/1.1||")?;
+    expect_all(&rt, "PUT ", UPLOADS, " HTTP/1.1|Content-Length: 0||")
 }
 
 #[test]
 fn long_heads(rt: HostRuntime) -> Result<(), Fail> {
-    let mut stream = Vec::from_elem(rt.alloc(), b'a', 8192)?;
-    expect(&rt, &stream, &[H02])?;
-    expect(&rt, &stream[..8191], &[H01])?;
-    stream.extend_from_slice(b"\r\n\r\n")?;
-    expect(&rt, &stream, &[H02])?;
-    let mut many = String::from_str(rt.alloc(), "GET /x HTTP/1.1\r\n")?;
-    for _ in 0..32 {
-        many.push_str("a: b\r\n")?;
-    }
-    expect(
-        &rt,
-        joined(rt.alloc(), &[many.as_str(), "\r\n"])?.as_bytes(),
-        &[H06],
-    )?;
-    expect(
-        &rt,
-        joined(rt.alloc(), &[many.as_str(), "a: b\r\n\r\n"])?.as_bytes(),
-        &[H02],
-    )
-}
-
-#[test]
-fn parameters_of_no_form(rt: HostRuntime) -> Result<(), Fail> {
-    let queries = [
-        "line=2&character=1",
-        "uri=file:///a.ts&character=1",
-        "uri=file:///a.ts&line=2",
-        "uri=file:///a.ts&line=2&character=1&line=2",
-        "uri=file:///a.ts&line=2&character=1&%6cine=2",
-        "uri=a.ts&line=2&character=1",
-        "uri=file:///a.ts&line=02&character=1",
-        "uri=file:///a.ts&line=-2&character=1",
-        "uri=file:///a.ts&line=&character=1",
-        "uri=file:///a.ts&line=2&character=2147483648",
-        "uri=file:///a.ts&line=2&character=99999999999",
-    ];
-    for query in queries {
-        let stream = joined(
-            rt.alloc(),
-            &["GET /projects/app/definition?", query, " HTTP/1.1\r\n\r\n"],
-        )?;
-        expect(&rt, stream.as_bytes(), &[D03])?;
-    }
-    let good = [
-        "uri=file:///a.ts&line=2147483647&character=2147483647",
-        "character=0&line=0&uri=file%3A%2F%2F%2Fa.ts&other=1&other=2",
-    ];
-    for query in good {
-        let stream = joined(
-            rt.alloc(),
-            &["GET /projects/app/definition?", query, " HTTP/1.1\r\n\r\n"],
-        )?;
-        expect(&rt, stream.as_bytes(), &[D01])?;
-    }
-    let paths = [
-        "/projects/app/lsif",
-        "/projects/app/lsif?key=",
-        "/projects/app/lsif?key=a.b",
-        "/projects/app/lsif?key=a&key=a",
-        "/projects/App/lsif?key=a",
-    ];
-    for path in paths {
-        let stream = joined(
-            rt.alloc(),
-            &["PUT ", path, " HTTP/1.1\r\nContent-Length: 0\r\n\r\n"],
-        )?;
-        expect(&rt, stream.as_bytes(), &[D03])?;
-    }
-    Ok(())
-}
-
-/// Of two refusals that hold of one request, the one that is tried first.
-#[test]
-fn order_of_refusals(rt: HostRuntime) -> Result<(), Fail> {
-    let mut lines = String::new(rt.alloc());
-    for _ in 0..34 {
-        lines.push_str("\n")?;
-    }
-    expect(
-        &rt,
-        joined(rt.alloc(), &[lines.as_str(), "\r\n\r\n"])?.as_bytes(),
-        &[H02],
-    )?;
-    let table = [
-        // a head that doesn't read, though it has a transfer coding
-        ("GET  HTTP/1.1\r\nTransfer-Encoding: a\r\n\r\n", H01),
-        // a transfer coding, and two lengths, none for a PUT, or one too large
-        (
-            "GET /x HTTP/1.1\r\nTransfer-Encoding: a\r\nContent-Length: 1\r\nContent-Length: 1\r\n\r\n",
-            H08,
-        ),
-        ("PUT /x HTTP/1.1\r\nTransfer-Encoding: a\r\n\r\n", H08),
-        (
-            "PUT /x HTTP/1.1\r\nTransfer-Encoding: a\r\nContent-Length: 8388609\r\n\r\n",
-            H08,
-        ),
-        // a length that isn't one, and too large
-        (
-            "PUT /x HTTP/1.1\r\nContent-Length: 99999999999999999999\r\n\r\n",
-            H01,
-        ),
-        // no length, and no route
-        ("PUT /x HTTP/1.1\r\n\r\n", H03),
-        // too large, and cut
-        ("GET /x HTTP/1.1\r\nContent-Length: 8388609\r\n\r\nabc", H04),
-        // cut, and no route
-        ("GET /x HTTP/1.1\r\nContent-Length: 4\r\n\r\nabc", H05),
-        // no route, and a method that no route takes
-        ("POST /x HTTP/1.1\r\n\r\n", H06),
-        // another method, and a missing parameter
-        ("GET /projects/app/lsif HTTP/1.1\r\n\r\n", H07_PUT),
-        // a missing parameter, and a project without a dump
-        ("GET /projects/app/definition HTTP/1.1\r\n\r\n", D03),
-    ];
-    for (stream, reply) in table {
-        expect(&rt, stream.as_bytes(), &[reply])?;
-    }
-    Ok(())
-}
-
-/// After some refusals nothing is served, after the others the stream goes on.
-#[test]
-fn what_follows_a_refusal(rt: HostRuntime) -> Result<(), Fail> {
-    let table = [
-        ("GET\r\n\r\n", H01, true),
-        ("PUT /x HTTP/1.1\r\n\r\n", H03, true),
-        (
-            "GET /x HTTP/1.1\r\nContent-Length: 8388609\r\n\r\n",
-            H04,
-            true,
-        ),
-        ("GET /x HTTP/1.1\r\nTransfer-Encoding: a\r\n\r\n", H08, true),
-        ("GET /x HTTP/1.1\r\nContent-Length: 2\r\n\r\nab", H06, false),
-        ("GET /projects/app/lsif HTTP/1.1\r\n\r\n", H07_PUT, false),
-        ("GET /projects/app/definition HTTP/1.1\r\n\r\n", D03, false),
-    ];
-    for (first, reply, ends) in table {
-        let stream = joined(rt.alloc(), &[first, GET])?;
-        if ends {
-            expect(&rt, stream.as_bytes(), &[reply])?;
-        } else {
-            expect(&rt, stream.as_bytes(), &[reply, D01])?;
+    for (first, repeated, times, last, names) in [
+        ("", "a", 8191, "", "H01"),
+        ("", "a", 8192, "", "H02"),
+        ("", "a", 8192, "\r\n\r\n", "H02"),
+        ("GET /x HTTP/1.1\r\n", "a: b\r\n", 32, "\r\n", "H06"),
+        ("GET /x HTTP/1.1\r\n", "a: b\r\n", 33, "\r\n", "H02"),
+        ("", "\n", 34, "\r\n\r\n", "H02"),
+    ] {
+        let mut stream = String::from_str(rt.alloc(), first)?;
+        for _ in 0..times {
+            stream.push_str(repeated)?;
         }
+        stream.push_str(last)?;
+        expect(&rt, stream.as_str(), names)?;
     }
     Ok(())
 }
@@ -425,125 +388,81 @@ fn what_follows_a_refusal(rt: HostRuntime) -> Result<(), Fail> {
 fn cut_streams(rt: HostRuntime) -> Result<(), Fail> {
     let stream = joined(rt.alloc(), &[SHORT_PUT, "a", SHORT_GET])?;
     let head = SHORT_PUT.len();
-    for (at, _) in stream.as_bytes().iter().enumerate() {
-        let bytes = &stream.as_bytes()[..at];
+    for at in 0..stream.len() {
+        let cut = stream.get(..at).ok_or("no such place")?;
         if at == 0 {
-            expect(&rt, bytes, &[])?;
+            expect(&rt, cut, "")?;
         } else if at < head {
-            expect(&rt, bytes, &[H01])?;
+            expect(&rt, cut, "H01")?;
         } else if at == head {
-            expect(&rt, bytes, &[H05])?;
+            expect(&rt, cut, "H05")?;
         } else if at - head == 1 {
-            expect(&rt, bytes, &[S01])?;
+            expect(&rt, cut, "S01")?;
         } else {
-            expect(&rt, bytes, &[S01, H01])?;
+            expect(&rt, cut, "S01 H01")?;
         }
     }
-    expect(&rt, stream.as_bytes(), &[S01, H06])
-}
-
-#[test]
-fn any_pieces(rt: HostRuntime) -> Result<(), Fail> {
-    let stream = joined(rt.alloc(), &[PUT, "hello", GET, PUT, "hallo", GET])?;
-    let wanted = joined(rt.alloc(), &[S01, D01, S01, D01])?;
-    for most in [1, 2, 7] {
-        let mut writer = any_writer(rt.alloc());
-        writer.most = most;
-        let served = serve_over(rt.alloc(), in_pieces(stream.as_bytes(), most), writer, 9);
-        assert_eq!(rt; served.answer, Ok(4));
-        assert_eq!(rt; served.written.as_slice(), wanted.as_bytes());
-        assert_eq!(rt; (served.desk.commands, served.desk.queries), (2, 2));
-    }
-    Ok(())
-}
-
-#[test]
-fn at_the_limit(rt: HostRuntime) -> Result<(), Fail> {
-    let stream = joined(rt.alloc(), &[PUT, "hello", GET, GET])?;
-    for limit in [0, 1, 2] {
-        let served = serve_over(
-            rt.alloc(),
-            in_pieces(stream.as_bytes(), usize::MAX),
-            any_writer(rt.alloc()),
-            limit,
-        );
-        assert_eq!(rt; served.answer, Ok(limit));
-        let wanted = if limit == 0 {
-            joined(rt.alloc(), &[])?
-        } else if limit == 1 {
-            joined(rt.alloc(), &[S01])?
-        } else {
-            joined(rt.alloc(), &[S01, D01])?
-        };
-        assert_eq!(rt; served.written.as_slice(), wanted.as_bytes());
-    }
-    Ok(())
+    expect(&rt, stream.as_str(), "S01 H06")
 }
 
 /// A reader that fails: what was whole before it was served, and nothing else.
 #[test]
 fn failing_readers(rt: HostRuntime) -> Result<(), Fail> {
     let stream = joined(rt.alloc(), &[SHORT_GET, SHORT_PUT, "a"])?;
-    let table = [
-        (1, "", 0),
-        (2, "", 0),
-        (19, "", 0),
-        (20, H06, 0),
-        (21, H06, 0),
-        (77, H06, 0),
-        (78, H06, 0),
-    ];
-    for (fails_at, written, commands) in table {
+    for (fails_at, names) in [
+        (1, ""),
+        (2, ""),
+        (19, ""),
+        (20, "H06"),
+        (21, "H06"),
+        (77, "H06"),
+        (78, "H06"),
+    ] {
         let mut reader = in_pieces(stream.as_bytes(), 1);
         reader.fails_at = fails_at;
         let served = serve_over(rt.alloc(), reader, any_writer(rt.alloc()), 9);
-        assert_eq!(rt; served.answer, Err(ServeFault::Read));
-        assert_eq!(rt; served.written.as_slice(), written.as_bytes());
-        assert_eq!(rt; (served.desk.commands, served.desk.queries), (commands, 0));
+        assert_eq!(rt; served.answer, Err(ServeFault::Read), "{fails_at}");
+        let wanted = replies(rt.alloc(), names)?;
+        assert_eq!(rt; served.written.as_slice(), wanted.as_bytes(), "{fails_at}");
+        assert_eq!(rt;
+            (served.desk.commands, served.desk.queries),
+            (0, 0),
+            "{fails_at}"
+        );
     }
     Ok(())
 }
 
-/// A writer that fails, and one that takes no more: the request whose reply is cut has its effect.
+/// A writer that takes no more, and one that fails: the request whose reply is cut has its effect.
 #[test]
 fn failing_writers(rt: HostRuntime) -> Result<(), Fail> {
     let stream = joined(rt.alloc(), &[GET, PUT, "hello"])?;
-    let whole = joined(rt.alloc(), &[D01, S01])?;
-    for room in [
-        0,
-        1,
-        9,
-        100,
-        D01.len(),
-        D01.len() + 1,
-        whole.len().saturating_sub(1),
+    let whole = replies(rt.alloc(), "D01 S01")?;
+    let first = replies(rt.alloc(), "D01")?.len();
+    for (room, fails_at) in [
+        (0, 0),
+        (1, 0),
+        (9, 0),
+        (100, 0),
+        (first, 0),
+        (first.saturating_add(1), 0),
+        (whole.len().saturating_sub(1), 0),
+        (0, 1),
     ] {
         let mut writer = any_writer(rt.alloc());
         writer.room = room;
-        let served = serve_over(
-            rt.alloc(),
-            in_pieces(stream.as_bytes(), usize::MAX),
-            writer,
-            9,
-        );
-        assert_eq!(rt; served.answer, Err(ServeFault::Write));
+        writer.fails_at = fails_at;
+        let reader = in_pieces(stream.as_bytes(), usize::MAX);
+        let served = serve_over(rt.alloc(), reader, writer, 9);
+        assert_eq!(rt; served.answer, Err(ServeFault::Write), "{room}");
+        let wanted = whole.as_bytes().get(..room);
+        assert_eq!(rt; Some(served.written.as_slice()), wanted, "{room}");
+        let commands = if room < first { 0 } else { 1 };
         assert_eq!(rt;
-            Some(served.written.as_slice()),
-            whole.as_bytes().get(..room)
+            (served.desk.commands, served.desk.queries),
+            (commands, 1),
+            "{room}"
         );
-        let commands = if room < D01.len() { 0 } else { 1 };
-        assert_eq!(rt; (served.desk.commands, served.desk.queries), (commands, 1));
     }
-    let mut writer = any_writer(rt.alloc());
-    writer.fails_at = 1;
-    let served = serve_over(
-        rt.alloc(),
-        in_pieces(stream.as_bytes(), usize::MAX),
-        writer,
-        9,
-    );
-    assert_eq!(rt; served.answer, Err(ServeFault::Write));
-    assert_eq!(rt; served.written.as_slice(), b"".as_slice());
-    assert_eq!(rt; (served.desk.commands, served.desk.queries), (0, 1));
     Ok(())
 }

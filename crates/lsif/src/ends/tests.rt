@@ -47,7 +47,8 @@ fn push<W: Sink>(rt: &impl Abort, writer: &mut W, bytes: &[u8]) -> Result<usize,
 }
 
 #[test]
-fn reader_over_a_slice(rt: HostRuntime) {
+fn slices_and_vectors(rt: HostRuntime) {
+    counted_law::<&[u8], Vec<u8>>();
     let mut reader = Counted::new(b"abc".as_slice());
     let mut room = [0; 2];
     assert_eq!(rt; reader.pull(&mut room), Ok(2));
@@ -57,11 +58,7 @@ fn reader_over_a_slice(rt: HostRuntime) {
     assert_eq!(rt; room[0], b'c');
     assert_eq!(rt; Source::failures(&reader), 0);
     assert_eq!(rt; reader.pull(&mut room), Ok(0));
-}
 
-#[test]
-fn writer_over_a_vector(rt: HostRuntime) {
-    counted_law::<&[u8], Vec<u8>>();
     let mut writer = Counted::new(Vec::new(rt.alloc()));
     assert_eq!(rt; push(&rt, &mut writer, b"ab"), Ok(2));
     assert_eq!(rt; push(&rt, &mut writer, b""), Ok(0));
@@ -70,28 +67,50 @@ fn writer_over_a_vector(rt: HostRuntime) {
     assert_eq!(rt; writer.into_inner().as_slice(), b"abc".as_slice());
 }
 
+/// Writers that take little, nothing, and one that fails once.
 #[test]
-fn writer_that_takes_little(rt: HostRuntime) {
-    let mut one = slow_writer(rt.alloc(), 1, 0);
-    assert_eq!(rt; push(&rt, &mut one, b"ab"), Ok(1));
-    assert_eq!(rt; push(&rt, &mut one, b"b"), Ok(1));
-    assert_eq!(rt; (Sink::failures(&one), one.idles()), (0, 0));
-    assert_eq!(rt; one.into_inner().taken.as_slice(), b"ab".as_slice());
-
-    let mut none = slow_writer(rt.alloc(), 0, 0);
-    assert_eq!(rt; push(&rt, &mut none, b"ab"), Ok(0));
-    assert_eq!(rt; push(&rt, &mut none, b""), Ok(0));
-    assert_eq!(rt; push(&rt, &mut none, b"ab"), Ok(0));
-    assert_eq!(rt; (Sink::failures(&none), none.idles()), (0, 2));
-}
-
-#[test]
-fn writer_that_fails_once(rt: HostRuntime) {
-    let mut writer = slow_writer(rt.alloc(), 9, 2);
-    let by_reference = &mut writer;
-    assert_eq!(rt; push(&rt, by_reference, b"ab"), Ok(2));
-    assert_eq!(rt; push(&rt, by_reference, b"cd"), Err(Failed));
-    assert_eq!(rt; push(&rt, by_reference, b"ef"), Ok(2));
-    assert_eq!(rt; (Sink::failures(&writer), writer.idles()), (1, 0));
-    assert_eq!(rt; writer.into_inner().taken.as_slice(), b"abef".as_slice());
+fn slow_writers(rt: HostRuntime) {
+    let table = [
+        (
+            1,
+            0,
+            [("ab", Ok(1)), ("b", Ok(1)), ("", Ok(0))],
+            (0, 0),
+            "ab",
+        ),
+        (
+            0,
+            0,
+            [("ab", Ok(0)), ("", Ok(0)), ("ab", Ok(0))],
+            (0, 2),
+            "",
+        ),
+        (
+            9,
+            2,
+            [("ab", Ok(2)), ("cd", Err(Failed)), ("ef", Ok(2))],
+            (1, 0),
+            "abef",
+        ),
+    ];
+    for (most, fails_at, pushes, counts, taken) in table {
+        let mut writer = slow_writer(rt.alloc(), most, fails_at);
+        for (bytes, answer) in pushes {
+            assert_eq!(rt;
+                push(&rt, &mut writer, bytes.as_bytes()),
+                answer,
+                "{bytes} by {most}"
+            );
+        }
+        assert_eq!(rt;
+            (Sink::failures(&writer), writer.idles()),
+            counts,
+            "by {most}"
+        );
+        assert_eq!(rt;
+            writer.into_inner().taken.as_slice(),
+            taken.as_bytes(),
+            "by {most}"
+        );
+    }
 }

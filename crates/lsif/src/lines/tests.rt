@@ -32,14 +32,13 @@ impl Read for Pieces<'_> {
     }
 }
 
-/// A reader of these bytes that never fails.
-fn in_pieces(bytes: &[u8], most: usize) -> Counted<Pieces<'_>> {
-    Counted::new(Pieces {
+fn in_pieces(bytes: &[u8], most: usize, fails_at: u32) -> Pieces<'_> {
+    Pieces {
         bytes,
         most,
-        fails_at: 0,
+        fails_at,
         reads: 0,
-    })
+    }
 }
 
 fn next<'a, S: Source>(
@@ -83,9 +82,29 @@ fn count_lines_of<S: Source>(
     Ok(None)
 }
 
+/// Asserts that these lines come, and then this for good, after so many failures.
+fn expect<R: AllocGlobal + Abort>(
+    rt: &R,
+    reader: Pieces<'_>,
+    wanted: &[&str],
+    end: Result<Option<&[u8]>, LinesFault>,
+    failures: u64,
+) -> Result<(), Fail> {
+    let mut lines = Lines::new(rt.alloc(), Counted::new(reader), 7)?;
+    for line in wanted {
+        assert_eq!(rt; next(rt, &mut lines)?, Some(line.as_bytes()), "{wanted:?}");
+        assert_eq!(rt; lines.failures(), 0, "{wanted:?}");
+    }
+    for _ in 0..3 {
+        assert_eq!(rt; next(rt, &mut lines), end, "{wanted:?}");
+        assert_eq!(rt; lines.failures(), failures, "{wanted:?}");
+    }
+    Ok(())
+}
+
 #[test]
 fn lines_of_input_in_pieces(rt: HostRuntime) -> Result<(), Fail> {
-    let table = [
+    let whole = [
         ("", [].as_slice()),
         ("\n", [""].as_slice()),
         ("one", ["one"].as_slice()),
@@ -96,62 +115,28 @@ fn lines_of_input_in_pieces(rt: HostRuntime) -> Result<(), Fail> {
         ),
         ("1234567\n1234567", ["1234567", "1234567"].as_slice()),
     ];
-    for (text, expected) in table {
-        for most in [1, 2, 7, 100] {
-            let mut lines = Lines::new(rt.alloc(), in_pieces(text.as_bytes(), most), 7)?;
-            for line in expected {
-                assert_eq!(rt;
-                    next(&rt, &mut lines)?,
-                    Some(line.as_bytes()),
-                    "{text:?} by {most}"
-                );
-            }
-            assert_eq!(rt; next(&rt, &mut lines)?, None, "{text:?} by {most}");
-            assert_eq!(rt; next(&rt, &mut lines)?, None, "{text:?} by {most}, again");
-        }
-    }
-    Ok(())
-}
-
-#[test]
-fn line_that_is_too_long(rt: HostRuntime) -> Result<(), Fail> {
-    for text in [
+    let too_long = [
         "1234567\n12345678\nend\n",
         "1234567\n12345678",
         "1234567\n1234567\r\n",
-    ] {
-        for most in [1, 2, 7, 100] {
-            let mut lines = Lines::new(rt.alloc(), in_pieces(text.as_bytes(), most), 7)?;
-            assert_eq!(rt; next(&rt, &mut lines)?, Some(b"1234567".as_slice()));
-            for _ in 0..3 {
-                assert_eq!(rt;
-                    next(&rt, &mut lines),
-                    Err(LinesFault::TooLong),
-                    "{text:?} by {most}"
-                );
-            }
-            assert_eq!(rt; lines.failures(), 0);
+    ];
+    for most in [1, 2, 7, 100] {
+        for (text, wanted) in whole {
+            expect(
+                &rt,
+                in_pieces(text.as_bytes(), most, 0),
+                wanted,
+                Ok(None),
+                0,
+            )?;
+        }
+        for text in too_long {
+            let reader = in_pieces(text.as_bytes(), most, 0);
+            expect(&rt, reader, &["1234567"], Err(LinesFault::TooLong), 0)?;
         }
     }
-    Ok(())
-}
-
-#[test]
-fn reader_that_fails_once(rt: HostRuntime) -> Result<(), Fail> {
-    let reader = Counted::new(Pieces {
-        bytes: b"one\ntwo\nthree\n",
-        most: 2,
-        fails_at: 3,
-        reads: 0,
-    });
-    let mut lines = Lines::new(rt.alloc(), reader, 7)?;
-    assert_eq!(rt; next(&rt, &mut lines)?, Some(b"one".as_slice()));
-    assert_eq!(rt; lines.failures(), 0);
-    for _ in 0..3 {
-        assert_eq!(rt; next(&rt, &mut lines), Err(LinesFault::Read));
-        assert_eq!(rt; lines.failures(), 1);
-    }
-    Ok(())
+    let reader = in_pieces(b"one\ntwo\nthree\n", 2, 3);
+    expect(&rt, reader, &["one"], Err(LinesFault::Read), 1)
 }
 
 #[test]
