@@ -37,14 +37,20 @@ fn element(rt: &HostRuntime, line: &str) -> Result<Element, Fail> {
     }
 }
 
-/// The dump of these lines, which has no fault.
-fn dump_of(rt: &HostRuntime, texts: &[&str]) -> Result<CheckedDump, Fail> {
-    let mut checker = Checker::new(rt.alloc(), Profile::One);
+/// Feeds these lines, of which none is faulty.
+fn feed(rt: &HostRuntime, checker: &mut Checker, texts: &[&str]) -> Result<(), Fail> {
     for text in texts {
         for line in text.lines() {
             checker.feed(Ok(element(rt, line)?))?;
         }
     }
+    Ok(())
+}
+
+/// The dump of these lines, which has no fault.
+fn dump_of(rt: &HostRuntime, texts: &[&str]) -> Result<CheckedDump, Fail> {
+    let mut checker = Checker::new(rt.alloc(), Profile::One);
+    feed(rt, &mut checker, texts)?;
     Ok(checker.finish()?)
 }
 
@@ -63,10 +69,11 @@ fn feeding_and_finishing(rt: HostRuntime) -> Result<(), Fail> {
         line: 2,
         code: Code::L02,
     });
+    let (first, third) = (element(&rt, META_DATA)?, element(&rt, DOCUMENT)?);
     let mut checker = Checker::new(rt.alloc(), Profile::One);
-    assert_eq!(rt; checker.feed(Ok(element(&rt, META_DATA)?)), Ok(()));
+    assert_eq!(rt; checker.feed(Ok(first)), Ok(()));
     assert_eq!(rt; checker.feed(Err(Code::L02)), Err(fault));
-    assert_eq!(rt; checker.feed(Ok(element(&rt, DOCUMENT)?)), Err(fault));
+    assert_eq!(rt; checker.feed(Ok(third)), Err(fault));
     assert_eq!(rt; checker.feed(Err(Code::L01)), Err(fault));
     assert_eq!(rt; checker.finish().err(), Some(fault));
     Ok(())
@@ -76,8 +83,10 @@ fn feeding_and_finishing(rt: HostRuntime) -> Result<(), Fail> {
 fn dump_of_a_reader(rt: HostRuntime) -> Result<(), Fail> {
     let text = format!(in rt.alloc(); "{META_DATA}\n{DOCUMENT}")?;
     let mut reader = Counted::new(text.as_bytes());
-    let dump = read_dump(rt.alloc(), &mut reader).map_err(|_| "a fault")?;
-    assert_eq!(rt; dump.elements().len(), 2);
+    match read_dump(rt.alloc(), &mut reader) {
+        Ok(dump) => assert_eq!(rt; dump.elements().len(), 2),
+        Err(fault) => panic!(rt; "{fault:?}"),
+    }
     let text = format!(in rt.alloc(); "{META_DATA}\n\n{DOCUMENT}\n")?;
     let fault = LineFault {
         line: 2,

@@ -1,39 +1,64 @@
 //! The first place of each id, with slots for small numbers and without.
 use crate::place_map::PlaceMap;
 use lsif::Id;
+use std::process::Abort;
 use std::test::Fail;
 
-fn text(rt: &HostRuntime, text: &str) -> Result<Id, Fail> {
-    Ok(Id::Text(String::from_str(rt.alloc(), text)?))
+/// The id that a number is, or a text behind a quotation mark.
+fn id<R: AllocGlobal>(rt: &R, short: &str) -> Result<Id, Fail> {
+    match short.strip_prefix('\'') {
+        Some(text) => Ok(Id::Text(String::from_str(rt.alloc(), text)?)),
+        None => Ok(Id::Number(short.parse::<u64>()?)),
+    }
+}
+
+/// Enters ids with their places in a map that is empty, and asserts what is at each of others afterwards.
+fn expect<R: AllocGlobal + Abort>(
+    rt: &R,
+    map: &mut PlaceMap,
+    entered: &[(&str, usize)],
+    wanted: &[(&str, Option<usize>)],
+) -> Result<(), Fail> {
+    assert!(rt; map.is_empty());
+    assert_eq!(rt; map.get(&Id::Number(0)), None);
+    for (short, place) in entered {
+        map.enter(&id(rt, short)?, *place)?;
+    }
+    assert!(rt; !map.is_empty());
+    for (short, place) in wanted {
+        assert_eq!(rt; map.get(&id(rt, short)?), *place, "{short}");
+    }
+    Ok(())
 }
 
 #[test]
 fn first_place_of_each_id(rt: HostRuntime) -> Result<(), Fail> {
+    let with_slots = [
+        ("3", 7),
+        ("3", 8),
+        ("0", 9),
+        ("4", 10),
+        ("4", 11),
+        ("9007199254740991", 12),
+        ("'1", 13),
+    ];
+    let wanted = [
+        ("3", Some(7)),
+        ("0", Some(9)),
+        ("4", Some(10)),
+        ("9007199254740991", Some(12)),
+        ("'1", Some(13)),
+        ("1", None),
+        ("5", None),
+        ("'3", None),
+    ];
     let mut map = PlaceMap::new(rt.alloc(), 4);
-    assert!(rt; map.is_empty());
-    assert_eq!(rt; map.get(&Id::Number(0)), None);
-    map.enter(&Id::Number(3), 7)?;
-    map.enter(&Id::Number(3), 8)?;
-    map.enter(&Id::Number(0), 9)?;
-    map.enter(&Id::Number(4), 10)?;
-    map.enter(&Id::Number(4), 11)?;
-    map.enter(&Id::Number(9007199254740991), 12)?;
-    map.enter(&text(&rt, "1")?, 13)?;
-    assert!(rt; !map.is_empty());
-    assert_eq!(rt; map.get(&Id::Number(3)), Some(7));
-    assert_eq!(rt; map.get(&Id::Number(0)), Some(9));
-    assert_eq!(rt; map.get(&Id::Number(4)), Some(10));
-    assert_eq!(rt; map.get(&Id::Number(9007199254740991)), Some(12));
-    assert_eq!(rt; map.get(&text(&rt, "1")?), Some(13));
-    assert_eq!(rt; map.get(&Id::Number(1)), None);
-    assert_eq!(rt; map.get(&Id::Number(5)), None);
-    assert_eq!(rt; map.get(&text(&rt, "3")?), None);
-
+    expect(&rt, &mut map, &with_slots, &wanted)?;
     let mut map = PlaceMap::new(rt.alloc(), 0);
-    map.enter(&Id::Number(0), 5)?;
-    map.enter(&Id::Number(0), 6)?;
-    assert!(rt; !map.is_empty());
-    assert_eq!(rt; map.get(&Id::Number(0)), Some(5));
-    assert_eq!(rt; map.get(&Id::Number(1)), None);
-    Ok(())
+    expect(
+        &rt,
+        &mut map,
+        &[("0", 5), ("0", 6)],
+        &[("0", Some(5)), ("1", None)],
+    )
 }
