@@ -1,6 +1,6 @@
 //! What the program's words ask for.
 ghost use Rattle.std.specs.Prelude.{◌≡◌, ◌≢◌, List, Option, Some, None, IfOk, IfErr, MatchResult, map, option_map, false, codes};
-ghost use Rattle.clap.specs.Words.{app_of, first_of, found_of, kind_of, rows_of, rule_of, subcommand_of, subcommand_rows_of};
+ghost use Rattle.clap.specs.Words.{app_of, first_of, found_of, kind_of, rows_of, rule_of, subcommand_of, subcommand_rows_of, with_subcommand};
 ghost use Rattle.codenav.specs.Call.{IsMissing, IsRefused, ShowsError, app, call_of, call_value, check_lsif_app, check_lsif_of, check_tags_app, check_tags_of, replay_app, replay_of, replay_with, top_app, word};
 
 use clap::error::ErrorKind;
@@ -90,14 +90,28 @@ fn top<'a>(alloc: Global) -> Command<'a>
     Command::new(alloc, "codenav").subcommand_required(true)
 }
 
+/// The program with the subcommand `check-lsif`.
+fn with_check_lsif<'a>(alloc: Global) -> Result<Command<'a>, AllocError>
+    ensures { IfOk result (λ c. app_of c ≡ with_subcommand top_app check_lsif_app.top) }
+{
+    let check_lsif = check_lsif(alloc)?;
+    top(alloc).subcommand(check_lsif)
+}
+
+/// The program with both checks.
+fn with_checks<'a>(alloc: Global) -> Result<Command<'a>, AllocError>
+    ensures { IfOk result (λ c. app_of c ≡ with_subcommand (with_subcommand top_app check_lsif_app.top) check_tags_app.top) }
+{
+    let check_tags = check_tags(alloc)?;
+    with_check_lsif(alloc)?.subcommand(check_tags)
+}
+
 /// The command line.
 fn command<'a>(alloc: Global) -> Result<Command<'a>, AllocError>
     ensures { IfOk result (λ c. app_of c ≡ app) }
 {
-    top(alloc)
-        .subcommand(check_lsif(alloc)?)?
-        .subcommand(check_tags(alloc)?)?
-        .subcommand(replay(alloc)?)
+    let replay = replay(alloc)?;
+    with_checks(alloc)?.subcommand(replay)
 }
 
 /// The value of FILE among these matches.
@@ -187,19 +201,31 @@ fn missing_call(command: &mut Command<'_>) -> CallFault
     }
 }
 
+/// The call that the command line finds in the program's words.
+fn read_words<'a, S: AsStr>(
+    command: &mut Command<'a>,
+    words: &'a [S],
+) -> Result<Call<'a>, CallFault>
+    requires { app_of command.old ≡ app }
+    ensures call { IfOk result (λ call. call_of (subcommand_of app (map S.text words.entry.now)) ≡ Some (call_value call)) }
+    ensures fault { IfErr result (IsRefused (map S.text words.entry.now)) }
+{
+    match command.try_get_matches_from_mut(words) {
+        Ok(matches) => match read_matches(&matches) {
+            Some(call) => Ok(call),
+            None => Err(missing_call(command)),
+        },
+        Err(error) => Err(CallFault::from(error)),
+    }
+}
+
 /// Reads the program's words, its name first: the subcommand and the values that `clap` finds in them.
 pub fn read_call<'a, S: AsStr>(alloc: Global, words: &'a [S]) -> Result<Call<'a>, CallFault>
     ensures call { IfOk result (λ call. call_of (subcommand_of app (map S.text words.entry.now)) ≡ Some (call_value call)) }
     ensures fault { IfErr result (IsRefused (map S.text words.entry.now)) }
 {
     let mut command = command(alloc)?;
-    match command.try_get_matches_from_mut(words) {
-        Ok(matches) => match read_matches(&matches) {
-            Some(call) => Ok(call),
-            None => Err(missing_call(&mut command)),
-        },
-        Err(error) => Err(CallFault::from(error)),
-    }
+    read_words(&mut command, words)
 }
 
 #[cfg(test)]

@@ -1,7 +1,7 @@
 //! Requests to a desk in memory with their replies, and each of the crate's functions called once.
 use crate::in_memory::InMemory;
 use crate::{
-    Code, Command, Desk, DocUri, Key, PlainDesk, ProjectName, Query, Reply, Request,
+    Code, Command, Desk, DocUri, Key, PlainDesk, ProjectName, Query, Reply, Request, RunFault,
     definition_places, has_document, judgement_law, read_number, run,
 };
 use dump::{CheckedDump, read_dump};
@@ -186,26 +186,34 @@ ask app FILE:///a.ts 0:0
 200 {"places":[]}"#,
 ];
 
+/// The body of this name.
+fn named(name: &str) -> Result<&'static str, Fail> {
+    for (other, text) in BODIES {
+        if other == name {
+            return Ok(text);
+        }
+    }
+    Err(Fail::from("no body of this name"))
+}
+
 /// The body that is written in short.
 fn body(alloc: Global, short: &str) -> Result<String, Fail> {
     let (name, change) = short.split_once(' ').unwrap_or((short, "0"));
-    let (number, other) = match change.split_once(' ') {
-        Some((number, other)) => (number, Some(other)),
-        None => (change, None),
-    };
+    let (number, other) = change.split_once(' ').unwrap_or((change, ""));
     let number = number.parse::<usize>()?;
+    let whole = named(name)?;
     let mut text = String::new(alloc);
-    for (_, whole) in BODIES.iter().filter(|(other, _)| *other == name) {
-        for (k, line) in whole.lines().enumerate() {
-            if k.saturating_add(1) != number {
-                text.push_str(line)?;
-            } else if let Some(other) = other {
-                text.push_str(other)?;
-            } else {
-                break;
-            }
-            text.push('\n')?;
+    for (k, line) in whole.lines().enumerate() {
+        if k.saturating_add(1) == number && other.is_empty() {
+            break;
         }
+        let line = if k.saturating_add(1) == number {
+            other
+        } else {
+            line
+        };
+        text.push_str(line)?;
+        text.push('\n')?;
     }
     Ok(text)
 }
@@ -270,26 +278,51 @@ fn requests_and_replies(rt: HostRuntime) -> Result<(), Fail> {
     Ok(())
 }
 
+/// A request that is written in short, of which an upload has the base dump as its body.
+fn request(alloc: Global, short: &str) -> Result<Request<'static>, Fail> {
+    let (verb, rest) = short.split_once(' ').ok_or("no request")?;
+    let (project, rest) = rest.split_once(' ').ok_or("no project")?;
+    let (name, rest) = rest.split_once(' ').unwrap_or((rest, ""));
+    if verb == "put" {
+        Ok(Request::Command(command(alloc, project, name, BASE)?))
+    } else {
+        Ok(Request::Query(query(alloc, project, name, rest)?))
+    }
+}
+
+/// The replies' statuses and bodies, one a line.
+fn texts_of(alloc: Global, replies: &[Reply]) -> Result<String, Fail> {
+    let mut texts = String::new(alloc);
+    for reply in replies {
+        texts.push_str(text_of(alloc, reply)?.as_str())?;
+        texts.push('\n')?;
+    }
+    Ok(texts)
+}
+
+/// The replies to these requests, which are run together.
+fn run_all(alloc: Global, desk: &mut PlainDesk, rows: &str) -> Result<String, Fail> {
+    let mut requests = Vec::new(alloc);
+    for row in rows.lines() {
+        requests.push(request(alloc, row)?)?;
+    }
+    match run(alloc, desk, &requests) {
+        Ok(replies) => texts_of(alloc, &replies),
+        Err(RunFault::Memory) => Err(Fail::from("out of memory")),
+    }
+}
+
 /// The definitions of the base dump, and a project and a document that aren't there.
 #[test]
 fn run_of_requests(rt: HostRuntime) -> Result<(), Fail> {
-    let mut desk = PlainDesk::new(rt.alloc());
-    let early = query(rt.alloc(), "app", "file:///a.ts", "2:1")?;
-    let put = command(rt.alloc(), "app", "k1", BASE)?;
-    let mut requests = Vec::new(rt.alloc());
-    requests.push(Request::Query(early))?;
-    requests.push(Request::Command(put))?;
-    for (project, uri, at) in [
-        ("app", "file:///a.ts", "2:1"),
-        ("app", "file:///a.ts", "0:4"),
-        ("app", "file:///b.ts", "2:1"),
-        ("app", "file:///a.ts", "2:3"),
-        ("app", "file:///a.ts", "2147483647:2147483647"),
-        ("lib", "file:///a.ts", "2:1"),
-    ] {
-        requests.push(Request::Query(query(rt.alloc(), project, uri, at)?))?;
-    }
-    let replies = run(rt.alloc(), &mut desk, &requests).map_err(|_| "out of memory")?;
+    let rows = "ask app file:///a.ts 2:1
+put app k1
+ask app file:///a.ts 2:1
+ask app file:///a.ts 0:4
+ask app file:///b.ts 2:1
+ask app file:///a.ts 2:3
+ask app file:///a.ts 2147483647:2147483647
+ask lib file:///a.ts 2:1";
     let wanted = r#"404 {"fault":"D01","text":"project has no dump"}
 200 {"accepted":"lsif","count":11}
 200 {"places":[{"end":{"character":7,"line":0},"project":"app","start":{"character":4,"line":0},"uri":"file:///a.ts"}]}
@@ -299,29 +332,19 @@ fn run_of_requests(rt: HostRuntime) -> Result<(), Fail> {
 200 {"places":[]}
 404 {"fault":"D01","text":"project has no dump"}
 "#;
-    let mut found = String::new(rt.alloc());
-    for reply in &replies {
-        found.push_str(text_of(rt.alloc(), reply)?.as_str())?;
-        found.push('\n')?;
-    }
+    let found = run_all(rt.alloc(), &mut PlainDesk::new(rt.alloc()), rows)?;
     assert_eq!(rt; found.as_str(), wanted);
     judgement_law();
     Ok(())
 }
 
-fn checked(alloc: Global, text: &str) -> Result<CheckedDump, Fail> {
-    Ok(read_dump(alloc, &mut InMemory::new(text.as_bytes())).map_err(|_| "a fault")?)
-}
-
-/// Places come in order and once.
-#[test]
-fn places_and_documents_of_a_dump(rt: HostRuntime) -> Result<(), Fail> {
-    let dump = checked(rt.alloc(), REPEATED)?;
-    let at = Position::new(1, 2).ok_or("no position")?;
-    let mut found = String::new(rt.alloc());
-    for place in &definition_places(rt.alloc(), &dump, "file:///b.ts", at)? {
+/// The places that answer at a position, one a line.
+fn places_at(alloc: Global, dump: &CheckedDump, uri: &str, at: Position) -> Result<String, Fail> {
+    let places = definition_places(alloc, dump, uri, at)?;
+    let mut texts = String::new(alloc);
+    for place in &places {
         let (start, end) = (place.span.start(), place.span.end());
-        let text = format!(in rt.alloc();
+        let text = format!(in alloc;
             "{} {}:{} {}:{}\n",
             place.uri.as_str(),
             start.line(),
@@ -329,81 +352,150 @@ fn places_and_documents_of_a_dump(rt: HostRuntime) -> Result<(), Fail> {
             end.line(),
             end.character()
         )?;
+        texts.push_str(text.as_str())?;
+    }
+    Ok(texts)
+}
+
+/// What is found in a dump: the places at a position of two documents, and which of four documents are there.
+fn found_in(alloc: Global, dump: &CheckedDump) -> Result<String, Fail> {
+    let at = Position::new(1, 2).ok_or("no position")?;
+    let mut found = places_at(alloc, dump, "file:///b.ts", at)?;
+    found.push_str(places_at(alloc, dump, "file:///c.ts", at)?.as_str())?;
+    for uri in [
+        "file:///a.ts",
+        "file:///b.ts",
+        "file:///c.ts",
+        "file:///a.t",
+    ] {
+        let text = format!(in alloc; "{uri} {}\n", has_document(dump, uri))?;
         found.push_str(text.as_str())?;
     }
-    let wanted = "file:///a.ts 0:0 0:1\nfile:///b.ts 0:2 0:6\nfile:///b.ts 1:0 1:3\n";
+    Ok(found)
+}
+
+/// Places come in order and once.
+#[test]
+fn places_and_documents_of_a_dump(rt: HostRuntime) -> Result<(), Fail> {
+    let found = match read_dump(rt.alloc(), &mut InMemory::new(REPEATED.as_bytes())) {
+        Ok(dump) => found_in(rt.alloc(), &dump)?,
+        Err(_) => Err(Fail::from("a fault"))?,
+    };
+    let wanted = "file:///a.ts 0:0 0:1
+file:///b.ts 0:2 0:6
+file:///b.ts 1:0 1:3
+file:///a.ts true
+file:///b.ts true
+file:///c.ts false
+file:///a.t false
+";
     assert_eq!(rt; found.as_str(), wanted);
-    assert!(rt; has_document(&dump, "file:///a.ts"));
-    assert!(rt; has_document(&dump, "file:///b.ts"));
-    assert!(rt; !has_document(&dump, "file:///c.ts"));
-    assert!(rt; !has_document(&dump, "file:///a.t"));
-    let base = checked(rt.alloc(), BASE)?;
-    let at = Position::new(2, 1).ok_or("no position")?;
-    assert!(rt; definition_places(rt.alloc(), &base, "file:///b.ts", at)?.is_empty());
     Ok(())
+}
+
+/// What is said of a code, and the reply that it refuses with.
+fn code_text(alloc: Global, code: Code) -> Result<String, Fail> {
+    let reply = text_of(alloc, &Reply::refused(code))?;
+    Ok(format!(in alloc;
+        "{} {} {}, {reply}\n",
+        code.status(),
+        code.name(),
+        code.text()
+    )?)
 }
 
 #[test]
 fn replies_of_codes(rt: HostRuntime) -> Result<(), Fail> {
-    let wanted = [
-        (Code::D01, 404, "D01", "project has no dump"),
-        (Code::D02, 404, "D02", "no such document"),
-        (Code::D03, 400, "D03", "bad parameter"),
-        (Code::S01, 503, "S01", "store refused"),
-        (Code::S02, 503, "S02", "out of memory"),
-    ];
-    for (code, status, name, text) in wanted {
-        assert_eq!(rt;
-            (code.status(), code.name(), code.text()),
-            (status, name, text)
-        );
+    let mut found = String::new(rt.alloc());
+    for code in [Code::D01, Code::D02, Code::D03, Code::S01, Code::S02] {
+        found.push_str(code_text(rt.alloc(), code)?.as_str())?;
     }
-    let reply = text_of(rt.alloc(), &Reply::refused(Code::D03))?;
-    assert_eq!(rt;
-        reply.as_str(),
-        r#"400 {"fault":"D03","text":"bad parameter"}"#
-    );
-    let reply = text_of(rt.alloc(), &Reply::out_of_memory())?;
-    assert_eq!(rt;
-        reply.as_str(),
-        r#"503 {"fault":"S02","text":"out of memory"}"#
-    );
+    found.push_str(text_of(rt.alloc(), &Reply::out_of_memory())?.as_str())?;
+    let wanted = r#"404 D01 project has no dump, 404 {"fault":"D01","text":"project has no dump"}
+404 D02 no such document, 404 {"fault":"D02","text":"no such document"}
+400 D03 bad parameter, 400 {"fault":"D03","text":"bad parameter"}
+503 S01 store refused, 503 {"fault":"S01","text":"store refused"}
+503 S02 out of memory, 503 {"fault":"S02","text":"out of memory"}
+503 {"fault":"S02","text":"out of memory"}"#;
+    assert_eq!(rt; found.as_str(), wanted);
     Ok(())
+}
+
+/// Texts, and what they are read as: a project's name, a key, a document's URL or a number; `-` where they are none.
+const FORMS: &str =
+    "project abcdefghijklmnopqrstuvwxyz0123456789_-abcdefghijklmnopqrstuvwxyz => abcdefghijklmnopqrstuvwxyz0123456789_-abcdefghijklmnopqrstuvwxyz
+project abcdefghijklmnopqrstuvwxyz0123456789_-abcdefghijklmnopqrstuvwxyza => -
+project  => -
+project A => -
+project a.b => -
+project a b => -
+project é => -
+key Az0_- => Az0_-
+key abcdefghijklmnopqrstuvwxyz0123456789_-abcdefghijklmnopqrstuvwxyz => abcdefghijklmnopqrstuvwxyz0123456789_-abcdefghijklmnopqrstuvwxyz
+key abcdefghijklmnopqrstuvwxyz0123456789_-abcdefghijklmnopqrstuvwxyza => -
+key  => -
+key a.b => -
+key a/b => -
+key é => -
+url FILE:///a/../b.ts => file:///b.ts
+url a.ts => -
+number 0 => 0
+number 10 => 10
+number 2147483647 => 2147483647
+number  => -
+number 00 => -
+number 01 => -
+number +1 => -
+number -1 => -
+number 1  => -
+number 1a => -
+number 2147483648 => -
+number 4294967296 => -
+";
+
+fn read_project(alloc: Global, text: &str) -> Result<String, Fail> {
+    match ProjectName::read(alloc, text)? {
+        Some(name) => Ok(String::from_str(alloc, name.as_str())?),
+        None => Ok(String::from_str(alloc, "-")?),
+    }
+}
+
+fn read_key(alloc: Global, text: &str) -> Result<String, Fail> {
+    match Key::read(alloc, text)? {
+        Some(key) => Ok(String::from_str(alloc, key.as_str())?),
+        None => Ok(String::from_str(alloc, "-")?),
+    }
+}
+
+fn read_url(alloc: Global, text: &str) -> Result<String, Fail> {
+    match DocUri::read(alloc, text)? {
+        Some(uri) => Ok(String::from_str(alloc, uri.as_str())?),
+        None => Ok(String::from_str(alloc, "-")?),
+    }
+}
+
+/// What a text of this kind is read as.
+fn read_as(alloc: Global, kind: &str, text: &str) -> Result<String, Fail> {
+    match kind {
+        "project" => read_project(alloc, text),
+        "key" => read_key(alloc, text),
+        "url" => read_url(alloc, text),
+        _ => match read_number(text) {
+            Some(number) => Ok(format!(in alloc; "{number}")?),
+            None => Ok(String::from_str(alloc, "-")?),
+        },
+    }
 }
 
 #[test]
 fn forms_of_names_and_numbers(rt: HostRuntime) -> Result<(), Fail> {
-    let longest = "abcdefghijklmnopqrstuvwxyz0123456789_-abcdefghijklmnopqrstuvwxyz";
-    assert_eq!(rt; longest.len(), 64);
-    let name = ProjectName::read(rt.alloc(), longest)?.ok_or("no project's name")?;
-    assert_eq!(rt; name.as_str(), longest);
-    let key = Key::read(rt.alloc(), "Az0_-")?.ok_or("no key")?;
-    assert_eq!(rt; key.as_str(), "Az0_-");
-    let too_long = format!(in rt.alloc(); "{longest}a")?;
-    for text in ["", "A", "a.b", "a b", "é", too_long.as_str()] {
-        assert!(rt; ProjectName::read(rt.alloc(), text)?.is_none(), "{text}");
+    let mut found = String::new(rt.alloc());
+    for row in FORMS.lines() {
+        let (short, _) = row.split_once(" => ").ok_or("no row")?;
+        let (kind, text) = short.split_once(' ').ok_or("no text")?;
+        let value = read_as(rt.alloc(), kind, text)?;
+        found.push_str(format!(in rt.alloc(); "{short} => {value}\n")?.as_str())?;
     }
-    for text in ["", "a.b", "a/b", "é", too_long.as_str()] {
-        assert!(rt; Key::read(rt.alloc(), text)?.is_none(), "{text}");
-    }
-    let uri = DocUri::read(rt.alloc(), "FILE:///a/../b.ts")?.ok_or("no URL")?;
-    assert_eq!(rt; uri.as_str(), "file:///b.ts");
-    assert!(rt; DocUri::read(rt.alloc(), "a.ts")?.is_none());
-    for (text, number) in [("0", 0), ("10", 10), ("2147483647", 2147483647)] {
-        assert_eq!(rt; read_number(text), Some(number));
-    }
-    for text in [
-        "",
-        "00",
-        "01",
-        "+1",
-        "-1",
-        "1 ",
-        "1a",
-        "2147483648",
-        "4294967296",
-    ] {
-        assert_eq!(rt; read_number(text), None, "{text}");
-    }
+    assert_eq!(rt; found.as_str(), FORMS);
     Ok(())
 }

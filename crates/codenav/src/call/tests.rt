@@ -1,84 +1,79 @@
 //! The calls of the program, and words that are none.
 use super::*;
+use std::test::Fail;
 
-#[test]
-fn calls(rt: HostRuntime) {
-    for file in ["dump.lsif", "-", "a b/c"] {
-        let lsif = ["codenav", "check-lsif", file];
-        let tags = ["codenav", "check-tags", file];
-        let memory = ["codenav", "replay", ":memory:", file];
-        let other = ["codenav", "replay", "index.db", file];
-        let (database, index) = (":memory:", "index.db");
-        let table = [
-            (lsif.as_slice(), Call::CheckLsif { file }),
-            (tags.as_slice(), Call::CheckTags { file }),
-            (memory.as_slice(), Call::Replay { database, file }),
-            (
-                other.as_slice(),
-                Call::Replay {
-                    database: index,
-                    file,
-                },
-            ),
-        ];
-        for (words, wanted) in table {
-            match read_call(rt.alloc(), words) {
-                Ok(call) => assert_eq!(rt; call, wanted),
-                Err(_) => panic!(rt; "{words:?} are refused"),
-            }
-        }
+/// The words of a call behind the program's name, parted by `|`, and what is read of them: the call, written in the same
+/// way, or the kind of `clap`'s error and the stream that its text goes to.
+const ROWS: &str = "check-lsif|dump.lsif => check-lsif|dump.lsif
+check-lsif|- => check-lsif|-
+check-lsif|a b/c => check-lsif|a b/c
+check-tags|dump.lsif => check-tags|dump.lsif
+check-tags|- => check-tags|-
+check-tags|a b/c => check-tags|a b/c
+replay|:memory:|dump.lsif => replay|:memory:|dump.lsif
+replay|:memory:|- => replay|:memory:|-
+replay|:memory:|a b/c => replay|:memory:|a b/c
+replay|index.db|dump.lsif => replay|index.db|dump.lsif
+replay|index.db|- => replay|index.db|-
+replay|index.db|a b/c => replay|index.db|a b/c
+ => MissingSubcommand on the standard error
+check-lsif => MissingRequiredArgument on the standard error
+check-tags => MissingRequiredArgument on the standard error
+replay|:memory: => MissingRequiredArgument on the standard error
+replay|:memory:|a|b => UnknownArgument on the standard error
+check|a => InvalidSubcommand on the standard error
+check-lsif|a|b => UnknownArgument on the standard error
+check-lsif|--deep|a => UnknownArgument on the standard error
+--help => DisplayHelp on the standard output
+check-lsif|--help => DisplayHelp on the standard output
+";
+
+/// A call, written in short.
+fn call_text(alloc: Global, call: Call<'_>) -> Result<String, Fail> {
+    match call {
+        Call::CheckLsif { file } => Ok(format!(in alloc; "check-lsif|{file}")?),
+        Call::CheckTags { file } => Ok(format!(in alloc; "check-tags|{file}")?),
+        Call::Replay { database, file } => Ok(format!(in alloc; "replay|{database}|{file}")?),
     }
 }
 
-#[test]
-fn refuses_words(rt: HostRuntime) {
-    let table = [
-        (["codenav"].as_slice(), ErrorKind::MissingSubcommand),
-        (
-            ["codenav", "check-lsif"].as_slice(),
-            ErrorKind::MissingRequiredArgument,
-        ),
-        (
-            ["codenav", "check-tags"].as_slice(),
-            ErrorKind::MissingRequiredArgument,
-        ),
-        (
-            ["codenav", "replay", ":memory:"].as_slice(),
-            ErrorKind::MissingRequiredArgument,
-        ),
-        (
-            ["codenav", "replay", ":memory:", "a", "b"].as_slice(),
-            ErrorKind::UnknownArgument,
-        ),
-        (
-            ["codenav", "check", "a"].as_slice(),
-            ErrorKind::InvalidSubcommand,
-        ),
-        (
-            ["codenav", "check-lsif", "a", "b"].as_slice(),
-            ErrorKind::UnknownArgument,
-        ),
-        (
-            ["codenav", "check-lsif", "--deep", "a"].as_slice(),
-            ErrorKind::UnknownArgument,
-        ),
-        (["codenav", "--help"].as_slice(), ErrorKind::DisplayHelp),
-        (
-            ["codenav", "check-lsif", "--help"].as_slice(),
-            ErrorKind::DisplayHelp,
-        ),
-    ];
-    for (words, kind) in table {
-        match read_call(rt.alloc(), words) {
-            Err(CallFault::Clap(error)) => {
-                assert_eq!(rt; error.kind(), kind, "{words:?}");
-                assert_eq!(rt;
-                    error.use_stderr(),
-                    kind != ErrorKind::DisplayHelp,
-                    "{words:?}"
-                );
-            }
-            _ => panic!(rt; "{words:?} are taken"),
-        }
+/// An error, written in short.
+fn error_text(alloc: Global, error: &Error) -> Result<String, Fail> {
+    let stream = if error.use_stderr() {
+        "error"
+    } else {
+        "output"
+    };
+    Ok(format!(in alloc; "{:?} on the standard {stream}", error.kind())?)
+}
+
+/// What is read of these words.
+fn read(alloc: Global, words: &[&str]) -> Result<String, Fail> {
+    match read_call(alloc, words) {
+        Ok(call) => call_text(alloc, call),
+        Err(CallFault::Clap(error)) => error_text(alloc, &error),
+        Err(CallFault::Memory) => Err(Fail::from("out of memory")),
     }
+}
+
+/// The program's name and the words that are written in short.
+fn words_of<'a>(alloc: Global, short: &'a str) -> Result<Vec<&'a str>, Fail> {
+    let mut words = Vec::new(alloc);
+    words.push("codenav")?;
+    for word in short.split('|').filter(|word| !word.is_empty()) {
+        words.push(word)?;
+    }
+    Ok(words)
+}
+
+#[test]
+fn words_and_calls(rt: HostRuntime) -> Result<(), Fail> {
+    let mut found = String::new(rt.alloc());
+    for row in ROWS.lines() {
+        let (short, _) = row.split_once(" => ").ok_or("no row")?;
+        let answer = read(rt.alloc(), &words_of(rt.alloc(), short)?)?;
+        found.push_str(format!(in rt.alloc(); "{short} => {answer}\n")?.as_str())?;
+    }
+    assert_eq!(rt; found.as_str(), ROWS);
+    Ok(())
 }
