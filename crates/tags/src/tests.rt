@@ -1,14 +1,13 @@
 //! Tags files that are read or counted, their faults and their limits; and the parts and the escapes of lines.
 use crate::{
-    Code, LineFault, SplitFault, TagChecker, TagReader, TagsFault, count_law, decode, escape_law,
-    grammar_law, lines_law, read_tags, split, state_law,
+    Code, LineFault, Part, SplitFault, Tag, TagChecker, TagReader, TagsFault, count_law, decode,
+    escape_law, grammar_law, lines_law, read_tags, split, state_law,
 };
-use std::alloc::Global;
-use std::process::Abort;
+use std::alloc::{AllocError, Global};
 use std::test::Fail;
 
-/// Texts, and the number of their tags, or the first faulty line and its code. `␉` stands for a tab, `␊` for LF and `␍`
-/// for CR.
+/// Texts, and the number of their tags, or the first faulty line and its code. `␉` stands for a tab, `␊` for LF, `␍` for
+/// CR and `␡` for DEL.
 const TEXTS: &str = r#"
  => 0
 x␉f.c␉1␍␊ => 1
@@ -24,6 +23,7 @@ b␉f.c␉2␊a␉f.c␉1␊ => 2
 !_TAG_FILE_FORMAT␉2␉\q␊!_TAG_FILE_FORMAT2␉1␉␊ => 0
 !\x5fTAG_X␉f␉1␊x␉f␉1␊ => 2
 x␉f.c␉1␍ => 1 T03
+x␡␉f.c␉1␊ => 1 T03
 ␊ => 1 T04
 x␉f.c␊ => 1 T04
 x␉␉1␊ => 1 T04
@@ -47,7 +47,22 @@ x␉f.c␉1␊!_TAG_X␉␉␊ => 2 T09
 !_TAG_FILE_SORTED␉1␉//␊aa␉f.c␉2␊a␉f.c␉1 => 3 T10
 "#;
 
-/// What a checker says of a text.
+/// What the codes are called, and their texts.
+const CODES: &str = r#"
+T01 line too long
+T02 not UTF-8
+T03 control character
+T04 fewer than three parts
+T05 bad escape
+T06 bad address
+T07 bad field
+T08 format is not 2
+T09 pseudo-tag after a tag
+T10 names descend
+T11 too many lines
+"#;
+
+/// The number of tags that a checker counts in a text.
 fn check(alloc: Global, text: &str) -> Result<u32, TagsFault> {
     let mut checker = TagChecker::new(alloc);
     for line in text.split_inclusive('\n') {
@@ -59,112 +74,238 @@ fn check(alloc: Global, text: &str) -> Result<u32, TagsFault> {
     checker.finish()
 }
 
-/// The number of tags of a text.
+/// The number of tags that are read of a text.
 fn count(alloc: Global, text: &str) -> Result<u32, TagsFault> {
     let tags = read_tags(alloc, text.as_bytes())?;
     Ok(u32::try_from(tags.len()).unwrap_or(u32::MAX))
 }
 
-/// The fault of a text.
-fn fault(rt: &HostRuntime, text: &[u8]) -> Option<LineFault> {
-    match read_tags(rt.alloc(), text) {
-        Err(TagsFault::Line(fault)) => Some(fault),
+/// The faulty line, where an answer tells one.
+fn line_fault(fault: Option<TagsFault>) -> Option<LineFault> {
+    match fault {
+        Some(TagsFault::Line(fault)) => Some(fault),
         _ => None,
     }
 }
 
-/// What is read of a text: the number of its tags, or its first faulty line and the code.
-fn verdict(alloc: Global, read: Result<u32, TagsFault>) -> Result<String, Fail> {
-    match read {
-        Ok(tags) => Ok(format!(in alloc; "{tags}")?),
+/// The fault of a text.
+fn fault(alloc: Global, text: &[u8]) -> Option<LineFault> {
+    line_fault(read_tags(alloc, text).err())
+}
+
+/// The number of a text's tags, or its first faulty line and the code.
+fn verdict(alloc: Global, text: &str) -> Result<String, AllocError> {
+    let kept = count(alloc, text);
+    if check(alloc, text) != kept {
+        return String::from_str(
+            alloc,
+            "one where tags are kept, and another where they are counted",
+        );
+    }
+    match kept {
+        Ok(tags) => format!(in alloc; "{tags}"),
         Err(TagsFault::Line(fault)) => {
             let (line, code) = (fault.line, fault.code.name());
-            Ok(format!(in alloc; "{line} {code}")?)
+            format!(in alloc; "{line} {code}")
         }
-        Err(TagsFault::Memory) => Err("out of memory")?,
+        Err(TagsFault::Memory) => String::from_str(alloc, "out of memory"),
     }
 }
 
-/// Asserts what is read of a text, where the tags are kept and where they are counted.
-fn expect<R: AllocGlobal + Abort>(rt: &R, text: &str, wanted: &str) -> Result<(), Fail> {
-    let kept = count(rt.alloc(), text);
-    assert_eq!(rt; verdict(rt.alloc(), kept)?.as_str(), wanted, "{text}");
-    let counted = check(rt.alloc(), text);
-    assert_eq!(rt; verdict(rt.alloc(), counted)?.as_str(), wanted, "{text}");
-    Ok(())
+/// The text that a row's signs stand for.
+fn text_of(alloc: Global, signs: &str) -> Result<String, AllocError> {
+    let mut text = String::new(alloc);
+    for sign in signs.chars() {
+        text.push(match sign {
+            '␉' => '\t',
+            '␊' => '\n',
+            '␍' => '\r',
+            '␡' => '\u{7f}',
+            _ => sign,
+        })?;
+    }
+    Ok(text)
+}
+
+/// Adds the row of a text to those so far, with what is found.
+fn push_row(alloc: Global, rows: &mut String, signs: &str) -> Result<(), AllocError> {
+    rows.push_str(signs)?;
+    rows.push_str(" => ")?;
+    let text = text_of(alloc, signs)?;
+    rows.push_str(verdict(alloc, text.as_str())?.as_str())?;
+    rows.push('\n')
+}
+
+/// The rows of a table, with what is found of each.
+fn rows_of(alloc: Global, table: &str) -> Result<String, AllocError> {
+    let mut rows = String::new(alloc);
+    for row in table.lines() {
+        if let Some((signs, _)) = row.split_once(" => ") {
+            push_row(alloc, &mut rows, signs)?;
+        }
+    }
+    Ok(rows)
 }
 
 #[test]
 fn accepted_and_refused(rt: HostRuntime) -> Result<(), Fail> {
-    expect(&rt, "x\u{7f}\tf.c\t1\n", "1 T03")?;
-    for row in TEXTS.trim_matches('\n').lines() {
-        let (text, wanted) = row.split_once(" => ").ok_or("no row")?;
-        let text = text.replace(rt.alloc(), '␉', "\t")?;
-        let text = text.replace(rt.alloc(), '␊', "\n")?;
-        let text = text.replace(rt.alloc(), '␍', "\r")?;
-        expect(&rt, text.as_str(), wanted)?;
-    }
+    let rows = rows_of(rt.alloc(), TEXTS)?;
+    assert_eq!(rt; rows.as_str(), TEXTS.trim_start_matches('\n'));
+    Ok(())
+}
+
+#[test]
+fn not_utf_8(rt: HostRuntime) {
+    let found = fault(rt.alloc(), b"x\tf.c\t1\n\xff\t");
     let code = Code::T02;
+    assert_eq!(rt; found, Some(LineFault { line: 2, code }));
+}
+
+/// Adds a tag as a line: its line's number, name, file, address and kind, which is `-` where there's none, and its fields.
+fn push_tag(alloc: Global, text: &mut String, tag: &Tag) -> Result<(), AllocError> {
+    let (line, name, file) = (tag.line, tag.name.as_str(), tag.file.as_str());
+    let (address, kind) = (tag.address.as_str(), tag.kind.as_deref().unwrap_or("-"));
+    text.push_str(format!(in alloc; "{line} {name} {file} {address} {kind}")?.as_str())?;
+    for field in tag.fields.iter() {
+        text.push(' ')?;
+        text.push_str(field.name.as_str())?;
+        text.push(':')?;
+        text.push_str(field.value.as_str())?;
+    }
+    text.push('\n')
+}
+
+/// The tags as lines.
+fn shown(alloc: Global, tags: &[Tag]) -> Result<String, AllocError> {
+    let mut text = String::new(alloc);
+    for tag in tags {
+        push_tag(alloc, &mut text, tag)?;
+    }
+    Ok(text)
+}
+
+/// The tags that are read of a text, as lines.
+fn read(alloc: Global, text: &str) -> Result<String, TagsFault> {
+    let tags = read_tags(alloc, text.as_bytes())?;
+    Ok(shown(alloc, &tags)?)
+}
+
+#[test]
+fn worked_tags(rt: HostRuntime) -> Result<(), Fail> {
+    let text =
+        "!_TAG_X\t\t\nx\tf.c\t10;/x/;\"\tkind:f\tclass:\tline:10\na\\x41\\tb\tf.c\t/a\\/b/;\"\tf\n";
+    let wanted = "2 x f.c 10;/x/ f class: line:10\n3 aA\tb f.c /a\\/b/ f\n";
+    assert_eq!(rt; read(rt.alloc(), text)?.as_str(), wanted);
+    Ok(())
+}
+
+#[test]
+fn escapes(rt: HostRuntime) -> Result<(), Fail> {
+    let escapes = decode(rt.alloc(), "\\r\\n\\\\\\a\\b\\v\\f\\x7F")?;
     assert_eq!(rt;
-        fault(&rt, b"x\tf.c\t1\n\xff\t"),
-        Some(LineFault { line: 2, code })
+        escapes.as_deref(),
+        Some("\r\n\\\u{7}\u{8}\u{b}\u{c}\u{7f}")
     );
     Ok(())
+}
+
+#[test]
+fn no_escape(rt: HostRuntime) -> Result<(), Fail> {
+    assert_eq!(rt; decode(rt.alloc(), "\\x00")?, None);
+    Ok(())
+}
+
+/// What stands first, and then 69 fields, each behind a separator.
+fn fields(alloc: Global, first: &str, separator: char) -> Result<String, AllocError> {
+    let mut text = String::from_str(alloc, first)?;
+    for number in 0..69 {
+        text.push_str(format!(in alloc; "{separator}name{number}:value{number}")?.as_str())?;
+    }
+    Ok(text)
 }
 
 /// A line of many fields doesn't end in want of memory.
 #[test]
 fn many_fields(rt: HostRuntime) -> Result<(), Fail> {
-    let mut text = String::from_str(rt.alloc(), "x\tf.c\t1;\"\tf")?;
-    for number in 0..69 {
-        text.push_str(format!(in rt.alloc(); "\tname{number}:value{number}")?.as_str())?;
-    }
-    assert_eq!(rt; check(rt.alloc(), text.as_str()), Ok(1));
-    let tags = read_tags(rt.alloc(), text.as_bytes())?;
-    assert_eq!(rt; tags.len(), 1);
-    let tag = &tags[0];
-    assert_eq!(rt; tag.kind.as_deref(), Some("f"));
-    assert_eq!(rt; tag.fields.len(), 69);
-    for (number, field) in tag.fields.iter().enumerate() {
-        let name = format!(in rt.alloc(); "name{number}")?;
-        assert_eq!(rt; field.name.as_str(), name.as_str());
-        let value = format!(in rt.alloc(); "value{number}")?;
-        assert_eq!(rt; field.value.as_str(), value.as_str());
-    }
+    let text = fields(rt.alloc(), "x\tf.c\t1;\"\tf", '\t')?;
+    let found = read(rt.alloc(), text.as_str())?;
+    let wanted = fields(rt.alloc(), "1 x f.c 1 f", ' ')?;
+    assert_eq!(rt; found.as_str().trim_end_matches('\n'), wanted.as_str());
     Ok(())
 }
 
 #[test]
-fn limits(rt: HostRuntime) -> Result<(), Fail> {
-    let mut reader = TagReader::new(rt.alloc());
-    for _ in 0..100000 {
+fn many_fields_in_a_checker(rt: HostRuntime) -> Result<(), Fail> {
+    let text = fields(rt.alloc(), "x\tf.c\t1;\"\tf", '\t')?;
+    assert_eq!(rt; check(rt.alloc(), text.as_str()), Ok(1));
+    Ok(())
+}
+
+/// Feeds a reader so many pseudo-tags.
+fn feed_reader(reader: &mut TagReader, times: u32) -> Result<(), TagsFault> {
+    for _ in 0..times {
         reader.feed(Ok(b"!_TAG_X\t\t\r"), true)?;
     }
-    let code = Code::T11;
-    let over = Err(TagsFault::Line(LineFault { line: 100001, code }));
-    assert_eq!(rt; reader.feed(Ok(b"!_TAG_X\t\t"), false), over);
-    assert_eq!(rt; reader.feed(Err(Code::T01), false), over);
-    assert!(rt; reader.finish().is_err());
+    Ok(())
+}
 
+/// Feeds a checker so many pseudo-tags.
+fn feed_checker(checker: &mut TagChecker, times: u32) -> Result<(), TagsFault> {
+    for _ in 0..times {
+        checker.feed(Ok(b"!_TAG_X\t\t\r"), true)?;
+    }
+    Ok(())
+}
+
+/// What a reader of 100,000 lines says of one more, of one that is too long, and at the end.
+fn over_in_a_reader(alloc: Global) -> Result<[Option<LineFault>; 3], TagsFault> {
+    let mut reader = TagReader::new(alloc);
+    feed_reader(&mut reader, 100000)?;
+    let more = line_fault(reader.feed(Ok(b"!_TAG_X\t\t"), false).err());
+    let too_long = line_fault(reader.feed(Err(Code::T01), false).err());
+    Ok([more, too_long, line_fault(reader.finish().err())])
+}
+
+/// What a checker of 100,000 lines, the last a tag, says of one more, of one that is too long, and at the end.
+fn over_in_a_checker(alloc: Global) -> Result<[Option<LineFault>; 3], TagsFault> {
+    let mut checker = TagChecker::new(alloc);
+    feed_checker(&mut checker, 99999)?;
+    checker.feed(Ok(b"x\tf.c\t1"), true)?;
+    let more = line_fault(checker.feed(Ok(b"!_TAG_X\t\t"), false).err());
+    let too_long = line_fault(checker.feed(Err(Code::T01), false).err());
+    Ok([more, too_long, line_fault(checker.finish().err())])
+}
+
+/// The number of tags of lines that a reader is fed.
+fn read_lines(alloc: Global, lines: &[&[u8]], ended: bool) -> Result<usize, TagsFault> {
+    let mut reader = TagReader::new(alloc);
+    for line in lines {
+        reader.feed(Ok(*line), ended)?;
+    }
+    Ok(reader.finish()?.len())
+}
+
+/// The number of tags of lines that a checker is fed.
+fn check_lines(alloc: Global, lines: &[&[u8]], ended: bool) -> Result<u32, TagsFault> {
+    let mut checker = TagChecker::new(alloc);
+    for line in lines {
+        checker.feed(Ok(*line), ended)?;
+    }
+    checker.finish()
+}
+
+#[test]
+fn limits(rt: HostRuntime) -> Result<(), Fail> {
+    let code = Code::T11;
+    let over = Some(LineFault { line: 100001, code });
+    assert_eq!(rt; over_in_a_reader(rt.alloc())?, [over, over, over]);
     let long = [b'x'; 65537];
-    let mut reader = TagReader::new(rt.alloc());
-    assert_eq!(rt;
-        reader.feed(Ok(&long[..65536]), false).err(),
-        Some(TagsFault::Line(LineFault {
-            line: 1,
-            code: Code::T04
-        }))
-    );
-    assert_eq!(rt;
-        fault(&rt, &long),
-        Some(LineFault {
-            line: 1,
-            code: Code::T01
-        })
-    );
-    let mut reader = TagReader::new(rt.alloc());
-    reader.feed(Ok(b"x\tf.c\t1"), false)?;
-    assert_eq!(rt; reader.finish()?.len(), 1);
+    let longest = line_fault(read_lines(rt.alloc(), &[&long[..65536]], false).err());
+    let code = Code::T04;
+    assert_eq!(rt; longest, Some(LineFault { line: 1, code }));
+    let code = Code::T01;
+    assert_eq!(rt; fault(rt.alloc(), &long), Some(LineFault { line: 1, code }));
+    assert_eq!(rt; read_lines(rt.alloc(), &[b"x\tf.c\t1"], false), Ok(1));
     escape_law();
     grammar_law();
     lines_law();
@@ -174,117 +315,73 @@ fn limits(rt: HostRuntime) -> Result<(), Fail> {
 
 #[test]
 fn limits_of_a_checker(rt: HostRuntime) -> Result<(), Fail> {
-    let mut checker = TagChecker::new(rt.alloc());
-    for _ in 0..99999 {
-        checker.feed(Ok(b"!_TAG_X\t\t\r"), true)?;
-    }
-    checker.feed(Ok(b"x\tf.c\t1"), true)?;
     let code = Code::T09;
-    let over = Err(TagsFault::Line(LineFault { line: 100001, code }));
-    assert_eq!(rt; checker.feed(Ok(b"!_TAG_X\t\t"), false), over);
-    assert_eq!(rt; checker.feed(Err(Code::T01), false), over);
-    assert!(rt; checker.finish().is_err());
-
+    let over = Some(LineFault { line: 100001, code });
+    assert_eq!(rt; over_in_a_checker(rt.alloc())?, [over, over, over]);
     let long = [b'x'; 65537];
-    let mut checker = TagChecker::new(rt.alloc());
-    assert_eq!(rt;
-        checker.feed(Ok(&long), false),
-        Err(TagsFault::Line(LineFault {
-            line: 1,
-            code: Code::T01
-        }))
-    );
-    let mut checker = TagChecker::new(rt.alloc());
-    assert_eq!(rt;
-        checker.feed(Ok(b"x\tf.c\t\xff"), true),
-        Err(TagsFault::Line(LineFault {
-            line: 1,
-            code: Code::T02
-        }))
-    );
-    let mut checker = TagChecker::new(rt.alloc());
-    for name in [b"aaa\tf\t1".as_slice(), b"b\tf\t1", b"cc\tf\t1"] {
-        checker.feed(Ok(name), true)?;
-    }
-    assert_eq!(rt; checker.finish(), Ok(3));
+    let too_long = line_fault(check_lines(rt.alloc(), &[&long], false).err());
+    let code = Code::T01;
+    assert_eq!(rt; too_long, Some(LineFault { line: 1, code }));
+    let not_utf_8 = line_fault(check_lines(rt.alloc(), &[b"x\tf.c\t\xff"], true).err());
+    let code = Code::T02;
+    assert_eq!(rt; not_utf_8, Some(LineFault { line: 1, code }));
+    let names = [b"aaa\tf\t1".as_slice(), b"b\tf\t1", b"cc\tf\t1"];
+    assert_eq!(rt; check_lines(rt.alloc(), &names, true), Ok(3));
     count_law();
     Ok(())
 }
 
-#[test]
-fn worked_tags(rt: HostRuntime) -> Result<(), Fail> {
-    let text =
-        "!_TAG_X\t\t\nx\tf.c\t10;/x/;\"\tkind:f\tclass:\tline:10\na\\x41\\tb\tf.c\t/a\\/b/;\"\tf\n";
-    let tags = read_tags(rt.alloc(), text.as_bytes())?;
-    assert_eq!(rt; tags.len(), 2);
-    let tag = &tags[0];
-    assert_eq!(rt; tag.line, 2);
-    assert_eq!(rt; tag.address.as_str(), "10;/x/");
-    assert_eq!(rt; tag.kind.as_deref(), Some("f"));
-    assert_eq!(rt; tag.fields.len(), 2);
-    assert_eq!(rt; tag.fields[0].name.as_str(), "class");
-    assert_eq!(rt; tag.fields[0].value.as_str(), "");
-    assert_eq!(rt; tag.fields[1].name.as_str(), "line");
-    assert_eq!(rt; tag.fields[1].value.as_str(), "10");
-    let tag = &tags[1];
-    assert_eq!(rt; tag.name.as_str(), "aA\tb");
-    assert_eq!(rt; tag.file.as_str(), "f.c");
-    assert_eq!(rt; tag.address.as_str(), "/a\\/b/");
-    assert_eq!(rt; tag.fields.len(), 0);
-    let escapes = decode(rt.alloc(), "\\r\\n\\\\\\a\\b\\v\\f\\x7F")?;
-    assert_eq!(rt;
-        escapes.as_deref(),
-        Some("\r\n\\\u{7}\u{8}\u{b}\u{c}\u{7f}")
-    );
-    assert_eq!(rt; decode(rt.alloc(), "\\x00")?, None);
-    Ok(())
+/// A part of these bytes, from the first place to before the second.
+fn part(text: &[u8], from: usize, to: usize) -> Part<'_> {
+    Part { text, from, to }
 }
 
 #[test]
 fn parts(rt: HostRuntime) -> Result<(), Fail> {
-    let parts = split(rt.alloc(), b"x\tf.c\t1;/\t/;\"\tf\t\ta:b")?;
-    let table = [
-        (b"x".as_slice(), 0, 1),
-        (b"f.c".as_slice(), 2, 5),
-        (b"1;/\t/".as_slice(), 6, 11),
-        (b"f".as_slice(), 14, 15),
-        (b"".as_slice(), 16, 16),
-        (b"a:b".as_slice(), 17, 20),
+    let wanted = [
+        part(b"x", 0, 1),
+        part(b"f.c", 2, 5),
+        part(b"1;/\t/", 6, 11),
+        part(b"f", 14, 15),
+        part(b"", 16, 16),
+        part(b"a:b", 17, 20),
     ];
-    assert_eq!(rt; parts.len(), 6);
-    for (part, (text, from, to)) in parts.iter().zip(table) {
-        assert_eq!(rt; part.text, text);
-        assert_eq!(rt; part.from, from);
-        assert_eq!(rt; part.to, to);
-    }
-    assert_eq!(rt;
-        split(rt.alloc(), b"x\t\t1").err(),
-        Some(SplitFault::Line(Code::T04))
-    );
-    assert_eq!(rt;
-        split(rt.alloc(), b"x\tf\t01").err(),
-        Some(SplitFault::Line(Code::T06))
-    );
+    let parts = split(rt.alloc(), b"x\tf.c\t1;/\t/;\"\tf\t\ta:b")?;
+    assert_eq!(rt; parts.as_slice(), wanted.as_slice());
     Ok(())
 }
 
-#[test]
-fn texts(rt: HostRuntime) {
-    let table = [
-        (Code::T01, "T01", "line too long"),
-        (Code::T02, "T02", "not UTF-8"),
-        (Code::T03, "T03", "control character"),
-        (Code::T04, "T04", "fewer than three parts"),
-        (Code::T05, "T05", "bad escape"),
-        (Code::T06, "T06", "bad address"),
-        (Code::T07, "T07", "bad field"),
-        (Code::T08, "T08", "format is not 2"),
-        (Code::T09, "T09", "pseudo-tag after a tag"),
-        (Code::T10, "T10", "names descend"),
-        (Code::T11, "T11", "too many lines"),
-    ];
-    for (code, name, text) in table {
-        assert_eq!(rt; code.name(), name);
-        assert_eq!(rt; code.text(), text);
+/// The code of a line that has no parts.
+fn split_code(alloc: Global, line: &[u8]) -> Option<Code> {
+    match split(alloc, line).err() {
+        Some(SplitFault::Line(code)) => Some(code),
+        _ => None,
     }
+}
+
+#[test]
+fn no_parts(rt: HostRuntime) {
+    assert_eq!(rt; split_code(rt.alloc(), b"x\t\t1"), Some(Code::T04));
+    assert_eq!(rt; split_code(rt.alloc(), b"x\tf\t01"), Some(Code::T06));
+}
+
+/// The codes and their texts, as lines.
+fn codes(alloc: Global, all: &[Code]) -> Result<String, AllocError> {
+    let mut text = String::new(alloc);
+    for code in all {
+        text.push_str(code.name())?;
+        text.push(' ')?;
+        text.push_str(code.text())?;
+        text.push('\n')?;
+    }
+    Ok(text)
+}
+
+#[test]
+fn texts(rt: HostRuntime) -> Result<(), Fail> {
+    use Code::{T01, T02, T03, T04, T05, T06, T07, T08, T09, T10, T11};
+    let all = [T01, T02, T03, T04, T05, T06, T07, T08, T09, T10, T11];
+    let text = codes(rt.alloc(), &all)?;
+    assert_eq!(rt; text.as_str(), CODES.trim_start_matches('\n'));
+    Ok(())
 }
