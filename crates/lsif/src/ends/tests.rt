@@ -3,7 +3,6 @@ use super::*;
 use std::alloc::Global;
 use std::io;
 use std::io::ErrorKind;
-use std::process::Abort;
 use std::test::Fail;
 
 /// A writer that takes at most so many bytes at a time, and fails once, at the write of that number.
@@ -40,77 +39,81 @@ fn slow_writer(alloc: Global, most: usize, fails_at: u32) -> Counted<Slow> {
     })
 }
 
-fn push<W: Sink>(rt: &impl Abort, writer: &mut W, bytes: &[u8]) -> Result<usize, Failed> {
-    assert!(rt; writer.failures() < u64::MAX);
-    assert!(rt; writer.idles() < u64::MAX);
-    writer.push(bytes)
+/// Pulls three times: the answers, with the bytes of the room and the failures after each.
+fn pulls(alloc: Global, reader: &mut Counted<&[u8]>) -> Result<String, Fail> {
+    let mut room = [0; 2];
+    let mut found = String::new(alloc);
+    for _ in 0..3 {
+        if Source::failures(reader) != 0 {
+            Err("a pull failed")?;
+        }
+        let answer = reader.pull(&mut room);
+        let text = str::from_utf8(&room).unwrap_or("no text");
+        found.push_str(format!(in alloc; "{answer:?} {text}; ")?.as_str())?;
+    }
+    Ok(found)
+}
+
+/// Pushes each of the parts: the answers, and then how often a push failed and how often one took nothing.
+fn pushes<W: Sink>(alloc: Global, writer: &mut W, parts: &[&str]) -> Result<String, Fail> {
+    let mut found = String::new(alloc);
+    for part in parts {
+        if writer.failures() == u64::MAX || writer.idles() == u64::MAX {
+            Err("no more is counted")?;
+        }
+        let answer = writer.push(part.as_bytes());
+        found.push_str(format!(in alloc; "{answer:?} ")?.as_str())?;
+    }
+    let (failures, idles) = (writer.failures(), writer.idles());
+    Ok(format!(in alloc; "{found}{failures} {idles}")?)
+}
+
+/// The same of a vector, and what it took.
+fn vector_pushes(alloc: Global, parts: &[&str]) -> Result<String, Fail> {
+    let mut writer = Counted::new(Vec::new(alloc));
+    let found = pushes(alloc, &mut writer, parts)?;
+    let taken = writer.into_inner();
+    let text = str::from_utf8(&taken).unwrap_or("no text");
+    Ok(format!(in alloc; "{found} {text}")?)
+}
+
+/// The same of a slow writer.
+fn slow_pushes(alloc: Global, most: usize, fails_at: u32, parts: &[&str]) -> Result<String, Fail> {
+    let mut writer = slow_writer(alloc, most, fails_at);
+    let found = pushes(alloc, &mut writer, parts)?;
+    let taken = writer.into_inner().taken;
+    let text = str::from_utf8(&taken).unwrap_or("no text");
+    Ok(format!(in alloc; "{found} {text}\n")?)
 }
 
 #[test]
-fn slices_and_vectors(rt: HostRuntime) {
+fn slices_and_vectors(rt: HostRuntime) -> Result<(), Fail> {
     counted_law::<&[u8], Vec<u8>>();
     let mut reader = Counted::new(b"abc".as_slice());
-    let mut room = [0; 2];
-    assert_eq!(rt; reader.pull(&mut room), Ok(2));
-    assert_eq!(rt; room, *b"ab");
-    assert_eq!(rt; Source::failures(&reader), 0);
-    assert_eq!(rt; reader.pull(&mut room), Ok(1));
-    assert_eq!(rt; room[0], b'c');
-    assert_eq!(rt; Source::failures(&reader), 0);
-    assert_eq!(rt; reader.pull(&mut room), Ok(0));
-
-    let mut writer = Counted::new(Vec::new(rt.alloc()));
-    assert_eq!(rt; push(&rt, &mut writer, b"ab"), Ok(2));
-    assert_eq!(rt; push(&rt, &mut writer, b""), Ok(0));
-    assert_eq!(rt; push(&rt, &mut writer, b"c"), Ok(1));
-    assert_eq!(rt; (Sink::failures(&writer), writer.idles()), (0, 0));
-    assert_eq!(rt; writer.into_inner().as_slice(), b"abc".as_slice());
+    let pulled = pulls(rt.alloc(), &mut reader)?;
+    assert_eq!(rt; pulled.as_str(), "Ok(2) ab; Ok(1) cb; Ok(0) cb; ");
+    let pushed = vector_pushes(rt.alloc(), &["ab", "", "c"])?;
+    assert_eq!(rt; pushed.as_str(), "Ok(2) Ok(0) Ok(1) 0 0 abc");
+    Ok(())
 }
+
+const SLOW: &str = "\
+Ok(1) Ok(1) Ok(0) 0 0 ab
+Ok(0) Ok(0) Ok(0) 0 2 \n\
+Ok(2) Err(Failed) Ok(2) 1 0 abef
+";
 
 /// Writers that take little, nothing, and one that fails once.
 #[test]
-fn slow_writers(rt: HostRuntime) {
-    let table = [
-        (
-            1,
-            0,
-            [("ab", Ok(1)), ("b", Ok(1)), ("", Ok(0))],
-            (0, 0),
-            "ab",
-        ),
-        (
-            0,
-            0,
-            [("ab", Ok(0)), ("", Ok(0)), ("ab", Ok(0))],
-            (0, 2),
-            "",
-        ),
-        (
-            9,
-            2,
-            [("ab", Ok(2)), ("cd", Err(Failed)), ("ef", Ok(2))],
-            (1, 0),
-            "abef",
-        ),
-    ];
-    for (most, fails_at, pushes, counts, taken) in table {
-        let mut writer = slow_writer(rt.alloc(), most, fails_at);
-        for (bytes, answer) in pushes {
-            assert_eq!(rt;
-                push(&rt, &mut writer, bytes.as_bytes()),
-                answer,
-                "{bytes} by {most}"
-            );
-        }
-        assert_eq!(rt;
-            (Sink::failures(&writer), writer.idles()),
-            counts,
-            "by {most}"
-        );
-        assert_eq!(rt;
-            writer.into_inner().taken.as_slice(),
-            taken.as_bytes(),
-            "by {most}"
-        );
+fn slow_writers(rt: HostRuntime) -> Result<(), Fail> {
+    let mut found = String::new(rt.alloc());
+    for (most, fails_at, parts) in [
+        (1, 0, ["ab", "b", ""]),
+        (0, 0, ["ab", "", "ab"]),
+        (9, 2, ["ab", "cd", "ef"]),
+    ] {
+        found.push_str(slow_pushes(rt.alloc(), most, fails_at, &parts)?.as_str())?;
     }
+    assert_eq!(rt; found.as_str(), SLOW);
+    Ok(())
 }

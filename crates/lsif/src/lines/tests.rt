@@ -7,7 +7,6 @@ use super::*;
 use crate::ends::Counted;
 use std::io;
 use std::io::{ErrorKind, Read};
-use std::process::Abort;
 use std::test::Fail;
 
 /// A reader that gives at most so many bytes at a time, and fails once, at the read of that number.
@@ -39,14 +38,6 @@ fn in_pieces(bytes: &[u8], most: usize, fails_at: u32) -> Pieces<'_> {
         fails_at,
         reads: 0,
     }
-}
-
-fn next<'a, S: Source>(
-    rt: &impl Abort,
-    lines: &'a mut Lines<S>,
-) -> Result<Option<&'a [u8]>, LinesFault> {
-    assert!(rt; lines.failures() < u64::MAX);
-    lines.next_line()
 }
 
 /// How many lines are left, where they are fewer than `u64::MAX`.
@@ -82,73 +73,109 @@ fn count_lines_of<S: Source>(
     Ok(None)
 }
 
-/// Asserts that these lines come, and then this for good, after so many failures.
-fn expect<R: AllocGlobal + Abort>(
-    rt: &R,
-    reader: Pieces<'_>,
-    wanted: &[&str],
-    end: Result<Option<&[u8]>, LinesFault>,
-    failures: u64,
-) -> Result<(), Fail> {
-    let mut lines = Lines::new(rt.alloc(), Counted::new(reader), 7)?;
-    for line in wanted {
-        assert_eq!(rt; next(rt, &mut lines)?, Some(line.as_bytes()), "{wanted:?}");
-        assert_eq!(rt; lines.failures(), 0, "{wanted:?}");
+/// The next line, or why there is none.
+fn next(alloc: Global, lines: &mut Lines<Counted<Pieces<'_>>>) -> Result<String, Fail> {
+    if lines.failures() == u64::MAX {
+        Err("no more is counted")?;
     }
-    for _ in 0..3 {
-        assert_eq!(rt; next(rt, &mut lines), end, "{wanted:?}");
-        assert_eq!(rt; lines.failures(), failures, "{wanted:?}");
+    match lines.next_line() {
+        Ok(Some(line)) => {
+            let line = str::from_utf8(line).unwrap_or("no text");
+            Ok(format!(in alloc; "{line:?}")?)
+        }
+        Ok(None) => Ok(String::from_str(alloc, "end")?),
+        Err(fault) => Ok(format!(in alloc; "{fault:?}")?),
     }
-    Ok(())
+}
+
+/// What seven asks answer, with the failures after each.
+fn answers(alloc: Global, lines: &mut Lines<Counted<Pieces<'_>>>) -> Result<String, Fail> {
+    let mut found = String::new(alloc);
+    for _ in 0..7 {
+        let answer = next(alloc, lines)?;
+        let failures = lines.failures();
+        found.push_str(format!(in alloc; " {answer} {failures}")?.as_str())?;
+    }
+    Ok(found)
+}
+
+/// The text of a reader, of lines of at most seven bytes, and what seven asks answer.
+fn row(alloc: Global, text: &str, most: usize, fails_at: u32) -> Result<String, Fail> {
+    let reader = in_pieces(text.as_bytes(), most, fails_at);
+    let mut lines = Lines::new(alloc, Counted::new(reader), 7)?;
+    let found = answers(alloc, &mut lines)?;
+    Ok(format!(in alloc; "{text:?} =>{found}\n")?)
+}
+
+/// Texts, and after each the lines or the faults that seven asks answer, with the failures after each.
+const ROWS: &str = r#"
+"" => end 0 end 0 end 0 end 0 end 0 end 0 end 0
+"\n" => "" 0 end 0 end 0 end 0 end 0 end 0 end 0
+"one" => "one" 0 end 0 end 0 end 0 end 0 end 0 end 0
+"one\n\ntwo\r\n\n" => "one" 0 "" 0 "two\r" 0 "" 0 end 0 end 0 end 0
+"\r\n\n\rthree\nfour" => "\r" 0 "" 0 "\rthree" 0 "four" 0 end 0 end 0 end 0
+"1234567\n1234567" => "1234567" 0 "1234567" 0 end 0 end 0 end 0 end 0 end 0
+"1234567\n12345678\nend\n" => "1234567" 0 TooLong 0 TooLong 0 TooLong 0 TooLong 0 TooLong 0 TooLong 0
+"1234567\n12345678" => "1234567" 0 TooLong 0 TooLong 0 TooLong 0 TooLong 0 TooLong 0 TooLong 0
+"1234567\n1234567\r\n" => "1234567" 0 TooLong 0 TooLong 0 TooLong 0 TooLong 0 TooLong 0 TooLong 0
+"#;
+
+/// The rows of all texts, whose readers give at most so many bytes at a time.
+fn rows(alloc: Global, most: usize) -> Result<String, Fail> {
+    let mut found = String::from_str(alloc, "\n")?;
+    for text in [
+        "",
+        "\n",
+        "one",
+        "one\n\ntwo\r\n\n",
+        "\r\n\n\rthree\nfour",
+        "1234567\n1234567",
+        "1234567\n12345678\nend\n",
+        "1234567\n12345678",
+        "1234567\n1234567\r\n",
+    ] {
+        found.push_str(row(alloc, text, most, 0)?.as_str())?;
+    }
+    Ok(found)
 }
 
 #[test]
 fn lines_of_input_in_pieces(rt: HostRuntime) -> Result<(), Fail> {
-    let whole = [
-        ("", [].as_slice()),
-        ("\n", [""].as_slice()),
-        ("one", ["one"].as_slice()),
-        ("one\n\ntwo\r\n\n", ["one", "", "two\r", ""].as_slice()),
-        (
-            "\r\n\n\rthree\nfour",
-            ["\r", "", "\rthree", "four"].as_slice(),
-        ),
-        ("1234567\n1234567", ["1234567", "1234567"].as_slice()),
-    ];
-    let too_long = [
-        "1234567\n12345678\nend\n",
-        "1234567\n12345678",
-        "1234567\n1234567\r\n",
-    ];
     for most in [1, 2, 7, 100] {
-        for (text, wanted) in whole {
-            expect(
-                &rt,
-                in_pieces(text.as_bytes(), most, 0),
-                wanted,
-                Ok(None),
-                0,
-            )?;
-        }
-        for text in too_long {
-            let reader = in_pieces(text.as_bytes(), most, 0);
-            expect(&rt, reader, &["1234567"], Err(LinesFault::TooLong), 0)?;
-        }
+        assert_eq!(rt; rows(rt.alloc(), most)?.as_str(), ROWS, "{most}");
     }
-    let reader = in_pieces(b"one\ntwo\nthree\n", 2, 3);
-    expect(&rt, reader, &["one"], Err(LinesFault::Read), 1)
+    let wanted =
+        "\"one\\ntwo\\nthree\\n\" => \"one\" 0 Read 1 Read 1 Read 1 Read 1 Read 1 Read 1\n";
+    let found = row(rt.alloc(), "one\ntwo\nthree\n", 2, 3)?;
+    assert_eq!(rt; found.as_str(), wanted);
+    Ok(())
+}
+
+/// What the first line of a lent source is, and how many are left.
+fn lent_lines(alloc: Global, lines: &mut LineBuffer) -> Result<String, Fail> {
+    let mut source = Counted::new(b"one\ntwo".as_slice());
+    let first = lines.advance(&mut source);
+    if source.failures() != 0 {
+        Err("a pull failed")?;
+    }
+    let line = str::from_utf8(lines.line()).unwrap_or("no text");
+    let found = format!(in alloc; "{first:?} {line}")?;
+    let left = count_lines_of(lines, &mut source);
+    Ok(format!(in alloc; "{found} {left:?}")?)
 }
 
 #[test]
 fn lines_of_a_source_that_is_lent(rt: HostRuntime) -> Result<(), Fail> {
-    let mut source = Counted::new(b"one\ntwo".as_slice());
     let mut lines = LineBuffer::new(rt.alloc(), 3)?;
-    assert_eq!(rt; lines.advance(&mut source), Ok(true));
-    assert_eq!(rt; lines.line(), b"one".as_slice());
-    assert_eq!(rt; source.failures(), 0);
-    assert_eq!(rt; count_lines_of(&mut lines, &mut source), Ok(Some(1)));
+    let found = lent_lines(rt.alloc(), &mut lines)?;
+    assert_eq!(rt; found.as_str(), "Ok(true) one Ok(Some(1))");
+    Ok(())
+}
 
+#[test]
+fn lines_that_are_counted(rt: HostRuntime) -> Result<(), Fail> {
     let mut lines = Lines::new(rt.alloc(), Counted::new(b"a\n\nb".as_slice()), 3)?;
-    assert_eq!(rt; count_lines(&mut lines), Ok(Some(3)));
+    let count = count_lines(&mut lines);
+    assert_eq!(rt; count, Ok(Some(3)));
     Ok(())
 }

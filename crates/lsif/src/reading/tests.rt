@@ -5,7 +5,6 @@ use crate::element::{Edge, Element, MonikerKind, Vertex};
 use crate::fault::ReadFault;
 use crate::id::Id;
 use std::alloc::Global;
-use std::process::Abort;
 use std::test::Fail;
 
 const LINES: &str = r#"
@@ -72,7 +71,7 @@ const VERTICES: &str = r#"
 "moniker","identifier":"i" => L07
 "moniker","scheme":"a\u0000","identifier":"i" => L07
 "moniker","scheme":"s","identifier":"\u0000b" => L07
-"packageInformation","manager":"npm","name":"lib" =>
+"packageInformation","manager":"npm","name":"lib" => no version
 "packageInformation","manager":"npm","name":"lib","version":"1.0.0" => 1.0.0
 "packageInformation","manager":"npm","name":"lib","version":1 => L07
 "packageInformation","manager":"npm","name":"lib","version":"\u0000" => L07
@@ -115,87 +114,115 @@ fn said(vertex: &Vertex) -> &str {
             MonikerKind::Export => "export",
             MonikerKind::Local => "local",
         },
+        Vertex::Package(package) if package.version.is_empty() => "no version",
         Vertex::Package(package) => package.version.as_str(),
         _ => "an element",
     }
 }
 
-/// What is read of a line.
-fn read(alloc: Global, line: &[u8]) -> Result<String, Fail> {
-    match read_element(alloc, line) {
-        Ok(Element::Vertex(_, vertex)) => Ok(String::from_str(alloc, said(&vertex))?),
-        Ok(Element::Edge(_, _)) => Ok(String::from_str(alloc, "an element")?),
-        Err(ReadFault::Shape(code)) => Ok(String::from_str(alloc, code.name())?),
-        Err(ReadFault::Memory) => Err("out of memory")?,
+/// What the reading of a line says.
+fn outcome(reading: &Result<Element, ReadFault>) -> &str {
+    match reading {
+        Ok(Element::Vertex(_, vertex)) => said(vertex),
+        Ok(Element::Edge(_, _)) => "an element",
+        Err(ReadFault::Shape(code)) => code.name(),
+        Err(ReadFault::Memory) => "out of memory",
     }
 }
 
-/// Asserts what is read of the lines of a table, whose rows have these texts around them.
-fn expect_all<R: AllocGlobal + Abort>(
-    rt: &R,
-    before: &str,
-    table: &str,
-    after: &str,
-) -> Result<(), Fail> {
-    for row in table.trim_matches('\n').lines() {
-        let (part, wanted) = row.split_once(" =>").ok_or("no row")?;
-        let line = format!(in rt.alloc(); "{before}{part}{after}")?;
-        let found = read(rt.alloc(), line.as_bytes())?;
-        assert_eq!(rt; found.as_str(), wanted.trim_start(), "{line}");
+/// A row of this name, of what is read of the line.
+fn row(alloc: Global, name: &str, line: &[u8]) -> Result<String, Fail> {
+    let reading = read_element(alloc, line);
+    Ok(format!(in alloc; "{name} => {}\n", outcome(&reading))?)
+}
+
+/// The rows of a table as they are found, where the lines have these texts around the parts.
+fn rows(alloc: Global, before: &str, table: &str, after: &str) -> Result<String, Fail> {
+    let mut found = String::from_str(alloc, "\n")?;
+    for wanted in table.trim_matches('\n').lines() {
+        let (part, _) = wanted.split_once(" => ").ok_or("no row")?;
+        let line = format!(in alloc; "{before}{part}{after}")?;
+        found.push_str(row(alloc, part, line.as_bytes())?.as_str())?;
     }
-    Ok(())
+    Ok(found)
 }
 
 #[test]
 fn tables_of_lines(rt: HostRuntime) -> Result<(), Fail> {
-    expect_all(&rt, "", LINES, "")?;
-    expect_all(
-        &rt,
-        r#"{"id":"#,
-        IDS,
-        r#","type":"vertex","label":"resultSet"}"#,
-    )?;
-    expect_all(&rt, r#"{"id":1,"type":"vertex","label":"#, VERTICES, "}")?;
-    let before = r#"{"id":1,"type":"vertex","label":"hoverResult","result":{"contents":"#;
-    expect_all(&rt, before, HOVERS, "}}")
+    let vertex = r#"{"id":1,"type":"vertex","label":"#;
+    let hover = r#"{"id":1,"type":"vertex","label":"hoverResult","result":{"contents":"#;
+    for (before, table, after) in [
+        ("", LINES, ""),
+        (r#"{"id":"#, IDS, r#","type":"vertex","label":"resultSet"}"#),
+        (vertex, VERTICES, "}"),
+        (hover, HOVERS, "}}"),
+    ] {
+        let found = rows(rt.alloc(), before, table, after)?;
+        assert_eq!(rt; found.as_str(), table);
+    }
+    Ok(())
 }
 
-/// A vertex of label `note` with a member of so many nested arrays.
-fn with_arrays(rt: &HostRuntime, depth: usize) -> Result<String, Fail> {
-    let mut line = String::from_str(rt.alloc(), r#"{"id":2,"type":"vertex","label":"note","x":"#)?;
-    for _ in 0..depth {
-        line.push_str("[")?;
+/// What is read of blank lines and others.
+fn blanks(alloc: Global) -> Result<String, Fail> {
+    let null_first = b"{\"id\":null,\"id\":1,\"type\":\"vertex\",\"label\":\"x\"}\r";
+    let mut found = String::from_str(alloc, "\n")?;
+    for (name, line) in [
+        ("empty", b"".as_slice()),
+        ("blank", b" \t\r"),
+        ("a byte order mark", "\u{feff}{}".as_bytes()),
+        ("not UTF-8", b"{\"id\":\"\xff\"}"),
+        ("two ids, and a CR at the end", null_first),
+    ] {
+        found.push_str(row(alloc, name, line)?.as_str())?;
     }
-    for _ in 0..depth {
-        line.push_str("]")?;
-    }
-    line.push_str("}")?;
-    Ok(line)
+    Ok(found)
 }
+
+/// What is read of a vertex of label `note` with a member of so many nested arrays.
+fn with_arrays(alloc: Global, depth: usize) -> Result<String, Fail> {
+    let before = r#"{"id":2,"type":"vertex","label":"note","x":"#;
+    let arrays = format!(in alloc;
+        "{}{}",
+        "[".repeat(alloc, depth)?,
+        "]".repeat(alloc, depth)?
+    )?;
+    let line = format!(in alloc; "{before}{arrays}}}")?;
+    row(alloc, "arrays", line.as_bytes())
+}
+
+/// What is read of a vertex with blanks behind it, up to this length.
+fn with_blanks(alloc: Global, length: usize) -> Result<String, Fail> {
+    let element = r#"{"id":1,"type":"vertex","label":"x"}"#;
+    let blanks = " ".repeat(alloc, length.saturating_sub(element.len()))?;
+    let line = format!(in alloc; "{element}{blanks}")?;
+    row(alloc, "blanks", line.as_bytes())
+}
+
+const BLANKS: &str = "
+empty => L02
+blank => L02
+a byte order mark => L02
+not UTF-8 => L02
+two ids, and a CR at the end => an element
+";
 
 #[test]
 fn blanks_depths_and_lengths(rt: HostRuntime) -> Result<(), Fail> {
-    let element = r#"{"id":1,"type":"vertex","label":"x"}"#;
-    let mut longest = String::from_str(rt.alloc(), element)?;
-    for _ in element.len()..LONGEST_LINE {
-        longest.push_str(" ")?;
-    }
-    let too_long = format!(in rt.alloc(); "{longest} ")?;
-    let null_first = b"{\"id\":null,\"id\":1,\"type\":\"vertex\",\"label\":\"x\"}\r";
-    let (deepest, too_deep) = (with_arrays(&rt, 126)?, with_arrays(&rt, 127)?);
-    for (name, line, wanted) in [
-        ("empty", b"".as_slice(), "L02"),
-        ("blank", b" \t\r", "L02"),
-        ("a byte order mark", "\u{feff}{}".as_bytes(), "L02"),
-        ("not UTF-8", b"{\"id\":\"\xff\"}", "L02"),
-        ("two ids, and a CR at the end", null_first, "an element"),
-        ("as deep as may be", deepest.as_bytes(), "an element"),
-        ("deeper", too_deep.as_bytes(), "L02"),
-        ("as long as may be", longest.as_bytes(), "an element"),
-        ("longer", too_long.as_bytes(), "L01"),
-    ] {
-        assert_eq!(rt; read(rt.alloc(), line)?.as_str(), wanted, "{name}");
-    }
+    assert_eq!(rt; blanks(rt.alloc())?.as_str(), BLANKS);
+    let deepest = with_arrays(rt.alloc(), 126)?;
+    assert_eq!(rt; deepest.as_str(), "arrays => an element\n");
+    let too_deep = with_arrays(rt.alloc(), 127)?;
+    assert_eq!(rt; too_deep.as_str(), "arrays => L02\n");
+    Ok(())
+}
+
+#[test]
+fn longest_lines(rt: HostRuntime) -> Result<(), Fail> {
+    let longest = with_blanks(rt.alloc(), LONGEST_LINE)?;
+    assert_eq!(rt; longest.as_str(), "blanks => an element\n");
+    let too_long = with_blanks(rt.alloc(), LONGEST_LINE + 1)?;
+    assert_eq!(rt; too_long.as_str(), "blanks => L01\n");
     Ok(())
 }
 
