@@ -5,7 +5,6 @@ use desk::{Code, Command, Query};
 use lsif::Counted;
 use std::io;
 use std::io::{ErrorKind, Read, Write};
-use std::process::Abort;
 use std::test::Fail;
 
 /// Names of replies, and what is written.
@@ -210,6 +209,18 @@ struct Served {
     desk: Counting,
 }
 
+impl Served {
+    /// Whether it answered this, and wrote just this.
+    fn is(&self, answer: Result<u32, ServeFault>, written: &str) -> bool {
+        self.answer == answer && self.written.as_slice() == written.as_bytes()
+    }
+
+    /// How many commands and queries the desk counted.
+    fn asked(&self) -> (u32, u32) {
+        (self.desk.commands, self.desk.queries)
+    }
+}
+
 fn serve_over(alloc: Global, reader: Pieces<'_>, writer: Slow, limit: u32) -> Served {
     let mut desk = Counting {
         commands: 0,
@@ -268,12 +279,18 @@ fn reply(name: &str) -> Option<&'static str> {
     None
 }
 
-/// The replies of these names, one after the other.
-fn replies(alloc: Global, names: &str) -> Result<String, Fail> {
-    let mut text = String::new(alloc);
+/// Adds the replies of these names, as they stand in the table.
+fn push_replies(text: &mut String, names: &str) -> Result<(), Fail> {
     for name in names.split_whitespace() {
         text.push_str(reply(name).ok_or("no such reply")?)?;
     }
+    Ok(())
+}
+
+/// The replies of these names, one after the other.
+fn replies(alloc: Global, names: &str) -> Result<String, Fail> {
+    let mut text = String::new(alloc);
+    push_replies(&mut text, names)?;
     Ok(text.replace(alloc, '|', "\r\n")?)
 }
 
@@ -282,23 +299,41 @@ fn count(names: &str) -> u32 {
     u32::try_from(names.split_whitespace().count()).unwrap_or(u32::MAX)
 }
 
-/// Asserts the replies to a stream, by their names.
-fn expect<R: AllocGlobal + Abort>(rt: &R, stream: &str, names: &str) -> Result<(), Fail> {
-    let wanted = replies(rt.alloc(), names)?;
-    let served = serve_over(
-        rt.alloc(),
-        in_pieces(stream.as_bytes(), usize::MAX),
-        any_writer(rt.alloc()),
-        1000,
-    );
-    assert_eq!(rt; served.written.as_slice(), wanted.as_bytes(), "{stream}");
-    assert_eq!(rt; served.answer, Ok(count(names)), "{stream}");
-    Ok(())
+/// Adds what was served to the differences, unless it's as wanted.
+fn note(
+    differences: &mut String,
+    as_wanted: bool,
+    title: &str,
+    served: &Served,
+) -> Result<(), AllocError> {
+    if as_wanted {
+        return Ok(());
+    }
+    differences.push_str(title)?;
+    differences.push_str(" => ")?;
+    differences.push_str(str::from_utf8(&served.written).unwrap_or("not UTF-8"))?;
+    differences.push('\n')
 }
 
-/// Asserts the replies to the streams of a table, whose rows have these texts around them.
-fn expect_all<R: AllocGlobal + Abort>(
-    rt: &R,
+/// Adds to the differences what is served of a stream, unless its replies have these names.
+fn expect(alloc: Global, differences: &mut String, stream: &str, names: &str) -> Result<(), Fail> {
+    let wanted = replies(alloc, names)?;
+    let reader = in_pieces(stream.as_bytes(), usize::MAX);
+    let served = serve_over(alloc, reader, any_writer(alloc), 1000);
+    let as_wanted = served.is(Ok(count(names)), wanted.as_str());
+    Ok(note(differences, as_wanted, stream, &served)?)
+}
+
+/// The stream of a row with these texts around it.
+fn stream_of(alloc: Global, before: &str, part: &str, after: &str) -> Result<String, AllocError> {
+    let signs = format!(in alloc; "{before}{part}{after}")?;
+    signs.replace(alloc, '|', "\r\n")
+}
+
+/// Adds to the differences what is served of a table's streams, whose rows have these texts around them.
+fn expect_all(
+    alloc: Global,
+    differences: &mut String,
     before: &str,
     table: &str,
     after: &str,
@@ -308,64 +343,137 @@ fn expect_all<R: AllocGlobal + Abort>(
             continue;
         }
         let (part, names) = row.split_once(" => ").ok_or("no row")?;
-        let stream = format!(in rt.alloc(); "{before}{part}{after}")?;
-        expect(rt, stream.replace(rt.alloc(), '|', "\r\n")?.as_str(), names)?;
+        let stream = stream_of(alloc, before, part, after)?;
+        expect(alloc, differences, stream.as_str(), names)?;
+    }
+    Ok(())
+}
+
+/// Requests, how many bytes are read and written at a time, the greatest number of requests; and the names of the replies,
+/// and how many commands and queries the desk counts.
+#[derive(Clone, Copy)]
+struct Case {
+    requests: &'static [&'static str],
+    most: usize,
+    limit: u32,
+    names: &'static str,
+    asked: (u32, u32),
+}
+
+const TWO: &[&str] = &[PUT, "hello", GET];
+
+const THREE: &[&str] = &[PUT, "hello", GET, GET];
+
+const FOUR: &[&str] = &[PUT, "hello", GET, PUT, "hallo", GET];
+
+/// The case that these make.
+fn case_of(
+    requests: &'static [&'static str],
+    most: usize,
+    limit: u32,
+    names: &'static str,
+    asked: (u32, u32),
+) -> Case {
+    Case {
+        requests,
+        most,
+        limit,
+        names,
+        asked,
+    }
+}
+
+/// What is served of a case.
+fn serve_case(alloc: Global, case: &Case) -> Result<Served, Fail> {
+    let stream = joined(alloc, case.requests)?;
+    let reader = in_pieces(stream.as_bytes(), case.most);
+    let mut writer = any_writer(alloc);
+    writer.most = case.most;
+    Ok(serve_over(alloc, reader, writer, case.limit))
+}
+
+/// Whether the desk counted so many commands and queries, and was asked what stands in the requests.
+fn is_asked(served: &Served, asked: (u32, u32)) -> bool {
+    let (commands, queries) = asked;
+    served.asked() == asked
+        && (commands == 0 || served.desk.body == 5)
+        && (queries == 0 || (served.desk.line, served.desk.character) == (2, 1))
+}
+
+/// Adds to the differences what is served of a case, unless it's as the case says.
+fn expect_case(alloc: Global, differences: &mut String, case: &Case) -> Result<(), Fail> {
+    let wanted = replies(alloc, case.names)?;
+    let served = serve_case(alloc, case)?;
+    let replied = served.is(Ok(count(case.names)), wanted.as_str());
+    let as_wanted = replied && is_asked(&served, case.asked);
+    Ok(note(differences, as_wanted, case.names, &served)?)
+}
+
+/// Adds to the differences what is served of each case, unless it's as the case says.
+fn expect_cases(alloc: Global, differences: &mut String) -> Result<(), Fail> {
+    for case in [
+        case_of(&[], usize::MAX, 9, "", (0, 0)),
+        case_of(TWO, usize::MAX, 9, "S01 D01", (1, 1)),
+        case_of(FOUR, 1, 9, "S01 D01 S01 D01", (2, 2)),
+        case_of(FOUR, 2, 9, "S01 D01 S01 D01", (2, 2)),
+        case_of(FOUR, 7, 9, "S01 D01 S01 D01", (2, 2)),
+        case_of(THREE, usize::MAX, 0, "", (0, 0)),
+        case_of(THREE, usize::MAX, 1, "S01", (1, 0)),
+        case_of(THREE, usize::MAX, 2, "S01 D01", (1, 1)),
+    ] {
+        expect_case(alloc, differences, &case)?;
     }
     Ok(())
 }
 
 #[test]
 fn puts_and_queries(rt: HostRuntime) -> Result<(), Fail> {
-    let two = joined(rt.alloc(), &[PUT, "hello", GET])?;
-    let three = joined(rt.alloc(), &[PUT, "hello", GET, GET])?;
-    let four = joined(rt.alloc(), &[PUT, "hello", GET, PUT, "hallo", GET])?;
-    let table = [
-        ("", usize::MAX, 9, "", (0, 0)),
-        (two.as_str(), usize::MAX, 9, "S01 D01", (1, 1)),
-        (four.as_str(), 1, 9, "S01 D01 S01 D01", (2, 2)),
-        (four.as_str(), 2, 9, "S01 D01 S01 D01", (2, 2)),
-        (four.as_str(), 7, 9, "S01 D01 S01 D01", (2, 2)),
-        (three.as_str(), usize::MAX, 0, "", (0, 0)),
-        (three.as_str(), usize::MAX, 1, "S01", (1, 0)),
-        (three.as_str(), usize::MAX, 2, "S01 D01", (1, 1)),
-    ];
-    for (stream, most, limit, names, counts) in table {
-        let mut writer = any_writer(rt.alloc());
-        writer.most = most;
-        let served = serve_over(
-            rt.alloc(),
-            in_pieces(stream.as_bytes(), most),
-            writer,
-            limit,
-        );
-        let wanted = replies(rt.alloc(), names)?;
-        assert_eq!(rt; served.written.as_slice(), wanted.as_bytes(), "{names}");
-        assert_eq!(rt; served.answer, Ok(count(names)), "{names}");
-        let (commands, queries) = (served.desk.commands, served.desk.queries);
-        assert_eq!(rt; (commands, queries), counts, "{names}");
-        if commands > 0 {
-            assert_eq!(rt; served.desk.body, 5);
-        }
-        if queries > 0 {
-            assert_eq!(rt; (served.desk.line, served.desk.character), (2, 1));
-        }
-    }
+    let mut differences = String::new(rt.alloc());
+    expect_cases(rt.alloc(), &mut differences)?;
+    assert_eq!(rt; differences.as_str(), "");
     Ok(())
+}
+
+/// Adds to the differences what is served of each table.
+fn expect_tables(alloc: Global, differences: &mut String) -> Result<(), Fail> {
+    let line_feeds = "GET /projects HTTP/1.1\nA: b\n\nC: d\r\n\r\n";
+    expect(alloc, differences, line_feeds, "H01")?;
+    expect_all(alloc, differences, "", REFUSED, "")?;
+    expect_all(alloc, differences, "", ORDERED, "")?;
+    expect_all(alloc, differences, "", FOLLOWED, GET)?;
+    let query = "GET /projects/app/definition?";
+    expect_all(alloc, differences, query, QUERIES, " HTTP/1.1||")?;
+    let after = " HTTP/1.1|Content-Length: 0||";
+    expect_all(alloc, differences, "PUT ", UPLOADS, after)
 }
 
 #[test]
 fn refusals(rt: HostRuntime) -> Result<(), Fail> {
-    expect(&rt, "GET /projects HTTP/1.1\nA: b\n\nC: d\r\n\r\n", "H01")?;
-    expect_all(&rt, "", REFUSED, "")?;
-    expect_all(&rt, "", ORDERED, "")?;
-    expect_all(&rt, "", FOLLOWED, GET)?;
-    expect_all(&rt, "GET /projects/app/definition?", QUERIES, " HTTP/1.1||")?;
-    expect_all(&rt, "PUT ", UPLOADS, " HTTP/1.1|Content-Length: 0||")
+    let mut differences = String::new(rt.alloc());
+    expect_tables(rt.alloc(), &mut differences)?;
+    assert_eq!(rt; differences.as_str(), "");
+    Ok(())
 }
 
-#[test]
-fn long_heads(rt: HostRuntime) -> Result<(), Fail> {
-    for (first, repeated, times, last, names) in [
+/// A text so many times, between two others.
+fn repeated(
+    alloc: Global,
+    first: &str,
+    text: &str,
+    times: u32,
+    last: &str,
+) -> Result<String, AllocError> {
+    let mut stream = String::from_str(alloc, first)?;
+    for _ in 0..times {
+        stream.push_str(text)?;
+    }
+    stream.push_str(last)?;
+    Ok(stream)
+}
+
+/// Adds to the differences what is served of each long head.
+fn expect_long_heads(alloc: Global, differences: &mut String) -> Result<(), Fail> {
+    for (first, text, times, last, names) in [
         ("", "a", 8191, "", "H01"),
         ("", "a", 8192, "", "H02"),
         ("", "a", 8192, "\r\n\r\n", "H02"),
@@ -373,42 +481,77 @@ fn long_heads(rt: HostRuntime) -> Result<(), Fail> {
         ("GET /x HTTP/1.1\r\n", "a: b\r\n", 33, "\r\n", "H02"),
         ("", "\n", 34, "\r\n\r\n", "H02"),
     ] {
-        let mut stream = String::from_str(rt.alloc(), first)?;
-        for _ in 0..times {
-            stream.push_str(repeated)?;
-        }
-        stream.push_str(last)?;
-        expect(&rt, stream.as_str(), names)?;
+        let stream = repeated(alloc, first, text, times, last)?;
+        expect(alloc, differences, stream.as_str(), names)?;
     }
     Ok(())
+}
+
+#[test]
+fn long_heads(rt: HostRuntime) -> Result<(), Fail> {
+    let mut differences = String::new(rt.alloc());
+    expect_long_heads(rt.alloc(), &mut differences)?;
+    assert_eq!(rt; differences.as_str(), "");
+    Ok(())
+}
+
+/// The replies to a short upload and a query of which only so many bytes are there.
+fn names_of_cut(at: usize) -> &'static str {
+    let head = SHORT_PUT.len();
+    if at == 0 {
+        ""
+    } else if at < head {
+        "H01"
+    } else if at == head {
+        "H05"
+    } else if at - head == 1 {
+        "S01"
+    } else {
+        "S01 H01"
+    }
+}
+
+/// Adds to the differences what is served of a stream that is cut at each of its bytes.
+fn expect_cuts(alloc: Global, differences: &mut String, stream: &str) -> Result<(), Fail> {
+    for at in 0..stream.len() {
+        let cut = stream.get(..at).ok_or("no such place")?;
+        expect(alloc, differences, cut, names_of_cut(at))?;
+    }
+    expect(alloc, differences, stream, "S01 H06")
 }
 
 /// A stream that ends at each of its bytes.
 #[test]
 fn cut_streams(rt: HostRuntime) -> Result<(), Fail> {
     let stream = joined(rt.alloc(), &[SHORT_PUT, "a", SHORT_GET])?;
-    let head = SHORT_PUT.len();
-    for at in 0..stream.len() {
-        let cut = stream.get(..at).ok_or("no such place")?;
-        if at == 0 {
-            expect(&rt, cut, "")?;
-        } else if at < head {
-            expect(&rt, cut, "H01")?;
-        } else if at == head {
-            expect(&rt, cut, "H05")?;
-        } else if at - head == 1 {
-            expect(&rt, cut, "S01")?;
-        } else {
-            expect(&rt, cut, "S01 H01")?;
-        }
-    }
-    expect(&rt, stream.as_str(), "S01 H06")
+    let mut differences = String::new(rt.alloc());
+    expect_cuts(rt.alloc(), &mut differences, stream.as_str())?;
+    assert_eq!(rt; differences.as_str(), "");
+    Ok(())
 }
 
-/// A reader that fails: what was whole before it was served, and nothing else.
-#[test]
-fn failing_readers(rt: HostRuntime) -> Result<(), Fail> {
-    let stream = joined(rt.alloc(), &[SHORT_GET, SHORT_PUT, "a"])?;
+/// What is served of a stream over a reader that fails at the read of that number.
+fn serve_failing_reader(alloc: Global, stream: &str, fails_at: u32) -> Served {
+    let mut reader = in_pieces(stream.as_bytes(), 1);
+    reader.fails_at = fails_at;
+    serve_over(alloc, reader, any_writer(alloc), 9)
+}
+
+/// Adds to the differences what is served where a reader fails, unless it's the replies of these names.
+fn expect_read_fault(
+    alloc: Global,
+    differences: &mut String,
+    served: &Served,
+    names: &str,
+) -> Result<(), Fail> {
+    let wanted = replies(alloc, names)?;
+    let replied = served.is(Err(ServeFault::Read), wanted.as_str());
+    let as_wanted = replied && served.asked() == (0, 0);
+    Ok(note(differences, as_wanted, names, served)?)
+}
+
+/// Adds to the differences what is served of a stream where a reader fails.
+fn expect_read_faults(alloc: Global, differences: &mut String, stream: &str) -> Result<(), Fail> {
     for (fails_at, names) in [
         (1, ""),
         (2, ""),
@@ -418,27 +561,39 @@ fn failing_readers(rt: HostRuntime) -> Result<(), Fail> {
         (77, "H06"),
         (78, "H06"),
     ] {
-        let mut reader = in_pieces(stream.as_bytes(), 1);
-        reader.fails_at = fails_at;
-        let served = serve_over(rt.alloc(), reader, any_writer(rt.alloc()), 9);
-        assert_eq!(rt; served.answer, Err(ServeFault::Read), "{fails_at}");
-        let wanted = replies(rt.alloc(), names)?;
-        assert_eq!(rt; served.written.as_slice(), wanted.as_bytes(), "{fails_at}");
-        assert_eq!(rt;
-            (served.desk.commands, served.desk.queries),
-            (0, 0),
-            "{fails_at}"
-        );
+        let served = serve_failing_reader(alloc, stream, fails_at);
+        expect_read_fault(alloc, differences, &served, names)?;
     }
     Ok(())
 }
 
-/// A writer that takes no more, and one that fails: the request whose reply is cut has its effect.
+/// A reader that fails: what was whole before it was served, and nothing else.
 #[test]
-fn failing_writers(rt: HostRuntime) -> Result<(), Fail> {
-    let stream = joined(rt.alloc(), &[GET, PUT, "hello"])?;
-    let whole = replies(rt.alloc(), "D01 S01")?;
-    let first = replies(rt.alloc(), "D01")?.len();
+fn failing_readers(rt: HostRuntime) -> Result<(), Fail> {
+    let stream = joined(rt.alloc(), &[SHORT_GET, SHORT_PUT, "a"])?;
+    let mut differences = String::new(rt.alloc());
+    expect_read_faults(rt.alloc(), &mut differences, stream.as_str())?;
+    assert_eq!(rt; differences.as_str(), "");
+    Ok(())
+}
+
+/// What is served of a stream over a writer that has so much room, and fails at the write of that number.
+fn serve_failing_writer(alloc: Global, stream: &str, room: usize, fails_at: u32) -> Served {
+    let mut writer = any_writer(alloc);
+    writer.room = room;
+    writer.fails_at = fails_at;
+    serve_over(alloc, in_pieces(stream.as_bytes(), usize::MAX), writer, 9)
+}
+
+/// Adds to the differences what is served of a stream where a writer fails, unless it's the front of the replies. The
+/// first of them has that length.
+fn expect_write_faults(
+    alloc: Global,
+    differences: &mut String,
+    stream: &str,
+    whole: &str,
+    first: usize,
+) -> Result<(), Fail> {
     for (room, fails_at) in [
         (0, 0),
         (1, 0),
@@ -449,20 +604,30 @@ fn failing_writers(rt: HostRuntime) -> Result<(), Fail> {
         (whole.len().saturating_sub(1), 0),
         (0, 1),
     ] {
-        let mut writer = any_writer(rt.alloc());
-        writer.room = room;
-        writer.fails_at = fails_at;
-        let reader = in_pieces(stream.as_bytes(), usize::MAX);
-        let served = serve_over(rt.alloc(), reader, writer, 9);
-        assert_eq!(rt; served.answer, Err(ServeFault::Write), "{room}");
-        let wanted = whole.as_bytes().get(..room);
-        assert_eq!(rt; Some(served.written.as_slice()), wanted, "{room}");
+        let wanted = whole.get(..room).ok_or("no such place")?;
         let commands = if room < first { 0 } else { 1 };
-        assert_eq!(rt;
-            (served.desk.commands, served.desk.queries),
-            (commands, 1),
-            "{room}"
-        );
+        let served = serve_failing_writer(alloc, stream, room, fails_at);
+        let replied = served.is(Err(ServeFault::Write), wanted);
+        let as_wanted = replied && served.asked() == (commands, 1);
+        note(differences, as_wanted, wanted, &served)?;
     }
+    Ok(())
+}
+
+/// The differences of what is served where a writer fails.
+fn write_fault_differences(alloc: Global, stream: &str) -> Result<String, Fail> {
+    let first = replies(alloc, "D01")?.len();
+    let whole = replies(alloc, "D01 S01")?;
+    let mut differences = String::new(alloc);
+    expect_write_faults(alloc, &mut differences, stream, whole.as_str(), first)?;
+    Ok(differences)
+}
+
+/// A writer that takes no more, and one that fails: the request whose reply is cut has its effect.
+#[test]
+fn failing_writers(rt: HostRuntime) -> Result<(), Fail> {
+    let stream = joined(rt.alloc(), &[GET, PUT, "hello"])?;
+    let differences = write_fault_differences(rt.alloc(), stream.as_str())?;
+    assert_eq!(rt; differences.as_str(), "");
     Ok(())
 }
