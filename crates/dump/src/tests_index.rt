@@ -163,35 +163,94 @@ fn item(rt: &HostRuntime, numbers: &mut Numbers) -> Result<Edge, Fail> {
     }))
 }
 
+/// Two ids of these places.
+fn pair(
+    rt: &HostRuntime,
+    numbers: &mut Numbers,
+    sources: (u64, u64),
+    targets: (u64, u64),
+) -> Result<(Id, Id), Fail> {
+    let source = some_id(rt, numbers, sources)?;
+    Ok((source, some_id(rt, numbers, targets)?))
+}
+
+/// What asks, and an id of these places.
+fn asking_pair(
+    rt: &HostRuntime,
+    numbers: &mut Numbers,
+    targets: (u64, u64),
+) -> Result<(Id, Id), Fail> {
+    let source = asking(rt, numbers)?;
+    Ok((source, some_id(rt, numbers, targets)?))
+}
+
+/// A `contains` edge out of this id.
+fn contains(
+    rt: &HostRuntime,
+    numbers: &mut Numbers,
+    source: Id,
+    targets: (u64, u64),
+) -> Result<Edge, Fail> {
+    Ok(Edge::Contains(source, some_ids(rt, numbers, targets)?))
+}
+
+/// The edge of a number below 5, out of what asks.
+fn asking_edge(rt: &HostRuntime, numbers: &mut Numbers, kind: u64) -> Result<Edge, Fail> {
+    match kind {
+        0 => {
+            let (from, to) = asking_pair(rt, numbers, RESULT_SETS)?;
+            Ok(Edge::Next(from, to))
+        }
+        1 => {
+            let (from, to) = asking_pair(rt, numbers, DEFINITION_RESULTS)?;
+            Ok(Edge::Definition(from, to))
+        }
+        2 => {
+            let (from, to) = asking_pair(rt, numbers, REFERENCE_RESULTS)?;
+            Ok(Edge::References(from, to))
+        }
+        3 => {
+            let (from, to) = asking_pair(rt, numbers, HOVER_RESULTS)?;
+            Ok(Edge::Hover(from, to))
+        }
+        _ => {
+            let (from, to) = asking_pair(rt, numbers, MONIKERS)?;
+            Ok(Edge::Moniker(from, to))
+        }
+    }
+}
+
+fn package(rt: &HostRuntime, numbers: &mut Numbers) -> Result<Edge, Fail> {
+    let (from, to) = pair(rt, numbers, MONIKERS, PACKAGES)?;
+    Ok(Edge::Package(from, to))
+}
+
+fn attach(rt: &HostRuntime, numbers: &mut Numbers) -> Result<Edge, Fail> {
+    let (from, to) = pair(rt, numbers, MONIKERS, MONIKERS)?;
+    Ok(Edge::Attach(from, to))
+}
+
+fn other(rt: &HostRuntime, numbers: &mut Numbers) -> Result<Edge, Fail> {
+    let source = asking(rt, numbers)?;
+    Ok(Edge::Other(source, some_ids(rt, numbers, RANGES)?))
+}
+
 fn edge(rt: &HostRuntime, numbers: &mut Numbers) -> Result<Edge, Fail> {
-    Ok(match numbers.below(13) {
-        0 => Edge::Next(asking(rt, numbers)?, some_id(rt, numbers, RESULT_SETS)?),
-        1 => Edge::Definition(
-            asking(rt, numbers)?,
-            some_id(rt, numbers, DEFINITION_RESULTS)?,
-        ),
-        2 => Edge::References(
-            asking(rt, numbers)?,
-            some_id(rt, numbers, REFERENCE_RESULTS)?,
-        ),
-        3 => Edge::Hover(asking(rt, numbers)?, some_id(rt, numbers, HOVER_RESULTS)?),
-        4 => Edge::Moniker(asking(rt, numbers)?, some_id(rt, numbers, MONIKERS)?),
-        5 => Edge::Package(
-            some_id(rt, numbers, MONIKERS)?,
-            some_id(rt, numbers, PACKAGES)?,
-        ),
-        6 => Edge::Attach(
-            some_id(rt, numbers, MONIKERS)?,
-            some_id(rt, numbers, MONIKERS)?,
-        ),
-        7 => Edge::Other(asking(rt, numbers)?, some_ids(rt, numbers, RANGES)?),
-        8 => Edge::Contains(id(rt, 1)?, some_ids(rt, numbers, DOCUMENTS)?),
-        9 | 10 => item(rt, numbers)?,
-        _ => Edge::Contains(
-            some_id(rt, numbers, DOCUMENTS)?,
-            some_ids(rt, numbers, RANGES)?,
-        ),
-    })
+    match numbers.below(13) {
+        5 => package(rt, numbers),
+        6 => attach(rt, numbers),
+        7 => other(rt, numbers),
+        8 => {
+            let project = id(rt, 1)?;
+            contains(rt, numbers, project, DOCUMENTS)
+        }
+        9 | 10 => item(rt, numbers),
+        11 | 12 => {
+            let document = some_id(rt, numbers, DOCUMENTS)?;
+            contains(rt, numbers, document, RANGES)
+        }
+        kind => asking_edge(rt, numbers, kind),
+    }
 }
 
 /// The element of a seed, for this place of a dump: first the vertices, then events and edges.

@@ -1,39 +1,52 @@
 //! The first place of each id, with slots for small numbers and without.
 use crate::place_map::PlaceMap;
 use lsif::Id;
-use std::process::Abort;
+use std::alloc::Global;
 use std::test::Fail;
 
 /// The id that a number is, or a text behind a quotation mark.
-fn id<R: AllocGlobal>(rt: &R, short: &str) -> Result<Id, Fail> {
+fn id(alloc: Global, short: &str) -> Result<Id, Fail> {
     match short.strip_prefix('\'') {
-        Some(text) => Ok(Id::Text(String::from_str(rt.alloc(), text)?)),
+        Some(text) => Ok(Id::Text(String::from_str(alloc, text)?)),
         None => Ok(Id::Number(short.parse::<u64>()?)),
     }
 }
 
-/// Enters ids with their places in a map that is empty, and asserts what is at each of others afterwards.
-fn expect<R: AllocGlobal + Abort>(
-    rt: &R,
-    map: &mut PlaceMap,
-    entered: &[(&str, usize)],
-    wanted: &[(&str, Option<usize>)],
-) -> Result<(), Fail> {
-    assert!(rt; map.is_empty());
-    assert_eq!(rt; map.get(&Id::Number(0)), None);
+/// Enters ids, each with its place.
+fn enter(alloc: Global, map: &mut PlaceMap, entered: &[(&str, usize)]) -> Result<(), Fail> {
     for (short, place) in entered {
-        map.enter(&id(rt, short)?, *place)?;
-    }
-    assert!(rt; !map.is_empty());
-    for (short, place) in wanted {
-        assert_eq!(rt; map.get(&id(rt, short)?), *place, "{short}");
+        map.enter(&id(alloc, short)?, *place)?;
     }
     Ok(())
 }
 
+/// Whether a map is empty, and what is at each of these ids.
+fn places(alloc: Global, map: &PlaceMap, ids: &[&str]) -> Result<String, Fail> {
+    let mut found = format!(in alloc; "{}", map.is_empty())?;
+    for short in ids {
+        let place = map.get(&id(alloc, short)?);
+        found.push_str(format!(in alloc; " {short} {place:?}")?.as_str())?;
+    }
+    Ok(found)
+}
+
+/// The places of an empty map with slots below the bound, and those after these ids are entered.
+fn places_of(
+    alloc: Global,
+    bound: u32,
+    entered: &[(&str, usize)],
+    ids: &[&str],
+) -> Result<String, Fail> {
+    let mut map = PlaceMap::new(alloc, bound);
+    let before = places(alloc, &map, &["0"])?;
+    enter(alloc, &mut map, entered)?;
+    let after = places(alloc, &map, ids)?;
+    Ok(format!(in alloc; "{before}, {after}")?)
+}
+
 #[test]
 fn first_place_of_each_id(rt: HostRuntime) -> Result<(), Fail> {
-    let with_slots = [
+    let entered = [
         ("3", 7),
         ("3", 8),
         ("0", 9),
@@ -42,23 +55,17 @@ fn first_place_of_each_id(rt: HostRuntime) -> Result<(), Fail> {
         ("9007199254740991", 12),
         ("'1", 13),
     ];
-    let wanted = [
-        ("3", Some(7)),
-        ("0", Some(9)),
-        ("4", Some(10)),
-        ("9007199254740991", Some(12)),
-        ("'1", Some(13)),
-        ("1", None),
-        ("5", None),
-        ("'3", None),
-    ];
-    let mut map = PlaceMap::new(rt.alloc(), 4);
-    expect(&rt, &mut map, &with_slots, &wanted)?;
-    let mut map = PlaceMap::new(rt.alloc(), 0);
-    expect(
-        &rt,
-        &mut map,
-        &[("0", 5), ("0", 6)],
-        &[("0", Some(5)), ("1", None)],
-    )
+    let ids = ["3", "0", "4", "9007199254740991", "'1", "1", "5", "'3"];
+    let found = places_of(rt.alloc(), 4, &entered, &ids)?;
+    let wanted =
+        "true 0 None, false 3 Some(7) 0 Some(9) 4 Some(10) 9007199254740991 Some(12) '1 Some(13) 1 None 5 None '3 None";
+    assert_eq!(rt; found.as_str(), wanted);
+    Ok(())
+}
+
+#[test]
+fn first_place_without_slots(rt: HostRuntime) -> Result<(), Fail> {
+    let found = places_of(rt.alloc(), 0, &[("0", 5), ("0", 6)], &["0", "1"])?;
+    assert_eq!(rt; found.as_str(), "true 0 None, false 0 Some(5) 1 None");
+    Ok(())
 }
