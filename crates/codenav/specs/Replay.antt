@@ -1,6 +1,7 @@
 -- What `codenav replay` answers a stream.
 use Rattle.std.specs.Prelude.{ℕ, List, Option, Result}
 use Rattle.desk.specs.Machine.{State, nothing}
+use Rattle.lsif.specs.Streams.{Output}
 use Rattle.http_edge.specs.Serving.{Serves}
 use Rattle.http_edge.specs.declared.serve.ServeFault.{ServeFault}
 
@@ -10,5 +11,5 @@ most_requests = 1000000
 
 -- the bytes that were written are the replies of the abstract machine, from its empty state, to the requests of the bytes
 -- that were read; no store can refuse
-abbrev pub Replays : Option (List ℕ) → Option (List ℕ) → Option (List ℕ) → Option (List ℕ) → Result ℕ ServeFault → Type 0
-Replays left left' taken taken' result = (n : State) × Serves ⊥ most_requests nothing left left' taken taken' n result
+abbrev pub Replays : Option (List ℕ) → Option (List ℕ) → Output → Output → Result ℕ ServeFault → Type 0
+Replays left left' output output' result = (n : State) × Serves ⊥ most_requests nothing left left' output output' n result

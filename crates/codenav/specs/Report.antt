@@ -3,8 +3,8 @@ use Rattle.std.specs.Prelude.{◌≡◌, ℕ, ◌+◌, ◌⊎◌, List, [], ◌+
 use Rattle.std.specs.Fmt.{decimal}
 use Rattle.lsif.specs.Code.{name_of, text_of}
 use Rattle.lsif.specs.Element.{Reading}
-use Rattle.lsif.specs.Ends.{Gains}
-use Rattle.lsif.specs.Sending.{GainsOrHides}
+use Rattle.lsif.specs.Sending.{Writes, CutsShort}
+use Rattle.lsif.specs.Streams.{Output}
 use Rattle.dump.specs.Fault.{IsFault}
 use Rattle.dump.specs.Lines.{dump_of}
 use Rattle.codenav.specs.declared.check.Report.{Report}
@@ -41,19 +41,16 @@ exit_code_of statuses.Faulty = 1
 
 -- what a check of a reader's bytes answers and writes: all of the report's line, or by a writer that fails a beginning
 -- of it; nothing where memory was refused or the reader failed
-abbrev pub Checks : Option (List ℕ) → Option (List ℕ) → Option (List ℕ) → Result Status CheckFault → Type 0
-Checks left taken taken' (Ok status) =
-    (report : Report) × ReportsOf left report × (status ≡ status_of report) × Gains taken taken' (report_text report)
-Checks left taken taken' (Err faults.Memory) = Gains taken taken' []
-Checks left taken taken' (Err faults.Read) = Gains taken taken' []
-Checks left taken taken' (Err faults.Write) =
-    (report : Report) × ReportsOf left report
-    × (front : List ℕ) × (back : List ℕ) × (report_text report ≡ front ++ back) × GainsOrHides taken taken' front
+abbrev pub Checks : Option (List ℕ) → Output → Result Status CheckFault → Output → Type 0
+Checks left output (Ok status) output' =
+    (report : Report) × ReportsOf left report × (status ≡ status_of report) × Writes output (report_text report) output'
+Checks left output (Err faults.Memory) output' = Writes output [] output'
+Checks left output (Err faults.Read) output' = Writes output [] output'
+Checks left output (Err faults.Write) output' = (report : Report) × ReportsOf left report × CutsShort output (report_text report) output'
 
--- what the counts of the reader's failures, of the writer's and of its idle pushes say of the answer
-abbrev pub CountsCheck : ℕ → ℕ → ℕ → ℕ → ℕ → ℕ → Result Status CheckFault → Type 0
-CountsCheck read failed idle read' failed' idle' (Ok status) = (read' ≡ read) × (failed' ≡ failed) × (idle' ≡ idle)
-CountsCheck read failed idle read' failed' idle' (Err faults.Memory) = (read' ≡ read) × (failed' ≡ failed) × (idle' ≡ idle)
-CountsCheck read failed idle read' failed' idle' (Err faults.Read) = (read' ≡ read + 1) × (failed' ≡ failed) × (idle' ≡ idle)
-CountsCheck read failed idle read' failed' idle' (Err faults.Write) =
-    (read' ≡ read) × (((failed' ≡ failed + 1) × (idle' ≡ idle)) ⊎ ((failed' ≡ failed) × (idle' ≡ idle + 1)))
+-- a check that failed to read counted one failure of the reader, and any other none
+abbrev pub CountsCheck : ℕ → Result Status CheckFault → ℕ → Type 0
+CountsCheck failed (Ok status) failed' = failed' ≡ failed
+CountsCheck failed (Err faults.Memory) failed' = failed' ≡ failed
+CountsCheck failed (Err faults.Read) failed' = failed' ≡ failed + 1
+CountsCheck failed (Err faults.Write) failed' = failed' ≡ failed

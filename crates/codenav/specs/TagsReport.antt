@@ -1,8 +1,8 @@
 -- What `codenav check-tags` reports of a tags file.
 use Rattle.std.specs.Prelude.{◌≡◌, ℕ, ◌+◌, List, [], ◌++◌, length, codes, Option, Some, None, Result, Ok, Err, ⊤}
 use Rattle.std.specs.Fmt.{decimal}
-use Rattle.lsif.specs.Ends.{Gains}
-use Rattle.lsif.specs.Sending.{GainsOrHides}
+use Rattle.lsif.specs.Sending.{Writes, CutsShort}
+use Rattle.lsif.specs.Streams.{Output}
 use Rattle.tags.specs.Codes.{name_of, text_of}
 use Rattle.tags.specs.Fault.{Reading, contents, tags_of, IsFaultless, IsFirstFault}
 use Rattle.tags.specs.Lines.{readings_of}
@@ -36,11 +36,9 @@ status_of (Faulty f) = statuses.Faulty
 
 -- what a check of a reader's bytes answers and writes: all of the report's line, or by a writer that fails a beginning
 -- of it; nothing where memory was refused or the reader failed
-abbrev pub Checks : Option (List ℕ) → Option (List ℕ) → Option (List ℕ) → Result Status CheckFault → Type 0
-Checks left taken taken' (Ok status) =
-    (report : TagsReport) × ReportsOf left report × (status ≡ status_of report) × Gains taken taken' (report_text report)
-Checks left taken taken' (Err faults.Memory) = Gains taken taken' []
-Checks left taken taken' (Err faults.Read) = Gains taken taken' []
-Checks left taken taken' (Err faults.Write) =
-    (report : TagsReport) × ReportsOf left report
-    × (front : List ℕ) × (back : List ℕ) × (report_text report ≡ front ++ back) × GainsOrHides taken taken' front
+abbrev pub Checks : Option (List ℕ) → Output → Result Status CheckFault → Output → Type 0
+Checks left output (Ok status) output' =
+    (report : TagsReport) × ReportsOf left report × (status ≡ status_of report) × Writes output (report_text report) output'
+Checks left output (Err faults.Memory) output' = Writes output [] output'
+Checks left output (Err faults.Read) output' = Writes output [] output'
+Checks left output (Err faults.Write) output' = (report : TagsReport) × ReportsOf left report × CutsShort output (report_text report) output'

@@ -1,5 +1,6 @@
 //! `codenav check-lsif`: the report of a dump.
 ghost use Rattle.std.specs.Prelude.{◌≡◌, ◌-◌, ◌^◌, ◌<◌, IfOk, string_bytes};
+ghost use Rattle.lsif.specs.Streams.{CanCount};
 ghost use Rattle.codenav.specs.Report.{ReportsOf, report_text, status_of, exit_code_of, Checks, CountsCheck};
 ghost use Rattle.codenav.specs.Judging.{CountsRead};
 
@@ -106,10 +107,9 @@ pub fn check_lsif<R: Source, W: Sink>(
     w: &mut W,
 ) -> Result<Status, CheckFault>
     requires reads { R.failed r.old < 2 ^ 64 - 1 }
-    requires writes { W.failed w.old < 2 ^ 64 - 1 }
-    requires idles { W.idle w.old < 2 ^ 64 - 1 }
-    ensures checks { Checks (R.left r.old) (W.taken w.old) (W.taken w.new) result }
-    ensures counted { CountsCheck (R.failed r.old) (W.failed w.old) (W.idle w.old) (R.failed r.new) (W.failed w.new) (W.idle w.new) result }
+    requires writes { CanCount (W.output w.old) }
+    ensures checks { Checks (R.left r.old) (W.output w.old) result (W.output w.new) }
+    ensures counted { CountsCheck (R.failed r.old) result (R.failed r.new) }
 {
     let report = judge(alloc, r)?;
     let text = report_text(alloc, report)?;

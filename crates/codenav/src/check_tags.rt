@@ -1,6 +1,7 @@
 //! `codenav check-tags`: the report of a tags file.
 ghost use Rattle.std.specs.Prelude.{◌≡◌, ◌-◌, ◌^◌, ◌<◌, IfOk, string_bytes};
 ghost use Rattle.lsif.specs.Held.{told};
+ghost use Rattle.lsif.specs.Streams.{CanCount};
 ghost use Rattle.tags.specs.Faults.{result_map};
 ghost use Rattle.tags.specs.Lines.{handed};
 ghost use Rattle.tags.specs.Counting.{next};
@@ -136,10 +137,9 @@ pub fn check_tags<R: Source, W: Sink>(
     w: &mut W,
 ) -> Result<Status, CheckFault>
     requires reads { R.failed r.old < 2 ^ 64 - 1 }
-    requires writes { W.failed w.old < 2 ^ 64 - 1 }
-    requires idles { W.idle w.old < 2 ^ 64 - 1 }
-    ensures checks { Checks (R.left r.old) (W.taken w.old) (W.taken w.new) result }
-    ensures counted { CountsCheck (R.failed r.old) (W.failed w.old) (W.idle w.old) (R.failed r.new) (W.failed w.new) (W.idle w.new) result }
+    requires writes { CanCount (W.output w.old) }
+    ensures checks { Checks (R.left r.old) (W.output w.old) result (W.output w.new) }
+    ensures counted { CountsCheck (R.failed r.old) result (R.failed r.new) }
 {
     let report = judge(alloc, r)?;
     let text = report_text(alloc, report)?;

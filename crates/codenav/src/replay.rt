@@ -1,5 +1,6 @@
 //! `codenav replay`: the replies to the requests of a stream.
 ghost use Rattle.std.specs.Prelude.{◌≡◌, ◌-◌, ◌^◌, ◌<◌, Err};
+ghost use Rattle.lsif.specs.Streams.{CanCount};
 ghost use Rattle.http_edge.specs.Serving.{CountsRead, CountsWrite};
 ghost use Rattle.http_edge.specs.declared.serve.ServeFault.TheVariants.{Memory};
 ghost use Rattle.codenav.specs.Replay.{Replays};
@@ -17,12 +18,11 @@ const MOST_REQUESTS: u32 = 1000000;
 /// refused, and then nothing was read or written; where the reader failed; and where the writer failed or took no byte.
 pub fn replay<R: Source, W: Sink>(alloc: Global, r: &mut R, w: &mut W) -> Result<u32, ServeFault>
     requires reads { R.failed r.old < 2 ^ 64 - 1 }
-    requires writes { W.failed w.old < 2 ^ 64 - 1 }
-    requires idles { W.idle w.old < 2 ^ 64 - 1 }
-    ensures replays { Replays (R.left r.old) (R.left r.new) (W.taken w.old) (W.taken w.new) result }
+    requires writes { CanCount (W.output w.old) }
+    ensures replays { Replays (R.left r.old) (R.left r.new) (W.output w.old) (W.output w.new) result }
     ensures memory { result ≡ Err Memory → (r.new ≡ r.old) × (w.new ≡ w.old) }
     ensures read { CountsRead (R.failed r.old) (R.failed r.new) result }
-    ensures write { CountsWrite (W.failed w.old) (W.idle w.old) (W.failed w.new) (W.idle w.new) result }
+    ensures write { CountsWrite (W.output w.old) result (W.output w.new) }
 {
     let mut desk = PlainDesk::new(alloc);
     serve_stream(alloc, &mut desk, r, w, MOST_REQUESTS)

@@ -2,7 +2,7 @@
 use Rattle.std.proofs.Common.{◌≡◌, ℕ, ◌+◌, ◌<◌, ◌≤◌, inl, inr, List, [], ◌∷◌, ◌++◌, length, take, drop, Option, refl, sym, ◌∙◌, ap, arith, append_assoc, length-append, zero, suc}
 use Rattle.std.proofs.Math.Seq.{drop-nil}
 use Rattle.std.proofs.lemmas.List.{take-append-le, drop-append-le, take_all, drop_all, length-take, length-drop}
-use Rattle.lsif.specs.Ends.{AtEnd}
+use Rattle.lsif.specs.Streams.{AtEnd}
 use Rattle.http_edge.specs.Heads.{request_head, SettlesHead}
 use Rattle.http_edge.specs.Items.{IsUnended}
 use Rattle.http_edge.specs.Requests.{refused, item_of}

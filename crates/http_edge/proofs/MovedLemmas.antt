@@ -1,8 +1,8 @@
 -- Bytes that move, one part after another.
 use Rattle.std.proofs.Common.{◌≡◌, ℕ, ◌+◌, inl, inr, List, [], ◌++◌, take, drop, Option, Some, None, refl, sym, ◌∙◌, ap, append_assoc, append-nil}
 use Rattle.std.proofs.Math.Seq.{take-add}
-use Rattle.lsif.specs.Ends.{Moves, Gains}
-use Rattle.lsif.specs.Sending.{GainsOrHides}
+use Rattle.lsif.specs.Streams.{Output, Moves, Gains}
+use Rattle.lsif.specs.Sending.{GainsOrHides, Writes, WritesTo}
 use Rattle.http_edge.specs.Serving.{MovesOrHides}
 
 pub gains_refl : (a : Option (List ℕ)) → Gains a a []
@@ -16,6 +16,18 @@ gains_more (Some xs) b c p q f g = let h = rw f at g in h ∙ ap Some (append_as
 pub gains_or_more : (a b c : Option (List ℕ)) (p q : List ℕ) → Gains a b p → GainsOrHides b c q → GainsOrHides a c (p ++ q)
 gains_or_more None b c p q f g = tt
 gains_or_more (Some xs) b c p q f g = let h = rw f at g in elim h [ inl e ↦ inl (e ∙ ap Some (append_assoc xs p q)) | inr e ↦ inr e ]
+
+pub writes_nothing : (a : Output) → Writes a [] a
+writes_nothing a = (gains_refl a.taken, (refl, refl))
+
+pub writes_more : (a b c : Output) (p q : List ℕ) → Writes a p b → Writes b q c → Writes a (p ++ q) c
+writes_more a b c p q f g = (gains_more a.taken b.taken c.taken p q f.0 g.0, (g.1.0 ∙ f.1.0, g.1.1 ∙ f.1.1))
+
+pub writes_to_more : (a b c : Output) (p q : List ℕ) → Writes a p b → WritesTo b q c → WritesTo a (p ++ q) c
+writes_to_more a b c p q f g = elim g [
+  | inl h ↦ inl (gains_or_more a.taken b.taken c.taken p q f.0 h.0, (h.1.0 ∙ ap (λ n. n + 1) f.1.0, h.1.1 ∙ f.1.1))
+  | inr h ↦ inr (gains_more a.taken b.taken c.taken p q f.0 h.0, (h.1.0 ∙ f.1.0, h.1.1 ∙ ap (λ n. n + 1) f.1.1))
+]
 
 pub moves_refl : (a : Option (List ℕ)) → Moves a a []
 moves_refl None = tt

@@ -1,14 +1,14 @@
 -- The text of replies.
-use Rattle.std.proofs.Common.{◌≡◌, ℕ, List, [], ◌++◌, Option, Some, None, Result, Ok, Err, option_map, refl, ap, sym, ◌∙◌, append_assoc, unwrap_or}
+use Rattle.std.proofs.Common.{◌≡◌, ℕ, List, [], ◌∷◌, ◌++◌, Option, Some, None, Result, Ok, Err, option_map, refl, ap, sym, ◌∙◌, append_assoc, unwrap_or}
 use Rattle.std.specs.Prelude.{◌&&◌, nat_le, nat_lt}
 use Rattle.std.specs.Borrow.{Bor}
 use Rattle.std.proofs.lemmas.Bool.{le-leb, lt-ltb, leb-true, ltb-true, and_parts, false_from_ne_true}
 use Rattle.http.specs.StatusCode.{IsStatusCode, reason_phrase}
-use Rattle.lsif.specs.Ends.{Gains}
-use Rattle.lsif.specs.Sending.{Sends}
-use Rattle.lsif.specs.declared.ends.Failed.{Failed}
+use Rattle.lsif.specs.Sending.{Writes, Sends}
+use Rattle.lsif.specs.Streams.{Output}
+use Rattle.lsif.specs.declared.streams.Failed.{Failed}
 use Rattle.http_edge.specs.Replies.{phrase}
-use Rattle.http_edge.proofs.MovedLemmas.{gains_more, gains_or_more}
+use Rattle.http_edge.proofs.MovedLemmas.{writes_more, writes_to_more}
 
 abbrev content : Bor (List ℕ) → List ℕ
 content text = text.now
@@ -26,12 +26,16 @@ unfolding phrase
 no_phrase n none =
     rw (false_from_ne_true (nat_le 100 n && nat_lt n 1000) (λ t. let p = and_parts (nat_le 100 n) (nat_lt n 1000) t in none (leb-true 100 n p.0, ltb-true n 1000 p.1))) refl
 
--- one text went out, and then another or a beginning of it
-pub sends_more : (a b c : Option (List ℕ)) (p q : List ℕ) (result : Result (Unit {0}) Failed) → Gains a b p → Sends b c q result → Sends a c (p ++ q) result
-sends_more a b c p q (Ok u) g s = gains_more a b c p q g s
+-- one text was written, and then another or a beginning of it
+pub sends_more : (a b c : Output) (p q : List ℕ) (result : Result (Unit {0}) Failed) → Writes a p b → Sends b q result c → Sends a (p ++ q) result c
+sends_more a b c p q (Ok u) g s = writes_more a b c p q g s
 sends_more a b c p q (Err e) g s =
-    (p ++ s.0, s.1, ap (λ l. p ++ l) s.2 ∙ sym (append_assoc p s.0 s.1), gains_or_more a b c p s.0 g s.3)
+    (p ++ s.0, s.1, ap (λ l. p ++ l) s.2 ∙ sym (append_assoc p s.0 s.1), s.3, writes_to_more a b c p s.0 g s.4)
+
+not_empty : (p q : List ℕ) → (p ≡ [] → ⊥) → p ++ q ≡ [] → ⊥
+not_empty [] q some e = some refl
+not_empty (x ∷ p) q some e = cc
 
 -- a beginning of a text is one of what goes on after it
-pub sends_less : (a b : Option (List ℕ)) (p q : List ℕ) (e : Failed) → Sends a b p (Err e) → Sends a b (p ++ q) (Err e)
-sends_less a b p q e s = (s.0, s.1 ++ q, ap (λ l. l ++ q) s.2 ∙ append_assoc s.0 s.1 q, s.3)
+pub sends_less : (a b : Output) (p q : List ℕ) (e : Failed) → Sends a p (Err e) b → Sends a (p ++ q) (Err e) b
+sends_less a b p q e s = (s.0, s.1 ++ q, ap (λ l. l ++ q) s.2 ∙ append_assoc s.0 s.1 q, not_empty s.1 q s.3, s.4)

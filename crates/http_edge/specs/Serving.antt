@@ -1,14 +1,13 @@
 -- What serving a stream reads, answers and writes.
 use Rattle.std.specs.Prelude.{◌≡◌, ◌≢◌, ℕ, ◌+◌, ◌<◌, ◌≤◌, ◌⊎◌, Bool, true, false, List, [], ◌∷◌, ◌++◌, length, take, drop, Option, Some, None, Result, Ok, Err, ⊤}
 use Rattle.httparse.specs.Spans.{span_bytes, IsWithin}
-use Rattle.lsif.specs.Ends.{Moves, AtEnd}
+use Rattle.lsif.specs.Streams.{Output, Moves, AtEnd, SameCounts, OneFailure, OneZeroWrite}
 use Rattle.http_edge.specs.Heads.{HeadValue, rejected, head_value, SettlesHead, IsHeadUnended}
 use Rattle.http_edge.specs.Requests.{ItemValue, request, refused, item_of}
 use Rattle.desk.specs.Machine.{State}
 use Rattle.desk.specs.Reply.{ReplyValue, out_of_memory}
 use Rattle.desk.specs.Runs.{MayReply, moved}
-use Rattle.lsif.specs.Ends.{Gains}
-use Rattle.lsif.specs.Sending.{GainsOrHides}
+use Rattle.lsif.specs.Sending.{Writes, WritesTo}
 use Rattle.std.specs.List.{flat_map}
 use Rattle.http_edge.specs.Items.{Settles, IsUnended, Requests, Sure, IsEnded, IsPrefix, BeginsEach}
 use Rattle.http_edge.specs.Replies.{reply_text, refusal_text}
@@ -117,20 +116,20 @@ IsBegun limit bytes items left =
 
 -- what a call that serves at most so many requests reads, answers and writes, from one state of the machine to another
 abbrev pub Serves :
-    Type 0 → ℕ → State → Option (List ℕ) → Option (List ℕ) → Option (List ℕ) → Option (List ℕ) → State → Result ℕ ServeFault → Type 0
-Serves store_may_refuse limit m left left' taken taken' n (Ok count) =
+    Type 0 → ℕ → State → Option (List ℕ) → Option (List ℕ) → Output → Output → State → Result ℕ ServeFault → Type 0
+Serves store_may_refuse limit m left left' output output' n (Ok count) =
     (bytes : List ℕ) × (items : List ItemValue) × (texts : List (List ℕ))
     × Moves left left' bytes × StopsWell limit bytes items left' × (count ≡ length items)
-    × Run store_may_refuse m items texts n × Gains taken taken' (joined texts)
-Serves store_may_refuse limit m left left' taken taken' n (Err Memory) = (n ≡ m) × (left' ≡ left) × (taken' ≡ taken)
-Serves store_may_refuse limit m left left' taken taken' n (Err Read) =
+    × Run store_may_refuse m items texts n × Writes output (joined texts) output'
+Serves store_may_refuse limit m left left' output output' n (Err Memory) = (n ≡ m) × (left' ≡ left) × (output' ≡ output)
+Serves store_may_refuse limit m left left' output output' n (Err Read) =
     (bytes : List ℕ) × (items : List ItemValue) × (texts : List (List ℕ))
     × MovesOrHides left left' bytes × Sure limit bytes items
-    × Run store_may_refuse m items texts n × Gains taken taken' (joined texts)
-Serves store_may_refuse limit m left left' taken taken' n (Err Write) =
+    × Run store_may_refuse m items texts n × Writes output (joined texts) output'
+Serves store_may_refuse limit m left left' output output' n (Err Write) =
     (bytes : List ℕ) × (items : List ItemValue) × (texts : List (List ℕ)) × (text : List ℕ) × (front : List ℕ) × (back : List ℕ)
-    × Moves left left' bytes × IsBegun limit bytes items left' × (text ≡ front ++ back)
-    × Run store_may_refuse m items (texts ++ text ∷ []) n × GainsOrHides taken taken' (joined texts ++ front)
+    × Moves left left' bytes × IsBegun limit bytes items left' × (text ≡ front ++ back) × (back ≢ [])
+    × Run store_may_refuse m items (texts ++ text ∷ []) n × WritesTo output (joined texts ++ front) output'
 
 -- a reader's failures are counted by one where reading failed, and else not at all
 abbrev pub CountsRead : {A : Type 0} → ℕ → ℕ → Result A ServeFault → Type 0
@@ -140,9 +139,8 @@ CountsRead failed failed' (Err Read) = failed' ≡ failed + 1
 CountsRead failed failed' (Err Write) = failed' ≡ failed
 
 -- a writer's counts of failures and of writes that took no byte stay, but where writing failed: there one goes up by one
-abbrev pub CountsWrite : {A : Type 0} → ℕ → ℕ → ℕ → ℕ → Result A ServeFault → Type 0
-CountsWrite failed idle failed' idle' (Ok a) = (failed' ≡ failed) × (idle' ≡ idle)
-CountsWrite failed idle failed' idle' (Err Memory) = (failed' ≡ failed) × (idle' ≡ idle)
-CountsWrite failed idle failed' idle' (Err Read) = (failed' ≡ failed) × (idle' ≡ idle)
-CountsWrite failed idle failed' idle' (Err Write) =
-    ((failed' ≡ failed + 1) × (idle' ≡ idle)) ⊎ ((failed' ≡ failed) × (idle' ≡ idle + 1))
+abbrev pub CountsWrite : {A : Type 0} → Output → Result A ServeFault → Output → Type 0
+CountsWrite old (Ok a) new = SameCounts old new
+CountsWrite old (Err Memory) new = SameCounts old new
+CountsWrite old (Err Read) new = SameCounts old new
+CountsWrite old (Err Write) new = OneFailure old new ⊎ OneZeroWrite old new

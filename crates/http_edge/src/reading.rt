@@ -1,6 +1,6 @@
 //! Reads the next item of a stream.
 ghost use Rattle.std.specs.Prelude.{◌≡◌, ◌≢◌, ℕ, ◌+◌, ◌-◌, ◌^◌, ◌<◌, ◌≤◌, List, [], drop, take, Option, Some, None, IfOk, IfSome, length};
-ghost use Rattle.lsif.specs.Ends.{AtEnd, CountsFailure, Moves, Pulls};
+ghost use Rattle.lsif.specs.Streams.{AtEnd, CountsFailure, Moves, Pulls};
 ghost use Rattle.http_edge.specs.Fields.{body_limit};
 ghost use Rattle.http_edge.specs.Heads.{FitsIn, head_limit};
 ghost use Rattle.http_edge.specs.Serving.{NextHead, FillsBody, ReadsBody, NextItem, ItemFits};

@@ -1,6 +1,7 @@
 //! The text of replies.
-ghost use Rattle.std.specs.Prelude.{◌≡◌, ◌-◌, ◌^◌, ◌<◌, ◌++◌};
-ghost use Rattle.lsif.specs.Sending.{Sends, CountsSending};
+ghost use Rattle.std.specs.Prelude.{◌≡◌, ◌++◌};
+ghost use Rattle.lsif.specs.Sending.{Sends};
+ghost use Rattle.lsif.specs.Streams.{CanCount};
 ghost use Rattle.http_edge.specs.Replies.{phrase, status_line, fields_text, body_text, response_text, answer_text};
 
 use crate::refusal::Refusal;
@@ -28,10 +29,8 @@ fn phrase(status: u16) -> &'static str
 }
 
 fn push_two<W: Sink>(w: &mut W, a: &str, b: &str) -> Result<(), Failed>
-    requires failures { W.failed w.old < 2 ^ 64 - 1 }
-    requires idles { W.idle w.old < 2 ^ 64 - 1 }
-    ensures sent { Sends (W.taken w.old) (W.taken w.new) (a.now ++ b.now) result }
-    ensures counted { CountsSending (W.failed w.old) (W.idle w.old) (W.failed w.new) (W.idle w.new) result }
+    requires { CanCount (W.output w.old) }
+    ensures { Sends (W.output w.old) (a.now ++ b.now) result (W.output w.new) }
 {
     match push_all(w, a.as_bytes()) {
         Ok(()) => push_all(w, b.as_bytes()),
@@ -40,10 +39,8 @@ fn push_two<W: Sink>(w: &mut W, a: &str, b: &str) -> Result<(), Failed>
 }
 
 fn push_three<W: Sink>(w: &mut W, a: &str, b: &str, c: &str) -> Result<(), Failed>
-    requires failures { W.failed w.old < 2 ^ 64 - 1 }
-    requires idles { W.idle w.old < 2 ^ 64 - 1 }
-    ensures sent { Sends (W.taken w.old) (W.taken w.new) (a.now ++ (b.now ++ c.now)) result }
-    ensures counted { CountsSending (W.failed w.old) (W.idle w.old) (W.failed w.new) (W.idle w.new) result }
+    requires { CanCount (W.output w.old) }
+    ensures { Sends (W.output w.old) (a.now ++ (b.now ++ c.now)) result (W.output w.new) }
 {
     match push_all(w, a.as_bytes()) {
         Ok(()) => push_two(w, b, c),
@@ -53,10 +50,8 @@ fn push_three<W: Sink>(w: &mut W, a: &str, b: &str, c: &str) -> Result<(), Faile
 
 /// Writes four texts, one after the other.
 fn push_four<W: Sink>(w: &mut W, a: &str, b: &str, c: &str, d: &str) -> Result<(), Failed>
-    requires failures { W.failed w.old < 2 ^ 64 - 1 }
-    requires idles { W.idle w.old < 2 ^ 64 - 1 }
-    ensures sent { Sends (W.taken w.old) (W.taken w.new) (a.now ++ (b.now ++ (c.now ++ d.now))) result }
-    ensures counted { CountsSending (W.failed w.old) (W.idle w.old) (W.failed w.new) (W.idle w.new) result }
+    requires { CanCount (W.output w.old) }
+    ensures { Sends (W.output w.old) (a.now ++ (b.now ++ (c.now ++ d.now))) result (W.output w.new) }
 {
     match push_all(w, a.as_bytes()) {
         Ok(()) => push_three(w, b, c, d),
@@ -66,10 +61,8 @@ fn push_four<W: Sink>(w: &mut W, a: &str, b: &str, c: &str, d: &str) -> Result<(
 
 /// Writes the status line without its end (RFC 9112, section 4).
 fn push_status<W: Sink>(w: &mut W, status: u16) -> Result<(), Failed>
-    requires failures { W.failed w.old < 2 ^ 64 - 1 }
-    requires idles { W.idle w.old < 2 ^ 64 - 1 }
-    ensures sent { Sends (W.taken w.old) (W.taken w.new) (status_line status) result }
-    ensures counted { CountsSending (W.failed w.old) (W.idle w.old) (W.failed w.new) (W.idle w.new) result }
+    requires { CanCount (W.output w.old) }
+    ensures { Sends (W.output w.old) (status_line status) result (W.output w.new) }
 {
     let mut digits = Buffer::new();
     push_four(w, "HTTP/1.1 ", digits.format(status), " ", phrase(status))
@@ -77,10 +70,8 @@ fn push_status<W: Sink>(w: &mut W, status: u16) -> Result<(), Failed>
 
 /// Writes the field `Allow` where a route's method is allowed, and the fields that each response has.
 fn push_fields<W: Sink>(w: &mut W, allow: Option<Route>) -> Result<(), Failed>
-    requires failures { W.failed w.old < 2 ^ 64 - 1 }
-    requires idles { W.idle w.old < 2 ^ 64 - 1 }
-    ensures sent { Sends (W.taken w.old) (W.taken w.new) (fields_text allow) result }
-    ensures counted { CountsSending (W.failed w.old) (W.idle w.old) (W.failed w.new) (W.idle w.new) result }
+    requires { CanCount (W.output w.old) }
+    ensures { Sends (W.output w.old) (fields_text allow) result (W.output w.new) }
 {
     const FIELDS: &str = "\r\nConnection: close\r\nContent-Type: application/json\r\n";
     match allow {
@@ -91,10 +82,8 @@ fn push_fields<W: Sink>(w: &mut W, allow: Option<Route>) -> Result<(), Failed>
 
 /// Writes the length of the body, the end of the head, and the body.
 fn push_body<W: Sink>(w: &mut W, body: &str) -> Result<(), Failed>
-    requires failures { W.failed w.old < 2 ^ 64 - 1 }
-    requires idles { W.idle w.old < 2 ^ 64 - 1 }
-    ensures sent { Sends (W.taken w.old) (W.taken w.new) (body_text body.now) result }
-    ensures counted { CountsSending (W.failed w.old) (W.idle w.old) (W.failed w.new) (W.idle w.new) result }
+    requires { CanCount (W.output w.old) }
+    ensures { Sends (W.output w.old) (body_text body.now) result (W.output w.new) }
 {
     let mut digits = Buffer::new();
     push_four(
@@ -107,10 +96,8 @@ fn push_body<W: Sink>(w: &mut W, body: &str) -> Result<(), Failed>
 }
 
 fn push_fields_and_body<W: Sink>(w: &mut W, allow: Option<Route>, body: &str) -> Result<(), Failed>
-    requires failures { W.failed w.old < 2 ^ 64 - 1 }
-    requires idles { W.idle w.old < 2 ^ 64 - 1 }
-    ensures sent { Sends (W.taken w.old) (W.taken w.new) (fields_text allow ++ body_text body.now) result }
-    ensures counted { CountsSending (W.failed w.old) (W.idle w.old) (W.failed w.new) (W.idle w.new) result }
+    requires { CanCount (W.output w.old) }
+    ensures { Sends (W.output w.old) (fields_text allow ++ body_text body.now) result (W.output w.new) }
 {
     match push_fields(w, allow) {
         Ok(()) => push_body(w, body),
@@ -126,10 +113,8 @@ fn push_response<W: Sink>(
     allow: Option<Route>,
     body: &str,
 ) -> Result<(), Failed>
-    requires failures { W.failed w.old < 2 ^ 64 - 1 }
-    requires idles { W.idle w.old < 2 ^ 64 - 1 }
-    ensures sent { Sends (W.taken w.old) (W.taken w.new) (response_text status allow body.now) result }
-    ensures counted { CountsSending (W.failed w.old) (W.idle w.old) (W.failed w.new) (W.idle w.new) result }
+    requires { CanCount (W.output w.old) }
+    ensures { Sends (W.output w.old) (response_text status allow body.now) result (W.output w.new) }
 {
     match push_status(w, status) {
         Ok(()) => push_fields_and_body(w, allow, body),
@@ -140,10 +125,8 @@ fn push_response<W: Sink>(
 impl Answer {
     /// Writes it.
     pub(crate) fn write<W: Sink>(&self, w: &mut W) -> Result<(), Failed>
-        requires failures { W.failed w.old < 2 ^ 64 - 1 }
-        requires idles { W.idle w.old < 2 ^ 64 - 1 }
-        ensures sent { Sends (W.taken w.old) (W.taken w.new) (answer_text self.now) result }
-        ensures counted { CountsSending (W.failed w.old) (W.idle w.old) (W.failed w.new) (W.idle w.new) result }
+        requires { CanCount (W.output w.old) }
+        ensures { Sends (W.output w.old) (answer_text self.now) result (W.output w.new) }
     {
         match self {
             Answer::Reply(reply) => push_response(w, reply.status(), None, reply.body()),

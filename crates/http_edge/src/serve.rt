@@ -2,6 +2,7 @@
 ghost use Rattle.std.specs.Prelude.{◌≡◌, ◌≢◌, ℕ, ◌-◌, ◌^◌, ◌<◌, ◌≤◌, List, [], Err, IfOk, drop, length, vec_len};
 ghost use Rattle.desk.specs.Machine.{State};
 ghost use Rattle.lsif.specs.Sending.{CountsSending, Sends};
+ghost use Rattle.lsif.specs.Streams.{CanCount};
 ghost use Rattle.http_edge.specs.Fields.{body_limit};
 ghost use Rattle.http_edge.specs.Heads.{head_limit};
 ghost use Rattle.http_edge.specs.Items.{ends};
@@ -110,12 +111,11 @@ fn respond<D: Desk, W: Sink>(
 ) -> Result<(), Failed>
     requires routes { router.now ≡ routes }
     requires fits { ItemFits (length held.now) (length body.now) item }
-    requires failures { W.failed w.old < 2 ^ 64 - 1 }
-    requires idles { W.idle w.old < 2 ^ 64 - 1 }
+    requires count { CanCount (W.output w.old) }
     ensures sent { (m : State) → D.stands desk.old m → (n : State) × (text : List ℕ)
         × Answers D.store_may_refuse m (item_value held.now body.now item) text n × D.stands desk.new n
-        × Sends (W.taken w.old) (W.taken w.new) text result }
-    ensures counted { CountsSending (W.failed w.old) (W.idle w.old) (W.failed w.new) (W.idle w.new) result }
+        × Sends (W.output w.old) text result (W.output w.new) }
+    ensures counted { CountsSending (W.output w.old) result (W.output w.new) }
 {
     let answer = answer_item(alloc, desk, router, item, held, body);
     answer.write(w)
@@ -134,14 +134,13 @@ fn respond_next<D: Desk, W: Sink>(
     requires routes { router.now ≡ routes }
     requires fits { ItemFits (length buffer.old.pending) (length body.now) next.item }
     requires taken { next.taken ≤ length buffer.old.pending }
-    requires failures { W.failed w.old < 2 ^ 64 - 1 }
-    requires idles { W.idle w.old < 2 ^ 64 - 1 }
+    requires count { CanCount (W.output w.old) }
     ensures sent { (m : State) → D.stands desk.old m → (n : State) × (text : List ℕ)
         × Answers D.store_may_refuse m (item_value buffer.old.pending body.now next.item) text n × D.stands desk.new n
-        × Sends (W.taken w.old) (W.taken w.new) text result }
+        × Sends (W.output w.old) text result (W.output w.new) }
     ensures pending { buffer.new.pending ≡ drop next.taken buffer.old.pending }
     ensures capacity { buffer.new.capacity ≡ buffer.old.capacity }
-    ensures counted { CountsSending (W.failed w.old) (W.idle w.old) (W.failed w.new) (W.idle w.new) result }
+    ensures counted { CountsSending (W.output w.old) result (W.output w.new) }
 {
     let written = respond(alloc, desk, router, w, next.item, buffer.pending(), body);
     buffer.advance(next.taken);
@@ -171,15 +170,14 @@ fn serve<D: Desk, R: Source, W: Sink>(
 ) -> Result<u32, ServeFault>
     requires routes { router.now ≡ routes }
     requires reads { R.failed r.old < 2 ^ 64 - 1 }
-    requires writes { W.failed w.old < 2 ^ 64 - 1 }
-    requires idles { W.idle w.old < 2 ^ 64 - 1 }
+    requires writes { CanCount (W.output w.old) }
     requires room { head_limit ≤ buffer.old.capacity }
     requires body_room { body_limit ≤ length body.old }
     requires empty { buffer.old.pending ≡ [] }
     ensures served { (m : State) → D.stands desk.old m → (n : State)
-        × Serves D.store_may_refuse limit m (R.left r.old) (R.left r.new) (W.taken w.old) (W.taken w.new) n result × D.stands desk.new n }
+        × Serves D.store_may_refuse limit m (R.left r.old) (R.left r.new) (W.output w.old) (W.output w.new) n result × D.stands desk.new n }
     ensures read { CountsRead (R.failed r.old) (R.failed r.new) result }
-    ensures write { CountsWrite (W.failed w.old) (W.idle w.old) (W.failed w.new) (W.idle w.new) result }
+    ensures write { CountsWrite (W.output w.old) result (W.output w.new) }
     ensures made { result ≢ Err Memory }
 {
     let mut count = 0;
@@ -230,13 +228,12 @@ pub fn serve_stream<D: Desk, R: Source, W: Sink>(
     limit: u32,
 ) -> Result<u32, ServeFault>
     requires reads { R.failed r.old < 2 ^ 64 - 1 }
-    requires writes { W.failed w.old < 2 ^ 64 - 1 }
-    requires idles { W.idle w.old < 2 ^ 64 - 1 }
+    requires writes { CanCount (W.output w.old) }
     ensures served { (m : State) → D.stands desk.old m → (n : State)
-        × Serves D.store_may_refuse limit m (R.left r.old) (R.left r.new) (W.taken w.old) (W.taken w.new) n result × D.stands desk.new n }
+        × Serves D.store_may_refuse limit m (R.left r.old) (R.left r.new) (W.output w.old) (W.output w.new) n result × D.stands desk.new n }
     ensures memory { result ≡ Err Memory → (desk.new ≡ desk.old) × (r.new ≡ r.old) × (w.new ≡ w.old) }
     ensures read { CountsRead (R.failed r.old) (R.failed r.new) result }
-    ensures write { CountsWrite (W.failed w.old) (W.idle w.old) (W.failed w.new) (W.idle w.new) result }
+    ensures write { CountsWrite (W.output w.old) result (W.output w.new) }
 {
     let router = router(alloc)?;
     let mut buffer = head_buffer(alloc)?;

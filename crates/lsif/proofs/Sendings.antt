@@ -1,10 +1,10 @@
--- Bytes that go out one part after another.
-use Rattle.std.proofs.Common.{◌≡◌, ℕ, ◌+◌, ◌<◌, inl, List, [], ◌++◌, length, take, drop, Option, Some, None, refl, sym, ◌∙◌, ap, append_assoc, append-nil}
+-- Bytes that are written one part after another.
+use Rattle.std.proofs.Common.{◌≡◌, ℕ, ◌+◌, ◌<◌, inl, List, [], ◌++◌, length, take, drop, Option, Some, None, refl, sym, ◌∙◌, ap, append_assoc, append-nil, arith, length-drop}
 use Rattle.std.proofs.Math.Seq.{take-add}
 use Rattle.std.proofs.lemmas.Bool.{ne_eqb}
 use Rattle.std.proofs.lemmas.Bool.{lt-ltb}
 use Rattle.std.specs.Prelude.{if◌then◌else◌, ◌==◌, ◌&&◌}
-use Rattle.lsif.specs.Ends.{Gains, StaysOrHides}
+use Rattle.lsif.specs.Streams.{Gains, StaysOrHides}
 use Rattle.std.proofs.Common.{nat_lt}
 use Rattle.lsif.specs.Sending.{GainsOrHides}
 
@@ -20,15 +20,15 @@ pub gains_hides : (a b c : Option (List ℕ)) (p : List ℕ) → Gains a b p →
 gains_hides None b c p f h = tt
 gains_hides (Some xs) b c p f h = let k = rw f at h in k
 
-pub gains_or : (a b : Option (List ℕ)) (p : List ℕ) → Gains a b p → GainsOrHides a b p
-gains_or None b p f = tt
-gains_or (Some xs) b p f = inl f
-
 pub sent_more : (bytes : List ℕ) (sent n : ℕ) → take sent bytes ++ take n (drop sent bytes) ≡ take (sent + n) bytes
 sent_more bytes sent n = sym (take-add sent n bytes)
 
-pub idle_kept : (old new n : ℕ) (bytes : List ℕ) → new ≡ (if n == 0 && nat_lt 0 (length bytes) then old + 1 else old) → (n ≡ 0 → ⊥) → new ≡ old
-idle_kept old new n bytes h some = h ∙ rw (ne_eqb n 0 some) refl
+pub zero_writes_kept : (old new n : ℕ) (bytes : List ℕ) → new ≡ (if n == 0 && nat_lt 0 (length bytes) then old + 1 else old) → (n ≡ 0 → ⊥) → new ≡ old
+zero_writes_kept old new n bytes h some = h ∙ rw (ne_eqb n 0 some) refl
 
-pub idle_more : (old new : ℕ) (bytes : List ℕ) → new ≡ (if 0 == 0 && nat_lt 0 (length bytes) then old + 1 else old) → 0 < length bytes → new ≡ old + 1
-idle_more old new bytes h lt = h ∙ rw (lt-ltb 0 (length bytes) lt) refl
+pub one_zero_write : (old new n : ℕ) (bytes : List ℕ) → new ≡ (if n == 0 && nat_lt 0 (length bytes) then old + 1 else old) → n ≡ 0 → 0 < length bytes → new ≡ old + 1
+one_zero_write old new n bytes h none lt = let k = rw none at h in k ∙ rw (lt-ltb 0 (length bytes) lt) refl
+
+-- behind a beginning that isn't all there is a rest
+pub has_rest : (bytes : List ℕ) (sent : ℕ) → sent < length bytes → drop sent bytes ≡ [] → ⊥
+has_rest bytes sent lt none = let e = sym (length-drop sent bytes) ∙ ap length none in omega (arith, lt, e)

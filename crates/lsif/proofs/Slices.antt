@@ -5,7 +5,7 @@ use Rattle.std.proofs.lemmas.List.{drop-take, drop-drop, length-take}
 use Rattle.std.proofs.lemmas.Slice.{between_is}
 use Rattle.std.proofs.lemmas.Grind.{common_steps}
 use Rattle.std.proofs.Math.Seq.{take-add}
-use Rattle.lsif.specs.Ends.{Moves, AtEnd}
+use Rattle.lsif.specs.Streams.{Moves, AtEnd}
 use Rattle.lsif.specs.Held.{SameTold}
 
 pub range_more : (xs : List ℕ) (s e n : ℕ) → s ≤ e → slice_range xs s (e + n) ≡ slice_range xs s e ++ take n (drop e xs)

@@ -1,6 +1,6 @@
 -- How the next line is found among the bytes in hand.
 use Rattle.std.specs.Prelude.{◌≡◌, ◌≢◌, ℕ, ◌+◌, ◌<◌, ◌≤◌, ◌⊎◌, List, [], ◌∷◌, ◌++◌, length, take, drop, Option, Some, None, Result, Ok, Err, ⊤, All, Bool, true, false}
-use Rattle.lsif.specs.Ends.{AtEnd}
+use Rattle.lsif.specs.Streams.{AtEnd}
 use Rattle.lsif.specs.Lines.{Reader, line_feed}
 use Rattle.lsif.specs.declared.lines.LinesFault.{LinesFault}
 use Rattle.lsif.specs.declared.lines.LinesFault.TheVariants.{Memory, TooLong, Read}

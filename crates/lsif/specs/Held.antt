@@ -1,6 +1,6 @@
 -- Bytes in hand, over a reader.
 use Rattle.std.specs.Prelude.{◌≡◌, ℕ, List, ◌++◌, length, Option, Some, None, Result, Ok, Err, ⊤}
-use Rattle.lsif.specs.Ends.{StaysOrHides, AtEnd, Moves}
+use Rattle.lsif.specs.Streams.{StaysOrHides, AtEnd, Moves}
 
 -- the bytes in hand, and how many there is room for
 pub record Held : Type 0 where

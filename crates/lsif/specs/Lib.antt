@@ -2,7 +2,7 @@ pub mod Code
 pub mod Cutting
 pub mod Edges
 pub mod Element
-pub mod Ends
+pub mod Streams
 pub mod Events
 pub mod Held
 pub mod Hovers

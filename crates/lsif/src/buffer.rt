@@ -1,9 +1,9 @@
 //! Bytes in hand.
 ghost use Rattle.std.specs.Prelude.{◌≡◌, ℕ, ◌+◌, ◌-◌, ◌^◌, ◌<◌, ◌≤◌, List, [], ◌++◌, drop, take, Option, Some, IfOk, length, vec_len, slice_range, ◌==◌};
-ghost use Rattle.lsif.specs.Ends.{CountsFailure, Pulls};
+ghost use Rattle.lsif.specs.Streams.{CountsFailure, Pulls};
 ghost use Rattle.lsif.specs.Held.{Fills};
 
-use crate::ends::{Failed, Source};
+use crate::streams::{Failed, Source};
 use std::alloc::{AllocError, Global};
 use std::marker::Model;
 

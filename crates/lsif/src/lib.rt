@@ -6,7 +6,6 @@ mod buffer;
 mod code;
 mod edges;
 mod element;
-mod ends;
 mod events;
 mod fault;
 mod hovers;
@@ -15,6 +14,7 @@ mod lines;
 mod monikers;
 mod reading;
 mod sending;
+mod streams;
 mod vertices;
 
 pub use buffer::Buffer;
@@ -22,9 +22,9 @@ pub use code::Code;
 pub use element::{
     Edge, Element, Event, Item, Moniker, MonikerKind, Package, Profile, Property, Vertex,
 };
-pub use ends::{Counted, Failed, Sink, Source, counted_law};
 pub use fault::ReadFault;
 pub use id::Id;
 pub use lines::{LineBuffer, Lines, LinesFault, lines_law};
 pub use reading::{LONGEST_LINE, read_element};
 pub use sending::push_all;
+pub use streams::{Counted, Failed, Sink, Source, counted_law};

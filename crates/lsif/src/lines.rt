@@ -1,7 +1,7 @@
 //! Lines of a reader.
 ghost use Rattle.std.specs.Prelude.{◌≡◌, ◌≢◌, ℕ, ◌+◌, ◌-◌, ◌^◌, ◌<◌, ◌≤◌, List, [], ◌∷◌, ◌++◌, drop, take, Option, Some, None, IfOk, IfErr, MatchOption, MatchResult, length, false};
 ghost use Rattle.lsif.specs.Cutting.{HasNoFeed, IsFirstFeed, Scans, CountsRead, KeepsTold, NextTaken};
-ghost use Rattle.lsif.specs.Ends.{AtEnd};
+ghost use Rattle.lsif.specs.Streams.{AtEnd};
 ghost use Rattle.lsif.specs.Held.{SameTold, told};
 ghost use Rattle.lsif.specs.Lines.{Cuts, NextLine, lent, lines_of, over, shown};
 ghost use Rattle.lsif.specs.contracts.lines.Lines.{the_row as lines_row};
@@ -9,7 +9,7 @@ ghost use Rattle.std.specs.Io.BufRead.{Rests};
 ghost use types.Logic.{sem};
 
 use crate::buffer::Buffer;
-use crate::ends::Source;
+use crate::streams::Source;
 use std::alloc::{AllocError, Global};
 use std::marker::Model;
 
@@ -139,10 +139,10 @@ fn scan<S: Source>(source: &mut S, buffer: &mut Buffer) -> Result<Option<usize>,
 impl LineBuffer {
     /// Room for lines of at most `longest` bytes, each without its line feed.
     pub fn new(alloc: Global, longest: usize) -> Result<LineBuffer, LinesFault>
-        requires { longest < 2 ^ 64 - 1 }
         ensures { MatchResult result (λ l. l ≡ record { pending = []; longest = longest; fault = None; line = []; has_feed = false }) (λ fault. fault ≡ LinesFault.Memory) }
     {
-        let buffer = Buffer::new(alloc, longest + 1)?;
+        let capacity = longest.checked_add(1).ok_or(LinesFault::Memory)?;
+        let buffer = Buffer::new(alloc, capacity)?;
         Ok(LineBuffer {
             buffer,
             given: 0,
@@ -211,7 +211,6 @@ impl<S: Source> Lines<S> {
     pub fn new(alloc: Global, source: S, longest: usize) -> Result<Lines<S>, LinesFault>
     where
         S: Drop,
-        requires { longest < 2 ^ 64 - 1 }
         ensures { MatchResult result (λ l. l ≡ record { left = S.left source; longest = longest; failures = S.failed source; fault = None; line = []; has_feed = false }) (λ fault. fault ≡ LinesFault.Memory) }
     {
         let lines = LineBuffer::new(alloc, longest)?;

@@ -1,15 +1,14 @@
-ghost use Rattle.std.specs.Prelude.{◌-◌, ◌^◌, ◌<◌};
-ghost use Rattle.lsif.specs.Sending.{Sends, CountsSending};
+//! Bytes that are written one part after another.
+ghost use Rattle.lsif.specs.Sending.{Sends};
+ghost use Rattle.lsif.specs.Streams.{CanCount};
 
-use crate::ends::{Failed, Sink};
+use crate::streams::{Failed, Sink};
 
-/// Pushes all of the bytes, one part after another. Fails where a push failed, or took no byte: then a beginning of
-/// the bytes went out.
+/// Writes all of the bytes, one part after another. Fails where a push failed, or took no byte: then a beginning of the
+/// bytes was written, but not all of them.
 pub fn push_all<W: Sink>(w: &mut W, bytes: &[u8]) -> Result<(), Failed>
-    requires failures { W.failed w.old < 2 ^ 64 - 1 }
-    requires idles { W.idle w.old < 2 ^ 64 - 1 }
-    ensures sent { Sends (W.taken w.old) (W.taken w.new) bytes.now result }
-    ensures counted { CountsSending (W.failed w.old) (W.idle w.old) (W.failed w.new) (W.idle w.new) result }
+    requires { CanCount (W.output w.old) }
+    ensures { Sends (W.output w.old) bytes.now result (W.output w.new) }
 {
     let mut sent = 0;
     'sending: while sent < bytes.len() {

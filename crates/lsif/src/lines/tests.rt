@@ -4,7 +4,7 @@ ghost use Rattle.lsif.specs.Held.{told};
 ghost use Rattle.lsif.specs.Lines.{lines_of};
 
 use super::*;
-use crate::ends::Counted;
+use crate::streams::Counted;
 use std::io;
 use std::io::{ErrorKind, Read};
 use std::test::Fail;

@@ -1,5 +1,5 @@
 use Rattle.std.proofs.Common.{◌≡◌, ◌-◌, ◌≤◌, ◌++◌, ℕ, List, length, take}
-use Rattle.lsif.specs.Ends.{Moves}
+use Rattle.lsif.specs.Streams.{Moves}
 use Rattle.http_edge.proofs.reading.fill_body.Given as goal
 
 abbrev pub invariant-filling : goal.invariant-filling

@@ -1,6 +1,6 @@
 use Rattle.http_edge.specs.Replies.{body_text}
 use Rattle.http_edge.proofs.reply.push_body.Goals as goal
 
-pub returns-clause-sent : goal.returns-clause-sent
+pub returns : goal.returns
 unfolding body_text
-returns-clause-sent g c = rw c.format.ensures.text at c.push_four.ensures.sent
+returns g c = rw c.format.ensures.text at c.push_four.ensures

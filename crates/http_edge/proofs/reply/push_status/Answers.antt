@@ -1,6 +1,6 @@
 use Rattle.http_edge.specs.Replies.{status_line}
 use Rattle.http_edge.proofs.reply.push_status.Goals as goal
 
-pub returns-clause-sent : goal.returns-clause-sent
+pub returns : goal.returns
 unfolding status_line
-returns-clause-sent g c = rw (c.format.ensures.text, c.phrase.ensures) at c.push_four.ensures.sent
+returns g c = rw (c.format.ensures.text, c.phrase.ensures) at c.push_four.ensures

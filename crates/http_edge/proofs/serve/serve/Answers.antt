@@ -1,6 +1,6 @@
 use Rattle.std.proofs.Common.{◌≡◌, ◌<◌, ◌++◌, inl, inr, [], ◌∷◌, length, sym, arith, refl, ◌∙◌, length-append}
 use Rattle.http_edge.specs.Serving.{item_value}
-use Rattle.http_edge.proofs.MovedLemmas.{gains_refl, gains_more, moves_refl, moves_more, moves_or_more, gains_or_more}
+use Rattle.http_edge.proofs.MovedLemmas.{writes_nothing, writes_more, writes_to_more, moves_refl, moves_more, moves_or_more}
 use Rattle.http_edge.proofs.Runs.{run-snoc, joined-snoc, begun}
 use Rattle.http_edge.proofs.Sures.{settled-append, settled-snoc, requests-full, requests-ended, sure-full, gives_settles, stops-last, sure-unended}
 use Rattle.http_edge.proofs.serve.serve.Goals as goal
@@ -13,11 +13,10 @@ serving-init g c = record {
   chain = c.requires.empty;
   count = refl;
   within = omega arith;
-  run = λ m s. (m, [], refl, s, gains_refl _);
+  run = λ m s. (m, [], refl, s, writes_nothing _);
   capacity = refl;
   reads = refl;
-  writes = refl;
-  idles = refl;
+  counts = (refl, refl);
   room = refl;
 }
 
@@ -79,7 +78,7 @@ returns-then-ends-clause-served g c = λ m s.
         stops-last c.args.limit _ i.items _ (item_value c.next_item.new.buffer.pending c.next_item.new.body c.in-Ok-Some.next.item) _ _ chain lt next.2 last,
         simp length-append (omega (arith, i.count)),
         run-snoc _ m i.items run.1 run.0 (item_value c.next_item.new.buffer.pending c.next_item.new.body c.in-Ok-Some.next.item) said.1 said.0 run.2 said.2,
-        rw (joined-snoc run.1 said.1) (gains_more _ _ _ _ _ run.4 said.4),
+        rw (joined-snoc run.1 said.1) (writes_more _ _ _ _ _ run.4 said.4),
       ),
       said.3,
     )
@@ -105,12 +104,11 @@ serving-preserved g c =
             run.1 ++ said.1 ∷ [],
             run-snoc _ m i.items run.1 run.0 (item_value c.next_item.new.buffer.pending c.next_item.new.body c.in-Ok-Some.next.item) said.1 said.0 run.2 said.2,
             said.3,
-            rw (joined-snoc run.1 said.1) (gains_more _ _ _ _ _ run.4 said.4),
+            rw (joined-snoc run.1 said.1) (writes_more _ _ _ _ _ run.4 said.4),
           );
       capacity = c.respond_next-written.ensures.capacity ∙ c.next_item.ensures.capacity ∙ i.capacity;
       reads = c.in-Ok-Some.ensures.counted ∙ i.reads;
-      writes = c.in-Ok.ensures.counted.0 ∙ i.writes;
-      idles = c.in-Ok.ensures.counted.1 ∙ i.idles;
+      counts = (c.in-Ok.ensures.counted.0 ∙ i.counts.0, c.in-Ok.ensures.counted.1 ∙ i.counts.1);
       room = c.next_item.ensures.len ∙ i.room;
     }
 
@@ -153,8 +151,9 @@ returns-in-Err-written-clause-served g c = λ m s.
         moves_more _ _ _ i.bytes next.0 i.moved next.1,
         begun c.args.limit _ i.items _ (item_value c.next_item.new.buffer.pending c.next_item.new.body c.in-Ok-Some.next.item) _ _ chain lt next.2,
         said.4.2,
+        said.4.3,
         run-snoc _ m i.items run.1 run.0 (item_value c.next_item.new.buffer.pending c.next_item.new.body c.in-Ok-Some.next.item) said.1 said.0 run.2 said.2,
-        gains_or_more _ _ _ _ _ run.4 said.4.3,
+        writes_to_more _ _ _ _ _ run.4 said.4.4,
       ),
       said.3,
     )

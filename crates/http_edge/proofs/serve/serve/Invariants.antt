@@ -1,5 +1,6 @@
 use Rattle.std.proofs.Common.{◌≡◌, ◌-◌, ◌≤◌, ℕ, List, length}
-use Rattle.lsif.specs.Ends.{Moves, Gains}
+use Rattle.lsif.specs.Streams.{Moves, SameCounts}
+use Rattle.lsif.specs.Sending.{Writes}
 use Rattle.http_edge.specs.Items.{SettlesAll}
 use Rattle.http_edge.specs.Requests.{ItemValue}
 use Rattle.desk.specs.Machine.{State}
@@ -15,11 +16,10 @@ invariant-serving g l = record {
   count : l.count ≡ length items;
   within : l.count ≤ l.limit;
   run : (m : State) → g.D.Desk.stands l.fn.desk m → (n : State) × (texts : List (List ℕ)) × Run g.D.Desk.store_may_refuse m items texts n
-      × g.D.Desk.stands l.desk n × Gains (g.W.Sink.taken l.fn.w) (g.W.Sink.taken l.w) (joined texts);
+      × g.D.Desk.stands l.desk n × Writes (g.W.Sink.output l.fn.w) (joined texts) (g.W.Sink.output l.w);
   capacity : l.buffer.capacity ≡ l.fn.buffer.capacity;
   reads : g.R.Source.failed l.r ≡ g.R.Source.failed l.fn.r;
-  writes : g.W.Sink.failed l.w ≡ g.W.Sink.failed l.fn.w;
-  idles : g.W.Sink.idle l.w ≡ g.W.Sink.idle l.fn.w;
+  counts : SameCounts (g.W.Sink.output l.fn.w) (g.W.Sink.output l.w);
   room : length l.body ≡ length l.fn.body;
 }
 

@@ -1,32 +1,41 @@
-use Rattle.std.proofs.Common.{◌+◌, take, drop, sym, arith, ◌∙◌, length-drop}
+use Rattle.std.proofs.Common.{◌+◌, take, drop, sym, arith, ◌∙◌, length-drop, inl, inr, ap}
 use Rattle.std.proofs.lemmas.List.{take-append-drop, take_rest}
-use Rattle.lsif.proofs.Sendings.{gains_more, gains_hides, gains_or, sent_more, idle_kept}
+use Rattle.lsif.proofs.Sendings.{gains_more, gains_hides, sent_more, zero_writes_kept, one_zero_write, has_rest}
 use Rattle.lsif.proofs.sending.push_all.Goals as goal
 
-pub returns-in-Ok-eq0-clause-sent : goal.returns-in-Ok-eq0-clause-sent
-returns-in-Ok-eq0-clause-sent g c =
+pub returns-in-Ok-eq0 : goal.returns-in-Ok-eq0
+returns-in-Ok-eq0 g c =
+    let i = c.sending.invariant in
     let pushed = rw (take_rest c.args.bytes.now c.sending.sent) at c.in-Ok-eq0.ensures.bytes in
     let sent = c.sending.sent + c.in-Ok-eq0.field-0 in (
       take sent c.args.bytes.now,
       drop sent c.args.bytes.now,
       sym (take-append-drop sent c.args.bytes.now),
-      gains_or _ _ _ (rw (← sent_more c.args.bytes.now c.sending.sent c.in-Ok-eq0.field-0) (gains_more _ _ _ _ _ c.sending.invariant.gained pushed)),
+      has_rest c.args.bytes.now sent (let t = c.sending-test.true in omega (arith, c.in-Ok-eq0.field-0-is)),
+      inr (
+        rw (← sent_more c.args.bytes.now c.sending.sent c.in-Ok-eq0.field-0) (gains_more _ _ _ _ _ i.written.0 pushed.0),
+        (pushed.1 ∙ i.written.1.0, one_zero_write _ _ c.in-Ok-eq0.field-0 (drop c.sending.sent c.args.bytes.now) pushed.2 c.in-Ok-eq0.field-0-test (rw length-drop (let t = c.sending-test.true in omega arith)) ∙ ap (λ n. n + 1) i.written.1.1),
+      ),
     )
 
 pub sending-preserved : goal.sending-preserved
 sending-preserved g c =
+    let i = c.sending.invariant in
     let pushed = rw (take_rest c.args.bytes.now c.sending.sent) at c.in-Ok.ensures.bytes in
     record {
-      gained = rw (← sent_more c.args.bytes.now c.sending.sent c.in-Ok.count) (gains_more _ _ _ _ _ c.sending.invariant.gained pushed);
+      written = (
+        rw (← sent_more c.args.bytes.now c.sending.sent c.in-Ok.count) (gains_more _ _ _ _ _ i.written.0 pushed.0),
+        (pushed.1 ∙ i.written.1.0, zero_writes_kept _ _ c.in-Ok.count _ pushed.2 c.in-Ok.count-test.1 ∙ i.written.1.1),
+      );
       within = let w = rw (take_rest c.args.bytes.now c.sending.sent, length-drop) at c.in-Ok.ensures.within in let t = c.sending-test.true in omega arith;
-      failed = c.in-Ok.ensures.counted ∙ c.sending.invariant.failed;
-      idle = idle_kept _ _ c.in-Ok.count _ c.in-Ok.ensures.idle c.in-Ok.count-test.1 ∙ c.sending.invariant.idle;
     }
 
-pub returns-in-Err-clause-sent : goal.returns-in-Err-clause-sent
-returns-in-Err-clause-sent g c = (
-  take c.sending.sent c.args.bytes.now,
-  drop c.sending.sent c.args.bytes.now,
-  sym (take-append-drop c.sending.sent c.args.bytes.now),
-  gains_hides _ _ _ _ c.sending.invariant.gained c.in-Err.ensures.bytes,
-)
+pub returns-in-Err : goal.returns-in-Err
+returns-in-Err g c =
+    let i = c.sending.invariant in (
+      take c.sending.sent c.args.bytes.now,
+      drop c.sending.sent c.args.bytes.now,
+      sym (take-append-drop c.sending.sent c.args.bytes.now),
+      has_rest c.args.bytes.now c.sending.sent c.sending-test.true,
+      inl (gains_hides _ _ _ _ i.written.0 c.in-Err.ensures.bytes.0, (c.in-Err.ensures.bytes.1.0 ∙ ap (λ n. n + 1) i.written.1.0, c.in-Err.ensures.bytes.1.1 ∙ i.written.1.1)),
+    )

@@ -58,14 +58,14 @@ fn pulls(alloc: Global, reader: &mut Counted<&[u8]>) -> Result<String, Fail> {
 fn pushes<W: Sink>(alloc: Global, writer: &mut W, parts: &[&str]) -> Result<String, Fail> {
     let mut found = String::new(alloc);
     for part in parts {
-        if writer.failures() == u64::MAX || writer.idles() == u64::MAX {
+        if writer.failures() == u64::MAX || writer.zero_writes() == u64::MAX {
             Err("no more is counted")?;
         }
         let answer = writer.push(part.as_bytes());
         found.push_str(format!(in alloc; "{answer:?} ")?.as_str())?;
     }
-    let (failures, idles) = (writer.failures(), writer.idles());
-    Ok(format!(in alloc; "{found}{failures} {idles}")?)
+    let (failures, zero_writes) = (writer.failures(), writer.zero_writes());
+    Ok(format!(in alloc; "{found}{failures} {zero_writes}")?)
 }
 
 /// The same of a vector, and what it took.

@@ -1,6 +1,6 @@
 //! Readers and writers that count their failures.
 ghost use Rattle.std.specs.Prelude.{◌≡◌, ℕ, ◌+◌, ◌-◌, ◌^◌, ◌<◌, ◌≤◌, List, Option, Some, IfOk, length};
-ghost use Rattle.lsif.specs.Ends.{Pulls, Pushes, CountsFailure, CountsIdle, counted, unless_failed};
+ghost use Rattle.lsif.specs.Streams.{CanCount, CountsFailure, Output, Pulls, Pushes, counted, unless_failed};
 
 use std::io::{Read, Write};
 
@@ -10,13 +10,13 @@ pub struct Failed;
 
 /// What bytes are pulled from.
 pub trait Source {
-    // the bytes that are left, where they are told
+    // the bytes that are left, where they are known
     ghost left: { Self → Option (List ℕ) };
 
-    // how often a pull failed
+    // how many pulls failed
     ghost failed: { Self → ℕ };
 
-    /// How often a pull failed so far.
+    /// How many pulls failed so far.
     fn failures(&self) -> u64
         ensures { result ≡ failed self.now };
 
@@ -30,39 +30,30 @@ pub trait Source {
 
 /// What bytes are pushed into.
 pub trait Sink {
-    // the bytes that were taken, where they are told
-    ghost taken: { Self → Option (List ℕ) };
+    // what is known of it
+    ghost output: { Self → Output };
 
-    // how often a push failed
-    ghost failed: { Self → ℕ };
-
-    // how often a push took nothing of bytes
-    ghost idle: { Self → ℕ };
-
-    /// How often a push failed so far.
+    /// How many pushes failed so far.
     fn failures(&self) -> u64
-        ensures { result ≡ failed self.now };
+        ensures { result ≡ (output self.now).failures };
 
-    /// How often a push took nothing of bytes so far.
-    fn idles(&self) -> u64
-        ensures { result ≡ idle self.now };
+    /// How many pushes took no byte of some so far.
+    fn zero_writes(&self) -> u64
+        ensures { result ≡ (output self.now).zero_writes };
 
     /// Takes a beginning of the bytes, and says how long it is.
     fn push(&mut self, bytes: &[u8]) -> Result<usize, Failed>
-        requires failures { failed self.old < 2 ^ 64 - 1 }
-        requires idles { idle self.old < 2 ^ 64 - 1 }
+        requires { CanCount (output self.old) }
         ensures within { IfOk result (λ n. n ≤ length bytes.now) }
-        ensures bytes { Pushes (taken self.old) (taken self.new) result bytes.now }
-        ensures counted { CountsFailure (failed self.old) (failed self.new) result }
-        ensures idle { CountsIdle (idle self.old) (idle self.new) result bytes.now };
+        ensures bytes { Pushes (output self.old) bytes.now result (output self.new) };
 }
 
-/// A reader or a writer of std's with a count of its failures. Once it failed it tells no bytes.
+/// A reader or a writer of std's with a count of its failures. Once it failed its bytes aren't known any more.
 #[derive(Drop)]
 pub struct Counted<T> {
     inner: T,
     failures: u64,
-    idles: u64,
+    zero_writes: u64,
 }
 
 impl<T> Counted<T> {
@@ -73,7 +64,7 @@ impl<T> Counted<T> {
         Counted {
             inner,
             failures: 0,
-            idles: 0,
+            zero_writes: 0,
         }
     }
 
@@ -94,10 +85,11 @@ impl<T> Counted<T> {
     }
 }
 
-/// A reader that failed once tells no bytes from then on, nor does a writer.
+/// Of a reader that never failed are left the bytes that std's reader has, and a writer that never failed took those that
+/// std's writer has. After a failure neither is known.
 pub fn counted_law<R: Read, W: Write>()
-    ensures left { (reader : Counted R) → 0 < reader.failures → ⟦<Counted<R> as Source>⟧.left reader ≡ None }
-    ensures taken { (writer : Counted W) → 0 < writer.failures → ⟦<Counted<W> as Sink>⟧.taken writer ≡ None }
+    ensures left { (reader : Counted R) → ⟦<Counted<R> as Source>⟧.left reader ≡ unless_failed reader.failures (R.remaining reader.inner) }
+    ensures taken { (writer : Counted W) → (⟦<Counted<W> as Sink>⟧.output writer).taken ≡ unless_failed writer.failures (W.contents writer.inner) }
 {}
 
 impl<R: Read> Source for Counted<R> {
@@ -118,25 +110,21 @@ impl<R: Read> Source for Counted<R> {
 }
 
 impl<W: Write> Sink for Counted<W> {
-    ghost taken = { λ s. unless_failed s.failures (W.contents s.inner) };
-
-    ghost failed = { λ s. s.failures };
-
-    ghost idle = { λ s. s.idles };
+    ghost output = { λ s. record { taken = unless_failed s.failures (W.contents s.inner); failures = s.failures; zero_writes = s.zero_writes } };
 
     fn failures(&self) -> u64 {
         self.failures
     }
 
-    fn idles(&self) -> u64 {
-        self.idles
+    fn zero_writes(&self) -> u64 {
+        self.zero_writes
     }
 
     fn push(&mut self, bytes: &[u8]) -> Result<usize, Failed> {
         match self.inner.write(bytes) {
             Ok(0) => {
                 if !bytes.is_empty() {
-                    self.idles += 1;
+                    self.zero_writes += 1;
                 }
                 Ok(0)
             }
@@ -161,18 +149,14 @@ impl<S: Source> Source for &mut S {
 }
 
 impl<S: Sink> Sink for &mut S {
-    ghost taken = { λ s. S.taken s.now };
-
-    ghost failed = { λ s. S.failed s.now };
-
-    ghost idle = { λ s. S.idle s.now };
+    ghost output = { λ s. S.output s.now };
 
     fn failures(&self) -> u64 {
         Sink::failures(&**self)
     }
 
-    fn idles(&self) -> u64 {
-        Sink::idles(&**self)
+    fn zero_writes(&self) -> u64 {
+        Sink::zero_writes(&**self)
     }
 
     fn push(&mut self, bytes: &[u8]) -> Result<usize, Failed> {
