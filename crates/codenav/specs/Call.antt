@@ -1,5 +1,5 @@
 -- What the words of the command line say, by clap's meaning of them.
-use Rattle.std.specs.Prelude.{◌≡◌, ◌≢◌, ◌⊎◌, true, List, Option, Some, None, codes, bytes_eq, option_map, if◌then◌else◌, ⊤}
+use Rattle.std.specs.Prelude.{◌≡◌, ◌≢◌, ◌⊎◌, true, List, [], Option, Some, None, codes, bytes_eq, option_map, if◌then◌else◌, ⊤}
 use Rattle.clap.specs.Words.{App, Row, Rule, Text, fault_of, first_of, kind_of, new_app, new_rule, subcommand_of, with_rule, with_subcommand, IsAmong}
 use Rattle.clap.specs.declared.builder.action.ArgAction.TheVariants.{Set}
 use Rattle.clap.specs.declared.error.Error.{Error}
@@ -22,7 +22,7 @@ call_value (Replay database file) = replay database.now file.now
 
 -- a word that has to be there
 abbrev pub word : Text → Rule
-word id = record (new_rule id) { required = true; action = Some Set }
+word id = record (new_rule id) { required = true; action = Some Set; value_names = 1 }
 
 -- check-lsif FILE
 abbrev pub check_lsif_app : App
@@ -36,9 +36,10 @@ check_tags_app = with_rule (new_app (codes "check-tags")) (word (codes "file"))
 abbrev pub replay_app : App
 replay_app = with_rule (with_rule (new_app (codes "replay")) (word (codes "db"))) (word (codes "file"))
 
--- the program, which has to have a subcommand
+-- the program, which has a version and has to have a subcommand
 abbrev pub top_app : App
-top_app = let codenav = new_app (codes "codenav") in record codenav { top = record codenav.top { subcommand_required = true } }
+top_app =
+    let codenav = new_app (codes "codenav") in record codenav { top = record codenav.top { subcommand_required = true; has_version = true } }
 
 -- the command line
 abbrev pub app : App
@@ -70,6 +71,10 @@ call_of (Some sub) =
     else if bytes_eq sub.0 (codes "check-tags") then check_tags_of sub.1
     else if bytes_eq sub.0 (codes "replay") then replay_of sub.1
     else None
+
+-- clap takes the words, and they say this call
+abbrev pub IsCall : List Text → CallValue → Type 0
+IsCall words call = (fault_of app words ≡ []) × (call_of (subcommand_of app words) ≡ Some call)
 
 -- what clap's error becomes
 abbrev pub ShowsError : Error → CallFault → Type 0

@@ -1,12 +1,15 @@
 //! What the program's words ask for.
 ghost use Rattle.std.specs.Prelude.{◌≡◌, ◌≢◌, List, Option, Some, None, IfOk, IfErr, MatchResult, map, option_map, false, codes};
-ghost use Rattle.clap.specs.Words.{app_of, first_of, found_of, kind_of, rows_of, rule_of, subcommand_of, subcommand_rows_of, with_subcommand};
-ghost use Rattle.codenav.specs.Call.{IsMissing, IsRefused, ShowsError, app, call_of, call_value, check_lsif_app, check_lsif_of, check_tags_app, check_tags_of, replay_app, replay_of, replay_with, top_app, word};
+ghost use Rattle.clap.specs.Words.{app_of, first_of, found_of, kind_of, rows_of, rule_of, subcommand_rows_of, with_subcommand};
+ghost use Rattle.codenav.specs.Call.{IsCall, IsMissing, IsRefused, ShowsError, app, call_of, call_value, check_lsif_app, check_lsif_of, check_tags_app, check_tags_of, replay_app, replay_of, replay_with, top_app, word};
 
 use clap::error::ErrorKind;
 use clap::{Arg, ArgAction, ArgMatches, Command, Error};
 use std::alloc::{AllocError, Global};
 use std::convert::AsStr;
+
+/// The version of the program.
+const VERSION: &str = "0.1.0";
 
 /// What the program is to do.
 #[derive(Clone, Copy, Debug, PartialEq, Eq)]
@@ -52,42 +55,72 @@ impl From<Error> for CallFault {
     }
 }
 
-/// A word that has to be there.
-fn word<'a>(alloc: Global, id: &'a str) -> Arg<'a>
+/// A word that has to be there, with its name in texts of help and what it is.
+fn word<'a>(alloc: Global, id: &'a str, name: &'a str, help: &'a str) -> Arg<'a>
     ensures rule { rule_of result ≡ word id.entry.now }
     ensures local { result.global ≡ false }
 {
-    Arg::new(alloc, id).required(true).action(ArgAction::Set)
+    Arg::new(alloc, id)
+        .required(true)
+        .action(ArgAction::Set)
+        .value_name(name)
+        .help(help)
 }
 
 /// `check-lsif FILE`.
 fn check_lsif<'a>(alloc: Global) -> Result<Command<'a>, AllocError>
     ensures { IfOk result (λ c. app_of c ≡ check_lsif_app) }
 {
-    Command::new(alloc, "check-lsif").arg(word(alloc, "file"))
+    let file = word(alloc, "file", "FILE", "The dump, one element on each line");
+    Command::new(alloc, "check-lsif")
+        .about(
+            "Checks a dump in the Language Server Index Format 0.6.0, and prints how many elements it has or its first fault",
+        )
+        .arg(file)
 }
 
 /// `check-tags FILE`.
 fn check_tags<'a>(alloc: Global) -> Result<Command<'a>, AllocError>
     ensures { IfOk result (λ c. app_of c ≡ check_tags_app) }
 {
-    Command::new(alloc, "check-tags").arg(word(alloc, "file"))
+    let file = word(alloc, "file", "FILE", "The tags file");
+    Command::new(alloc, "check-tags")
+        .about(
+            "Checks a tags file of Universal Ctags, and prints how many tags it has or its first fault",
+        )
+        .arg(file)
 }
 
 /// `replay DB FILE`.
 fn replay<'a>(alloc: Global) -> Result<Command<'a>, AllocError>
     ensures { IfOk result (λ c. app_of c ≡ replay_app) }
 {
+    let database = word(
+        alloc,
+        "db",
+        "DB",
+        "The database: :memory:, which is empty at first",
+    );
+    let file = word(
+        alloc,
+        "file",
+        "FILE",
+        "The requests, as HTTP/1.1 sends them",
+    );
     Command::new(alloc, "replay")
-        .arg(word(alloc, "db"))?
-        .arg(word(alloc, "file"))
+        .about("Answers the requests in a file over a database, and prints the replies")
+        .arg(database)?
+        .arg(file)
 }
 
 /// The program with no subcommand yet.
 fn top<'a>(alloc: Global) -> Command<'a>
     ensures { app_of result ≡ top_app }
 {
-    Command::new(alloc, "codenav").subcommand_required(true)
+    Command::new(alloc, "codenav")
+        .version(VERSION)
+        .about("A code navigation index server: it answers from uploaded indexes alone")
+        .subcommand_required(true)
 }
 
 /// The program with the subcommand `check-lsif`.
@@ -207,7 +240,7 @@ fn read_words<'a, S: AsStr>(
     words: &'a [S],
 ) -> Result<Call<'a>, CallFault>
     requires { app_of command.old ≡ app }
-    ensures call { IfOk result (λ call. call_of (subcommand_of app (map S.text words.entry.now)) ≡ Some (call_value call)) }
+    ensures call { IfOk result (λ call. IsCall (map S.text words.entry.now) (call_value call)) }
     ensures fault { IfErr result (IsRefused (map S.text words.entry.now)) }
 {
     match command.try_get_matches_from_mut(words) {
@@ -221,7 +254,7 @@ fn read_words<'a, S: AsStr>(
 
 /// Reads the program's words, its name first: the subcommand and the values that `clap` finds in them.
 pub fn read_call<'a, S: AsStr>(alloc: Global, words: &'a [S]) -> Result<Call<'a>, CallFault>
-    ensures call { IfOk result (λ call. call_of (subcommand_of app (map S.text words.entry.now)) ≡ Some (call_value call)) }
+    ensures call { IfOk result (λ call. IsCall (map S.text words.entry.now) (call_value call)) }
     ensures fault { IfErr result (IsRefused (map S.text words.entry.now)) }
 {
     let mut command = command(alloc)?;

@@ -6,5 +6,5 @@ pub mod Judging
 pub mod Listing
 pub mod Lookups
 pub mod Members
+pub mod Numbers
 pub mod Steps
-pub mod Stores

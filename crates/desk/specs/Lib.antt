@@ -5,7 +5,7 @@ pub mod Documents
 pub mod Machine
 pub mod Names
 pub mod Places
-pub mod Plain
+pub mod Steps
 pub mod Reply
 pub mod Requests
 pub mod Runs

@@ -1,8 +1,9 @@
 -- The forms of a project's name, of a key and of a number in a request.
-use Rattle.std.specs.Prelude.{◌≡◌, ◌≢◌, ℕ, ◌<◌, ◌⊎◌, Bool, ◌&&◌, ◌||◌, ◌==◌, not, nat_le, List, length, codes, slice_index, Option, Some, None, if◌then◌else◌}
-use Rattle.std.specs.Char.{is_ascii_lowercase, is_ascii_uppercase, is_ascii_digit}
+use Rattle.std.specs.Prelude.{ℕ, Bool, ◌&&◌, ◌||◌, ◌==◌, not, nat_le, nat_lt, List, length, codes, slice_index, Option, Some, None, if◌then◌else◌}
+use Rattle.std.specs.Char.{is_ascii_lowercase, is_ascii_uppercase, is_ascii_digit, is_digit}
 use Rattle.std.specs.List.{list_all}
-use Rattle.std.specs.Str.Parse.{IsNumeral, digits_value}
+use Rattle.std.specs.Str.{bytes_eq}
+use Rattle.std.specs.Str.Parse.{digits_value}
 use Rattle.positions.specs.Position.{number_limit}
 
 -- a-z 0-9 _ -
@@ -31,12 +32,12 @@ is_key = is_name_of is_key_byte
 abbrev pub where_so : (List ℕ → Bool) → List ℕ → Option (List ℕ)
 where_so is_form text = if is_form text then Some text else None
 
-abbrev pub digit_zero : ℕ
-digit_zero = 48
+-- decimal digits, the first of which isn't zero but in "0", of a number up to 2147483647
+unfoldable pub is_number : List ℕ → Bool
+is_number text =
+    nat_lt 0 (length text) && (list_all (λ c. is_digit c 10) text
+    && ((bytes_eq text (codes "0") || not (slice_index text 0 == 48)) && nat_lt (digits_value 10 text) number_limit))
 
--- the text spells the number of a line or a character: in decimal digits, the first of which isn't zero but in "0"
-pub record IsNumberText (text : List ℕ) (n : ℕ) : Type 0 where
-  pub digits : IsNumeral 10 text
-  pub no_leading_zero : (text ≡ codes "0") ⊎ (slice_index text 0 ≢ digit_zero)
-  pub value : n ≡ digits_value 10 text
-  pub within : n < number_limit
+-- the number that a text spells
+abbrev pub number_in : List ℕ → Option ℕ
+number_in text = if is_number text then Some (digits_value 10 text) else None

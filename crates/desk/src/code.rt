@@ -1,5 +1,6 @@
+//! The faults of requests that are of no line.
 ghost use Rattle.std.specs.Prelude.{◌≡◌};
-ghost use Rattle.desk.specs.Reply.{name_of, text_of, status_of, fault_text};
+ghost use Rattle.desk.specs.Reply.{status_of, fault_text};
 
 /// Why a request has no answer: a fault that is of no line.
 #[derive(Clone, Copy, Debug, PartialEq, Eq)]
@@ -17,32 +18,6 @@ pub enum Code {
 }
 
 impl Code {
-    /// The code as it is printed.
-    pub fn name(self) -> &'static str
-        ensures { result.now ≡ name_of self }
-    {
-        match self {
-            Code::D01 => "D01",
-            Code::D02 => "D02",
-            Code::D03 => "D03",
-            Code::S01 => "S01",
-            Code::S02 => "S02",
-        }
-    }
-
-    /// What it says.
-    pub fn text(self) -> &'static str
-        ensures { result.now ≡ text_of self }
-    {
-        match self {
-            Code::D01 => "project has no dump",
-            Code::D02 => "no such document",
-            Code::D03 => "bad parameter",
-            Code::S01 => "store refused",
-            Code::S02 => "out of memory",
-        }
-    }
-
     /// The status of its reply (RFC 9110, section 15).
     pub fn status(self) -> u16
         ensures { result ≡ status_of self }

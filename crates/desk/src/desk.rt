@@ -1,3 +1,4 @@
+//! What serves requests.
 use crate::reply::Reply;
 use crate::request::{Command, Query};
 

@@ -1,3 +1,4 @@
+//! Bytes in memory as a reader.
 use lsif::{Failed, Source};
 use std::marker::Model;
 

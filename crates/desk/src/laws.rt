@@ -1,3 +1,4 @@
+//! What is said of a body.
 ghost use Rattle.std.specs.Prelude.{◌≡◌, ◌↔◌, ℕ, List, None, Some, Ok, Err, map};
 ghost use Rattle.lsif.specs.Element.{ElementValue};
 ghost use Rattle.dump.specs.declared.fault.LineFault.{LineFault};

@@ -1,9 +1,11 @@
 //! The parts of requests that are of a form.
-ghost use Rattle.std.specs.Prelude.{◌≡◌, ℕ, List, None, IfOk, MatchOption};
+ghost use Rattle.std.specs.Prelude.{◌≡◌, ◌<◌, None, IfOk, IfSome};
 ghost use Rattle.std.specs.List.{list_all};
 ghost use Rattle.url.specs.Parser.{parse_url};
 ghost use Rattle.lsif.specs.Vertices.{serialized};
-ghost use Rattle.desk.specs.Names.{is_project_byte, is_project_name, is_key_byte, is_key, where_so, IsNumberText};
+ghost use Rattle.positions.specs.Position.{number_limit};
+ghost use Rattle.desk.specs.Names.{is_name_of, is_project_name, is_key, where_so, number_in};
+ghost use Rattle.desk.specs.Steps.Names.{is_name_byte};
 
 use std::alloc::{AllocError, Global};
 use std::marker::Model;
@@ -14,6 +16,40 @@ const LONGEST_NAME: usize = 64;
 
 /// How many numbers a line or a character may be: 0 to 2147483647.
 const NUMBER_LIMIT: u32 = 2147483648;
+
+/// What a text is a name of.
+#[derive(Clone, Copy)]
+enum Named {
+    Project,
+    Command,
+}
+
+/// Whether names of this have the byte.
+fn is_name_byte(named: Named, byte: u8) -> bool
+    ensures { result ≡ is_name_byte named byte }
+{
+    let is_project_byte = byte.is_ascii_lowercase()
+        || byte.is_ascii_digit()
+        || byte == b'_'
+        || byte == b'-';
+    match named {
+        Named::Project => is_project_byte,
+        Named::Command => is_project_byte || byte.is_ascii_uppercase(),
+    }
+}
+
+fn are_name_bytes(named: Named, bytes: &[u8]) -> bool
+    ensures { result ≡ list_all (is_name_byte named) bytes.now }
+{
+    bytes.iter().all(|byte| is_name_byte(named, *byte))
+}
+
+/// Whether the text has the form of a name of this.
+fn is_name(named: Named, text: &str) -> bool
+    ensures { result ≡ is_name_of (is_name_byte named) text.now }
+{
+    !text.is_empty() && text.len() <= LONGEST_NAME && are_name_bytes(named, text.as_bytes())
+}
 
 /// The name of a project: 1 to 64 characters of `a-z 0-9 _ -`.
 #[derive(Drop)]
@@ -32,24 +68,6 @@ impl Model for ProjectName {
     ghost invariant = { λ p. is_project_name (string_bytes p.name) ≡ true };
 }
 
-fn is_project_byte(byte: u8) -> bool
-    ensures { result ≡ is_project_byte byte }
-{
-    byte.is_ascii_lowercase() || byte.is_ascii_digit() || byte == b'_' || byte == b'-'
-}
-
-fn are_project_bytes(bytes: &[u8]) -> bool
-    ensures { result ≡ list_all is_project_byte bytes.now }
-{
-    bytes.iter().all(|b| is_project_byte(*b))
-}
-
-fn is_project_name(text: &str) -> bool
-    ensures { result ≡ is_project_name text.now }
-{
-    !text.is_empty() && text.len() <= LONGEST_NAME && are_project_bytes(text.as_bytes())
-}
-
 impl ProjectName {
     ghost use Rattle.std.specs.Prelude.{true};
 
@@ -57,19 +75,11 @@ impl ProjectName {
     pub fn read(alloc: Global, text: &str) -> Result<Option<ProjectName>, AllocError>
         ensures { IfOk result (λ o. o ≡ where_so is_project_name text.now) }
     {
-        if !is_project_name(text) {
+        if !is_name(Named::Project, text) {
             return Ok(None);
         }
         let name = String::from_str(alloc, text)?;
         Ok(Some(ProjectName { name }))
-    }
-
-    /// The same name again.
-    pub(crate) fn try_clone(&self) -> Result<ProjectName, AllocError>
-        ensures { IfOk result (λ o. o ≡ self.now) }
-    {
-        let name = self.name.clone()?;
-        Ok(ProjectName { name })
     }
 
     /// The name as it was read.
@@ -98,24 +108,6 @@ impl Model for Key {
     ghost invariant = { λ k. is_key (string_bytes k.key) ≡ true };
 }
 
-fn is_key_byte(byte: u8) -> bool
-    ensures { result ≡ is_key_byte byte }
-{
-    byte.is_ascii_uppercase() || is_project_byte(byte)
-}
-
-fn are_key_bytes(bytes: &[u8]) -> bool
-    ensures { result ≡ list_all is_key_byte bytes.now }
-{
-    bytes.iter().all(|b| is_key_byte(*b))
-}
-
-fn is_key(text: &str) -> bool
-    ensures { result ≡ is_key text.now }
-{
-    !text.is_empty() && text.len() <= LONGEST_NAME && are_key_bytes(text.as_bytes())
-}
-
 impl Key {
     ghost use Rattle.std.specs.Prelude.{true};
 
@@ -123,19 +115,11 @@ impl Key {
     pub fn read(alloc: Global, text: &str) -> Result<Option<Key>, AllocError>
         ensures { IfOk result (λ o. o ≡ where_so is_key text.now) }
     {
-        if !is_key(text) {
+        if !is_name(Named::Command, text) {
             return Ok(None);
         }
         let key = String::from_str(alloc, text)?;
         Ok(Some(Key { key }))
-    }
-
-    /// The same key again.
-    pub(crate) fn try_clone(&self) -> Result<Key, AllocError>
-        ensures { IfOk result (λ o. o ≡ self.now) }
-    {
-        let key = self.key.clone()?;
-        Ok(Key { key })
     }
 
     /// The key as it was read.
@@ -187,7 +171,8 @@ impl DocUri {
 /// The number that a text spells: decimal digits without leading zeros (zero is `0`), at most 2147483647. None where it
 /// isn't of this form.
 pub fn read_number(text: &str) -> Option<u32>
-    ensures { MatchOption result ((n : ℕ) → IsNumberText text.now n → ⊥) (IsNumberText text.now) }
+    ensures value { result ≡ number_in text.now }
+    ensures below { IfSome result (λ n. n < number_limit) }
 {
     match text.as_bytes() {
         [b'0'] => Some(0),

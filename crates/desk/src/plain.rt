@@ -1,8 +1,9 @@
-//! A desk that keeps what it accepted in lists.
-ghost use Rattle.std.specs.Prelude.{◌≡◌, ◌<◌, ◌≤◌, ◌&&◌, ℕ, List, IfOk, OnOk, OnErr, Some, option_map, map, length, bytes_eq, filter, not, if◌then◌else◌, vec_len, vec_capacity};
+//! A desk that keeps what it accepted in memory.
+ghost use Rattle.std.specs.Prelude.{◌≡◌, ◌&&◌, ℕ, List, IfOk, OnOk, OnErr, Some, None, option_map, length, bytes_eq, string_bytes, if◌then◌else◌};
+ghost use Rattle.std.specs.HashMap.{get_by_text};
 ghost use Rattle.desk.specs.Machine.{State, nothing, dump_put, after, reply_to, AnswersIn};
 ghost use Rattle.desk.specs.Reply.{dump_accepted};
-ghost use Rattle.desk.specs.Plain.{dump_in, kept_in, Stands};
+ghost use Rattle.desk.specs.Steps.Plain.{dump_in, kept_in, Stands};
 
 use crate::bodies::{dump_accepted, faulty, places_found};
 use crate::code::Code;
@@ -17,20 +18,14 @@ use crate::request::{Command, Query};
 use dump::{CheckedDump, DumpFault, read_dump};
 use positions::Position;
 use std::alloc::{AllocError, Global};
+use std::collections::HashMap;
 
-// The dump that a project has.
+/// What is kept of a project: its dump, and under the keys of its accepted commands what their replies say, how many
+/// elements a dump has.
 #[derive(Drop)]
-struct Stored {
-    project: ProjectName,
-    dump: CheckedDump,
-}
-
-// The key of an accepted command, with what its reply says: how many elements its dump has.
-#[derive(Drop)]
-struct Kept {
-    project: ProjectName,
-    key: Key,
-    elements: u32,
+struct Project {
+    dump: Option<CheckedDump>,
+    kept: HashMap<String, u32>,
 }
 
 /// Keeps in memory the dump that each project has, and the keys of accepted commands with what their replies say. A dump
@@ -38,49 +33,74 @@ struct Kept {
 #[derive(Drop)]
 pub struct PlainDesk {
     alloc: Global,
-    dumps: Vec<Stored>,
-    // the newest first
-    kept: Vec<Kept>,
+    projects: HashMap<String, Project>,
 }
 
-fn dump_in<'a>(dumps: &'a [Stored], project: &str) -> Option<&'a CheckedDump>
-    ensures { option_map (λ d. d.now) result ≡ dump_in dumps.now project.now }
+fn dump_in<'a>(projects: &'a HashMap<String, Project>, project: &str) -> Option<&'a CheckedDump>
+    ensures { option_map (λ d. d.now) result ≡ dump_in projects.now project.now }
 {
-    for stored in dumps {
-        if stored.project.as_str() == project {
-            return Some(&stored.dump);
+    match projects.get(project) {
+        Some(found) => found.dump.as_ref(),
+        None => None,
+    }
+}
+
+fn kept_in(projects: &HashMap<String, Project>, project: &str, key: &str) -> Option<u32>
+    ensures { option_map dump_put result ≡ kept_in projects.now project.now key.now }
+{
+    match projects.get(project) {
+        Some(found) => found.kept.get(key).copied(),
+        None => None,
+    }
+}
+
+/// How many elements a dump has.
+fn count(dump: &CheckedDump) -> u32
+    ensures { result ≡ length dump.now }
+{
+    dump.elements().len() as u32
+}
+
+impl Project {
+    /// Nothing is kept.
+    fn new(alloc: Global) -> Project
+        ensures dump { result.dump ≡ None }
+        ensures kept { (key : List ℕ) → get_by_text result.kept key ≡ None }
+    {
+        Project {
+            dump: None,
+            kept: HashMap::new(alloc),
         }
     }
-    None
-}
 
-fn kept_in(kept: &[Kept], project: &str, key: &str) -> Option<u32>
-    ensures { option_map dump_put result ≡ kept_in kept.now project.now key.now }
-{
-    for entry in kept {
-        if entry.project.as_str() == project && entry.key.as_str() == key {
-            return Some(entry.elements);
-        }
+    /// Puts a dump in the place of the one that is there, and keeps how many elements it has under a key.
+    fn put(&mut self, key: String, dump: CheckedDump) -> Result<(), AllocError>
+        ensures dump { OnOk result (self.new.dump ≡ Some dump) }
+        ensures kept { OnOk result ((k : List ℕ) → get_by_text self.new.kept k ≡ (if bytes_eq (string_bytes key) k then Some (length dump) else get_by_text self.old.kept k)) }
+        ensures same_dump { OnErr result (self.new.dump ≡ self.old.dump) }
+        ensures same_kept { OnErr result ((k : List ℕ) → get_by_text self.new.kept k ≡ get_by_text self.old.kept k) }
+    {
+        self.kept.insert(key, count(&dump))?;
+        self.dump = Some(dump);
+        Ok(())
     }
-    None
 }
 
-/// Gives up the dump of a project.
-fn give_up(dumps: &mut Vec<Stored>, project: &str)
-    ensures items { dumps.new.items ≡ filter (λ e. not (bytes_eq e.project project.now)) dumps.old.items }
-    ensures len { vec_len dumps.new ≤ vec_len dumps.old }
-    ensures capacity { vec_capacity dumps.new ≡ vec_capacity dumps.old }
+/// Puts a dump in the place of the one that the project of this name has, and keeps how many elements it has under a key.
+fn put(
+    projects: &mut HashMap<String, Project>,
+    alloc: Global,
+    project: String,
+    key: String,
+    dump: CheckedDump,
+) -> Result<(), AllocError>
+    ensures dumps { OnOk result ((p : List ℕ) → dump_in projects.new p ≡ (if bytes_eq (string_bytes project) p then Some dump else dump_in projects.old p)) }
+    ensures kept { OnOk result ((p k : List ℕ) → kept_in projects.new p k ≡ (if bytes_eq (string_bytes project) p && bytes_eq (string_bytes key) k then Some (dump_put (length dump)) else kept_in projects.old p k)) }
+    ensures same_dumps { OnErr result ((p : List ℕ) → dump_in projects.new p ≡ dump_in projects.old p) }
+    ensures same_kept { OnErr result ((p k : List ℕ) → kept_in projects.new p k ≡ kept_in projects.old p k) }
 {
-    dumps.retain(|stored| stored.project.as_str() != project);
-}
-
-/// Puts a dump in the place of the one that its project has.
-fn put(dumps: &mut Vec<Stored>, stored: Stored)
-    requires { vec_len dumps.old < vec_capacity dumps.old }
-    ensures { (p : List ℕ) → dump_in dumps.new.items p ≡ (if bytes_eq stored.project p then Some stored.dump else dump_in dumps.old.items p) }
-{
-    give_up(dumps, stored.project.as_str());
-    dumps.push_reserved(stored);
+    let found = projects.entry(project)?.or_insert(Project::new(alloc));
+    found.put(key, dump)
 }
 
 impl PlainDesk {
@@ -90,8 +110,7 @@ impl PlainDesk {
     {
         PlainDesk {
             alloc,
-            dumps: Vec::new(alloc),
-            kept: Vec::new(alloc),
+            projects: HashMap::new(alloc),
         }
     }
 
@@ -103,25 +122,15 @@ impl PlainDesk {
         dump: CheckedDump,
     ) -> Result<Reply, AllocError>
         ensures reply { IfOk result (λ r. r ≡ dump_accepted (length dump)) }
-        ensures dumps { OnOk result ((p : List ℕ) → dump_in self.new.dumps.items p ≡ (if bytes_eq project.now p then Some dump else dump_in self.old.dumps.items p)) }
-        ensures kept { OnOk result ((p k : List ℕ) → kept_in self.new.kept.items p k ≡ (if bytes_eq project.now p && bytes_eq key.now k then Some (dump_put (length dump)) else kept_in self.old.kept.items p k)) }
-        ensures same_dumps { OnErr result (self.new.dumps.items ≡ self.old.dumps.items) }
-        ensures same_kept { OnErr result (self.new.kept.items ≡ self.old.kept.items) }
+        ensures dumps { OnOk result ((p : List ℕ) → dump_in self.new.projects p ≡ (if bytes_eq project.now p then Some dump else dump_in self.old.projects p)) }
+        ensures kept { OnOk result ((p k : List ℕ) → kept_in self.new.projects p k ≡ (if bytes_eq project.now p && bytes_eq key.now k then Some (dump_put (length dump)) else kept_in self.old.projects p k)) }
+        ensures same_dumps { OnErr result ((p : List ℕ) → dump_in self.new.projects p ≡ dump_in self.old.projects p) }
+        ensures same_kept { OnErr result ((p k : List ℕ) → kept_in self.new.projects p k ≡ kept_in self.old.projects p k) }
     {
-        let elements = dump.elements().len() as u32;
-        let reply = dump_accepted(self.alloc, elements)?;
-        let stored = Stored {
-            project: project.try_clone()?,
-            dump,
-        };
-        let kept = Kept {
-            project: project.try_clone()?,
-            key: key.try_clone()?,
-            elements,
-        };
-        self.dumps.reserve(1)?;
-        self.kept.insert(0, kept)?;
-        put(&mut self.dumps, stored);
+        let reply = dump_accepted(self.alloc, count(&dump))?;
+        let name = String::from_str(self.alloc, project.as_str())?;
+        let key = String::from_str(self.alloc, key.as_str())?;
+        put(&mut self.projects, self.alloc, name, key, dump)?;
         Ok(reply)
     }
 
@@ -132,11 +141,11 @@ impl PlainDesk {
         key: &Key,
         body: &[u8],
     ) -> Result<Reply, AllocError>
-        ensures reply { (m : State) → Stands self.old.dumps.items self.old.kept.items m → IfOk result (λ r. r ≡ reply_to m project.now key.now body.now) }
-        ensures ok { (m : State) → Stands self.old.dumps.items self.old.kept.items m → OnOk result (Stands self.new.dumps.items self.new.kept.items (after m project.now key.now body.now)) }
-        ensures err { (m : State) → Stands self.old.dumps.items self.old.kept.items m → OnErr result (Stands self.new.dumps.items self.new.kept.items m) }
+        ensures reply { (m : State) → Stands self.old.projects m → IfOk result (λ r. r ≡ reply_to m project.now key.now body.now) }
+        ensures ok { (m : State) → Stands self.old.projects m → OnOk result (Stands self.new.projects (after m project.now key.now body.now)) }
+        ensures err { (m : State) → Stands self.old.projects m → OnErr result (Stands self.new.projects m) }
     {
-        if let Some(elements) = kept_in(&self.kept, project.as_str(), key.as_str()) {
+        if let Some(elements) = kept_in(&self.projects, project.as_str(), key.as_str()) {
             return dump_accepted(self.alloc, elements);
         }
         judgement_law();
@@ -157,9 +166,9 @@ impl PlainDesk {
         uri: &DocUri,
         at: Position,
     ) -> Result<Reply, AllocError>
-        ensures { IfOk result (λ r. AnswersIn (dump_in self.now.dumps.items project.now) project.now uri.now at r) }
+        ensures { IfOk result (λ r. AnswersIn (dump_in self.now.projects project.now) project.now uri.now at r) }
     {
-        let Some(dump) = dump_in(&self.dumps, project.as_str()) else {
+        let Some(dump) = dump_in(&self.projects, project.as_str()) else {
             return Ok(Reply::refused(Code::D01));
         };
         if !has_document(dump, uri.as_str()) {
@@ -172,7 +181,7 @@ impl PlainDesk {
 }
 
 impl Desk for PlainDesk {
-    ghost stands = { λ d m. Stands d.dumps.items d.kept.items m };
+    ghost stands = { λ d m. Stands d.projects m };
 
     ghost store_may_refuse = { ⊥ };
 

@@ -1,3 +1,4 @@
+//! Replies.
 ghost use Rattle.std.specs.Prelude.{◌≡◌, map};
 
 use crate::code::Code;

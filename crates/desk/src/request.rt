@@ -1,3 +1,4 @@
+//! What is asked of a desk.
 use crate::names::{DocUri, Key, ProjectName};
 use positions::Position;
 

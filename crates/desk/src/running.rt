@@ -1,3 +1,4 @@
+//! Requests that are served one after another.
 ghost use Rattle.std.specs.Prelude.{◌≡◌, IfOk, OnErr};
 ghost use Rattle.desk.specs.Machine.{State};
 ghost use Rattle.desk.specs.Requests.{request_value, request_values};

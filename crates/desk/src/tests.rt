@@ -393,15 +393,10 @@ file:///a.t false
     Ok(())
 }
 
-/// What is said of a code, and the reply that it refuses with.
+/// The status of a code, and the reply that it refuses with.
 fn code_text(alloc: Global, code: Code) -> Result<String, Fail> {
     let reply = text_of(alloc, &Reply::refused(code))?;
-    Ok(format!(in alloc;
-        "{} {} {}, {reply}\n",
-        code.status(),
-        code.name(),
-        code.text()
-    )?)
+    Ok(format!(in alloc; "{}, {reply}\n", code.status())?)
 }
 
 #[test]
@@ -411,11 +406,11 @@ fn replies_of_codes(rt: HostRuntime) -> Result<(), Fail> {
         found.push_str(code_text(rt.alloc(), code)?.as_str())?;
     }
     found.push_str(text_of(rt.alloc(), &Reply::out_of_memory())?.as_str())?;
-    let wanted = r#"404 D01 project has no dump, 404 {"fault":"D01","text":"project has no dump"}
-404 D02 no such document, 404 {"fault":"D02","text":"no such document"}
-400 D03 bad parameter, 400 {"fault":"D03","text":"bad parameter"}
-503 S01 store refused, 503 {"fault":"S01","text":"store refused"}
-503 S02 out of memory, 503 {"fault":"S02","text":"out of memory"}
+    let wanted = r#"404, 404 {"fault":"D01","text":"project has no dump"}
+404, 404 {"fault":"D02","text":"no such document"}
+400, 400 {"fault":"D03","text":"bad parameter"}
+503, 503 {"fault":"S01","text":"store refused"}
+503, 503 {"fault":"S02","text":"out of memory"}
 503 {"fault":"S02","text":"out of memory"}"#;
     assert_eq!(rt; found.as_str(), wanted);
     Ok(())

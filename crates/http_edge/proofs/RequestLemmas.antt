@@ -8,9 +8,8 @@ use Rattle.std.specs.Str.Parse.{AllDigits, digits_value}
 use Rattle.std.proofs.lemmas.Bool.{and_parts, and_from, or_cases, not-true, ltb-true, lt-ltb, eqb-false, ne_eqb, false_from_ne_true}
 use Rattle.std.proofs.lemmas.Str.{IsUtf8-from_is_utf8, is_utf8-from_IsUtf8}
 use Rattle.positions.specs.Position.{number_limit}
-use Rattle.desk.specs.Names.{IsNumberText}
 use Rattle.desk.specs.Requests.{RequestValue}
-use Rattle.http_edge.specs.Requests.{request, refused, path_in, query_in, is_number, number_in, with_form, with_method, with_route, route_in, request_of, item_of}
+use Rattle.http_edge.specs.Requests.{request, refused, path_in, query_in, with_form, with_method, with_route, route_in, request_of, item_of}
 use Rattle.http_edge.specs.Items.{ends}
 use Rattle.http_edge.specs.Routes.{method_of, route_of}
 use Rattle.http_edge.specs.declared.route.Route.{Route}
@@ -71,57 +70,3 @@ text_route path u = rw (is_utf8-from_IsUtf8 path u) refl
 
 pub no_text_route : (path : List ℕ) → (IsUtf8 path → ⊥) → None ≡ route_in path
 no_text_route path u = rw (false_from_ne_true (is_utf8 path) (λ t. u (IsUtf8-from_is_utf8 path t))) refl
-
--- ---- numbers
-
-digits_to : (text : List ℕ) → list_all (λ c. is_digit c 10) text ≡ true → AllDigits 10 text
-digits_to [] h = tt
-digits_to (c ∷ text) h = let p = and_parts (is_digit c 10) (list_all (λ c. is_digit c 10) text) h in (ltb-true (digit_value c) 10 p.0, digits_to text p.1)
-
-digits_from : (text : List ℕ) → AllDigits 10 text → list_all (λ c. is_digit c 10) text ≡ true
-digits_from [] h = refl
-digits_from (c ∷ text) h = rw (lt-ltb (digit_value c) 10 h.0, digits_from text h.1) refl
-
-zero_to : (text : List ℕ) → (bytes_eq text (codes "0") || not (slice_index text 0 == 48)) ≡ true → (text ≡ codes "0") ⊎ (slice_index text 0 ≢ 48)
-zero_to text h = elim (or_cases (bytes_eq text (codes "0")) (not (slice_index text 0 == 48)) h) [
-  | inl e ↦ inl (same_is text (codes "0") e)
-  | inr e ↦ inr (eqb-false (slice_index text 0) 48 (not-true (slice_index text 0 == 48) e))
-]
-
-or_left : (a b : Bool) → a ≡ true → (a || b) ≡ true
-or_left a b e = rw e refl
-
-or_right : (a b : Bool) → b ≡ true → (a || b) ≡ true
-or_right true b e = refl
-or_right false b e = e
-
-zero_from : (text : List ℕ) → (text ≡ codes "0") ⊎ (slice_index text 0 ≢ 48) → (bytes_eq text (codes "0") || not (slice_index text 0 == 48)) ≡ true
-zero_from text h = elim h [
-  | inl e ↦ rw e refl
-  | inr e ↦ or_right (bytes_eq text (codes "0")) (not (slice_index text 0 == 48)) (rw (ne_eqb (slice_index text 0) 48 e) refl)
-]
-
-number_to : (text : List ℕ) → is_number text ≡ true → IsNumberText text (digits_value 10 text)
-unfolding is_number
-number_to text h =
-    let a = and_parts _ _ h in
-    let b = and_parts _ _ a.1 in
-    let d = and_parts _ _ b.1 in
-    record {
-      digits = (ltb-true 0 (length text) a.0, digits_to text b.0);
-      no_leading_zero = zero_to text d.0;
-      value = refl;
-      within = ltb-true (digits_value 10 text) number_limit d.1;
-    }
-
-number_from : (text : List ℕ) (n : ℕ) → IsNumberText text n → is_number text ≡ true
-unfolding is_number
-number_from text n h =
-    and_from _ _ (lt-ltb 0 (length text) h.digits.0)
-    (and_from _ _ (digits_from text h.digits.1)
-    (and_from _ _ (zero_from text h.no_leading_zero) (lt-ltb (digits_value 10 text) number_limit (rw (← h.value) h.within))))
-
--- the desk's reading of a number
-pub number_is : (text : List ℕ) (result : Option ℕ) → MatchOption result ((n : ℕ) → IsNumberText text n → ⊥) (IsNumberText text) → result ≡ number_in text
-number_is text None h = rw (false_from_ne_true (is_number text) (λ t. h (digits_value 10 text) (number_to text t))) refl
-number_is text (Some n) h = rw (number_from text n h) (ap Some h.value)

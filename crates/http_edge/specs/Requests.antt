@@ -1,13 +1,10 @@
 -- What a request asks of the desk, by its method, its target and its body.
-use Rattle.std.specs.Prelude.{ℕ, Bool, true, false, List, [], ◌∷◌, Option, Some, None, codes, length, slice_index, if◌then◌else◌, ◌==◌, ◌&&◌, ◌||◌, not, nat_lt}
+use Rattle.std.specs.Prelude.{ℕ, Bool, true, false, List, [], ◌∷◌, Option, Some, None, codes, if◌then◌else◌, ◌==◌}
 use Rattle.std.specs.Str.{is_utf8, bytes_eq}
-use Rattle.std.specs.Char.{is_digit}
-use Rattle.std.specs.List.{list_all}
-use Rattle.std.specs.Str.Parse.{digits_value}
 use Rattle.url.specs.Parser.{parse_url}
-use Rattle.positions.specs.Position.{PositionValue, number_limit}
+use Rattle.positions.specs.Position.{PositionValue}
 use Rattle.lsif.specs.Vertices.{serialized}
-use Rattle.desk.specs.Names.{is_project_name, is_key, where_so}
+use Rattle.desk.specs.Names.{is_project_name, is_key, where_so, number_in}
 use Rattle.desk.specs.Requests.{RequestValue, put_dump, definition, request_value}
 use Rattle.http_edge.specs.Values.{Values, absent, single, several}
 use Rattle.http_edge.specs.Parameters.{parameter}
@@ -42,15 +39,6 @@ required form several = None
 -- the serialized URL that a text spells
 unfoldable pub uri_in : List ℕ → Option (List ℕ)
 uri_in text = serialized (parse_url None text)
-
--- decimal digits, the first of which isn't zero but in "0", of a number up to 2147483647
-unfoldable pub is_number : List ℕ → Bool
-is_number text =
-    nat_lt 0 (length text) && (list_all (λ c. is_digit c 10) text
-    && ((bytes_eq text (codes "0") || not (slice_index text 0 == 48)) && nat_lt (digits_value 10 text) number_limit))
-
-abbrev pub number_in : List ℕ → Option ℕ
-number_in text = if is_number text then Some (digits_value 10 text) else None
 
 abbrev pub put_of : Option (List ℕ) → Option (List ℕ) → List ℕ → Option RequestValue
 put_of (Some project) (Some key) body = Some (put_dump project key body)

@@ -11,6 +11,6 @@ mod request;
 mod route;
 mod serve;
 
-pub use refusal::Refusal;
-pub use route::{Route, route_law};
+pub use reply::phrase_law;
+pub use route::route_law;
 pub use serve::{ServeFault, serve_stream};

@@ -1,3 +1,4 @@
+//! Why requests are refused before the desk.
 ghost use Rattle.std.specs.Prelude.{◌≡◌};
 ghost use Rattle.http_edge.specs.Refusals.{status_of, allow_of, body_of, ends_stream};
 
@@ -5,7 +6,7 @@ use crate::route::Route;
 
 /// Why a request isn't handed to the desk. Each has a code, which its reply names.
 #[derive(Clone, Copy, Debug, PartialEq, Eq)]
-pub enum Refusal {
+pub(crate) enum Refusal {
     /// H01: the head isn't one of HTTP/1.1, or the input ends in it, or its `Content-Length` isn't one number.
     BadHead,
     /// H02: more than 8,192 bytes or 34 lines of a head.
@@ -28,7 +29,7 @@ pub enum Refusal {
 
 impl Refusal {
     /// The status of the reply (RFC 9110, section 15).
-    pub fn status(self) -> u16
+    pub(crate) fn status(self) -> u16
         ensures { result ≡ status_of self }
     {
         match self {
@@ -43,7 +44,7 @@ impl Refusal {
     }
 
     /// The route whose method the reply names as allowed (RFC 9110, section 10.2.1).
-    pub fn allow(self) -> Option<Route>
+    pub(crate) fn allow(self) -> Option<Route>
         ensures { result ≡ allow_of self }
     {
         match self {
@@ -53,7 +54,7 @@ impl Refusal {
     }
 
     /// The body of the reply: the code and its text as JSON.
-    pub fn body(self) -> &'static str
+    pub(crate) fn body(self) -> &'static str
         ensures { result.now ≡ body_of self }
     {
         match self {

@@ -1,5 +1,5 @@
 //! The text of replies.
-ghost use Rattle.std.specs.Prelude.{◌≡◌, ◌++◌};
+ghost use Rattle.std.specs.Prelude.{◌≡◌, ◌++◌, codes};
 ghost use Rattle.lsif.specs.Sending.{Sends};
 ghost use Rattle.lsif.specs.Streams.{CanCount};
 ghost use Rattle.http_edge.specs.Replies.{phrase, status_line, fields_text, body_text, response_text, answer_text};
@@ -27,6 +27,21 @@ fn phrase(status: u16) -> &'static str
         Err(_) => "",
     }
 }
+
+/// The phrases of the statuses that replies have.
+#[tactic(auto, unfolding(crate::specs::Replies::phrase))]
+pub fn phrase_law()
+    ensures ok { phrase 200 ≡ codes "OK" }
+    ensures bad_request { phrase 400 ≡ codes "Bad Request" }
+    ensures not_found { phrase 404 ≡ codes "Not Found" }
+    ensures method_not_allowed { phrase 405 ≡ codes "Method Not Allowed" }
+    ensures length_required { phrase 411 ≡ codes "Length Required" }
+    ensures too_large { phrase 413 ≡ codes "Payload Too Large" }
+    ensures unprocessable { phrase 422 ≡ codes "Unprocessable Entity" }
+    ensures head_too_large { phrase 431 ≡ codes "Request Header Fields Too Large" }
+    ensures not_implemented { phrase 501 ≡ codes "Not Implemented" }
+    ensures unavailable { phrase 503 ≡ codes "Service Unavailable" }
+{}
 
 fn push_two<W: Sink>(w: &mut W, a: &str, b: &str) -> Result<(), Failed>
     requires { CanCount (W.output w.old) }

@@ -1,10 +1,10 @@
 //! What a request asks of the desk, by its method, its target and its body.
 ghost use Rattle.std.specs.Prelude.{◌≡◌, ◌<◌, ℕ, List, Some, IfOk, IfSome, codes, option_map, string_bytes};
 ghost use Rattle.positions.specs.Position.{number_limit};
-ghost use Rattle.desk.specs.Names.{is_project_name, is_key, where_so};
+ghost use Rattle.desk.specs.Names.{is_project_name, is_key, where_so, number_in};
 ghost use Rattle.desk.specs.Requests.{command_value, query_value, request_value};
 ghost use Rattle.http_edge.specs.Parameters.{parameter};
-ghost use Rattle.http_edge.specs.Requests.{path_in, query_in, required, uri_in, number_in, put_of, position_in, definition_of, request_of, route_in, item_of, asked_value};
+ghost use Rattle.http_edge.specs.Requests.{path_in, query_in, required, uri_in, put_of, position_in, definition_of, request_of, route_in, item_of, asked_value};
 ghost use Rattle.http_edge.specs.Routes.{method_of, named_route, routes};
 ghost use Rattle.std.specs.Str.{bytes_eq};
 
@@ -56,21 +56,13 @@ fn read_uri(alloc: Global, query: &[u8]) -> Result<Option<DocUri>, AllocError>
     }
 }
 
-/// The number that a text spells as a line or a character.
-fn number_in(text: &str) -> Option<u32>
-    ensures value { result ≡ number_in text.now }
-    ensures below { IfSome result (λ n. n < number_limit) }
-{
-    read_number(text)
-}
-
 /// A line or a character of a position.
 fn read_coordinate(alloc: Global, query: &[u8], name: &str) -> Result<Option<u32>, AllocError>
     ensures value { IfOk result (λ o. o ≡ required number_in (parameter query.now name.now)) }
     ensures below { IfOk result (λ o. IfSome o (λ n. n < number_limit)) }
 {
     match parameter(alloc, query, name)? {
-        ParameterValues::Single(text) => Ok(number_in(text.as_str())),
+        ParameterValues::Single(text) => Ok(read_number(text.as_str())),
         _ => Ok(None),
     }
 }

@@ -7,7 +7,7 @@ use std::alloc::Global;
 
 /// What a path names (RFC 9110, section 3.1: a resource).
 #[derive(Clone, Copy, Debug, PartialEq, Eq)]
-pub enum Route {
+pub(crate) enum Route {
     /// `/projects/{p}/lsif`, where a dump is put.
     Lsif,
     /// `/projects/{p}/definition`, which answers definitions.
@@ -16,7 +16,7 @@ pub enum Route {
 
 impl Route {
     /// The method that the route takes (RFC 9110, section 9).
-    pub fn method(self) -> &'static str
+    pub(crate) fn method(self) -> &'static str
         ensures { result.now ≡ method_of self }
     {
         match self {

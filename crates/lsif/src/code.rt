@@ -1,5 +1,6 @@
+//! The codes of a dump's faults.
 ghost use Rattle.std.specs.Prelude.{◌≡◌};
-ghost use Rattle.lsif.specs.Code.{name_of, text_of, is_shape_code};
+ghost use Rattle.lsif.specs.Code.{name_of, text_of};
 
 /// What is wrong with a line of a dump, or with the dump at its end. Of two codes that hold of one line the lesser
 /// one is named: the codes of the lines, then those of the end.
@@ -88,15 +89,5 @@ impl Code {
             Code::E01 => "range in no document",
             Code::E02 => "shard is not the document of a target",
         }
-    }
-
-    /// Whether the code is a fault of one line alone, whatever the other lines are.
-    pub fn is_shape(self) -> bool
-        ensures { result ≡ is_shape_code self }
-    {
-        matches!(
-            self,
-            Code::L01 | Code::L02 | Code::L03 | Code::L05 | Code::L07 | Code::L08 | Code::L15
-        )
     }
 }

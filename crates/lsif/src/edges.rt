@@ -1,3 +1,4 @@
+//! The edges that lines spell.
 ghost use Rattle.std.specs.Prelude.{◌≡◌, IfOk, IfErr, option_map, codes};
 ghost use Rattle.lsif.specs.Element.{id_value, id_values, item_value, edge_value};
 ghost use Rattle.lsif.specs.Edges.{targets_in, ends_in, target_in, property_of, property_in, shard_in, item_in, edge_label, edge_from, edge_in};

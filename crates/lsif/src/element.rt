@@ -1,3 +1,4 @@
+//! Elements: vertices and edges.
 ghost use Rattle.std.specs.Prelude.{◌≡◌};
 ghost use Rattle.lsif.specs.Element.{id_value, element_value, element_id};
 

@@ -1,3 +1,4 @@
+//! Why a line gives no element.
 ghost use Rattle.std.specs.Prelude.{◌≡◌};
 ghost use Rattle.lsif.specs.declared.fault.ReadFault.TheVariants.{Memory};
 

@@ -1,3 +1,4 @@
+//! Ids.
 ghost use Rattle.std.specs.Prelude.{◌≡◌, IsTrue, ◌↔◌, IfOk, option_map, codes};
 ghost use Rattle.lsif.specs.Element.{id_value, id_values, same_id};
 ghost use Rattle.lsif.specs.Ids.{id_in, id_at, ids_in};

@@ -225,7 +225,7 @@ impl<S: Source> Lines<S> {
     }
 
     /// Goes on to the next line, and says whether there is one.
-    pub fn advance(&mut self) -> Result<bool, LinesFault>
+    fn advance(&mut self) -> Result<bool, LinesFault>
         requires { self.old.failures < 2 ^ 64 - 1 }
         ensures { NextLine self.old (shown result self.new.line) self.new }
     {

@@ -1,3 +1,4 @@
+//! The reading of a line.
 ghost use Rattle.std.specs.Prelude.{IfErr};
 ghost use Rattle.lsif.specs.Element.{element_value};
 ghost use Rattle.lsif.specs.Reading.{json_of, element_in, reading};

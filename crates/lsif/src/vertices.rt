@@ -1,3 +1,4 @@
+//! The vertices that lines spell.
 ghost use Rattle.std.specs.Prelude.{◌≡◌, IfOk, option_map, codes, string_bytes};
 ghost use Rattle.lsif.specs.Element.{vertex_value};
 ghost use Rattle.lsif.specs.Vertices.{coordinate_at, position_in, span_in, is_supported, uri_in, vertex_label, vertex_of, vertex_in};

@@ -4,7 +4,7 @@
 mod position;
 mod span;
 
-pub use position::Position;
+pub use position::{Position, order_law};
 pub use span::Span;
 
 #[cfg(test)]

@@ -1,4 +1,6 @@
+//! Positions in text documents.
 ghost use Rattle.std.specs.Prelude.{◌≡◌, ℕ, ◌<◌, ◌↔◌, IsTrue, IsSome, IfSome, Some, pos};
+ghost use Rattle.std.specs.declared.cmp.Ordering.TheVariants.{Less, Equal};
 ghost use Rattle.positions.specs.Position.{PositionValue, number_limit, IsPosition, packed_of, IsBefore, is_before, later_of, earlier_of};
 
 use std::marker::Model;
@@ -98,3 +100,9 @@ impl Position {
         if other.is_before(self) { other } else { self }
     }
 }
+
+/// Positions are ordered by line, then by character.
+pub fn order_law()
+    ensures before { (p q : PositionValue) → (⟦<Position as Ord>⟧.cmp p q ≡ Less) ↔ IsBefore p q }
+    ensures equal { (p q : PositionValue) → (⟦<Position as Ord>⟧.cmp p q ≡ Equal) ↔ (p ≡ q) }
+{}

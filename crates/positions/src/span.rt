@@ -1,3 +1,4 @@
+//! Spans of text documents.
 ghost use Rattle.std.specs.Prelude.{◌≡◌, ◌↔◌, IsTrue, IsSome, IfSome};
 ghost use Rattle.positions.specs.Position.{PositionValue, IsPosition, IsAtOrBefore};
 ghost use Rattle.positions.specs.Span.{SpanValue, is_span, covers, nests, overlaps, Covers, Nests};

@@ -1,5 +1,5 @@
 //! Limits, order and packed forms of positions, and what spans cover, nest and overlap.
-use crate::{Position, Span};
+use crate::{Position, Span, order_law};
 use std::test::Fail;
 
 fn at(line: u32, character: u32) -> Result<Position, &'static str> {
@@ -16,6 +16,7 @@ fn positions_have_limits_and_an_order(rt: HostRuntime) -> Result<(), Fail> {
     assert!(rt; Position::new(0, 2147483648).is_none());
     let last = at(2147483647, 2147483647)?;
     assert_eq!(rt; (last.line(), last.character()), (2147483647, 2147483647));
+    order_law();
     assert!(rt; at(1, 9)? < at(2, 0)?);
     assert!(rt; at(2, 0)? < at(2, 1)?);
     Ok(())

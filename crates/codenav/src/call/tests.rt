@@ -26,6 +26,7 @@ check-lsif|a|b => UnknownArgument on the standard error
 check-lsif|--deep|a => UnknownArgument on the standard error
 --help => DisplayHelp on the standard output
 check-lsif|--help => DisplayHelp on the standard output
+--version => DisplayVersion on the standard output
 ";
 
 /// A call, written in short.
