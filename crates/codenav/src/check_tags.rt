@@ -3,7 +3,7 @@ ghost use Rattle.std.specs.Prelude.{◌≡◌, ◌-◌, ◌^◌, ◌<◌, IfOk, 
 ghost use Rattle.lsif.specs.Held.{told};
 ghost use Rattle.tags.specs.Faults.{result_map};
 ghost use Rattle.tags.specs.Lines.{handed};
-ghost use Rattle.tags.specs.Counting.{next};
+ghost use Rattle.tags.specs.States.{counted, next};
 ghost use Rattle.codenav.specs.Report.{CountsCheck};
 ghost use Rattle.codenav.specs.Judging.{CountsRead};
 ghost use Rattle.codenav.specs.TagsReport.{ReportsOf, report_text, status_of, Checks};
@@ -67,7 +67,7 @@ fn feed(
     line: Result<&[u8], Code>,
     has_feed: bool,
 ) -> Result<Step, CheckFault>
-    ensures { Feeds result checker.new (next checker.old (handed (result_map (λ bytes. bytes.now) line.entry) has_feed)) }
+    ensures { Feeds result checker.new (next counted checker.old (handed (result_map (λ bytes. bytes.now) line.entry) has_feed)) }
 {
     match checker.feed(line, has_feed) {
         Ok(()) => Ok(Step::Good),
