@@ -11,14 +11,14 @@ use Rattle.tags.specs.declared.code.Code.{Code}
 use Rattle.tags.specs.declared.code.Code.TheVariants.{T09, T10, T11}
 use Rattle.tags.specs.declared.code.LineFault.{LineFault}
 use Rattle.codenav.specs.Judging.{CountsRead}
-use Rattle.codenav.specs.TagsJudging.{BeginsSo, Concludes, Feeds, HasTaken, IsReady, ReadsFirst, ReadsNone, Takes, room_of}
-use Rattle.codenav.specs.TagsReport.{IsReport, ReportsOf}
-use Rattle.codenav.specs.declared.check.CheckFault.{CheckFault}
-use Rattle.codenav.specs.declared.check.CheckFault.TheVariants as faults
+use Rattle.codenav.specs.TagsJudging.{BeginsSo, Concludes, Feeds, HasTaken, IsFaulty, IsReady, ReadsFirst, ReadsNone, Takes, room_of}
+use Rattle.codenav.specs.Report.{IsTagsReport, ReportsTags}
+use Rattle.codenav.specs.declared.report.CheckFault.{CheckFault}
+use Rattle.codenav.specs.declared.report.CheckFault.TheVariants as faults
 use Rattle.codenav.specs.declared.check_tags.Step.{Step}
 use Rattle.codenav.specs.declared.check_tags.Step.TheVariants as steps
-use Rattle.codenav.specs.declared.check_tags.TagsReport.{TagsReport}
-use Rattle.codenav.specs.declared.check_tags.TagsReport.TheVariants.{Sound, Faulty}
+use Rattle.codenav.specs.declared.report.Report.{Report}
+use Rattle.codenav.specs.declared.report.Report.TheVariants.{Elements, Tags, Faulty}
 
 -- ---- a line that was fed
 
@@ -106,14 +106,22 @@ StopsAtFirst = (lines : List Reading) (n : ℕ) (c : Code) → state_after count
 abbrev pub RunsFaultless : Type 0
 RunsFaultless = (lines : List Reading) (s : Summary ℕ) → state_after counted 0 lines ≡ running s → IsFaultless lines × (s ≡ summary_of (length (tags_of (contents lines))) (contents lines))
 
-pub found_fault : (left now : Option (List ℕ)) (old : State ℕ) (line : Reading) (f : LineFault) → StopsAtFirst → Stays
-    → HasTaken left old now → BeginsSo now line → next counted old line ≡ stopped f.line f.code → ReportsOf left (Faulty f)
-found_fault None now old line f law stays h g e = tt
-found_fault (Some text) now old line f law stays h g e =
+faulty_at : (lines : List Reading) (f : LineFault) (report : Report) → StopsAtFirst → state_after counted 0 lines ≡ stopped f.line f.code → IsFaulty f report → IsTagsReport lines report
+faulty_at lines f (Elements n) law h g = absurd g
+faulty_at lines f (Tags n) law h g = absurd g
+faulty_at lines f (Faulty l) law h g =
+    let first = law lines f.line f.code h in
+    (first.0, f.code, first.2, g.0 ∙ first.1, g.1)
+
+pub found_fault : (left now : Option (List ℕ)) (old : State ℕ) (line : Reading) (f : LineFault) (report : Report) → StopsAtFirst → Stays
+    → HasTaken left old now → BeginsSo now line → next counted old line ≡ stopped f.line f.code → IsFaulty f report → ReportsTags left report
+found_fault None now old line f report law stays h g e shows = tt
+found_fault (Some text) now old line f report law stays h g e shows =
     let P : Option (List ℕ) → Type 0 = λ o. BeginsSo o line in
     let first = subst P h.1 g in
-    law (readings_of text) f.line f.code
+    faulty_at (readings_of text) f report law
     (sym h.2 ∙ ap (fold (next counted) old) first.1 ∙ ap (λ s. fold (next counted) s first.0) e ∙ stays first.0 f.line f.code)
+    shows
 
 -- ---- the end of the lines
 
@@ -121,15 +129,16 @@ kept_in : (n : ℕ) (lines : List ContentValue) → (summary_of n lines).kept �
 unfolding summary_of
 kept_in n lines = refl
 
-concluded_at : (lines : List Reading) (state : State ℕ) (report : TagsReport) → StopsAtFirst → RunsFaultless → state ≡ state_after counted 0 lines
-    → Concludes state report → IsReport lines report
-concluded_at lines state (Sound n) stops runs e h =
+concluded_at : (lines : List Reading) (state : State ℕ) (report : Report) → StopsAtFirst → RunsFaultless → state ≡ state_after counted 0 lines
+    → Concludes state report → IsTagsReport lines report
+concluded_at lines state (Elements n) stops runs e h = absurd h
+concluded_at lines state (Tags n) stops runs e h =
     let law = runs lines h.0 (sym e ∙ h.1) in
     (law.0, h.2 ∙ ap (λ (s : Summary ℕ). s.kept) law.1 ∙ kept_in _ (contents lines))
-concluded_at lines state (Faulty f) stops runs e h = stops lines f.line f.code (sym e ∙ h)
+concluded_at lines state (Faulty l) stops runs e h = faulty_at lines h.0 (Faulty l) stops (sym e ∙ h.1) h.2
 
-pub concluded : (left now : Option (List ℕ)) (old state : State ℕ) (report : TagsReport) → StopsAtFirst → RunsFaultless
-    → HasTaken left old now → ReadsNone now → state ≡ old → Concludes state report → ReportsOf left report
+pub concluded : (left now : Option (List ℕ)) (old state : State ℕ) (report : Report) → StopsAtFirst → RunsFaultless
+    → HasTaken left old now → ReadsNone now → state ≡ old → Concludes state report → ReportsTags left report
 concluded None now old state report stops runs h g e c = tt
 concluded (Some text) now old state report stops runs h g e c =
     let P : Option (List ℕ) → Type 0 = λ o. ReadsNone o in
@@ -137,6 +146,6 @@ concluded (Some text) now old state report stops runs h g e c =
     concluded_at (readings_of text) state report stops runs (e ∙ sym (ap (fold (next counted) old) nothing) ∙ h.2) c
 
 -- what a checker's end says
-pub finished_tags : (tags : ℕ) (state : State ℕ) → Finishes (Ok tags) state → Concludes state (Sound tags)
+pub finished_tags : (tags : ℕ) (state : State ℕ) → Finishes (Ok tags) state → Concludes state (Tags tags)
 finished_tags tags (running s) h = (s, refl, h)
 finished_tags tags (stopped n c) h = absurd h

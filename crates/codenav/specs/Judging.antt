@@ -1,7 +1,8 @@
--- How the reading of a reader's bytes fails.
-use Rattle.std.specs.Prelude.{ℕ, ◌+◌, Result, Ok, Err, ◌≡◌}
-use Rattle.codenav.specs.declared.check.CheckFault.{CheckFault}
-use Rattle.codenav.specs.declared.check.CheckFault.TheVariants as faults
+-- How the parts of a check fail.
+use Rattle.std.specs.Prelude.{ℕ, ◌+◌, ◌⊎◌, Result, Ok, Err, ◌≡◌}
+use Rattle.codenav.specs.declared.report.CheckFault.{CheckFault}
+use Rattle.codenav.specs.declared.report.CheckFault.TheVariants as faults
+use Rattle.codenav.specs.declared.report.Status.{Status}
 
 -- the reader's count of failures, where a step fails only by it or for want of memory
 abbrev pub CountsRead : {A : Type 0} → ℕ → ℕ → Result A CheckFault → Type 0
@@ -9,3 +10,10 @@ CountsRead old new (Ok a) = new ≡ old
 CountsRead old new (Err faults.Memory) = new ≡ old
 CountsRead old new (Err faults.Read) = new ≡ old + 1
 CountsRead old new (Err faults.Write) = ⊥
+
+-- the writer's counts of failures and of idle pushes, where a step fails only by it or for want of memory
+abbrev pub CountsWrite : ℕ → ℕ → ℕ → ℕ → Result Status CheckFault → Type 0
+CountsWrite failed idle failed' idle' (Ok status) = (failed' ≡ failed) × (idle' ≡ idle)
+CountsWrite failed idle failed' idle' (Err faults.Memory) = (failed' ≡ failed) × (idle' ≡ idle)
+CountsWrite failed idle failed' idle' (Err faults.Read) = ⊥
+CountsWrite failed idle failed' idle' (Err faults.Write) = ((failed' ≡ failed + 1) × (idle' ≡ idle)) ⊎ ((failed' ≡ failed) × (idle' ≡ idle + 1))

@@ -4,12 +4,14 @@ use Rattle.lsif.specs.Lines.{Cutter}
 use Rattle.tags.specs.States.{Summary, State, running, stopped, counted, next, state_after, IsRunning}
 use Rattle.tags.specs.Fault.{Reading, most_lines}
 use Rattle.tags.specs.Lines.{longest_line, readings_of}
-use Rattle.codenav.specs.declared.check.CheckFault.{CheckFault}
-use Rattle.codenav.specs.declared.check.CheckFault.TheVariants as faults
+use Rattle.codenav.specs.declared.report.CheckFault.{CheckFault}
+use Rattle.codenav.specs.declared.report.CheckFault.TheVariants as faults
 use Rattle.codenav.specs.declared.check_tags.Step.{Step}
 use Rattle.codenav.specs.declared.check_tags.Step.TheVariants as steps
-use Rattle.codenav.specs.declared.check_tags.TagsReport.{TagsReport}
-use Rattle.codenav.specs.declared.check_tags.TagsReport.TheVariants.{Sound, Faulty}
+use Rattle.codenav.specs.declared.report.Report.{Report}
+use Rattle.codenav.specs.declared.report.Report.TheVariants.{Elements, Tags, Faulty}
+use Rattle.codenav.specs.Report.{ShowsTagsCode}
+use Rattle.tags.specs.declared.code.LineFault.{LineFault}
 
 -- what is answered for a line that leads to this state
 abbrev pub Feeds : Result Step CheckFault → State ℕ → State ℕ → Type 0
@@ -58,7 +60,14 @@ abbrev pub room_of : State ℕ → ℕ
 room_of (running s) = most_lines + 1 - s.count
 room_of (stopped n c) = 0
 
+-- the report of a line's fault
+abbrev pub IsFaulty : LineFault → Report → Type 0
+IsFaulty f (Elements n) = ⊥
+IsFaulty f (Tags n) = ⊥
+IsFaulty f (Faulty l) = (l.line ≡ f.line) × ShowsTagsCode f.code l
+
 -- what the end of the lines says of the state
-abbrev pub Concludes : State ℕ → TagsReport → Type 0
-Concludes state (Sound n) = (s : Summary ℕ) × (state ≡ running s) × (n ≡ s.kept)
-Concludes state (Faulty f) = state ≡ stopped f.line f.code
+abbrev pub Concludes : State ℕ → Report → Type 0
+Concludes state (Elements n) = ⊥
+Concludes state (Tags n) = (s : Summary ℕ) × (state ≡ running s) × (n ≡ s.kept)
+Concludes state (Faulty l) = (f : LineFault) × (state ≡ stopped f.line f.code) × IsFaulty f (Faulty l)
