@@ -3,13 +3,14 @@ use Rattle.std.proofs.Common.{◌≡◌, ℕ, true, false, List, Option, Some, N
 use Rattle.std.specs.List.{list_any}
 use Rattle.std.specs.Option.{ForSome}
 use Rattle.std.specs.Str.{is_utf8}
+use Rattle.tags.specs.Conditions.{is_control}
 use Rattle.tags.specs.Contents.{Reads, ReadsTag}
 use Rattle.tags.specs.Cutting as cutting
 use Rattle.tags.specs.Cutting.{front_of, tail_of, each_field}
 use Rattle.tags.specs.Escapes.{decoded}
 use Rattle.tags.specs.Faults.{fault_in}
 use Rattle.tags.specs.Fields.{fields_of}
-use Rattle.tags.specs.Reading.{entry_of, is_control, is_pseudo_tag, ordinary_of, reading}
+use Rattle.tags.specs.Reading.{entry_of, is_pseudo_tag, ordinary_of, reading}
 use Rattle.tags.specs.Values.{FieldsValue, ordinary}
 use Rattle.tags.specs.Views.{front, tail}
 use Rattle.tags.specs.declared.code.Code.{Code}

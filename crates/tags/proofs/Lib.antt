@@ -1,5 +1,6 @@
 pub mod AddressLemmas
 pub mod AroundLemmas
+pub mod ConditionLemmas
 pub mod ContentLemmas
 pub mod CutLemmas
 pub mod EscapeLemmas

@@ -1,6 +1,7 @@
 pub mod Around
 pub mod Bytes
 pub mod Codes
+pub mod Conditions
 pub mod Contents
 pub mod Cutting
 pub mod Escapes

@@ -2,8 +2,9 @@
 ghost use Rattle.std.specs.Prelude.{◌≡◌, IsUtf8, nat_eq, codes};
 ghost use Rattle.std.specs.List.{list_any};
 ghost use Rattle.tags.specs.Faults.{result_map};
+ghost use Rattle.tags.specs.Conditions.{is_control};
 ghost use Rattle.tags.specs.Contents.{Reads, ReadsTag};
-ghost use Rattle.tags.specs.Reading.{is_control, is_pseudo_tag, ordinary_of, pseudo_of, reading};
+ghost use Rattle.tags.specs.Reading.{is_pseudo_tag, ordinary_of, pseudo_of, reading};
 ghost use Rattle.tags.specs.Views.{pseudo_value};
 
 use crate::around::around_char;
