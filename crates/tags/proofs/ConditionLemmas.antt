@@ -1,6 +1,6 @@
 -- The steps of a reading, in the order of the codes, find the least code whose condition holds.
-use Rattle.std.proofs.Common.{◌≡◌, ◌≢◌, ◌∙◌, ℕ, Bool, true, false, not, ◌&&◌, ◌||◌, ◌⊎◌, cond, if◌then◌else◌, List, [], ◌∷◌, ◌++◌, drop, length, Option, Some, None, Result, Ok, Err, refl, ap, sym, subst, inl, inr, codes, bytes_eq, IsUtf8, slice_get}
-use Rattle.std.proofs.lemmas.Bool.{false_from_ne_true}
+use Rattle.std.proofs.Common.{◌≡◌, ◌≢◌, ◌∙◌, ℕ, Bool, true, false, not, ◌&&◌, ◌||◌, ◌⊎◌, cond, if◌then◌else◌, nat_lt, map, List, [], ◌∷◌, ◌++◌, drop, length, Option, Some, None, Result, Ok, Err, refl, ap, sym, subst, inl, inr, codes, bytes_eq, IsUtf8, slice_get}
+use Rattle.std.proofs.lemmas.Bool.{false_from_ne_true, lt-ltb, ltb-true}
 use Rattle.std.proofs.lemmas.Option.{some_pair_parts}
 use Rattle.std.proofs.lemmas.Slice.Eq.{bytes_eq-Decides, starts_is}
 use Rattle.std.proofs.lemmas.Bool.Decides.{Decides-eqb}
@@ -9,15 +9,17 @@ use Rattle.std.specs.List.{filter_map, list_any}
 use Rattle.std.specs.Str.{is_utf8}
 use Rattle.tags.specs.Around.{around}
 use Rattle.tags.specs.Bytes.{tab}
-use Rattle.tags.specs.Conditions.{IsPseudoTag, IsOrdinary, HasValue, LacksParts, HasBadName, HasBadEscape, HasBadAddress, HasBadField, HasOtherFormat, TextCondition, text_codes, IsFirst, Says, SaysTag, ReadsBy, is_control}
+use Rattle.tags.specs.Conditions.{IsPseudoTag, IsOrdinary, HasValue, LacksParts, HasBadName, HasBadEscape, HasBadAddress, HasBadField, HasOtherFormat, TextCondition, text_codes, HoldsNone, IsFirst, Says, SaysTag, ReadsBy, is_control}
 use Rattle.tags.specs.Cutting.{Front, Tail, front_of, tail_of, each_field}
 use Rattle.tags.specs.Escapes.{decoded}
 use Rattle.tags.specs.Fields.{fields_by, fields_of, has_bad_escape, has_bad_fields, kind_in, other_in}
 use Rattle.tags.specs.Grammar.{HasFront, IsName, Spells, TagLine, address_text, fields_in, fields_text}
 use Rattle.tags.specs.Reading.{entry_of, is_pseudo_tag, ordinary_of, pseudo_by, pseudo_of, reading}
-use Rattle.tags.specs.Values.{ContentValue, FieldsValue, sorted, other, ordinary}
+use Rattle.tags.specs.Fault.{Reading}
+use Rattle.tags.specs.Lines.{AreReadings, Condition, IsHanded, IsReading, Line, handed, line_codes, line_text, longest_line, reading_of}
+use Rattle.tags.specs.Values.{ContentValue, EntryValue, FieldValue, FieldsValue, sorted, other, ordinary}
 use Rattle.tags.specs.declared.code.Code.{Code}
-use Rattle.tags.specs.declared.code.Code.TheVariants.{T02, T03, T04, T05, T06, T07, T08}
+use Rattle.tags.specs.declared.code.Code.TheVariants.{T01, T02, T03, T04, T05, T06, T07, T08}
 use Rattle.tags.proofs.CutLemmas.{CutTree, front_of-cuts, HasFront-front_of, IsFree-around, around-first, each_field-joined, front_of-HasFront, front_of-front, front_of-line, joined_fields, tail_of-tail, tail_of-tree}
 use Rattle.tags.proofs.PartLemmas.{no_line}
 use Rattle.tags.proofs.TextLemmas.{around-surrounds, is_utf8-text}
@@ -311,3 +313,90 @@ by_text text false e = inl (refl, λ h. let yes : is_utf8 text ≡ true = is_utf
 pub reads_text : (text : List ℕ) → ReadsBy (TextCondition text) text_codes text (reading text)
 unfolding reading
 reads_text text = by_text text (is_utf8 text) refl
+
+-- ---- one reading
+
+unique_first : (P : Code → Type 0) (ds : List Code) (c d : Code) → IsFirst P ds c → IsFirst P ds d → c ≡ d
+unique_first P [] c d h g = absurd h
+unique_first P (x ∷ ds) c d (inl h) (inl g) = h.0 ∙ sym g.0
+unique_first P (x ∷ ds) c d (inl h) (inr g) = absurd (g.0 h.1)
+unique_first P (x ∷ ds) c d (inr h) (inl g) = absurd (h.0 g.1)
+unique_first P (x ∷ ds) c d (inr h) (inr g) = unique_first P ds c d h.1 g.1
+
+none_first : (P : Code → Type 0) (ds : List Code) (c : Code) → HoldsNone P ds → IsFirst P ds c → ⊥
+none_first P [] c n h = h
+none_first P (x ∷ ds) c n (inl h) = n.0 h.1
+none_first P (x ∷ ds) c n (inr h) = none_first P ds c n.1 h.1
+
+one_value : (text n v n' v' : List ℕ) → HasValue text n v → HasValue text n' v' → (n' ≡ n) × (v' ≡ v)
+one_value text n v n' v' h g = same_value text (n, v ++ tab ∷ h.0) (v, h.0) n' v' (ap (around tab) h.3 ∙ around-first tab n (v ++ tab ∷ h.0) h.1) (around-first tab v h.0 h.2) g
+
+same_entry : (n n' f f' a a' : List ℕ) (k k' : Option (List ℕ)) (o o' : List FieldValue) → n ≡ n' → f ≡ f' → a ≡ a' → k ≡ k' → o ≡ o'
+    → ◌≡◌ {A = EntryValue} (record { name = n; file = f; address = a; kind = k; fields = o }) (record { name = n'; file = f'; address = a'; kind = k'; fields = o' })
+same_entry n n' f f' a a' k k' o o' p q r s u = rw (p, q, r, s, u) refl
+
+some_same : (x y : List ℕ) → ◌≡◌ {A = Option (List ℕ)} (Some x) (Some y) → x ≡ y
+some_same x y h = cc
+
+one_tag : (text : List ℕ) (t u : TagLine) (w w' : List ℕ) (e e' : EntryValue) → Spells t text → Spells u text → SaysTag t w e → SaysTag u w' e' → ordinary w e ≡ ordinary w' e'
+one_tag text t u w w' e e' s s' h g =
+    let cut = same_cut text (record { name = t.name; file = t.file; rest = address_text t.address ++ fields_text t.fields }) (record { address = address_text t.address; fields = joined_fields t.fields }) u (ap front_of s.1 ∙ front_of-line t s.0) (tail_of-tail t.address t.fields s.0.address) s' in
+    let fields : fields_in u.fields ≡ fields_in t.fields = cut.fields ∙ each_field-joined t.fields s.0.fields in
+    let name : e.name ≡ e'.name = some_same e.name e'.name (sym h.name ∙ ap decoded (sym cut.name) ∙ g.name) in
+    let file : e.file ≡ e'.file = some_same e.file e'.file (sym h.file ∙ ap decoded (sym cut.file) ∙ g.file) in
+    let address : e.address ≡ e'.address = h.address ∙ sym cut.address ∙ sym g.address in
+    let kind : e.kind ≡ e'.kind = h.kind ∙ ap (λ fs. slice_get (filter_map kind_in fs) 0) (sym fields) ∙ sym g.kind in
+    let others : e.fields ≡ e'.fields = h.fields ∙ ap (filter_map other_in) (sym fields) ∙ sym g.fields in
+    let entry : e ≡ e' = same_entry e.name e'.name e.file e'.file e.address e'.address e.kind e'.kind e.fields e'.fields name file address kind others in
+    let written : w ≡ w' = h.as_written ∙ sym cut.name ∙ sym g.as_written in
+    rw (written, entry) refl
+
+one_saying : (text : List ℕ) (x y : ContentValue) → Says text x → Says text y → x ≡ y
+one_saying text (sorted a) (sorted b) h g =
+    let same = one_value text h.1.0 h.1.1 g.1.0 g.1.1 h.1.2 g.1.2 in
+    ap sorted (h.1.4 ∙ ap (λ v. bytes_eq v (codes "1")) (sym same.1) ∙ sym g.1.4)
+one_saying text (sorted a) other h g = absurd (g.1.3 ((one_value text h.1.0 h.1.1 g.1.0 g.1.1 h.1.2 g.1.2).0 ∙ h.1.3))
+one_saying text (sorted a) (ordinary w e) h g = absurd (g.0 h.0)
+one_saying text other (sorted b) h g = absurd (h.1.3 (sym (one_value text h.1.0 h.1.1 g.1.0 g.1.1 h.1.2 g.1.2).0 ∙ g.1.3))
+one_saying text other other h g = refl
+one_saying text other (ordinary w e) h g = absurd (g.0 h.0)
+one_saying text (ordinary w e) (sorted b) h g = absurd (h.0 g.0)
+one_saying text (ordinary w e) other h g = absurd (h.0 g.0)
+one_saying text (ordinary w e) (ordinary w' e') h g = one_tag text h.1.0 g.1.0 w w' e e' h.1.1 g.1.1 h.1.2 g.1.2
+
+one_reading : (P : Code → Type 0) (ds : List Code) (text : List ℕ) (r s : Result ContentValue Code) → ReadsBy P ds text r → ReadsBy P ds text s → r ≡ s
+one_reading P ds text (Ok x) (Ok y) h g = ap Ok (one_saying text x y h.1 g.1)
+one_reading P ds text (Ok x) (Err d) h g = absurd (none_first P ds d h.0 g)
+one_reading P ds text (Err c) (Ok y) h g = absurd (none_first P ds c g.0 h)
+one_reading P ds text (Err c) (Err d) h g = ap Err (unique_first P ds c d h g)
+
+-- ---- lines
+
+lift : (line : Line) (r : Result ContentValue Code) → ReadsBy (TextCondition (line_text line)) text_codes (line_text line) r → ReadsBy (Condition line) text_codes (line_text line) r
+lift line (Err c) h = h
+lift line (Ok x) h = h
+
+by_length : (line : Line) (t : Bool) → nat_lt longest_line (length line.bytes) ≡ t → IsReading line (if t then Err T01 else reading (line_text line))
+by_length line true e = inl (refl, ltb-true longest_line (length line.bytes) e)
+by_length line false e =
+    skip (Condition line) T01 text_codes (line_text line) _ (λ h. let yes : nat_lt longest_line (length line.bytes) ≡ true = lt-ltb longest_line (length line.bytes) h in absurd cc)
+    (lift line _ (reads_text (line_text line)))
+
+-- what the steps read of a line is its reading
+pub reads_line : (line : Line) → IsReading line (reading_of line)
+reads_line line = by_length line (nat_lt longest_line (length line.bytes)) refl
+
+pub reads_only : (line : Line) (r : Reading) → IsReading line r → r ≡ reading_of line
+reads_only line r h = one_reading (Condition line) line_codes (line_text line) r (reading_of line) h (reads_line line)
+
+pub reads_all : (lines : List Line) → AreReadings lines (map reading_of lines)
+reads_all [] = tt
+reads_all (line ∷ lines) = (reads_line line, reads_all lines)
+
+pub reads_handed : (line : Result (List ℕ) Code) (ended : Bool) → IsHanded line ended (handed line ended)
+reads_handed (Ok bytes) ended = reads_line (record { bytes = bytes; ended = ended })
+reads_handed (Err code) ended = refl
+
+pub handed_only : (line : Result (List ℕ) Code) (ended : Bool) (r : Reading) → IsHanded line ended r → r ≡ handed line ended
+handed_only (Ok bytes) ended r h = reads_only (record { bytes = bytes; ended = ended }) r h
+handed_only (Err code) ended r h = h
