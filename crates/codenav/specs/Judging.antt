@@ -1,7 +1,7 @@
--- How the reading of a reader's bytes fails.
+-- How the parts of a check fail.
 use Rattle.std.specs.Prelude.{ℕ, ◌+◌, Result, Ok, Err, ◌≡◌}
-use Rattle.codenav.specs.declared.check.CheckFault.{CheckFault}
-use Rattle.codenav.specs.declared.check.CheckFault.TheVariants as faults
+use Rattle.codenav.specs.declared.report.CheckFault.{CheckFault}
+use Rattle.codenav.specs.declared.report.CheckFault.TheVariants as faults
 
 -- the reader's count of failures, where a step fails only by it or for want of memory
 abbrev pub CountsRead : {A : Type 0} → ℕ → ℕ → Result A CheckFault → Type 0

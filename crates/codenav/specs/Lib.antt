@@ -3,4 +3,3 @@ pub mod Judging
 pub mod Replay
 pub mod Report
 pub mod TagsJudging
-pub mod TagsReport

@@ -1,52 +1,95 @@
--- What `codenav check-lsif` reports of a dump.
-use Rattle.std.specs.Prelude.{◌≡◌, ℕ, ◌+◌, ◌⊎◌, List, [], ◌++◌, length, codes, Option, Some, None, Result, Ok, Err, ⊤}
+-- What `codenav check-lsif` and `codenav check-tags` report.
+use Rattle.std.specs.Prelude.{◌≡◌, ℕ, ◌+◌, List, [], ◌++◌, length, codes, Option, Some, None, Result, Ok, Err, ⊤}
 use Rattle.std.specs.Fmt.{decimal}
-use Rattle.lsif.specs.Code.{name_of, text_of}
-use Rattle.lsif.specs.Element.{Reading}
+use Rattle.lsif.specs.Code as lsif_codes
+use Rattle.lsif.specs.Element as elements
 use Rattle.lsif.specs.Sending.{Writes, CutsShort}
 use Rattle.lsif.specs.Streams.{Output}
 use Rattle.dump.specs.Fault.{IsFault}
 use Rattle.dump.specs.Lines.{dump_of}
-use Rattle.codenav.specs.declared.check.Report.{Report}
-use Rattle.codenav.specs.declared.check.Report.TheVariants.{Sound, Faulty}
-use Rattle.codenav.specs.declared.check.Status.{Status}
-use Rattle.codenav.specs.declared.check.Status.TheVariants as statuses
-use Rattle.codenav.specs.declared.check.CheckFault.{CheckFault}
-use Rattle.codenav.specs.declared.check.CheckFault.TheVariants as faults
+use Rattle.dump.specs.declared.fault.LineFault as dump_faults
+use Rattle.tags.specs.Codes as tags_codes
+use Rattle.tags.specs.Fault as tags_faults
+use Rattle.tags.specs.Fault.{contents, tags_of, IsFaultless, IsFirstFault}
+use Rattle.tags.specs.Lines.{readings_of}
+use Rattle.tags.specs.declared.code.Code as tags_code
+use Rattle.codenav.specs.declared.report.FaultyLine.{FaultyLine}
+use Rattle.codenav.specs.declared.report.Report.{Report}
+use Rattle.codenav.specs.declared.report.Report.TheVariants.{Elements, Tags, Faulty}
+use Rattle.codenav.specs.declared.report.Status.{Status}
+use Rattle.codenav.specs.declared.report.Status.TheVariants as statuses
+use Rattle.codenav.specs.declared.report.CheckFault.{CheckFault}
+use Rattle.codenav.specs.declared.report.CheckFault.TheVariants as faults
 
--- the report of a dump: how many elements it has where it's sound, and else its fault
-abbrev pub IsReport : List Reading → Report → Type 0
-IsReport dump (Sound n) = IsFault dump None × (n ≡ length dump)
-IsReport dump (Faulty f) = IsFault dump (Some f)
+-- ---- the report of a dump
+
+-- the fault of a dump as it's reported
+abbrev pub ShowsDumpFault : dump_faults.LineFault → FaultyLine → Type 0
+ShowsDumpFault f l = (l.line ≡ f.line) × (l.name.now ≡ lsif_codes.name_of f.code) × (l.text.now ≡ lsif_codes.text_of f.code)
+
+-- how many elements a dump has where it's sound, and else its fault
+abbrev pub IsDumpReport : List elements.Reading → Report → Type 0
+IsDumpReport dump (Elements n) = IsFault dump None × (n ≡ length dump)
+IsDumpReport dump (Tags n) = ⊥
+IsDumpReport dump (Faulty l) = (f : dump_faults.LineFault) × IsFault dump (Some f) × ShowsDumpFault f l
 
 -- the report of the bytes of a reader, where they are told
-abbrev pub ReportsOf : Option (List ℕ) → Report → Type 0
-ReportsOf None report = ⊤
-ReportsOf (Some text) report = IsReport (dump_of text) report
+abbrev pub ReportsDump : Option (List ℕ) → Report → Type 0
+ReportsDump None report = ⊤
+ReportsDump (Some text) report = IsDumpReport (dump_of text) report
+
+-- ---- the report of a tags file
+
+-- the code of a line of a tags file as it's reported
+abbrev pub ShowsTagsCode : tags_code.Code → FaultyLine → Type 0
+ShowsTagsCode c l = (l.name.now ≡ tags_codes.name_of c) × (l.text.now ≡ tags_codes.text_of c)
+
+-- of lines that read so: how many ordinary tags there are where no line has a fault, and else the first faulty line,
+-- counted from 1, with its code
+abbrev pub IsTagsReport : List tags_faults.Reading → Report → Type 0
+IsTagsReport lines (Elements n) = ⊥
+IsTagsReport lines (Tags n) = IsFaultless lines × (n ≡ length (tags_of (contents lines)))
+IsTagsReport lines (Faulty l) = (k : ℕ) × (c : tags_code.Code) × IsFirstFault lines k c × (l.line ≡ k + 1) × ShowsTagsCode c l
+
+-- the report of the bytes of a reader, where they are told
+abbrev pub ReportsTags : Option (List ℕ) → Report → Type 0
+ReportsTags None report = ⊤
+ReportsTags (Some text) report = IsTagsReport (readings_of text) report
+
+-- ---- what is printed
 
 -- the line that is printed
 abbrev pub report_text : Report → List ℕ
-report_text (Sound n) = codes "ok " ++ (decimal n ++ codes " elements\n")
-report_text (Faulty f) =
-    codes "line " ++ (decimal f.line ++ (codes ": " ++ (name_of f.code ++ (codes " " ++ (text_of f.code ++ codes "\n")))))
+report_text (Elements n) = codes "ok " ++ (decimal n ++ codes " elements\n")
+report_text (Tags n) = codes "ok " ++ (decimal n ++ codes " tags\n")
+report_text (Faulty l) = codes "line " ++ (decimal l.line ++ (codes ": " ++ (l.name.now ++ (codes " " ++ (l.text.now ++ codes "\n")))))
 
 abbrev pub status_of : Report → Status
-status_of (Sound n) = statuses.Sound
-status_of (Faulty f) = statuses.Faulty
+status_of (Elements n) = statuses.Sound
+status_of (Tags n) = statuses.Sound
+status_of (Faulty l) = statuses.Faulty
 
 -- the exit status of the program
 abbrev pub exit_code_of : Status → ℕ
 exit_code_of statuses.Sound = 0
 exit_code_of statuses.Faulty = 1
 
--- what a check of a reader's bytes answers and writes: all of the report's line, or by a writer that fails a beginning
--- of it; nothing where memory was refused or the reader failed
-abbrev pub Checks : Option (List ℕ) → Output → Result Status CheckFault → Output → Type 0
-Checks left output (Ok status) output' =
-    (report : Report) × ReportsOf left report × (status ≡ status_of report) × Writes output (report_text report) output'
-Checks left output (Err faults.Memory) output' = Writes output [] output'
-Checks left output (Err faults.Read) output' = Writes output [] output'
-Checks left output (Err faults.Write) output' = (report : Report) × ReportsOf left report × CutsShort output (report_text report) output'
+-- what sending a report answers and writes: all of the report's line, or by a writer that fails a beginning of it;
+-- nothing where memory was refused
+abbrev pub Sends : Report → Output → Result Status CheckFault → Output → Type 0
+Sends report old (Ok status) new = (status ≡ status_of report) × Writes old (report_text report) new
+Sends report old (Err faults.Memory) new = Writes old [] new
+Sends report old (Err faults.Read) new = ⊥
+Sends report old (Err faults.Write) new = CutsShort old (report_text report) new
+
+-- what a check answers and writes whose report is one of these: all of the report's line, or by a writer that fails a
+-- beginning of it; nothing where memory was refused or the reader failed
+abbrev pub Checks : (Report → Type 0) → Output → Result Status CheckFault → Output → Type 0
+Checks Reports old (Ok status) new =
+    (report : Report) × Reports report × (status ≡ status_of report) × Writes old (report_text report) new
+Checks Reports old (Err faults.Memory) new = Writes old [] new
+Checks Reports old (Err faults.Read) new = Writes old [] new
+Checks Reports old (Err faults.Write) new = (report : Report) × Reports report × CutsShort old (report_text report) new
 
 -- a check that failed to read counted one failure of the reader, and any other none
 abbrev pub CountsCheck : ℕ → Result Status CheckFault → ℕ → Type 0

@@ -1,22 +1,24 @@
 -- What the parts of a check of a tags file answer.
 use Rattle.std.specs.Prelude.{◌≡◌, ℕ, ◌+◌, ◌-◌, List, [], ◌∷◌, fold, Option, Some, None, Result, Ok, Err, ⊤}
 use Rattle.lsif.specs.Lines.{Cutter}
-use Rattle.tags.specs.Counting.{Count, State, running, stopped, next, state_after, IsRunning}
+use Rattle.tags.specs.States.{Summary, State, running, stopped, counted, next, state_after, IsRunning}
 use Rattle.tags.specs.Fault.{Reading, most_lines}
 use Rattle.tags.specs.Lines.{longest_line, readings_of}
-use Rattle.codenav.specs.declared.check.CheckFault.{CheckFault}
-use Rattle.codenav.specs.declared.check.CheckFault.TheVariants as faults
+use Rattle.codenav.specs.declared.report.CheckFault.{CheckFault}
+use Rattle.codenav.specs.declared.report.CheckFault.TheVariants as faults
 use Rattle.codenav.specs.declared.check_tags.Step.{Step}
 use Rattle.codenav.specs.declared.check_tags.Step.TheVariants as steps
-use Rattle.codenav.specs.declared.check_tags.TagsReport.{TagsReport}
-use Rattle.codenav.specs.declared.check_tags.TagsReport.TheVariants.{Sound, Faulty}
+use Rattle.codenav.specs.declared.report.Report.{Report}
+use Rattle.codenav.specs.declared.report.Report.TheVariants.{Elements, Tags, Faulty}
+use Rattle.codenav.specs.Report.{ShowsTagsCode}
+use Rattle.tags.specs.declared.code.LineFault.{LineFault}
 
 -- what is answered for a line that leads to this state
-abbrev pub Feeds : Result Step CheckFault → State → State → Type 0
+abbrev pub Feeds : Result Step CheckFault → State ℕ → State ℕ → Type 0
 Feeds (Ok steps.Good) new to = (new ≡ to) × IsRunning to
 Feeds (Ok (steps.Faulty f)) new to = to ≡ stopped f.line f.code
 Feeds (Ok steps.End) new to = ⊥
-Feeds (Err faults.Memory) new to = ⊤
+Feeds (Err faults.Memory) new to = IsRunning to
 Feeds (Err faults.Read) new to = ⊥
 Feeds (Err faults.Write) new to = ⊥
 
@@ -40,25 +42,32 @@ abbrev pub IsReady : Cutter → Type 0
 IsReady lines = (lines.fault ≡ None) × (lines.longest ≡ longest_line)
 
 -- what a step says of the bytes and the states before it and after it
-abbrev pub Takes : Option (List ℕ) → State → Step → State → Cutter → Option (List ℕ) → Type 0
+abbrev pub Takes : Option (List ℕ) → State ℕ → Step → State ℕ → Cutter → Option (List ℕ) → Type 0
 Takes left old steps.Good new lines left' =
-    (line : Reading) × ReadsFirst left line left' × (new ≡ next old line) × IsRunning new × IsReady lines
+    (line : Reading) × ReadsFirst left line left' × (new ≡ next counted old line) × IsRunning new × IsReady lines
 Takes left old (steps.Faulty f) new lines left' =
-    (line : Reading) × BeginsSo left line × (next old line ≡ stopped f.line f.code)
+    (line : Reading) × BeginsSo left line × (next counted old line ≡ stopped f.line f.code)
 Takes left old steps.End new lines left' = (new ≡ old) × ReadsNone left
 
 -- of told bytes the lines that are left lead from this state to that of the whole file
-abbrev pub HasTaken : Option (List ℕ) → State → Option (List ℕ) → Type 0
+abbrev pub HasTaken : Option (List ℕ) → State ℕ → Option (List ℕ) → Type 0
 HasTaken None state left = ⊤
 HasTaken (Some text) state left =
-    (rest : List ℕ) × (left ≡ Some rest) × (fold next state (readings_of rest) ≡ state_after (readings_of text))
+    (rest : List ℕ) × (left ≡ Some rest) × (fold (next counted) state (readings_of rest) ≡ state_after counted 0 (readings_of text))
 
 -- how many lines a checker may still take, and one more
-abbrev pub room_of : State → ℕ
-room_of (running s) = most_lines + 1 - s.lines
+abbrev pub room_of : State ℕ → ℕ
+room_of (running s) = most_lines + 1 - s.count
 room_of (stopped n c) = 0
 
+-- the report of a line's fault
+abbrev pub IsFaulty : LineFault → Report → Type 0
+IsFaulty f (Elements n) = ⊥
+IsFaulty f (Tags n) = ⊥
+IsFaulty f (Faulty l) = (l.line ≡ f.line) × ShowsTagsCode f.code l
+
 -- what the end of the lines says of the state
-abbrev pub Concludes : State → TagsReport → Type 0
-Concludes state (Sound n) = (s : Count) × (state ≡ running s) × (n ≡ s.tags)
-Concludes state (Faulty f) = state ≡ stopped f.line f.code
+abbrev pub Concludes : State ℕ → Report → Type 0
+Concludes state (Elements n) = ⊥
+Concludes state (Tags n) = (s : Summary ℕ) × (state ≡ running s) × (n ≡ s.kept)
+Concludes state (Faulty l) = (f : LineFault) × (state ≡ stopped f.line f.code) × IsFaulty f (Faulty l)

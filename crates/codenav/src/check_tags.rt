@@ -1,28 +1,18 @@
 //! `codenav check-tags`: the report of a tags file.
-ghost use Rattle.std.specs.Prelude.{◌≡◌, ◌-◌, ◌^◌, ◌<◌, IfOk, string_bytes};
+ghost use Rattle.std.specs.Prelude.{◌-◌, ◌^◌, ◌<◌, IfOk};
 ghost use Rattle.lsif.specs.Held.{told};
 ghost use Rattle.lsif.specs.Streams.{CanCount};
 ghost use Rattle.tags.specs.Faults.{result_map};
 ghost use Rattle.tags.specs.Lines.{handed};
-ghost use Rattle.tags.specs.Counting.{next};
-ghost use Rattle.codenav.specs.Report.{CountsCheck};
+ghost use Rattle.tags.specs.States.{counted, next};
+ghost use Rattle.codenav.specs.Report.{Checks, CountsCheck, ReportsTags};
 ghost use Rattle.codenav.specs.Judging.{CountsRead};
-ghost use Rattle.codenav.specs.TagsReport.{ReportsOf, report_text, status_of, Checks};
-ghost use Rattle.codenav.specs.TagsJudging.{Concludes, Feeds, IsReady, Takes};
+ghost use Rattle.codenav.specs.TagsJudging.{Concludes, Feeds, IsFaulty, IsReady, Takes};
 
-use crate::check::{CheckFault, Status};
-use lsif::{LineBuffer, LinesFault, Sink, Source, push_all};
-use std::alloc::{AllocError, Global};
+use crate::report::{CheckFault, FaultyLine, Report, Status, send};
+use lsif::{LineBuffer, LinesFault, Sink, Source};
+use std::alloc::Global;
 use tags::{Code, LONGEST_LINE, LineFault, TagChecker, TagsFault, count_law};
-
-/// What a check of a tags file found.
-#[derive(Clone, Copy, Debug, PartialEq, Eq)]
-pub enum TagsReport {
-    /// No fault, and how many ordinary tags there are.
-    Sound(u32),
-    /// The first faulty line.
-    Faulty(LineFault),
-}
 
 /// What a step of a check came upon.
 #[derive(Clone, Copy, Debug, PartialEq, Eq)]
@@ -35,31 +25,15 @@ enum Step {
     End,
 }
 
-impl TagsReport {
-    /// Whether what was checked is sound.
-    pub fn status(self) -> Status
-        ensures { result ≡ status_of self }
-    {
-        match self {
-            TagsReport::Sound(_) => Status::Sound,
-            TagsReport::Faulty(_) => Status::Faulty,
-        }
-    }
-}
-
-/// The line that is printed, with its line feed.
-fn report_text(alloc: Global, report: TagsReport) -> Result<String, AllocError>
-    ensures { IfOk result (λ text. string_bytes text ≡ report_text report) }
+/// The report of a line's fault.
+fn faulty(fault: LineFault) -> Report
+    ensures { IsFaulty fault result }
 {
-    match report {
-        TagsReport::Sound(tags) => format!(in alloc; "ok {tags} tags\n"),
-        TagsReport::Faulty(fault) => {
-            let line = fault.line;
-            let name = fault.code.name();
-            let text = fault.code.text();
-            format!(in alloc; "line {line}: {name} {text}\n")
-        }
-    }
+    Report::Faulty(FaultyLine {
+        line: fault.line,
+        name: fault.code.name(),
+        text: fault.code.text(),
+    })
 }
 
 /// Feeds the checker a line, or the code of one that was too long to be lent.
@@ -68,7 +42,7 @@ fn feed(
     line: Result<&[u8], Code>,
     has_feed: bool,
 ) -> Result<Step, CheckFault>
-    ensures { Feeds result checker.new (next checker.old (handed (result_map (λ bytes. bytes.now) line.entry) has_feed)) }
+    ensures { Feeds result checker.new (next counted checker.old (handed (result_map (λ bytes. bytes.now) line.entry) has_feed)) }
 {
     match checker.feed(line, has_feed) {
         Ok(()) => Ok(Step::Good),
@@ -93,25 +67,25 @@ fn take_line<R: Source>(
         Ok(false) => Ok(Step::End),
         Err(LinesFault::TooLong) => feed(checker, Err(Code::T01), false),
         Err(LinesFault::Read) => Err(CheckFault::Read),
-        Err(LinesFault::Memory) => Err(CheckFault::Memory),
+        Err(LinesFault::Memory) => unreachable!(),
     }
 }
 
 /// What the end of the lines says.
-fn conclude(checker: TagChecker) -> TagsReport
+fn conclude(checker: TagChecker) -> Report
     ensures { Concludes checker result }
 {
     match checker.finish() {
-        Ok(tags) => TagsReport::Sound(tags),
-        Err(TagsFault::Line(fault)) => TagsReport::Faulty(fault),
+        Ok(tags) => Report::Tags(tags),
+        Err(TagsFault::Line(fault)) => faulty(fault),
         Err(TagsFault::Memory) => unreachable!(),
     }
 }
 
 /// The report of a reader's bytes.
-fn judge<R: Source>(alloc: Global, r: &mut R) -> Result<TagsReport, CheckFault>
+fn judge<R: Source>(alloc: Global, r: &mut R) -> Result<Report, CheckFault>
     requires { R.failed r.old < 2 ^ 64 - 1 }
-    ensures report { IfOk result (λ report. ReportsOf (R.left r.old) report) }
+    ensures report { IfOk result (λ report. ReportsTags (R.left r.old) report) }
     ensures counted { CountsRead (R.failed r.old) (R.failed r.new) result }
 {
     count_law();
@@ -122,7 +96,7 @@ fn judge<R: Source>(alloc: Global, r: &mut R) -> Result<TagsReport, CheckFault>
     'reading: loop {
         match take_line(&mut lines, r, &mut checker)? {
             Step::Good => {}
-            Step::Faulty(fault) => return Ok(TagsReport::Faulty(fault)),
+            Step::Faulty(fault) => return Ok(faulty(fault)),
             Step::End => return Ok(conclude(checker)),
         }
     }
@@ -138,15 +112,11 @@ pub fn check_tags<R: Source, W: Sink>(
 ) -> Result<Status, CheckFault>
     requires reads { R.failed r.old < 2 ^ 64 - 1 }
     requires writes { CanCount (W.output w.old) }
-    ensures checks { Checks (R.left r.old) (W.output w.old) result (W.output w.new) }
+    ensures checks { Checks (ReportsTags (R.left r.old)) (W.output w.old) result (W.output w.new) }
     ensures counted { CountsCheck (R.failed r.old) result (R.failed r.new) }
 {
     let report = judge(alloc, r)?;
-    let text = report_text(alloc, report)?;
-    match push_all(w, text.as_bytes()) {
-        Ok(()) => Ok(report.status()),
-        Err(_) => Err(CheckFault::Write),
-    }
+    send(alloc, report, w)
 }
 
 #[cfg(test)]

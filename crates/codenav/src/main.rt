@@ -5,15 +5,17 @@ mod call;
 mod check;
 mod check_tags;
 mod replay;
+mod report;
 #[cfg(test)]
 mod samples;
 
 use call::{Call, CallFault, read_call};
-use check::{CheckFault, Status, check_lsif};
+use check::check_lsif;
 use check_tags::check_tags;
 use http_edge::ServeFault;
 use lsif::Counted;
 use replay::replay;
+use report::{CheckFault, Status};
 use std::alloc::Global;
 use std::io::ErrorKind;
 use std::process::ExitCode;

@@ -7,8 +7,7 @@ use Rattle.std.specs.List.{AllByRecursion, flat_map, slice_split, onto_first}
 use Rattle.tags.specs.Around.{around, longer}
 use Rattle.tags.specs.Bytes.{tab, semicolon, double_quote}
 use Rattle.tags.specs.Cutting.{Front, front_by, front_of, is_empty, Tail, tail_at, tail_of, fields_after, address_len, each_field}
-use Rattle.tags.specs.Grammar.{Address, address_text, IsAddress, TagLine, field_text, fields_text, line_of, HasNoTab, IsName, AreFields, IsTagLine, Spells, HasFront}
-use Rattle.tags.specs.Parts.{fields_in}
+use Rattle.tags.specs.Grammar.{fields_in, Address, address_text, IsAddress, TagLine, field_text, fields_text, line_of, HasNoTab, IsName, AreFields, IsTagLine, Spells, HasFront}
 use Rattle.tags.proofs.AroundLemmas.{is, parts_by, split-around}
 use Rattle.tags.proofs.NumberLemmas.{Follows, nothing, extension, address_len-address, ReadsAddress, address_len-reads}
 use Rattle.tags.proofs.TextLemmas.{around-surrounds}

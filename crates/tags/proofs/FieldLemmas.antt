@@ -1,9 +1,10 @@
 -- One field more.
-use Rattle.std.proofs.Common.{◌≡◌, ◌∙◌, ◌++◌, ◌||◌, ℕ, suc, Bool, true, false, not, nat_lt, List, [], ◌∷◌, Option, Some, None, option_map, is_some, Ok, Err, Result, refl, sym, arith, append_assoc, append-nil, if◌then◌else◌}
+use Rattle.std.proofs.Common.{◌≡◌, ◌++◌, ◌||◌, ℕ, suc, Bool, true, false, not, nat_lt, List, [], ◌∷◌, Option, Some, None, is_some, is_none, Ok, Err, Result, refl, ap, ◌∙◌, sym, arith, append_assoc, append-nil, if◌then◌else◌}
 use Rattle.std.proofs.lemmas.Bool.Decides.{nat_tests}
 use Rattle.std.specs.List.{list_any, filter_map}
 use Rattle.tags.specs.Cutting.{is_empty}
 use Rattle.tags.specs.Escapes.{decoded}
+use Rattle.tags.specs.Faults.{fault_in}
 use Rattle.tags.specs.Fields.{name_in, value_in, is_field_name, has_bad_escape, is_bad_field, other_in, fields_of}
 use Rattle.tags.specs.Gathering.{gathered}
 use Rattle.tags.specs.Values.{FieldValue, FieldsValue}
@@ -63,14 +64,6 @@ pub gathered-second : (good : Bool) (kind : List ℕ) (others : List FieldValue)
 unfolding gathered
 gathered-second good kind others field value rest n e = rw (n, e, two_kinds, or_last) refl
 
-pub gathered-first_kind : {X : Type 0} (view : X → List ℕ) (old : Option X) (good : Bool) (others : List FieldValue) (field value : List ℕ) (rest : List (List ℕ)) → is_some old ≡ false → name_in field ≡ None → is_empty (value_in field) ≡ false → decoded (value_in field) ≡ Some value → gathered good (Some value) others rest ≡ gathered good (option_map view old) others (field ∷ rest)
-gathered-first_kind view None good others field value rest absent n t e = gathered-kind good others field value rest n t e
-gathered-first_kind view (Some x) good others field value rest absent n t e = absurd cc
-
-pub gathered-second_kind : {X : Type 0} (view : X → List ℕ) (old : Option X) (good : Bool) (others : List FieldValue) (field value : List ℕ) (rest : List (List ℕ)) → is_some old ≡ true → name_in field ≡ None → decoded (value_in field) ≡ Some value → gathered false (option_map view old) others rest ≡ gathered good (option_map view old) others (field ∷ rest)
-gathered-second_kind view None good others field value rest present n e = absurd cc
-gathered-second_kind view (Some x) good others field value rest present n e = gathered-second good (view x) others field value rest n e
-
 pub fields_of-gathered : (fields : List (List ℕ)) → gathered true None [] fields ≡ fields_of fields
 unfolding gathered fields_of
 fields_of-gathered fields = refl
@@ -129,3 +122,39 @@ noted-second_kind has_kind good None others field n d has stands = absurd cc
 noted-second_kind has_kind good (Some x) others field n d has stands =
     let v = some_of (decoded (value_in field)) d in
     (Some x, others, stands, λ rest. gathered-second good x others field v.0 rest n v.1)
+
+-- ---- fields without fault
+
+never_by : (t : Bool) → fault_in {A = FieldsValue} (if t then Err T05 else Err T07) ≡ None → ⊥
+never_by true h = cc
+never_by false h = cc
+
+-- where a field was bad there is a fault
+never_bad : (kind : Option (List ℕ)) (others : List FieldValue) (rest : List (List ℕ)) (r : Result FieldsValue Code) → gathered false kind others rest ≡ r → fault_in r ≡ None → ⊥
+never_bad kind others rest r e h =
+    let refusal : fault_in (refused rest) ≡ None = ap fault_in (sym (gathered-refused kind others rest) ∙ e) ∙ h in
+    never_by (list_any has_bad_escape rest) refusal
+
+escape_by : (kind : Option (List ℕ)) (others : List FieldValue) (field : List ℕ) (rest : List (List ℕ)) (o : Option (List ℕ)) → decoded (value_in field) ≡ o → fault_in (gathered true kind others (field ∷ rest)) ≡ None → is_none o ≡ false
+escape_by kind others field rest None e h =
+    let fault : fault_in (gathered true kind others (field ∷ rest)) ≡ Some T05 = ap fault_in (gathered-escape true kind others field rest e) in
+    absurd cc
+escape_by kind others field rest (Some value) e h = refl
+
+pub good_escape : (kind : Option (List ℕ)) (others : List FieldValue) (field : List ℕ) (rest : List (List ℕ)) → fault_in (gathered true kind others (field ∷ rest)) ≡ None → has_bad_escape field ≡ false
+good_escape kind others field rest h = escape_by kind others field rest (decoded (value_in field)) refl h
+
+other_by : (kind : Option (List ℕ)) (others : List FieldValue) (field name value : List ℕ) (rest : List (List ℕ)) (t : Bool) → is_field_name name ≡ t → name_in field ≡ Some name → decoded (value_in field) ≡ Some value → fault_in (gathered true kind others (field ∷ rest)) ≡ None → gathered true kind (others ++ record { name = name; value = value } ∷ []) rest ≡ gathered true kind others (field ∷ rest)
+other_by kind others field name value rest true t n e h = gathered-other true kind others field name value rest n t e
+other_by kind others field name value rest false t n e h = absurd (never_bad kind others rest _ (gathered-bad_name true kind others field name value rest n t e) h)
+
+pub good_other : (kind : Option (List ℕ)) (others : List FieldValue) (field name value : List ℕ) (rest : List (List ℕ)) → name_in field ≡ Some name → decoded (value_in field) ≡ Some value → fault_in (gathered true kind others (field ∷ rest)) ≡ None → gathered true kind (others ++ record { name = name; value = value } ∷ []) rest ≡ gathered true kind others (field ∷ rest)
+good_other kind others field name value rest n e h = other_by kind others field name value rest (is_field_name name) refl n e h
+
+kind_by : (others : List FieldValue) (field value : List ℕ) (rest : List (List ℕ)) (t : Bool) → is_empty (value_in field) ≡ t → name_in field ≡ None → decoded (value_in field) ≡ Some value → fault_in (gathered true None others (field ∷ rest)) ≡ None → gathered true (Some value) others rest ≡ gathered true None others (field ∷ rest)
+kind_by others field value rest true t n e h = absurd (never_bad None others rest _ (gathered-empty true None others field value rest n t e) h)
+kind_by others field value rest false t n e h = gathered-kind true others field value rest n t e
+
+pub good_kind : (kind : Option (List ℕ)) (others : List FieldValue) (field value : List ℕ) (rest : List (List ℕ)) → name_in field ≡ None → decoded (value_in field) ≡ Some value → fault_in (gathered true kind others (field ∷ rest)) ≡ None → gathered true (Some value) others rest ≡ gathered true kind others (field ∷ rest)
+good_kind None others field value rest n e h = kind_by others field value rest (is_empty (value_in field)) refl n e h
+good_kind (Some kind) others field value rest n e h = absurd (never_bad (Some kind) others rest _ (gathered-second true kind others field value rest n e) h)

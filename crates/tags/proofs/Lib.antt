@@ -1,14 +1,15 @@
 pub mod AddressLemmas
 pub mod AroundLemmas
-pub mod CountLemmas
+pub mod ConditionLemmas
+pub mod ContentLemmas
 pub mod CutLemmas
 pub mod EscapeLemmas
 pub mod FieldLemmas
 pub mod LineLemmas
 pub mod NumberLemmas
-pub mod OutlineLemmas
 pub mod PartLemmas
 pub mod PatternLemmas
+pub mod ReaderLemmas
 pub mod SaidLemmas
 pub mod StepLemmas
 pub mod SummaryLemmas

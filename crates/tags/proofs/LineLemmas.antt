@@ -3,18 +3,19 @@ use Rattle.std.proofs.Common.{append_assoc, ◌++◌, ◌≡◌, ◌∙◌, ◌=
 use Rattle.std.proofs.lemmas.Bool.Decides.{nat_tests}
 use Rattle.tags.specs.Around.{around, longer}
 use Rattle.tags.specs.Bytes.{line_feed}
-use Rattle.tags.specs.Fault.{Reading, contents}
+use Rattle.tags.specs.Fault.{Reading, contents, tags_of}
 use Rattle.tags.specs.Faults.{result_map}
 use Rattle.std.specs.List.{AllByRecursion, flat_map}
 use Rattle.tags.specs.Lines.{IsPiece, ended_line, ended_text, with_last, Line, lines_of, in_front, readings_of, reading_of, handed}
 use Rattle.tags.specs.Outcome.{Answers}
-use Rattle.tags.specs.Steps.{State, running, stopped, next, state_after, Tells, Finishes}
+use Rattle.tags.specs.States.{State, Summary, running, stopped, listed, next, state_after, Tells, Finishes}
+use Rattle.tags.specs.Values.{TagValue}
 use Rattle.tags.specs.Views.{tag_values}
 use Rattle.tags.specs.declared.code.TagsFault.{TagsFault}
 use Rattle.tags.specs.declared.code.TagsFault.TheVariants as faults
 use Rattle.tags.specs.declared.tag.Tag.{Tag}
 use Rattle.tags.proofs.StepLemmas.{stays, stops_at, passes_all}
-use Rattle.tags.proofs.SummaryLemmas.{tags-summary}
+use Rattle.tags.proofs.SummaryLemmas.{kept-summary, listed-all}
 
 -- a last line without LF
 abbrev pub last_line : List ℕ → List Line
@@ -64,34 +65,38 @@ readings_of-no_line (b ∷ bs) e = absurd (omega (arith, long_is_not_empty (leng
 pub readings_of-end : (rest : List ℕ) → around line_feed rest ≡ None → (length rest == 0) ≡ true → readings_of rest ≡ []
 readings_of-end rest h e = ap (map reading_of) (lines_of-around rest ∙ ap (lines_by rest) h) ∙ readings_of-no_line rest e
 
+-- ---- the tags that are kept
+
+-- the state after these lines
+abbrev pub after_all : List Reading → State (List TagValue)
+after_all lines = state_after listed [] lines
+
 -- the state after a line
-pub after_line : (old new : State) (line : Reading) (rest all : List Reading) → Tells (Ok tt) old new (next old line) → fold next old (line ∷ rest) ≡ state_after all → fold next new rest ≡ state_after all
-after_line old new line rest all tells h = ap (λ state. fold next state rest) tells.0 ∙ h
+pub after_line : (old new : State (List TagValue)) (line : Reading) (rest all : List Reading) → Tells (Ok tt) old new (next listed old line) → fold (next listed) old (line ∷ rest) ≡ after_all all → fold (next listed) new rest ≡ after_all all
+after_line old new line rest all tells h = ap (λ state. fold (next listed) state rest) tells.0 ∙ h
 
 -- a line's fault is that of the file
-pub fault_answers : (e : TagsFault) (old new : State) (line : Reading) (rest all : List Reading) → Tells (Err e) old new (next old line) → fold next old (line ∷ rest) ≡ state_after all → Answers (Err e) all
+pub fault_answers : (e : TagsFault) (old new : State (List TagValue)) (line : Reading) (rest all : List Reading) → Tells (Err e) old new (next listed old line) → fold (next listed) old (line ∷ rest) ≡ after_all all → Answers (Err e) all
 fault_answers faults.Memory old new line rest all tells h = tt
 fault_answers (faults.Line f) old new line rest all tells h =
-    let ends : state_after all ≡ stopped f.line f.code = sym h ∙ ap (λ state. fold next state rest) tells.1 ∙ stays rest f.line f.code in
-    let first = stops_at all f.line f.code ends in
-    (first.0, omega (arith, first.1), record { code = first.2.code; least = λ j j_lt b g. first.2.least j b j_lt g })
+    let ends : after_all all ≡ stopped f.line f.code = sym h ∙ ap (λ state. fold (next listed) state rest) tells.1 ∙ stays listed [] rest f.line f.code in
+    stops_at listed [] all f.line f.code ends
 
-finished_ok : (tags : List Tag) (state : State) (all : List Reading) → Finishes (Ok (tag_values tags)) state → state ≡ state_after all → Answers (Ok tags) all
+finished_ok : (tags : List Tag) (state : State (List TagValue)) (all : List Reading) → Finishes (Ok (tag_values tags)) state → state ≡ after_all all → Answers (Ok tags) all
 finished_ok tags (stopped n c) all finishes h = absurd finishes
 finished_ok tags (running s) all finishes h =
-    let passes = passes_all all s (sym h) in
-    (passes.good, finishes ∙ ap (λ t. t.tags) passes.summary ∙ tags-summary (contents all))
+    let passes = passes_all listed [] all s (sym h) in
+    (passes.0, finishes ∙ ap (λ (t : Summary (List TagValue)). t.kept) passes.1 ∙ kept-summary _ (contents all) ∙ listed-all (tags_of (contents all)))
 
-finished_err : (e : TagsFault) (state : State) (all : List Reading) → Finishes (Err e) state → state ≡ state_after all → Answers (Err e) all
+finished_err : (e : TagsFault) (state : State (List TagValue)) (all : List Reading) → Finishes (Err e) state → state ≡ after_all all → Answers (Err e) all
 finished_err faults.Memory state all finishes h = tt
 finished_err (faults.Line f) (running s) all finishes h = absurd finishes
 finished_err (faults.Line f) (stopped n c) all finishes h =
-    let ends : state_after all ≡ stopped f.line f.code = rw (finishes.0, finishes.1) (sym h) in
-    let first = stops_at all f.line f.code ends in
-    (first.0, omega (arith, first.1), record { code = first.2.code; least = λ j j_lt b g. first.2.least j b j_lt g })
+    let ends : after_all all ≡ stopped f.line f.code = rw (finishes.0, finishes.1) (sym h) in
+    stops_at listed [] all f.line f.code ends
 
 -- what the end answers is what the lines answer
-pub finish_answers : {X : Type 0} (items : X → List Tag) (r : Result X TagsFault) (state : State) (all : List Reading) → Finishes (result_map (λ x. tag_values (items x)) r) state → state ≡ state_after all → Answers (result_map items r) all
+pub finish_answers : {X : Type 0} (items : X → List Tag) (r : Result X TagsFault) (state : State (List TagValue)) (all : List Reading) → Finishes (result_map (λ x. tag_values (items x)) r) state → state ≡ after_all all → Answers (result_map items r) all
 finish_answers items (Ok x) state all finishes h = finished_ok (items x) state all finishes h
 finish_answers items (Err e) state all finishes h = finished_err e state all finishes h
 

@@ -5,8 +5,8 @@ use Rattle.std.specs.List.{AllByRecursion, flat_map}
 use Rattle.tags.specs.Bytes.{tab, semicolon, double_quote}
 use Rattle.tags.specs.Cutting.{Front, Tail, front_of, tail_of, each_field}
 use Rattle.tags.specs.Faults.{Gives, result_map, some_or, ◌>>=◌}
-use Rattle.tags.specs.Grammar.{address_text, TagLine, field_text, fields_text, line_of, IsTagLine, Spells}
-use Rattle.tags.specs.Parts.{PartValue, part_at, fields_at, parts_with, parts_of, parts_in, fields_in, split_of, IsSlice, Splits}
+use Rattle.tags.specs.Grammar.{fields_in, address_text, TagLine, field_text, fields_text, line_of, IsTagLine, Spells}
+use Rattle.tags.specs.Parts.{PartValue, part_at, fields_at, parts_with, parts_of, parts_in, split_of, IsSlice, Splits}
 use Rattle.tags.specs.declared.code.Code.{Code}
 use Rattle.tags.specs.declared.code.Code.TheVariants.{T04, T06}
 use Rattle.tags.specs.declared.code.SplitFault.{SplitFault}

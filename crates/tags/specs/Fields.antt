@@ -60,9 +60,13 @@ other_in field = other_of (name_in field) (decoded (value_in field))
 abbrev pub fields_by : List (List ℕ) → List FieldValue → FieldsValue
 fields_by kinds others = record { kind = slice_get kinds 0; others = others }
 
+-- a bad field, or a second kind
+abbrev pub has_bad_fields : List (List ℕ) → Bool
+has_bad_fields fields = list_any is_bad_field fields || nat_lt 1 (length (filter_map kind_in fields))
+
 -- what the fields say: the kind, of which there is one at most, and the others in order
 unfoldable pub fields_of : List (List ℕ) → Result FieldsValue Code
 fields_of fields =
     if list_any has_bad_escape fields then Err T05
-    else if list_any is_bad_field fields || nat_lt 1 (length (filter_map kind_in fields)) then Err T07
+    else if has_bad_fields fields then Err T07
     else Ok (fields_by (filter_map kind_in fields) (filter_map other_in fields))

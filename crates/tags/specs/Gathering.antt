@@ -1,14 +1,13 @@
 -- Fields read one after the other.
-use Rattle.std.specs.Prelude.{◌≡◌, ℕ, ◌++◌, ◌||◌, ◌∷◌, Bool, not, nat_lt, List, length, map, Option, option_map, string_bytes, is_some, Result, Ok, Err, ⊤, true, false, if◌then◌else◌}
+use Rattle.std.specs.Prelude.{◌≡◌, ℕ, ◌++◌, ◌||◌, ◌∷◌, Bool, not, nat_lt, List, length, map, Option, None, option_map, string_bytes, is_some, Result, Ok, Err, true, false, if◌then◌else◌}
 use Rattle.std.specs.List.{list_any, filter_map}
 use Rattle.std.specs.Option.{option_to_list}
+use Rattle.tags.specs.Faults.{fault_in}
 use Rattle.tags.specs.Fields.{fields_by, has_bad_escape, is_bad_field, kind_in, other_in}
 use Rattle.tags.specs.Values.{FieldValue, FieldsValue}
 use Rattle.tags.specs.Views.{field_value}
 use Rattle.tags.specs.declared.code.Code.{Code}
 use Rattle.tags.specs.declared.code.Code.TheVariants.{T05, T07}
-use Rattle.tags.specs.declared.code.SplitFault.{SplitFault}
-use Rattle.tags.specs.declared.code.SplitFault.TheVariants as faults
 use Rattle.tags.specs.declared.fields.Gathered.{Gathered}
 use Rattle.tags.specs.declared.fields.Noted.{Noted}
 
@@ -23,16 +22,16 @@ gathered good kind others rest =
     else if not good || (list_any is_bad_field rest || nat_lt 1 (length (kinds_with kind rest))) then Err T07
     else Ok (fields_by (kinds_with kind rest) (others ++ filter_map other_in rest))
 
+-- the same where none so far was faulty, and this was gathered
 abbrev pub gathered_in : Gathered → List (List ℕ) → Result FieldsValue Code
-gathered_in g rest = gathered g.good (option_map (λ s. string_bytes s) g.kind) (map field_value g.others.items) rest
+gathered_in g rest = gathered true (option_map (λ s. string_bytes s) g.kind) (map field_value g.others.items) rest
 
--- what a call says of the states before it and after it
-abbrev pub Gathers : Result ⊤ SplitFault → Gathered → Gathered → List ℕ → Type 0
-Gathers (Ok u) old new field = (rest : List (List ℕ)) → gathered_in new rest ≡ gathered_in old (field ∷ rest)
-Gathers (Err faults.Memory) old new field = Unit {0}
-Gathers (Err (faults.Line code)) old new field = (rest : List (List ℕ)) → gathered_in old (field ∷ rest) ≡ Err code
+-- what a call says of what was gathered before it and after it: fields without fault say what they said
+abbrev pub Gathers : Gathered → Gathered → List ℕ → Type 0
+Gathers old new field =
+    (rest : List (List ℕ)) → fault_in (gathered_in old (field ∷ rest)) ≡ None → gathered_in new rest ≡ gathered_in old (field ∷ rest)
 
--- ---- the same where the fields aren't kept
+-- ---- the fields' code, where they aren't gathered
 
 -- there is a kind or not, as was noted
 abbrev pub Stands : Noted → Option (List ℕ) → Type 0

@@ -75,6 +75,11 @@ pub record TagLine : Type 0 where
 abbrev pub field_text : List ℕ → List ℕ
 field_text field = tab ∷ field
 
+-- the fields, of which there may be none
+abbrev pub fields_in : Option (List (List ℕ)) → List (List ℕ)
+fields_in None = []
+fields_in (Some fields) = fields
+
 abbrev pub fields_text : Option (List (List ℕ)) → List ℕ
 fields_text None = []
 fields_text (Some fields) = semicolon ∷ double_quote ∷ flat_map field_text fields

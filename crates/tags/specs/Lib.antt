@@ -1,7 +1,8 @@
 pub mod Around
 pub mod Bytes
 pub mod Codes
-pub mod Counting
+pub mod Conditions
+pub mod Contents
 pub mod Cutting
 pub mod Escapes
 pub mod Fault
@@ -11,11 +12,10 @@ pub mod Gathering
 pub mod Grammar
 pub mod Lines
 pub mod Outcome
-pub mod Outlines
 pub mod Parts
 pub mod Reading
 pub mod Said
-pub mod Steps
+pub mod States
 pub mod Values
 pub mod Views
 pub mod Written

@@ -1,8 +1,10 @@
 -- The lines of a tags file, and what each says.
-use Rattle.std.specs.Prelude.{◌≡◌, ◌≢◌, ℕ, ◌==◌, ◌++◌, Bool, true, false, nat_lt, List, [], ◌∷◌, length, map, Result, Ok, Err, if◌then◌else◌}
+use Rattle.std.specs.Prelude.{◌≡◌, ◌≢◌, ℕ, ◌<◌, ◌==◌, ◌++◌, Bool, true, false, nat_lt, List, [], ◌∷◌, length, map, Result, Ok, Err, ⊤, if◌then◌else◌}
 use Rattle.std.specs.List.{AllByRecursion, flat_map}
 use Rattle.std.specs.Str.Lines.{strip_carriage_return}
 use Rattle.tags.specs.Bytes.{line_feed}
+use Rattle.tags.specs.Conditions.{ReadsBy, TextCondition, text_codes}
+use Rattle.tags.specs.Fault.{Reading}
 use Rattle.tags.specs.Reading.{reading}
 use Rattle.tags.specs.Values.{ContentValue}
 use Rattle.tags.specs.declared.code.Code.{Code}
@@ -51,6 +53,33 @@ longest_line = 65536
 -- one CR directly before the LF isn't part of the line's text
 abbrev pub line_text : Line → List ℕ
 line_text line = if line.ended then strip_carriage_return line.bytes else line.bytes
+
+-- the condition of a code on a line; T01: the line, with its CR, is longer than it may be
+abbrev pub Condition : Line → Code → Type 0
+Condition line T01 = longest_line < length line.bytes
+Condition line c = TextCondition (line_text line) c
+
+-- the codes of a line alone, least first
+abbrev pub line_codes : List Code
+line_codes = T01 ∷ text_codes
+
+-- a line's reading: the least code whose condition holds, or where none does what the line's text says
+abbrev pub IsReading : Line → Reading → Type 0
+IsReading line reading = ReadsBy (Condition line) line_codes (line_text line) reading
+
+-- each line's reading
+abbrev pub AreReadings : List Line → List Reading → Type 0
+AreReadings [] [] = ⊤
+AreReadings [] (r ∷ rs) = ⊥
+AreReadings (line ∷ lines) [] = ⊥
+AreReadings (line ∷ lines) (r ∷ rs) = IsReading line r × AreReadings lines rs
+
+-- the reading of a line that is handed in: that of its bytes, or the code that was found before
+abbrev pub IsHanded : Result (List ℕ) Code → Bool → Reading → Type 0
+IsHanded (Ok bytes) ended reading = IsReading (record { bytes = bytes; ended = ended }) reading
+IsHanded (Err code) ended reading = reading ≡ Err code
+
+-- ---- the steps of a reading
 
 -- what a line says, or the least code of the line alone
 abbrev pub reading_of : Line → Result ContentValue Code

@@ -2,7 +2,7 @@
 use Rattle.std.specs.Prelude.{◌≡◌, ℕ, ◌+◌, ◌-◌, List, [], ◌∷◌, ◌++◌, length, slice_range, Option, None, Some, Result, Ok, Err}
 use Rattle.tags.specs.Cutting.{Front, Tail, front_of, tail_of, each_field}
 use Rattle.tags.specs.Faults.{◌>>=◌, some_or}
-use Rattle.tags.specs.Grammar.{TagLine, address_text, Spells, HasFront}
+use Rattle.tags.specs.Grammar.{TagLine, address_text, fields_in, Spells, HasFront}
 use Rattle.tags.specs.declared.code.Code.{Code}
 use Rattle.tags.specs.declared.code.Code.TheVariants.{T04, T06}
 use Rattle.tags.specs.declared.code.SplitFault.{SplitFault}
@@ -44,10 +44,6 @@ split_of line = do
   Ok (parts_of f t)
 
 -- ---- in the words of the grammar
-
-abbrev pub fields_in : Option (List (List ℕ)) → List (List ℕ)
-fields_in None = []
-fields_in (Some fields) = fields
 
 -- the parts of a line of the grammar
 abbrev pub parts_in : TagLine → List PartValue

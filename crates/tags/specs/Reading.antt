@@ -4,6 +4,7 @@ use Rattle.std.specs.List.{list_any, starts_with}
 use Rattle.std.specs.Str.{is_utf8}
 use Rattle.tags.specs.Around.{around}
 use Rattle.tags.specs.Bytes.{tab}
+use Rattle.tags.specs.Conditions.{is_control}
 use Rattle.tags.specs.Cutting.{front_of, tail_of, each_field}
 use Rattle.tags.specs.Escapes.{decoded}
 use Rattle.tags.specs.Faults.{◌>>=◌, some_or}
@@ -11,10 +12,6 @@ use Rattle.tags.specs.Fields.{fields_of}
 use Rattle.tags.specs.Values.{EntryValue, FieldsValue, ContentValue, sorted, other, ordinary}
 use Rattle.tags.specs.declared.code.Code.{Code}
 use Rattle.tags.specs.declared.code.Code.TheVariants.{T02, T03, T04, T05, T06, T08}
-
--- a control character other than Tab and LF
-abbrev pub is_control : ℕ → Bool
-is_control b = nat_le b 8 || (nat_le 11 b && nat_le b 31) || b == 127
 
 abbrev pub is_pseudo_tag : List ℕ → Bool
 is_pseudo_tag line = starts_with nat_eq line (codes "!_TAG_")

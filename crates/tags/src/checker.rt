@@ -1,23 +1,36 @@
 //! Lines that are judged, and whose tags are counted.
 ghost use Rattle.std.specs.Prelude.{◌≡◌, ◌+◌, ◌<◌, ◌≤◌, IfNone, OnErr, OnOk};
+ghost use Rattle.tags.specs.Contents.{IsContent, Reads};
 ghost use Rattle.tags.specs.Faults.{result_map};
-ghost use Rattle.tags.specs.Lines.{handed};
-ghost use Rattle.tags.specs.Outlines.{IsOutline, Outlines};
+ghost use Rattle.tags.specs.Lines.{handed, line_text};
+ghost use Rattle.tags.specs.Values.{ContentValue};
 
 use crate::code::{Code, LineFault, TagsFault};
-use crate::content::{Outline, PseudoTag, check_content};
+use crate::content::{Content, PseudoTag, read_content};
 use crate::order::Order;
-use crate::reader::{LONGEST_LINE, line_text};
 use std::alloc::{AllocError, Global};
 use std::marker::Model;
 
-/// The outline of a line that is handed in, or the code that was found before.
-fn check_line(line: Result<&[u8], Code>, ended: bool) -> Result<Outline<'_>, Code>
-    ensures { Outlines result (handed (result_map (λ bytes. bytes.now) line.entry) ended) }
+/// How many bytes a line may have, with its CR.
+pub const LONGEST_LINE: usize = 65536;
+
+/// The line's text: one CR directly before an LF isn't part of it.
+fn line_text(line: &[u8], ended: bool) -> &[u8]
+    ensures { result.now ≡ line_text (record { bytes = line.now; ended = ended }) }
+{
+    match line {
+        [text @ .., b'\r'] if ended => text,
+        _ => line,
+    }
+}
+
+/// What a line says that is handed in, or the code that was found before.
+fn read_line(line: Result<&[u8], Code>, ended: bool) -> Result<Content<'_>, Code>
+    ensures { Reads result (handed (result_map (λ bytes. bytes.now) line.entry) ended) }
 {
     match line {
         Ok(bytes) if bytes.len() > LONGEST_LINE => Err(Code::T01),
-        Ok(bytes) => check_content(line_text(bytes, ended)),
+        Ok(bytes) => read_content(line_text(bytes, ended)),
         Err(code) => Err(code),
     }
 }
@@ -31,34 +44,34 @@ struct Counted {
 }
 
 impl Counted {
-    ghost use Rattle.tags.specs.Counting.{add, order_in};
-    ghost use Rattle.tags.specs.Values.{ContentValue};
+    ghost use Rattle.tags.specs.States.{add, counted, order_in};
     ghost use Rattle.tags.specs.Views.{count_of};
 
     /// The least of T09 to T11 that holds of the next line.
-    fn order_code(&self, outline: Outline) -> Option<Code>
-        ensures value { (x : ContentValue) → IsOutline outline.entry x → result ≡ order_in (count_of self.now) x }
+    fn order_code(&self, content: Content<'_>) -> Option<Code>
+        ensures value { (x : ContentValue) → IsContent content.entry x → result ≡ order_in (count_of self.now) x }
         ensures room { IfNone result (self.now.order.count < 100000) }
     {
-        match outline {
-            Outline::Ordinary(written) => self.order.code(Some(written)),
-            Outline::Pseudo(_) => self.order.code(None),
+        match content {
+            Content::Ordinary(cut) => self.order.code(Some(cut.name)),
+            Content::Pseudo(_) => self.order.code(None),
         }
     }
 
     /// Takes the next line. An `Err` changes nothing.
-    fn add(&mut self, alloc: Global, outline: Outline) -> Result<(), AllocError>
+    fn add(&mut self, alloc: Global, content: Content<'_>) -> Result<(), AllocError>
         requires room { self.old.order.count < 100000 }
         requires fewer { self.old.tags ≤ self.old.order.count }
-        ensures ok { OnOk result ((x : ContentValue) → IsOutline outline.entry x → count_of self.new ≡ add (count_of self.old) x) }
+        ensures ok { OnOk result ((x : ContentValue) → IsContent content.entry x → count_of self.new ≡ add counted (count_of self.old) x) }
         ensures err { OnErr result (count_of self.new ≡ count_of self.old) }
+        ensures room { self.new.order.count ≤ 100000 }
         ensures fewer { self.new.tags ≤ self.new.order.count }
     {
-        match outline {
-            Outline::Pseudo(PseudoTag::Sorted(checked)) => self.order.checked = checked,
-            Outline::Pseudo(PseudoTag::Other) => {}
-            Outline::Ordinary(written) => {
-                self.order.rename(alloc, written)?;
+        match content {
+            Content::Pseudo(PseudoTag::Sorted(checked)) => self.order.checked = checked,
+            Content::Pseudo(PseudoTag::Other) => {}
+            Content::Ordinary(cut) => {
+                self.order.rename(alloc, cut.name)?;
                 self.tags += 1;
             }
         }
@@ -77,11 +90,11 @@ pub struct TagChecker {
 }
 
 impl Model for TagChecker {
-    ghost use Rattle.std.specs.Prelude.{◌≤◌};
-    ghost use Rattle.tags.specs.Counting.{State};
+    ghost use Rattle.std.specs.Prelude.{◌≤◌, ℕ};
+    ghost use Rattle.tags.specs.States.{State};
     ghost use Rattle.tags.specs.Views.{checked_state};
 
-    ghost Value = { State };
+    ghost Value = { State ℕ };
 
     ghost view = { λ c. checked_state c.fault c.counted };
 
@@ -89,11 +102,12 @@ impl Model for TagChecker {
 }
 
 impl TagChecker {
-    ghost use Rattle.tags.specs.Counting.{Finishes, Tells, next, start};
+    ghost use Rattle.tags.specs.Contents.{HasRoom, Judges, number_of, taken};
+    ghost use Rattle.tags.specs.States.{Finishes, Tells, counted, next, start};
 
     /// A checker of no line yet.
     pub fn new(alloc: Global) -> TagChecker
-        ensures { result ≡ start }
+        ensures { result ≡ start 0 }
     {
         let counted = Counted {
             order: Order::new(),
@@ -106,30 +120,55 @@ impl TagChecker {
         }
     }
 
-    /// Takes the next line without its LF, or T01 where it was too long to be lent. `ended` says whether an
-    /// LF follows, and is false for the last line alone. After a fault of a line it answers that fault for
-    /// good; after want of memory it's as before.
-    pub fn feed(&mut self, line: Result<&[u8], Code>, ended: bool) -> Result<(), TagsFault>
-        ensures { Tells result self.old self.new (next self.old (handed (result_map (λ bytes. bytes.now) line.entry) ended)) }
+    /// The number of the next line.
+    pub(crate) fn next_number(&self) -> u32
+        requires { HasRoom self.now }
+        ensures { result ≡ number_of self.now }
+    {
+        self.counted.order.count + 1
+    }
+
+    /// What the next line says, which isn't taken yet; or the fault at which the checker stops. It takes no memory.
+    pub(crate) fn judge<'a>(
+        &mut self,
+        line: Result<&'a [u8], Code>,
+        ended: bool,
+    ) -> Result<Content<'a>, LineFault>
+        ensures { Judges result self.old self.new (handed (result_map (λ bytes. bytes.now) line.entry) ended) }
     {
         if let Some(fault) = self.fault {
-            return Err(TagsFault::Line(fault));
+            return Err(fault);
         }
-        let number = self.counted.order.count + 1;
-        let outline = match check_line(line, ended) {
-            Ok(outline) => outline,
-            Err(code) => {
-                let fault = LineFault { line: number, code };
-                self.fault = Some(fault);
-                return Err(TagsFault::Line(fault));
-            }
+        let code = match read_line(line, ended) {
+            Ok(content) => match self.counted.order_code(content) {
+                None => return Ok(content),
+                Some(code) => code,
+            },
+            Err(code) => code,
         };
-        if let Some(code) = self.counted.order_code(outline) {
-            let fault = LineFault { line: number, code };
-            self.fault = Some(fault);
-            return Err(TagsFault::Line(fault));
-        }
-        self.counted.add(self.alloc, outline)?;
+        let line = self.counted.order.count + 1;
+        let fault = LineFault { line, code };
+        self.fault = Some(fault);
+        Err(fault)
+    }
+
+    /// Takes a line that was judged. An `Err` changes nothing.
+    pub(crate) fn take(&mut self, content: Content<'_>) -> Result<(), AllocError>
+        requires { HasRoom self.old }
+        ensures ok { OnOk result ((x : ContentValue) → IsContent content.entry x → self.new ≡ taken self.old x) }
+        ensures err { OnErr result (self.new ≡ self.old) }
+    {
+        self.counted.add(self.alloc, content)
+    }
+
+    /// Takes the next line without its LF, or T01 where it was too long to be lent. `ended` says whether an
+    /// LF follows, and is false for the last line alone. After a fault of a line it answers that fault for
+    /// good; where memory runs out the line has no fault, and the checker is as before.
+    pub fn feed(&mut self, line: Result<&[u8], Code>, ended: bool) -> Result<(), TagsFault>
+        ensures { Tells result self.old self.new (next counted self.old (handed (result_map (λ bytes. bytes.now) line.entry) ended)) }
+    {
+        let content = self.judge(line, ended)?;
+        self.take(content)?;
         Ok(())
     }
 

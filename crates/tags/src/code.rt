@@ -1,3 +1,4 @@
+//! The codes of faults, and what is refused.
 ghost use Rattle.std.specs.Prelude.{◌≡◌};
 ghost use Rattle.tags.specs.Codes.{name_of, text_of};
 ghost use Rattle.tags.specs.declared.code.TagsFault.TheVariants as tags_fault;
@@ -95,6 +96,14 @@ pub enum SplitFault {
     Memory,
     /// What is wrong with the line.
     Line(Code),
+}
+
+impl From<LineFault> for TagsFault {
+    ghost from_gives = { λ fault e. e ≡ tags_fault.Line fault };
+
+    fn from(fault: LineFault) -> TagsFault {
+        TagsFault::Line(fault)
+    }
 }
 
 impl From<AllocError> for TagsFault {

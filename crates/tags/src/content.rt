@@ -1,17 +1,17 @@
+//! What a line says, judged without memory.
 ghost use Rattle.std.specs.Prelude.{◌≡◌, IsUtf8, nat_eq, codes};
 ghost use Rattle.std.specs.List.{list_any};
-ghost use Rattle.tags.specs.Faults.{Gives, result_map};
-ghost use Rattle.tags.specs.Outlines.{NamesTag, Outlines};
-ghost use Rattle.tags.specs.Reading.{is_control, is_pseudo_tag, ordinary_of, pseudo_of, reading};
-ghost use Rattle.tags.specs.Views.{content_value, pseudo_value};
+ghost use Rattle.tags.specs.Faults.{result_map};
+ghost use Rattle.tags.specs.Conditions.{is_control};
+ghost use Rattle.tags.specs.Contents.{Reads, ReadsTag};
+ghost use Rattle.tags.specs.Reading.{is_pseudo_tag, ordinary_of, pseudo_of, reading};
+ghost use Rattle.tags.specs.Views.{pseudo_value};
 
-use crate::around::{around_char, text_of};
-use crate::code::{Code, SplitFault};
-use crate::cut::{front_of, tail_of};
-use crate::escape::{decode, is_decodable};
-use crate::fields::{Gathered, fields_code, fields_of};
-use crate::tag::Entry;
-use std::alloc::Global;
+use crate::around::around_char;
+use crate::code::Code;
+use crate::cut::{Cut, front_of, tail_of};
+use crate::escape::is_decodable;
+use crate::fields::fields_code;
 
 /// What a pseudo-tag says.
 #[derive(Clone, Copy)]
@@ -22,19 +22,11 @@ pub(crate) enum PseudoTag {
     Other,
 }
 
-/// What a line says.
-#[derive(Drop)]
+/// What a line says: a pseudo-tag, or the cut of an ordinary tag.
+#[derive(Clone, Copy)]
 pub(crate) enum Content<'a> {
     Pseudo(PseudoTag),
-    /// An ordinary tag, with its name as written.
-    Ordinary(&'a [u8], Entry),
-}
-
-/// What a line says, of an ordinary tag only the name as written.
-#[derive(Clone, Copy)]
-pub(crate) enum Outline<'a> {
-    Pseudo(PseudoTag),
-    Ordinary(&'a [u8]),
+    Ordinary(Cut<'a>),
 }
 
 fn is_control(byte: u8) -> bool
@@ -75,61 +67,11 @@ fn pseudo_tag(line: &str) -> Result<PseudoTag, Code>
     }
 }
 
-/// The tag of an ordinary line. An `Err` is of memory, or the least of T04 to T07.
+/// The cut of an ordinary line, or the least of T04 to T07.
 #[tactic(auto, unfolding(crate::specs::Reading::ordinary_of))]
-fn ordinary_tag(alloc: Global, line: &[u8]) -> Result<Content<'_>, SplitFault>
+fn ordinary_tag(line: &[u8]) -> Result<Cut<'_>, Code>
     requires { IsUtf8 line.now }
-    ensures { Gives content_value result (ordinary_of line.now) }
-{
-    let Some(front) = front_of(line) else {
-        return Err(SplitFault::Line(Code::T04));
-    };
-    let Some(name) = decode(alloc, text_of(front.name))? else {
-        return Err(SplitFault::Line(Code::T05));
-    };
-    let Some(file) = decode(alloc, text_of(front.file))? else {
-        return Err(SplitFault::Line(Code::T05));
-    };
-    let Some(tail) = tail_of(front.rest) else {
-        return Err(SplitFault::Line(Code::T06));
-    };
-    let address = String::from_str(alloc, text_of(tail.address))?;
-    let Gathered { kind, others, .. } = fields_of(alloc, tail.fields)?;
-    let entry = Entry {
-        name,
-        file,
-        address,
-        kind,
-        fields: others,
-    };
-    Ok(Content::Ordinary(front.name, entry))
-}
-
-/// What a line says, which is no longer than a line may be. An `Err` is of memory, or the least of T02 to
-/// T08.
-#[tactic(auto, using(crate::proofs::TextLemmas::texts), unfolding(crate::specs::Reading::reading))]
-pub(crate) fn read_content(alloc: Global, line: &[u8]) -> Result<Content<'_>, SplitFault>
-    ensures { Gives content_value result (reading line.now) }
-{
-    let Ok(text) = str::from_utf8(line) else {
-        return Err(SplitFault::Line(Code::T02));
-    };
-    if has_control(line) {
-        Err(SplitFault::Line(Code::T03))
-    } else if is_pseudo_tag(text) {
-        match pseudo_tag(text) {
-            Ok(tag) => Ok(Content::Pseudo(tag)),
-            Err(code) => Err(SplitFault::Line(code)),
-        }
-    } else {
-        ordinary_tag(alloc, line)
-    }
-}
-
-/// The name of an ordinary line's tag, or the least of T04 to T07.
-#[tactic(auto, unfolding(crate::specs::Reading::ordinary_of))]
-fn check_ordinary(line: &[u8]) -> Result<&[u8], Code>
-    ensures { NamesTag (result_map (λ name. name.now) result) (ordinary_of line.now) }
+    ensures { ReadsTag result (ordinary_of line.now) }
 {
     let Some(front) = front_of(line) else {
         return Err(Code::T04);
@@ -142,14 +84,19 @@ fn check_ordinary(line: &[u8]) -> Result<&[u8], Code>
     };
     match fields_code(tail.fields) {
         Some(code) => Err(code),
-        None => Ok(front.name),
+        None => Ok(Cut {
+            name: front.name,
+            file: front.file,
+            address: tail.address,
+            fields: tail.fields,
+        }),
     }
 }
 
 /// What a line says, which is no longer than a line may be, or the least of T02 to T08. It takes no memory.
 #[tactic(auto, using(crate::proofs::TextLemmas::texts), unfolding(crate::specs::Reading::reading))]
-pub(crate) fn check_content(line: &[u8]) -> Result<Outline<'_>, Code>
-    ensures { Outlines result (reading line.now) }
+pub(crate) fn read_content(line: &[u8]) -> Result<Content<'_>, Code>
+    ensures { Reads result (reading line.now) }
 {
     let Ok(text) = str::from_utf8(line) else {
         return Err(Code::T02);
@@ -157,8 +104,8 @@ pub(crate) fn check_content(line: &[u8]) -> Result<Outline<'_>, Code>
     if has_control(line) {
         Err(Code::T03)
     } else if is_pseudo_tag(text) {
-        Ok(Outline::Pseudo(pseudo_tag(text)?))
+        Ok(Content::Pseudo(pseudo_tag(text)?))
     } else {
-        Ok(Outline::Ordinary(check_ordinary(line)?))
+        Ok(Content::Ordinary(ordinary_tag(line)?))
     }
 }

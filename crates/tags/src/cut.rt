@@ -1,3 +1,4 @@
+//! A line of a tag cut at its Tabs and at the end of its address.
 ghost use Rattle.std.specs.Prelude.{◌≡◌, ◌∷◌, ◌≤◌, ◌+◌, ◌<◌, IfSome, OnSome, Some, None, length, option_map, slice_index, IsUtf8};
 ghost use Rattle.tags.specs.Cutting.{each_field, fields_after, front_of, tail_of};
 ghost use Rattle.tags.specs.Views.{front, tail};
@@ -16,6 +17,15 @@ pub(crate) struct Front<'a> {
 /// The address of a tag, and its fields, still joined by Tabs.
 #[derive(Clone, Copy)]
 pub(crate) struct Tail<'a> {
+    pub address: &'a [u8],
+    pub fields: Option<&'a [u8]>,
+}
+
+/// An ordinary line cut: its tag's name, file and address as written, and its fields, still joined by Tabs.
+#[derive(Clone, Copy)]
+pub(crate) struct Cut<'a> {
+    pub name: &'a [u8],
+    pub file: &'a [u8],
     pub address: &'a [u8],
     pub fields: Option<&'a [u8]>,
 }

@@ -1,7 +1,8 @@
-ghost use Rattle.std.specs.Prelude.{◌≡◌, ◌<◌, ◌≤◌, ◌-◌, IfOk, IfSome, length, option_map, is_some, slice_index, string_bytes};
+//! The escapes of a name, a file, a kind and a field's value.
+ghost use Rattle.std.specs.Prelude.{◌≡◌, ◌<◌, ◌≤◌, ◌-◌, IfOk, IfSome, IsUtf8, Some, length, option_map, is_some, slice_index, string_bytes, true};
 ghost use Rattle.tags.specs.Escapes.{decoded, escape_at, hex_value, letter_value};
 
-use crate::around::{around_byte, around_char};
+use crate::around::{around_byte, around_char, text_of};
 use std::alloc::{AllocError, Global};
 
 /// The byte that a backslash and the letter stand for.
@@ -71,6 +72,18 @@ pub fn decode(alloc: Global, written: &str) -> Result<Option<String>, AllocError
     }
     value.push_str(rest)?;
     Ok(Some(value))
+}
+
+/// The text that something written stands for in which each backslash begins an escape.
+pub(crate) fn decode_good(alloc: Global, written: &[u8]) -> Result<String, AllocError>
+    requires text { IsUtf8 written.now }
+    requires good { is_some (decoded written.now) ≡ true }
+    ensures { IfOk result (λ s. decoded written.now ≡ Some (string_bytes s)) }
+{
+    match decode(alloc, text_of(written))? {
+        Some(value) => Ok(value),
+        None => unreachable!(),
+    }
 }
 
 /// Whether each backslash begins an escape, so that the text has a meaning. It takes no memory.

@@ -1,19 +1,20 @@
-ghost use Rattle.std.specs.Prelude.{◌≡◌, option_map, IsUtf8};
+//! The fields of a tag: their least code, and what those without fault say.
+ghost use Rattle.std.specs.Prelude.{◌≡◌, IfOk, IsUtf8, None, Ok, OnOk, false, option_map};
 ghost use Rattle.std.specs.Char.{is_ascii_alphanumeric};
 ghost use Rattle.std.specs.List.{list_all};
 ghost use Rattle.std.specs.Option.{ForSome};
 ghost use Rattle.tags.specs.Cutting.{each_field};
-ghost use Rattle.tags.specs.Faults.{Gives, fault_in};
+ghost use Rattle.tags.specs.Faults.{fault_in};
 ghost use Rattle.tags.specs.Gathering.{Notes};
 ghost use Rattle.tags.specs.Views.{fields_value};
-ghost use Rattle.tags.specs.Fields.{fields_of, is_field_name, name_in, value_in};
+ghost use Rattle.tags.specs.Fields.{fields_of, has_bad_escape, is_field_name, name_in, value_in};
 
 use crate::around::{around_byte, text_of};
-use crate::code::{Code, SplitFault};
+use crate::code::Code;
 use crate::cut::first_field;
-use crate::escape::{decode, is_decodable};
+use crate::escape::{decode_good, is_decodable};
 use crate::tag::Field;
-use std::alloc::Global;
+use std::alloc::{AllocError, Global};
 
 /// The name of a field other than the kind, and what the field's value is read from.
 fn name_and_value(field: &[u8]) -> (Option<&[u8]>, &[u8])
@@ -44,49 +45,44 @@ fn is_field_name(name: &[u8]) -> bool
     }
 }
 
-/// The fields of a tag as far as they were read.
+/// The fields of a tag, without escapes.
 #[derive(Drop)]
 pub(crate) struct Gathered {
     pub kind: Option<String>,
     pub others: Vec<Field>,
-    /// No field was bad, and no second kind was there.
-    pub good: bool,
 }
 
 impl Gathered {
-    ghost use Rattle.tags.specs.Gathering.{Gathers, gathered_in};
+    ghost use Rattle.tags.specs.Gathering.{Gathers};
 
-    /// Takes the next field. An `Err` is of memory or T05.
-    pub fn add(&mut self, alloc: Global, field: &[u8]) -> Result<(), SplitFault>
-        requires { IsUtf8 field.now }
-        ensures { Gathers result self.old self.new field.now }
+    /// Takes the next field.
+    pub fn add(&mut self, alloc: Global, field: &[u8]) -> Result<(), AllocError>
+        requires text { IsUtf8 field.now }
+        requires good { has_bad_escape field.now ≡ false }
+        ensures { OnOk result (Gathers self.old self.new field.now) }
     {
         let (name, written) = name_and_value(field);
-        let Some(value) = decode(alloc, text_of(written))? else {
-            return Err(SplitFault::Line(Code::T05));
-        };
+        let value = decode_good(alloc, written)?;
         match name {
-            Some(name) if is_field_name(name) => {
+            Some(name) => {
                 let name = String::from_str(alloc, text_of(name))?;
                 self.others.push(Field { name, value })?;
             }
-            None if !written.is_empty() && self.kind.is_none() => self.kind = Some(value),
-            _ => self.good = false,
+            None => self.kind = Some(value),
         }
         Ok(())
     }
 }
 
-/// What the fields, joined by Tabs, say: the kind, and the others in order. An `Err` is of memory, T05 or
-/// T07.
-pub(crate) fn fields_of(alloc: Global, fields: Option<&[u8]>) -> Result<Gathered, SplitFault>
-    requires { ForSome fields (λ bs. IsUtf8 bs.now) }
-    ensures { Gives fields_value result (fields_of (each_field (option_map (λ bs. bs.now) fields.entry))) }
+/// What the fields, joined by Tabs, say, of which none is faulty: the kind, and the others in order.
+pub(crate) fn gather(alloc: Global, fields: Option<&[u8]>) -> Result<Gathered, AllocError>
+    requires text { ForSome fields (λ bs. IsUtf8 bs.now) }
+    requires good { fault_in (fields_of (each_field (option_map (λ bs. bs.now) fields))) ≡ None }
+    ensures { IfOk result (λ g. fields_of (each_field (option_map (λ bs. bs.now) fields.entry)) ≡ Ok (fields_value g)) }
 {
     let mut found = Gathered {
         kind: None,
         others: Vec::new(alloc),
-        good: true,
     };
     let mut rest = fields;
     while let Some(bytes) = rest {
@@ -94,14 +90,10 @@ pub(crate) fn fields_of(alloc: Global, fields: Option<&[u8]>) -> Result<Gathered
         found.add(alloc, field)?;
         rest = more;
     }
-    if found.good {
-        Ok(found)
-    } else {
-        Err(SplitFault::Line(Code::T07))
-    }
+    Ok(found)
 }
 
-/// What has to be known of the fields so far where they aren't kept.
+/// What has to be known of the fields so far for their code.
 #[derive(Clone, Copy)]
 struct Noted {
     has_kind: bool,

@@ -1,7 +1,6 @@
-ghost use Rattle.std.specs.Prelude.{◌≡◌, ◌+◌, ◌++◌, ◌∷◌, Err, Some, ℕ, List, fold, length};
+//! What is true of the definitions alone.
+ghost use Rattle.std.specs.Prelude.{◌≡◌, ◌+◌, ◌++◌, ◌∷◌, [], Err, Some, ℕ, List, fold, length};
 ghost use Rattle.tags.specs.Bytes.{tab};
-ghost use Rattle.tags.specs.Counting as counting;
-ghost use Rattle.tags.specs.Counting.{Count};
 ghost use Rattle.tags.specs.Escapes.{decoded};
 ghost use Rattle.tags.specs.Fault.{Reading, contents, tags_of, IsFaultless, IsFirstFault};
 ghost use Rattle.tags.specs.Grammar.{HasFront, IsName, Spells, TagLine};
@@ -9,7 +8,8 @@ ghost use Rattle.tags.specs.Lines.{Cuts, lines_of, with_last};
 ghost use Rattle.tags.specs.Parts.{parts_in};
 ghost use Rattle.tags.specs.Reading.{ordinary_of};
 ghost use Rattle.tags.specs.Said.{said_by, said_without_address};
-ghost use Rattle.tags.specs.Steps.{Summary, next, running, state_after, stopped, summary_of};
+ghost use Rattle.tags.specs.States.{Summary, counted, listed, next, running, state_after, stopped, summary_of};
+ghost use Rattle.tags.specs.Values.{TagValue};
 ghost use Rattle.tags.specs.Written.{IsWritten};
 ghost use Rattle.tags.specs.declared.code.Code.{Code};
 ghost use Rattle.tags.specs.declared.code.Code.TheVariants.{T04};
@@ -37,22 +37,21 @@ pub fn lines_law()
         → lines_of text ≡ with_last pieces last }
 {}
 
-/// Where a reader of lines stops is the first fault. Where it doesn't there is none, and what it keeps is
+/// Where a reader of lines stops is the first fault. Where it doesn't there is none, and what it keeps is the tags and
 /// what has to be known of the lines. Once stopped it stays so.
 pub fn state_law()
-    ensures stopped { (lines : List Reading) (n : ℕ) (c : Code) → state_after lines ≡ stopped n c
+    ensures stopped { (lines : List Reading) (n : ℕ) (c : Code) → state_after listed [] lines ≡ stopped n c
         → (k : ℕ) × (n ≡ k + 1) × IsFirstFault lines k c }
-    ensures running { (lines : List Reading) (s : Summary) → state_after lines ≡ running s
-        → IsFaultless lines × (s ≡ summary_of (contents lines)) }
-    ensures stays { (lines : List Reading) (n : ℕ) (c : Code) → fold next (stopped n c) lines ≡ stopped n c }
+    ensures running { (lines : List Reading) (s : Summary (List TagValue)) → state_after listed [] lines ≡ running s
+        → IsFaultless lines × (s ≡ summary_of (tags_of (contents lines)) (contents lines)) }
+    ensures stays { (lines : List Reading) (n : ℕ) (c : Code) → fold (next listed) (stopped n c) lines ≡ stopped n c }
 {}
 
-/// Where a checker of lines stops is the first fault. Where it doesn't there is none, and it counted the tags.
-/// Once stopped it stays so.
+/// The same of a checker, which keeps the number of the tags.
 pub fn count_law()
-    ensures stopped { (lines : List Reading) (n : ℕ) (c : Code) → counting.state_after lines ≡ counting.stopped n c
+    ensures stopped { (lines : List Reading) (n : ℕ) (c : Code) → state_after counted 0 lines ≡ stopped n c
         → (k : ℕ) × (n ≡ k + 1) × IsFirstFault lines k c }
-    ensures running { (lines : List Reading) (s : Count) → counting.state_after lines ≡ counting.running s
-        → IsFaultless lines × (s.tags ≡ length (tags_of (contents lines))) }
-    ensures stays { (lines : List Reading) (n : ℕ) (c : Code) → fold counting.next (counting.stopped n c) lines ≡ counting.stopped n c }
+    ensures running { (lines : List Reading) (s : Summary ℕ) → state_after counted 0 lines ≡ running s
+        → IsFaultless lines × (s ≡ summary_of (length (tags_of (contents lines))) (contents lines)) }
+    ensures stays { (lines : List Reading) (n : ℕ) (c : Code) → fold (next counted) (stopped n c) lines ≡ stopped n c }
 {}

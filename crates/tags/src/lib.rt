@@ -15,12 +15,12 @@ mod parts;
 mod reader;
 mod tag;
 
-pub use checker::TagChecker;
+pub use checker::{LONGEST_LINE, TagChecker};
 pub use code::{Code, LineFault, SplitFault, TagsFault};
 pub use escape::decode;
 pub use laws::{count_law, escape_law, grammar_law, lines_law, state_law};
 pub use parts::{Part, split};
-pub use reader::{LONGEST_LINE, TagReader, read_tags};
+pub use reader::{TagReader, read_tags};
 pub use tag::{Field, Tag};
 
 #[cfg(test)]

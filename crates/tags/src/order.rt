@@ -1,5 +1,5 @@
 //! The order of lines.
-ghost use Rattle.std.specs.Prelude.{◌≡◌, ◌+◌, ◌<◌, IfNone, OnErr, OnOk, Some, None, false, option_map};
+ghost use Rattle.std.specs.Prelude.{◌≡◌, ◌+◌, ◌<◌, IfNone, OnErr, OnOk, Some, None, false, length, option_map, vec_capacity};
 ghost use Rattle.tags.specs.Fault.{descends, order_by, written_in};
 ghost use Rattle.tags.specs.Values.{ContentValue};
 
@@ -23,8 +23,10 @@ fn descends(last: Option<&[u8]>, written: &[u8]) -> bool
 fn replace(bytes: &mut Vec<u8>, others: &[u8]) -> Result<(), AllocError>
     ensures ok { OnOk result (bytes.new.items ≡ others.now) }
     ensures err { OnErr result (bytes.new.items ≡ bytes.old.items) }
+    // Memory runs out only where the buffer had to grow.
+    ensures grows { OnErr result (vec_capacity bytes.old < length others.now) }
 {
-    bytes.try_reserve(others.len())?;
+    bytes.try_reserve(others.len().saturating_sub(bytes.len()))?;
     bytes.clear();
     bytes.extend_from_slice(others)
 }
@@ -41,7 +43,7 @@ pub(crate) struct Order {
 }
 
 impl Order {
-    ghost use Rattle.tags.specs.Views.{last_of};
+    ghost use Rattle.tags.specs.Views.{last_of, room_of};
 
     /// That of no line yet.
     pub fn new() -> Order
@@ -85,12 +87,16 @@ impl Order {
     pub fn rename(&mut self, alloc: Global, written: &[u8]) -> Result<(), AllocError>
         ensures ok { OnOk result (last_of self.new ≡ Some written.now) }
         ensures err { OnErr result (last_of self.new ≡ last_of self.old) }
+        // Memory runs out only where the buffer of the last name had to grow.
+        ensures grows { OnErr result (room_of self.old < length written.now) }
         ensures rest { (self.new.count ≡ self.old.count) × (self.new.checked ≡ self.old.checked) }
     {
         match &mut self.last {
             Some(name) => replace(name, written),
             None => {
-                self.last = Some(Vec::from_slice(alloc, written)?);
+                let mut name = Vec::new(alloc);
+                replace(&mut name, written)?;
+                self.last = Some(name);
                 Ok(())
             }
         }

@@ -1,6 +1,14 @@
-ghost use Rattle.std.specs.Prelude.{◌≡◌};
-ghost use Rattle.tags.specs.Values.{numbered};
-ghost use Rattle.tags.specs.Views.{entry_value, tag_value};
+//! A tag, and how it's made of the cut of its line.
+ghost use Rattle.std.specs.Prelude.{◌≡◌, IfOk};
+ghost use Rattle.tags.specs.Contents.{IsCut};
+ghost use Rattle.tags.specs.Values.{EntryValue, numbered};
+ghost use Rattle.tags.specs.Views.{tag_value};
+
+use crate::around::text_of;
+use crate::cut::Cut;
+use crate::escape::decode_good;
+use crate::fields::{Gathered, gather};
+use std::alloc::{AllocError, Global};
 
 /// A field of a tag other than the kind.
 #[derive(Debug, PartialEq, Eq, Drop)]
@@ -27,35 +35,21 @@ pub struct Tag {
     pub fields: Vec<Field>,
 }
 
-/// What a line says of a tag.
-#[derive(Drop)]
-pub(crate) struct Entry {
-    pub name: String,
-    pub file: String,
-    pub address: String,
-    pub kind: Option<String>,
-    pub fields: Vec<Field>,
-}
-
-impl Entry {
-    /// The tag of the line of this number.
-    pub fn at(self, line: u32) -> Tag
-        ensures { tag_value result ≡ numbered line (entry_value self) }
-    {
-        let Entry {
-            name,
-            file,
-            address,
-            kind,
-            fields,
-        } = self;
-        Tag {
-            line,
-            name,
-            file,
-            address,
-            kind,
-            fields,
-        }
-    }
+/// The tag of a line of this number, by its cut.
+pub(crate) fn tag_of(alloc: Global, cut: Cut<'_>, line: u32) -> Result<Tag, AllocError>
+    requires { (e : EntryValue) × IsCut cut e }
+    ensures { IfOk result (λ tag. (e : EntryValue) → IsCut cut.entry e → tag_value tag ≡ numbered line e) }
+{
+    let name = decode_good(alloc, cut.name)?;
+    let file = decode_good(alloc, cut.file)?;
+    let address = String::from_str(alloc, text_of(cut.address))?;
+    let Gathered { kind, others } = gather(alloc, cut.fields)?;
+    Ok(Tag {
+        line,
+        name,
+        file,
+        address,
+        kind,
+        fields: others,
+    })
 }

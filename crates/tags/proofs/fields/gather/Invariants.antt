@@ -3,7 +3,7 @@ use Rattle.std.specs.Option.{ForSome, option_map_or}
 use Rattle.tags.specs.Cutting.{each_field}
 use Rattle.tags.specs.Fields.{fields_of}
 use Rattle.tags.specs.Gathering.{gathered_in}
-use Rattle.tags.proofs.fields.fields_of.Given as goal
+use Rattle.tags.proofs.fields.gather.Given as goal
 
 abbrev pub invariant-loop-rest : goal.invariant-loop-rest
 invariant-loop-rest l = record {
