@@ -23,7 +23,7 @@ places_range d r (vertex i v) = false
 
 -- this document contains the range
 abbrev pub is_in : List ElementValue → IdValue → IdValue → Bool
-is_in elements d r = list_any (places_range d r) elements
+is_in elements d r = is_document (vertex_at elements d) && list_any (places_range d r) elements
 
 -- the spans of the ranges among these ids
 abbrev pub spans_of : List ElementValue → List IdValue → List SpanValue

@@ -7,8 +7,8 @@ pub mod Ids
 pub mod Index
 pub mod Judging
 pub mod Lines
+pub mod Links
 pub mod Places
-pub mod Results
 pub mod Spans
 pub mod Steps
 pub mod Walks

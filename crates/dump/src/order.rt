@@ -11,6 +11,7 @@ use crate::contained::{any_contained, are_in};
 use crate::ended::{any_closed, either_closed, is_bad_event};
 use crate::fault::LineFault;
 use crate::graph::Graph;
+use crate::single::single_of;
 use crate::vertices::{
     are_documents, are_ranges, are_reference_results, are_vertices, is_document,
     is_reference_result, is_vertex, vertex_at,
@@ -205,12 +206,8 @@ fn is_conflicting(graph: &Graph, element: &Element) -> Result<bool, AllocError>
 fn leaves_again(graph: &Graph, element: &Element) -> bool
     ensures { result ≡ leaves_again graph.now (element_value element.now) }
 {
-    match element {
-        Element::Edge(_, Edge::Next(from, _)) => graph.next_of(from).is_some(),
-        Element::Edge(_, Edge::Definition(from, _)) => graph.definition_of(from).is_some(),
-        Element::Edge(_, Edge::References(from, _)) => graph.references_of(from).is_some(),
-        Element::Edge(_, Edge::Hover(from, _)) => graph.hover_of(from).is_some(),
-        Element::Edge(_, Edge::Package(from, _)) => graph.package_of(from).is_some(),
+    match single_of(element) {
+        Some((label, from, _)) => graph.target_of(label, from).is_some(),
         _ => false,
     }
 }
