@@ -1,13 +1,13 @@
 -- What is kept beside the elements of a dump, so that they are looked up without a search.
-use Rattle.std.specs.Prelude.{◌≡◌, ℕ, Bool, true, false, List, [], ◌∷◌, ◌++◌, Vec, IsPermutation, length, Option, Some, None, is_some, option_and_then, find}
+use Rattle.std.specs.Prelude.{◌≡◌, ℕ, Bool, true, false, List, [], ◌∷◌, ◌++◌, Vec, IsPermutation, length, Option, Some, None, is_some, option_and_then, option_map, find}
 use Rattle.std.specs.List.{list_any}
 use Rattle.std.specs.HashMap.{get_by_text}
 use Rattle.positions.specs.Span.{SpanValue}
-use Rattle.lsif.specs.Element.{IdValue, same_id, contains, ElementValue, vertex, edge, element_id}
+use Rattle.lsif.specs.Element.{IdValue, same_id, ElementValue, element_id}
 use Rattle.std.specs.declared.alloc.Global.{Global}
 use Rattle.dump.specs.declared.index.Index.{Index}
 use Rattle.dump.specs.Conditions.{is_document_of}
-use Rattle.dump.specs.Contained.{contains_range, spans_in, has_conflict}
+use Rattle.dump.specs.Contained.{contains_of, contains_range, spans_in, has_conflict}
 use Rattle.dump.specs.Ids.{value_at, place_at, IsTable}
 use Rattle.dump.specs.Links.{is_link, link_at}
 use Rattle.dump.specs.Spans.{IsOrdered}
@@ -15,9 +15,7 @@ use Rattle.dump.specs.declared.links.Link.{Link}
 
 -- the source of a `contains` edge
 abbrev pub contains_source : ElementValue → Option IdValue
-contains_source (edge i (contains from to)) = Some from
-contains_source (edge i e) = None
-contains_source (vertex i v) = None
+contains_source x = option_map (λ e. e.0) (contains_of x)
 
 -- the document that contains the range: the source of the first `contains` edge out of a document that names it
 abbrev pub container : List ElementValue → IdValue → Option IdValue

@@ -6,6 +6,7 @@ pub mod Graph
 pub mod Ids
 pub mod Index
 pub mod Judging
+pub mod Kinds
 pub mod Lines
 pub mod Links
 pub mod Places

@@ -5,7 +5,7 @@ use Rattle.dump.specs.declared.links.Link.{Link}
 use Rattle.dump.specs.declared.links.Link.TheVariants.{Contained, Begun, Ended, Single}
 use Rattle.dump.specs.declared.place_map.PlaceMap.{PlaceMap}
 use Rattle.dump.specs.declared.single.SingleLabel.{SingleLabel}
-use Rattle.dump.specs.Contained.{contains_range}
+use Rattle.dump.specs.Contained.{contains_of, contains_range}
 use Rattle.dump.specs.Ended.{begins, finishes}
 use Rattle.dump.specs.Graph.{vertex_at, is_document, is_among}
 use Rattle.dump.specs.Ids.{place_at}
@@ -37,9 +37,7 @@ is_link d (Single label) i x = is_single label i x
 
 -- the ranges that the element names, where it's a `contains` edge out of a document
 abbrev pub ranges_in : List ElementValue → ElementValue → List IdValue
-ranges_in d (edge i (contains from to)) = if is_document (vertex_at d from) then to else []
-ranges_in d (edge i e) = []
-ranges_in d (vertex i v) = []
+ranges_in d x = elim (contains_of x) as (λ _. List IdValue) [ Some e ↦ if is_document (vertex_at d e.0) then e.1 else [] | None ↦ [] ]
 
 -- the way in which an element names vertices, and these: but for edges of single labels
 abbrev pub other_named_by : List ElementValue → ElementValue → Option (Link × List IdValue)
