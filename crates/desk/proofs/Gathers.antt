@@ -1,15 +1,15 @@
 -- The places that the walk gathers are those of the result.
 use Rattle.std.proofs.Common.{◌≡◌, inl, inr, ◌∙◌, ◌&&◌, true, List, [], refl, sym, ap, subst}
 use Rattle.std.specs.Prelude.{◌↔◌, Contains, Option, Some, None}
-use Rattle.std.specs.List.{flat_map}
+use Rattle.std.specs.List.{list_any, flat_map}
 use Rattle.std.specs.declared.cmp.Ordering.{Ordering}
 use Rattle.positions.specs.Span.{SpanValue}
 use Rattle.lsif.specs.declared.element.Property.{Property}
 use Rattle.lsif.specs.declared.element.Property.TheVariants.{Definitions, References, ReferenceResults}
 use Rattle.lsif.specs.Element.{IdValue, same_id, VertexValue, meta_data, project, document, range, result_set, definition_result, reference_result, hover_result, moniker, package_information, event, other_vertex, contains, next, definition, references, hover, moniker_edge, package_edge, attach, item, other_edge, ElementValue, vertex, edge}
-use Rattle.dump.specs.Graph.{vertex_at, is_among}
+use Rattle.dump.specs.Graph.{vertex_at, is_document, is_among}
 use Rattle.dump.specs.Conditions.{are_definitions}
-use Rattle.dump.specs.Contained.{places_range, is_in}
+use Rattle.dump.specs.Contained.{places_range}
 use Rattle.dump.specs.Places.{PlaceValue, IsAt, NamesDefinitions, IsDefinitionPlace, IsListing}
 use Rattle.desk.specs.Places.{places_at, places_contained, places_spanned, places_of_range, places_of_item, places_of}
 use Rattle.desk.proofs.Members.{contains_head, contains_one, not_in_nil, flat_of, flat_from, in_if, if_in, and_both, and_of, any_of, any_from, same_id_eq, same_id_self}
@@ -41,7 +41,7 @@ at_from : (v : Option VertexValue) (place : PlaceValue) → v ≡ Some (document
 at_from v place e = subst (λ w. Contains (places_at w place.span) place) (sym e) (contains_head place [])
 
 contained_to : (d : List ElementValue) (r : IdValue) (span : SpanValue) (place : PlaceValue) (y : ElementValue) → Contains d y → Contains (places_contained d r span y) place
-    → (from : IdValue) × (is_in d from r ≡ true) × Contains (places_at (vertex_at d from) span) place
+    → (from : IdValue) × (list_any (places_range from r) d ≡ true) × Contains (places_at (vertex_at d from) span) place
 contained_to d r span place (edge i (contains from to)) here at =
     let h = in_if (is_among r to) (places_at (vertex_at d from) span) place at in
     (from, any_from (places_range from r) d (edge i (contains from to)) here (and_of (same_id from from) (is_among r to) (same_id_self from) h.0), h.1)
@@ -78,7 +78,7 @@ spanned_to d r place (Some (range span)) is at =
     let f = flat_of (places_contained d r span) d place at in
     let c = contained_to d r span place f.0 f.1 f.2 in
     let p = at_to (vertex_at d c.0) span place c.2 in
-    record { container = c.0; uri = p.0; contained = c.1; span = is ∙ ap (λ s. Some (range s)) p.1 }
+    record { container = c.0; uri = p.0; contained = and_of (is_document (vertex_at d c.0)) (list_any (places_range c.0 r) d) (ap is_document p.0) c.1; span = is ∙ ap (λ s. Some (range s)) p.1 }
 spanned_to d r place (Some (document s)) is at = absurd (not_in_nil place at)
 spanned_to d r place (Some (meta_data b)) is at = absurd (not_in_nil place at)
 spanned_to d r place (Some project) is at = absurd (not_in_nil place at)
@@ -93,7 +93,8 @@ spanned_to d r place (Some other_vertex) is at = absurd (not_in_nil place at)
 
 range_from : (d : List ElementValue) (r : IdValue) (place : PlaceValue) → IsAt d r place → Contains (places_of_range d r) place
 range_from d r place there =
-    let y = any_of (places_range there.container r) d there.contained in
+    let both = and_both (is_document (vertex_at d there.container)) (list_any (places_range there.container r) d) there.contained in
+    let y = any_of (places_range there.container r) d both.1 in
     subst (λ v. Contains (places_spanned d r v) place) (sym there.span)
     (flat_from (places_contained d r place.span) d y.0 place y.1 (contained_from d r there.container place y.0 y.2 there.uri))
 

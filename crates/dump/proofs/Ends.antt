@@ -7,7 +7,8 @@ use Rattle.std.proofs.lemmas.List.Elements.{Contains-push_cases}
 use Rattle.lsif.specs.declared.code.Code.{Code}
 use Rattle.lsif.specs.declared.code.Code.TheVariants.{L04, L06, L09, L10, L11, L12, L13, L14, L16, L17, L18, L19, L20}
 use Rattle.lsif.specs.Element.{IdValue, same_id, contains, next, definition, references, hover, moniker_edge, package_edge, attach, item, other_edge, ElementValue, vertex, edge}
-use Rattle.dump.specs.Walks.{Pair, first_to, IsChain, ends, links, HasChain, Path, stays, goes, next_pairs, next_in}
+use Rattle.dump.specs.Walks.{Pair, first_to, IsChain, ends, links, HasChain, Path, stays, goes, single_in, next_pairs}
+use Rattle.dump.specs.declared.single.SingleLabel.TheVariants.{Next}
 use Rattle.dump.specs.Conditions.{order_code, order_condition, has_used_id, joins_no_vertex, may_not_join, is_contained_again, is_conflicting, leaves_again, closes_cycle, has_used_uri}
 use Rattle.dump.specs.Ended.{is_bad_event}
 use Rattle.dump.specs.Steps as steps
@@ -145,14 +146,14 @@ none_of : (o : Option IdValue) → is_some o ≡ false → o ≡ None
 none_of None e = refl
 none_of (Some x) e = cc
 
-same_pairs : (before : List ElementValue) (x : ElementValue) → next_in x ≡ [] → ((v : IdValue) → HasChain (next_pairs before) v) → (v : IdValue) → HasChain (next_pairs (before ++ x ∷ [])) v
-same_pairs before x e each v = subst (λ ps. HasChain ps v) (sym (pairs_more next_in before x ∙ ap (λ ps. next_pairs before ++ ps) e ∙ append-nil (next_pairs before))) (each v)
+same_pairs : (before : List ElementValue) (x : ElementValue) → single_in Next x ≡ [] → ((v : IdValue) → HasChain (next_pairs before) v) → (v : IdValue) → HasChain (next_pairs (before ++ x ∷ [])) v
+same_pairs before x e each v = subst (λ ps. HasChain ps v) (sym (pairs_more (single_in Next) before x ∙ ap (λ ps. next_pairs before ++ ps) e ∙ append-nil (next_pairs before))) (each v)
 
 one_more : (before : List ElementValue) (x : ElementValue) → order_code before x ≡ None → ((v : IdValue) → HasChain (next_pairs before) v) → (v : IdValue) → HasChain (next_pairs (before ++ x ∷ [])) v
 one_more before (edge i (next a b)) e each v =
     let no = no_code before (edge i (next a b)) e in
     let apart = λ (path : Path (next_pairs before) b a). let yes = reaches_of (next_pairs before) b a path in absurd (absurd_true (sym yes ∙ no.cycle)) in
-    subst (λ ps. HasChain ps v) (sym (pairs_more next_in before (edge i (next a b)))) (all_end (next_pairs before) a b (none_of (first_to (next_pairs before) a) no.single) apart each v)
+    subst (λ ps. HasChain ps v) (sym (pairs_more (single_in Next) before (edge i (next a b)))) (all_end (next_pairs before) a b (none_of (first_to (next_pairs before) a) no.single) apart each v)
 one_more before (edge i (contains a bs)) e each v = same_pairs before (edge i (contains a bs)) refl each v
 one_more before (edge i (definition a b)) e each v = same_pairs before (edge i (definition a b)) refl each v
 one_more before (edge i (references a b)) e each v = same_pairs before (edge i (references a b)) refl each v
@@ -187,13 +188,13 @@ single_more ps a b free one x y at = ⊎_elim
     first_none ps a b x none ∙ ap (λ c. cond c (Some b) None) here ∙ ap Some target)
     (Contains-push_cases ps (a, b) (x, y) at)
 
-same_single : (before : List ElementValue) (x : ElementValue) → next_in x ≡ [] → Single (next_pairs before) → Single (next_pairs (before ++ x ∷ []))
-same_single before x e one = subst Single (sym (pairs_more next_in before x ∙ ap (λ ps. next_pairs before ++ ps) e ∙ append-nil (next_pairs before))) one
+same_single : (before : List ElementValue) (x : ElementValue) → single_in Next x ≡ [] → Single (next_pairs before) → Single (next_pairs (before ++ x ∷ []))
+same_single before x e one = subst Single (sym (pairs_more (single_in Next) before x ∙ ap (λ ps. next_pairs before ++ ps) e ∙ append-nil (next_pairs before))) one
 
 single_one : (before : List ElementValue) (x : ElementValue) → order_code before x ≡ None → Single (next_pairs before) → Single (next_pairs (before ++ x ∷ []))
 single_one before (edge i (next a b)) e one =
     let no = no_code before (edge i (next a b)) e in
-    subst Single (sym (pairs_more next_in before (edge i (next a b)))) (single_more (next_pairs before) a b (none_of (first_to (next_pairs before) a) no.single) one)
+    subst Single (sym (pairs_more (single_in Next) before (edge i (next a b)))) (single_more (next_pairs before) a b (none_of (first_to (next_pairs before) a) no.single) one)
 single_one before (edge i (contains a bs)) e one = same_single before (edge i (contains a bs)) refl one
 single_one before (edge i (definition a b)) e one = same_single before (edge i (definition a b)) refl one
 single_one before (edge i (references a b)) e one = same_single before (edge i (references a b)) refl one

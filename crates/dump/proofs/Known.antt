@@ -31,7 +31,7 @@ module _ (P : List ElementValue → Type 0) (none : P []) (more : (d : List Elem
 
 -- ---- ends are vertices
 
-still_vertices : (d : List ElementValue) (x : ElementValue) (is : List IdValue) → are_vertices d is ≡ true → are_vertices (d ++ x ∷ []) is ≡ true
+pub still_vertices : (d : List ElementValue) (x : ElementValue) (is : List IdValue) → are_vertices d is ≡ true → are_vertices (d ++ x ∷ []) is ≡ true
 still_vertices d x [] e = refl
 still_vertices d x (i ∷ is) e =
     let both = and_both (is_some (vertex_at d i)) (are_vertices d is) e in
@@ -204,6 +204,7 @@ module _ {X : Type 0} (p q : X → Bool) (d : List X) (under : (z : X) → Conta
 record ContainsIt (d : List ElementValue) (r : IdValue) (y : ElementValue) : Type 0 where
   source : IdValue
   is : contains_source y ≡ Some source
+  document : is_document (vertex_at d source) ≡ true
   places : (v : IdValue) → places_range v r y ≡ same_id source v
   closes : closes_range d r y ≡ has_ended d source
 
@@ -218,7 +219,7 @@ true_left false b e = cc
 contains_it : (d : List ElementValue) (r : IdValue) (y : ElementValue) → contains_range d r y ≡ true → ContainsIt d r y
 contains_it d r (edge i (contains from to)) e =
     let both = and_both (is_document (vertex_at d from)) (is_among r to) e in
-    record { source = from; is = refl; places = λ v. true_right (same_id from v) (is_among r to) both.1; closes = true_left (is_among r to) (has_ended d from) both.1 }
+    record { source = from; is = refl; document = both.0; places = λ v. true_right (same_id from v) (is_among r to) both.1; closes = true_left (is_among r to) (has_ended d from) both.1 }
 contains_it d r (edge i (next a b)) e = cc
 contains_it d r (edge i (definition a b)) e = cc
 contains_it d r (edge i (references a b)) e = cc
@@ -260,14 +261,33 @@ contained_if_closed d known r (edge i (item a)) e = cc
 contained_if_closed d known r (edge i (other_edge a bs)) e = cc
 contained_if_closed d known r (vertex i w) e = cc
 
-pub in_container : (d : List ElementValue) → IsSound d → (v r : IdValue) → is_document (vertex_at d v) ≡ true → is_in d v r ≡ is_id v (container d r)
-in_container d sound v r doc = by (find (contains_range d r) d) refl
+placed_container : (d : List ElementValue) → IsSound d → (v r : IdValue) → is_document (vertex_at d v) ≡ true → list_any (places_range v r) d ≡ is_id v (container d r)
+placed_container d sound v r doc = by (find (contains_range d r) d) refl
   where
-    by : (o : Option ElementValue) → find (contains_range d r) d ≡ o → is_in d v r ≡ is_id v (option_and_then contains_source o)
+    by : (o : Option ElementValue) → find (contains_range d r) d ≡ o → list_any (places_range v r) d ≡ is_id v (option_and_then contains_source o)
     by None e = any_none (contains_range d r) (places_range v r) d (λ z at. contained_if_placed d v r doc z) (one_container d sound r) e
     by (Some y) e =
         let it = contains_it d r y (found_member (contains_range d r) d y e).1 in
         any_found (contains_range d r) (places_range v r) d (λ z at. contained_if_placed d v r doc z) (one_container d sound r) y e ∙ it.places v ∙ ap (is_id v) (sym it.is)
+
+-- the container of a range is a document
+container_document : (d : List ElementValue) (v r : IdValue) → is_document (vertex_at d v) ≡ false → false ≡ is_id v (container d r)
+container_document d v r other = by (find (contains_range d r) d) refl
+  where
+    by : (o : Option ElementValue) → find (contains_range d r) d ≡ o → false ≡ is_id v (option_and_then contains_source o)
+    by None e = refl
+    by (Some y) e =
+        let it = contains_it d r y (found_member (contains_range d r) d y e).1 in
+        sym (true_only (is_id v (contains_source y)) (λ yes.
+        let same : it.source ≡ v = same_id_eq it.source v (sym (ap (is_id v) it.is) ∙ yes) in
+        absurd_true (sym it.document ∙ ap (λ u. is_document (vertex_at d u)) same ∙ other)))
+
+pub in_container : (d : List ElementValue) → IsSound d → (v r : IdValue) → is_in d v r ≡ is_id v (container d r)
+in_container d sound v r = by (is_document (vertex_at d v)) refl
+  where
+    by : (b : Bool) → is_document (vertex_at d v) ≡ b → (b && list_any (places_range v r) d) ≡ is_id v (container d r)
+    by true doc = placed_container d sound v r doc
+    by false other = container_document d v r other
 
 pub closed_container : (d : List ElementValue) → IsSound d → (r : IdValue) → is_closed d r ≡ passes (has_ended d) (container d r)
 unfolding is_closed

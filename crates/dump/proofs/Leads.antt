@@ -1,8 +1,10 @@
 -- A walk along single pairs follows a chain.
-use Rattle.std.proofs.Common.{◌≡◌, ⊎_elim, ◌∙◌, ℕ, ◌+◌, ◌≤◌, true, false, List, [], ◌∷◌, length, length-append, refl, ap, sym, subst, arith}
-use Rattle.std.specs.Prelude.{Contains, Option, Some, None}
-use Rattle.lsif.specs.Element.{IdValue, same_id, contains, next, definition, references, hover, moniker_edge, package_edge, attach, item, other_edge, ElementValue, vertex, edge}
-use Rattle.dump.specs.Walks.{Pair, next_in, next_pairs, IsChain, ends, links, first_to, reaches, Path, stays, goes}
+use Rattle.std.proofs.Common.{◌≡◌, ⊎_elim, ◌∙◌, ℕ, ◌+◌, ◌≤◌, Bool, true, false, List, [], ◌∷◌, length, length-append, refl, ap, sym, subst, arith}
+use Rattle.std.specs.Prelude.{Contains, Option, Some, None, if◌then◌else◌}
+use Rattle.lsif.specs.Element.{IdValue, same_id, ElementValue}
+use Rattle.dump.specs.declared.single.SingleLabel.{SingleLabel}
+use Rattle.dump.specs.declared.single.SingleLabel.TheVariants.{Next}
+use Rattle.dump.specs.Walks.{Pair, same_label, single_of, single_in, next_pairs, IsChain, ends, links, first_to, reaches, Path, stays, goes}
 use Rattle.dump.specs.Steps.{IsSound}
 use Rattle.dump.proofs.Bools.{same_bool}
 use Rattle.dump.proofs.SameIds.{same_id_eq, same_id_self}
@@ -11,22 +13,20 @@ use Rattle.dump.proofs.Chains.{short, no_chain, chain_head}
 use Rattle.dump.proofs.Members.{contains_cases, contains_tail, not_in_nil}
 use Rattle.dump.proofs.Ends.{Single, each_ends, each_single, pair_of_first}
 
-pub next_count : (x : ElementValue) → length (next_in x) ≤ 1
-next_count (edge i (next x y)) = omega arith
-next_count (edge i (contains x ys)) = omega arith
-next_count (edge i (definition x y)) = omega arith
-next_count (edge i (references x y)) = omega arith
-next_count (edge i (hover x y)) = omega arith
-next_count (edge i (moniker_edge x y)) = omega arith
-next_count (edge i (package_edge x y)) = omega arith
-next_count (edge i (attach x y)) = omega arith
-next_count (edge i (item e)) = omega arith
-next_count (edge i (other_edge x ys)) = omega arith
-next_count (vertex i v) = omega arith
+pub single_count : (label : SingleLabel) (x : ElementValue) → length (single_in label x) ≤ 1
+single_count label x = by (single_of x)
+  where
+    one : (b : Bool) (p : Pair) → length (if b then p ∷ [] else []) ≤ 1
+    one true p = omega arith
+    one false p = omega arith
+
+    by : (o : Option (SingleLabel × Pair)) → length (elim o as (λ _. List Pair) [ Some e ↦ if same_label e.0 label then e.1 ∷ [] else [] | None ↦ [] ]) ≤ 1
+    by None = omega arith
+    by (Some e) = one (same_label e.0 label) e.1
 
 pub few_pairs : (d : List ElementValue) → length (next_pairs d) ≤ length d
 few_pairs [] = omega arith
-few_pairs (x ∷ d) = omega (arith, length-append (next_in x) (next_pairs d), next_count x, few_pairs d)
+few_pairs (x ∷ d) = omega (arith, length-append (single_in Next x) (next_pairs d), single_count Next x, few_pairs d)
 
 -- ---- a way along single pairs is a chain
 

@@ -1,4 +1,6 @@
+pub mod Adds
 pub mod Bools
+pub mod Cells
 pub mod Chains
 pub mod Conflicts
 pub mod EachId

@@ -14,6 +14,10 @@ use Rattle.dump.proofs.Bools.{or_none, or_some, and_both, and_rest, not_false}
 use Rattle.dump.proofs.SameIds.{same_id_eq}
 use Rattle.dump.proofs.Ends.{HasNoCode, no_code, SoundAfter, sound_after}
 
+-- a `contains` edge out of this vertex names the range
+abbrev pub placed : List ElementValue → IdValue → IdValue → Bool
+placed d v r = list_any (places_range v r) d
+
 -- ---- tests
 
 pub true_not_false : {P : Type 0} (a : Bool) → a ≡ true → a ≡ false → P
@@ -134,10 +138,10 @@ beside d (i ∷ is) r s e f none at_r at_s has_r has_s apart =
 -- ---- one element more
 
 abbrev Known : List ElementValue → Type 0
-Known d = (v r : IdValue) → is_in d v r ≡ true → (w : VertexValue) × (vertex_at d r ≡ Some w)
+Known d = (v r : IdValue) → placed d v r ≡ true → (w : VertexValue) × (vertex_at d r ≡ Some w)
 
 abbrev Clear : List ElementValue → Type 0
-Clear d = (v r s : IdValue) (e f : SpanValue) → is_in d v r ≡ true → is_in d v s ≡ true
+Clear d = (v r s : IdValue) (e f : SpanValue) → placed d v r ≡ true → placed d v s ≡ true
     → span_of (vertex_at d r) ≡ Some e → span_of (vertex_at d s) ≡ Some f → (r ≡ s → ⊥) → conflicts e f ≡ false
 
 none_vertex : (o : Option ElementValue) (w : VertexValue) → option_and_then vertex_of o ≡ Some w → (y : ElementValue) × (o ≡ Some y)
@@ -153,9 +157,9 @@ kept_vertex d x r w e =
     let more : element_at (d ++ x ∷ []) r ≡ element_at d r = find-append p d (x ∷ []) ∙ ap (λ o. option_or o (find p (x ∷ []))) found.1 ∙ sym found.1 in
     ap (option_and_then vertex_of) more
 
-in_more : (d : List ElementValue) (x : ElementValue) (v r : IdValue) → is_in (d ++ x ∷ []) v r ≡ true → (is_in d v r ≡ true) ⊎ (places_range v r x ≡ true)
+in_more : (d : List ElementValue) (x : ElementValue) (v r : IdValue) → placed (d ++ x ∷ []) v r ≡ true → (placed d v r ≡ true) ⊎ (places_range v r x ≡ true)
 in_more d x v r e =
-    elim (or_some (is_in d v r) (places_range v r x || false) (sym (list_any-append (places_range v r) d (x ∷ [])) ∙ e)) [
+    elim (or_some (placed d v r) (places_range v r x || false) (sym (list_any-append (places_range v r) d (x ∷ [])) ∙ e)) [
       | inl old ↦ inl old
       | inr new ↦ elim (or_some (places_range v r x) false new) [ inl now ↦ inr now | inr other ↦ cc ]
     ]
@@ -180,7 +184,7 @@ known_here d (edge i (item t)) free v r at = cc
 known_here d (edge i (other_edge from to)) free v r at = cc
 known_here d (vertex i w) free v r at = cc
 
-known_old : (d : List ElementValue) (x : ElementValue) → Known d → HasNoCode d x → (v r : IdValue) → is_in (d ++ x ∷ []) v r ≡ true → (w : VertexValue) × (vertex_at d r ≡ Some w)
+known_old : (d : List ElementValue) (x : ElementValue) → Known d → HasNoCode d x → (v r : IdValue) → placed (d ++ x ∷ []) v r ≡ true → (w : VertexValue) × (vertex_at d r ≡ Some w)
 known_old d x known free v r at = elim (in_more d x v r at) [ inl old ↦ known v r old | inr now ↦ known_here d x free v r now ]
 
 known_more : (d : List ElementValue) (x : ElementValue) → Known d → HasNoCode d x → Known (d ++ x ∷ [])
@@ -234,12 +238,12 @@ clear_of d i from to free r e at has =
     record { before = both.0; beside = both.1 }
 
 -- a new target and a range that the document contained before
-new_and_old : (d : List ElementValue) (x : ElementValue) → HasNoCode d x → (v r s : IdValue) (e f : SpanValue) → places_range v r x ≡ true → is_in d v s ≡ true
+new_and_old : (d : List ElementValue) (x : ElementValue) → HasNoCode d x → (v r s : IdValue) (e f : SpanValue) → places_range v r x ≡ true → placed d v s ≡ true
     → span_of (vertex_at d r) ≡ Some e → span_of (vertex_at d s) ≡ Some f → conflicts e f ≡ false
 new_and_old d (edge i (contains from to)) free v r s e f at_r at_s has_r has_s =
     let here = and_both (same_id from v) (is_among r to) at_r in
     let clear = clear_of d i from to free r e here.1 has_r in
-    let old : is_in d from s ≡ true = subst (λ u. is_in d u s ≡ true) (sym (same_id_eq from v here.0)) at_s in
+    let old : placed d from s ≡ true = subst (λ u. placed d u s ≡ true) (sym (same_id_eq from v here.0)) at_s in
     let fails = span_fails d (λ t. list_any (conflicts t) (spans_in d from)) to r e clear.before here.1 has_r in
     in_fails d (conflicts e) from d s f fails old has_s
 new_and_old d (edge i (next from to)) free v r s e f at_r at_s has_r has_s = cc
@@ -302,4 +306,6 @@ each_clear elements h = clear_after elements [] (sound_after elements h) (λ v r
 
 pub nested : (elements : List ElementValue) → IsSound elements → IsNested elements
 nested elements h d r s e f at_r at_s has_r has_s apart =
-    each_clear elements h d r s e f at_r at_s (ap span_of has_r) (ap span_of has_s) apart
+    let in_r = and_both (is_document (vertex_at elements d)) (placed elements d r) at_r in
+    let in_s = and_both (is_document (vertex_at elements d)) (placed elements d s) at_s in
+    each_clear elements h d r s e f in_r.1 in_s.1 (ap span_of has_r) (ap span_of has_s) apart

@@ -14,8 +14,10 @@ use Rattle.positions.specs.Span.{SpanValue, Nests, nests, overlaps}
 use Rattle.lsif.specs.Element.{IdValue, same_id, ElementValue}
 use Rattle.dump.specs.Contained.{is_in, conflicts}
 use Rattle.dump.specs.Steps.{IsSound}
-use Rattle.dump.specs.Walks.{Pair, first_to, IsChain, ends, links, first_of_list, next_pairs, definition_pairs}
+use Rattle.dump.specs.Walks.{Pair, first_to, IsChain, ends, links, first_of_list, single_pairs, next_pairs}
+use Rattle.dump.specs.declared.single.SingleLabel.TheVariants.{Definition}
 use Rattle.dump.specs.Places.{PlaceValue, FirstDefinition, IsInnermost, IsDefinitionPlace, position_cmp, place_cmp, IsListing, DefinitionPlaces, answered, unanswered}
+use Rattle.dump.proofs.Chains.{unique}
 use Rattle.dump.proofs.Bools.{and_of}
 use Rattle.dump.proofs.Members.{contains_head, contains_tail, contains_cases, not_in_nil}
 use Rattle.dump.proofs.Nests.{nested}
@@ -67,24 +69,13 @@ place_asym x y e f = let k : Less ≡ Greater = sym e ∙ place_total.antisymm x
 
 -- ---- one result of a vertex
 
-none_some : {P : Type 0} (o : Option IdValue) (y : IdValue) → o ≡ None → o ≡ Some y → P
-none_some None y e f = cc
-none_some (Some x) y e f = cc
-
 some_some : (o : Option IdValue) (x y : IdValue) → o ≡ Some x → o ≡ Some y → x ≡ y
 some_some None x y e f = cc
 some_some (Some z) x y e f = let a : z ≡ x = cc in let b : z ≡ y = cc in sym a ∙ b
 
-one_chain : (ps : List Pair) (x : IdValue) (xs ys : List IdValue) → IsChain ps x xs → IsChain ps x ys → xs ≡ ys
-one_chain ps x xs ys (ends e) (ends f) = refl
-one_chain ps x xs ys (ends e) (links {y = z} f c) = none_some (first_to ps x) z e f
-one_chain ps x xs ys (links {y = y} e c) (ends f) = none_some (first_to ps x) y f e
-one_chain ps x xs ys (links {y = y} {ys = more} e c) (links {y = z} {ys = others} f k) =
-    ap (λ zs. x ∷ zs) (one_chain ps y more others c (subst (λ w. IsChain ps w others) (some_some (first_to ps x) z y f e) k))
-
 one_first : (d : List ElementValue) (x first second : IdValue) → FirstDefinition d x (Some first) → FirstDefinition d x (Some second) → first ≡ second
 one_first d x first second (xs, chain, e) (ys, other, f) =
-    some_some (first_of_list (definition_pairs d) ys) first second (sym (e ∙ ap (first_of_list (definition_pairs d)) (one_chain (next_pairs d) x xs ys chain other))) (sym f)
+    some_some (first_of_list (single_pairs Definition d) ys) first second (sym (e ∙ ap (first_of_list (single_pairs Definition d)) (unique (next_pairs d) x xs ys chain other))) (sym f)
 
 -- ---- one innermost range
 

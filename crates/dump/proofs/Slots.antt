@@ -1,14 +1,7 @@
 -- Places of numbers below a bound, which have a slot each, and of all other ids.
 use Rattle.std.proofs.Common.{◌≡◌, ◌∙◌, ◌==◌, ℕ, Bool, true, false, nat_eq, nat_lt, List, [], ◌∷◌, length, get_or, if◌then◌else◌, refl, sym, ap, arith, Option, Some, None}
-use Rattle.std.specs.Prelude.{Result, Ok, Err, OnOk}
+use Rattle.std.specs.Prelude.{Result, Ok, Err, OnOk, OnErr}
 use Rattle.dump.specs.Ids.{entered}
-
-no_length : (k : ℕ) → true ≡ (k == 0) → k ≡ 0
-no_length k e = grind (arith, e)
-
-pub get_past : (slots : List (Option ℕ)) (k n : ℕ) → length slots ≡ k → true ≡ (k == 0) → get_or slots n None ≡ None
-get_past [] k n same e = refl
-get_past (o ∷ os) k n same e = absurd (omega (arith, same, no_length k e))
 
 pub slot_or_none : (b : Bool) (o p : Option ℕ) → o ≡ None → p ≡ None → (if b then o else p) ≡ None
 slot_or_none true o p e f = e
@@ -42,3 +35,11 @@ text_entered b m place slots old new e = by (nat_lt m b)
 pub on_ok : {X E P Q : Type 0} (r : Result X E) → (P → Q) → OnOk r P → OnOk r Q
 on_ok (Ok x) to p = to p
 on_ok (Err e) to p = p
+
+pub on_err : {X E P Q : Type 0} (r : Result X E) → (P → Q) → OnErr r P → OnErr r Q
+on_err (Ok x) to p = p
+on_err (Err e) to p = to p
+
+-- what is in no slot
+pub slot_same : (b : Bool) (slot o p : Option ℕ) → o ≡ p → (if b then slot else o) ≡ (if b then slot else p)
+slot_same b slot o p e = ap (λ other. if b then slot else other) e

@@ -1,14 +1,15 @@
 -- Tables that lead from an id to the place of the first element that passes its test, and what a push makes of them.
-use Rattle.std.proofs.Common.{◌≡◌, ◌∙◌, ◌||◌, ℕ, ◌+◌, ◌≤◌, suc, nat_lt, not, Bool, true, false, cond, List, [], ◌∷◌, ◌++◌, length, Option, Some, None, if◌then◌else◌, find, refl, ap, sym, arith}
+use Rattle.std.proofs.Common.{◌≡◌, ◌∙◌, ◌&&◌, ◌||◌, ℕ, ◌+◌, ◌≤◌, suc, nat_lt, not, Bool, true, false, cond, List, [], ◌∷◌, ◌++◌, length, Option, Some, None, if◌then◌else◌, find, refl, ap, sym, arith}
 use Rattle.std.specs.Prelude.{is_some, option_map, option_and_then, slice_get}
 use Rattle.std.specs.List.{list_any, flat_map, position, position_or_len}
 use Rattle.std.proofs.lemmas.Grind.{common_steps}
 use Rattle.std.proofs.lemmas.List.Folds.{find_at}
 use Rattle.std.proofs.lemmas.Option.{slice_get_past}
-use Rattle.lsif.specs.Element.{IdValue, same_id, VertexValue, ItemValue, contains, next, definition, references, hover, moniker_edge, package_edge, attach, item, other_edge, ElementValue, vertex, edge}
+use Rattle.lsif.specs.Element.{IdValue, same_id, ElementValue}
 use Rattle.dump.specs.Ids.{IsTable}
-use Rattle.dump.specs.Walks.{Pair, first_to, next_in, next_pairs, definition_in, definition_pairs, references_in, references_pairs, hover_in, hover_pairs, package_in, package_pairs, is_edge_from, edge_target}
-use Rattle.dump.proofs.Leads.{next_count}
+use Rattle.dump.specs.declared.single.SingleLabel.{SingleLabel}
+use Rattle.dump.specs.Links.{single_target, is_single}
+use Rattle.dump.specs.Walks.{Pair, same_label, single_of, single_in, single_pairs, first_to}
 use Rattle.dump.proofs.SameIds.{same_id_eq}
 
 -- ---- the place of the first item that passes
@@ -109,76 +110,22 @@ table_stays table test elements x key passes taken h = λ i. h i ∙ sym (by i (
 
 -- ---- what a vertex is joined to, by the first edge out of it
 
-pair_by : (pairs_in : ElementValue → List Pair) (x : ElementValue) (i : IdValue) (rest : List Pair) (o : Option ElementValue)
-    → length (pairs_in x) ≤ 1 → first_to rest i ≡ option_and_then (edge_target pairs_in) o
-    → (ps : List Pair) → pairs_in x ≡ ps → first_to (ps ++ rest) i ≡ option_and_then (edge_target pairs_in) (cond (is_edge_from pairs_in i x) (Some x) o)
-pair_by pairs_in x i rest o few e [] is =
-    let not_from : is_edge_from pairs_in i x ≡ false = ap (λ (l : List Pair). elim l as (λ _. Bool) [ [] ↦ false | p ∷ ps ↦ same_id p.0 i ]) is in
-    e ∙ ap (λ b. option_and_then (edge_target pairs_in) (cond b (Some x) o)) (sym not_from)
-pair_by pairs_in x i rest o few e (p ∷ []) is =
-    let from : is_edge_from pairs_in i x ≡ same_id p.0 i = ap (λ (l : List Pair). elim l as (λ _. Bool) [ [] ↦ false | q ∷ qs ↦ same_id q.0 i ]) is in
-    let target : edge_target pairs_in x ≡ Some p.1 = ap (λ (l : List Pair). elim l as (λ _. Option IdValue) [ [] ↦ None | q ∷ qs ↦ Some q.1 ]) is in
-    by target (same_id p.0 i) ∙ ap (λ b. option_and_then (edge_target pairs_in) (cond b (Some x) o)) (sym from)
-  where
-    by : edge_target pairs_in x ≡ Some p.1 → (b : Bool) → cond b (Some p.1) (first_to rest i) ≡ option_and_then (edge_target pairs_in) (cond b (Some x) o)
-    by target true = sym target
-    by target false = e
-pair_by pairs_in x i rest o few e (p ∷ q ∷ ps) is = let more : length (pairs_in x) ≡ length (p ∷ q ∷ ps) = ap length is in absurd (omega arith)
+module _ (label : SingleLabel) (x : ElementValue) (i : IdValue) (rest : List Pair) (o : Option ElementValue) (same : first_to rest i ≡ option_and_then single_target o) where
+  target_by : (t : IdValue) → single_target x ≡ Some t → (b : Bool) → cond b (Some t) (first_to rest i) ≡ option_and_then single_target (cond b (Some x) o)
+  target_by t is true = sym is
+  target_by t is false = same
 
--- what the pairs of one label lead to is the target of the first edge of that label
-pub first_to-edge : (pairs_in : ElementValue → List Pair) → ((x : ElementValue) → length (pairs_in x) ≤ 1)
-    → (elements : List ElementValue) (i : IdValue) → first_to (flat_map pairs_in elements) i ≡ option_and_then (edge_target pairs_in) (find (is_edge_from pairs_in i) elements)
-first_to-edge pairs_in few [] i = refl
-first_to-edge pairs_in few (x ∷ elements) i = pair_by pairs_in x i (flat_map pairs_in elements) (find (is_edge_from pairs_in i) elements) (few x) (first_to-edge pairs_in few elements i) (pairs_in x) refl
+  label_by : (p : Pair) → single_target x ≡ Some p.1 → (b : Bool) → first_to ((if b then p ∷ [] else []) ++ rest) i ≡ option_and_then single_target (cond (b && same_id p.0 i) (Some x) o)
+  label_by p is true = target_by p.1 is (same_id p.0 i)
+  label_by p is false = same
 
--- a fact for each kind of element
-each_element : (P : ElementValue → Type 0) → ((i : IdValue) (v : VertexValue) → P (vertex i v))
-    → ((i x : IdValue) (ys : List IdValue) → P (edge i (contains x ys)))
-    → ((i x y : IdValue) → P (edge i (next x y)))
-    → ((i x y : IdValue) → P (edge i (definition x y)))
-    → ((i x y : IdValue) → P (edge i (references x y)))
-    → ((i x y : IdValue) → P (edge i (hover x y)))
-    → ((i x y : IdValue) → P (edge i (moniker_edge x y)))
-    → ((i x y : IdValue) → P (edge i (package_edge x y)))
-    → ((i x y : IdValue) → P (edge i (attach x y)))
-    → ((i : IdValue) (e : ItemValue) → P (edge i (item e)))
-    → ((i x : IdValue) (ys : List IdValue) → P (edge i (other_edge x ys)))
-    → (x : ElementValue) → P x
-each_element P v c n d r h m p a t o (vertex i w) = v i w
-each_element P v c n d r h m p a t o (edge i (contains x ys)) = c i x ys
-each_element P v c n d r h m p a t o (edge i (next x y)) = n i x y
-each_element P v c n d r h m p a t o (edge i (definition x y)) = d i x y
-each_element P v c n d r h m p a t o (edge i (references x y)) = r i x y
-each_element P v c n d r h m p a t o (edge i (hover x y)) = h i x y
-each_element P v c n d r h m p a t o (edge i (moniker_edge x y)) = m i x y
-each_element P v c n d r h m p a t o (edge i (package_edge x y)) = p i x y
-each_element P v c n d r h m p a t o (edge i (attach x y)) = a i x y
-each_element P v c n d r h m p a t o (edge i (item e)) = t i e
-each_element P v c n d r h m p a t o (edge i (other_edge x ys)) = o i x ys
+  pair_by : (e : Option (SingleLabel × Pair)) → single_target x ≡ option_map (λ p. p.1.1) e
+      → first_to ((elim e as (λ _. List Pair) [ Some p ↦ if same_label p.0 label then p.1 ∷ [] else [] | None ↦ [] ]) ++ rest) i
+      ≡ option_and_then single_target (cond (elim e as (λ _. Bool) [ Some p ↦ same_label p.0 label && same_id p.1.0 i | None ↦ false ]) (Some x) o)
+  pair_by None is = same
+  pair_by (Some p) is = label_by p.1 is (same_label p.0 label)
 
-pub first_to-next : (elements : List ElementValue) (i : IdValue) → first_to (next_pairs elements) i ≡ option_and_then (edge_target next_in) (find (is_edge_from next_in i) elements)
-first_to-next = first_to-edge next_in next_count
-
-definition_few : (x : ElementValue) → length (definition_in x) ≤ 1
-definition_few = each_element (λ x. length (definition_in x) ≤ 1) (λ _ _. omega arith) (λ _ _ _. omega arith) (λ _ _ _. omega arith) (λ _ _ _. omega arith) (λ _ _ _. omega arith) (λ _ _ _. omega arith) (λ _ _ _. omega arith) (λ _ _ _. omega arith) (λ _ _ _. omega arith) (λ _ _. omega arith) (λ _ _ _. omega arith)
-
-pub first_to-definition : (elements : List ElementValue) (i : IdValue) → first_to (definition_pairs elements) i ≡ option_and_then (edge_target definition_in) (find (is_edge_from definition_in i) elements)
-first_to-definition = first_to-edge definition_in definition_few
-
-references_few : (x : ElementValue) → length (references_in x) ≤ 1
-references_few = each_element (λ x. length (references_in x) ≤ 1) (λ _ _. omega arith) (λ _ _ _. omega arith) (λ _ _ _. omega arith) (λ _ _ _. omega arith) (λ _ _ _. omega arith) (λ _ _ _. omega arith) (λ _ _ _. omega arith) (λ _ _ _. omega arith) (λ _ _ _. omega arith) (λ _ _. omega arith) (λ _ _ _. omega arith)
-
-pub first_to-references : (elements : List ElementValue) (i : IdValue) → first_to (references_pairs elements) i ≡ option_and_then (edge_target references_in) (find (is_edge_from references_in i) elements)
-first_to-references = first_to-edge references_in references_few
-
-hover_few : (x : ElementValue) → length (hover_in x) ≤ 1
-hover_few = each_element (λ x. length (hover_in x) ≤ 1) (λ _ _. omega arith) (λ _ _ _. omega arith) (λ _ _ _. omega arith) (λ _ _ _. omega arith) (λ _ _ _. omega arith) (λ _ _ _. omega arith) (λ _ _ _. omega arith) (λ _ _ _. omega arith) (λ _ _ _. omega arith) (λ _ _. omega arith) (λ _ _ _. omega arith)
-
-pub first_to-hover : (elements : List ElementValue) (i : IdValue) → first_to (hover_pairs elements) i ≡ option_and_then (edge_target hover_in) (find (is_edge_from hover_in i) elements)
-first_to-hover = first_to-edge hover_in hover_few
-
-package_few : (x : ElementValue) → length (package_in x) ≤ 1
-package_few = each_element (λ x. length (package_in x) ≤ 1) (λ _ _. omega arith) (λ _ _ _. omega arith) (λ _ _ _. omega arith) (λ _ _ _. omega arith) (λ _ _ _. omega arith) (λ _ _ _. omega arith) (λ _ _ _. omega arith) (λ _ _ _. omega arith) (λ _ _ _. omega arith) (λ _ _. omega arith) (λ _ _ _. omega arith)
-
-pub first_to-package : (elements : List ElementValue) (i : IdValue) → first_to (package_pairs elements) i ≡ option_and_then (edge_target package_in) (find (is_edge_from package_in i) elements)
-first_to-package = first_to-edge package_in package_few
+-- what the pairs of a label lead to is the target of the first edge of that label
+pub first_to-single : (label : SingleLabel) (elements : List ElementValue) (i : IdValue) → first_to (single_pairs label elements) i ≡ option_and_then single_target (find (is_single label i) elements)
+first_to-single label [] i = refl
+first_to-single label (x ∷ elements) i = pair_by label x i (single_pairs label elements) (find (is_single label i) elements) (first_to-single label elements i) (single_of x) refl

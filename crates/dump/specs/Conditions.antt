@@ -8,7 +8,7 @@ use Rattle.lsif.specs.declared.code.Code.TheVariants.{L04, L06, L09, L10, L11, L
 use Rattle.dump.specs.Graph.{element_at, vertex_at, is_document, is_range, is_reference_result, ends, has_repeated}
 use Rattle.lsif.specs.declared.element.Property.{Property}
 use Rattle.lsif.specs.declared.element.Property.TheVariants.{Definitions, References, ReferenceResults}
-use Rattle.dump.specs.Walks.{first_to, reaches, next_pairs, definition_pairs, references_pairs, hover_pairs, package_pairs}
+use Rattle.dump.specs.Walks.{first_to, reaches, single_of, single_pairs, next_pairs}
 use Rattle.dump.specs.Ended.{is_bad_event, is_late}
 use Rattle.dump.specs.Contained.{is_contained, is_in, spans_in, spans_of, any_conflicts, has_conflict}
 
@@ -138,13 +138,7 @@ is_conflicting before (vertex i v) = false
 
 -- L13: an edge of this single label leaves the same vertex already
 abbrev pub leaves_again : List ElementValue → ElementValue → Bool
-leaves_again before (edge i (next from to)) = is_some (first_to (next_pairs before) from)
-leaves_again before (edge i (definition from to)) = is_some (first_to (definition_pairs before) from)
-leaves_again before (edge i (references from to)) = is_some (first_to (references_pairs before) from)
-leaves_again before (edge i (hover from to)) = is_some (first_to (hover_pairs before) from)
-leaves_again before (edge i (package_edge from to)) = is_some (first_to (package_pairs before) from)
-leaves_again before (edge i e) = false
-leaves_again before (vertex i v) = false
+leaves_again before x = elim (single_of x) as (λ _. Bool) [ Some e ↦ is_some (first_to (single_pairs e.0 before) e.1.0) | None ↦ false ]
 
 -- L14: a path of `next` edges goes from the target to the source already
 abbrev pub closes_cycle : List ElementValue → ElementValue → Bool

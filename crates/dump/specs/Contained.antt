@@ -1,15 +1,19 @@
 -- Which ranges the documents of a dump contain (LSIF 0.6.0, "contains").
-use Rattle.std.specs.Prelude.{◌≡◌, ◌&&◌, ◌||◌, Bool, true, false, not, Some, List, [], ◌∷◌, if◌then◌else◌}
+use Rattle.std.specs.Prelude.{◌≡◌, ◌&&◌, ◌||◌, Bool, true, false, not, Option, Some, None, List, [], ◌∷◌, if◌then◌else◌}
 use Rattle.std.specs.List.{list_any, filter_map, flat_map}
 use Rattle.positions.specs.Span.{SpanValue, nests, overlaps}
 use Rattle.lsif.specs.Element.{IdValue, same_id, range, contains, ElementValue, vertex, edge}
 use Rattle.dump.specs.Graph.{vertex_at, is_document, is_among, span_of}
 
+-- the source and the targets of a `contains` edge
+abbrev pub contains_of : ElementValue → Option (IdValue × List IdValue)
+contains_of (edge i (contains from to)) = Some (from, to)
+contains_of (edge i e) = None
+contains_of (vertex i v) = None
+
 -- the element is a `contains` edge out of a document that names the range
 abbrev pub contains_range : List ElementValue → IdValue → ElementValue → Bool
-contains_range elements r (edge i (contains from to)) = is_document (vertex_at elements from) && is_among r to
-contains_range elements r (edge i e) = false
-contains_range elements r (vertex i v) = false
+contains_range elements r x = elim (contains_of x) as (λ _. Bool) [ Some e ↦ is_document (vertex_at elements e.0) && is_among r e.1 | None ↦ false ]
 
 -- a document contains the range
 abbrev pub is_contained : List ElementValue → IdValue → Bool
@@ -17,13 +21,11 @@ is_contained elements r = list_any (contains_range elements r) elements
 
 -- the element is a `contains` edge out of this document that names the range
 abbrev pub places_range : IdValue → IdValue → ElementValue → Bool
-places_range d r (edge i (contains from to)) = same_id from d && is_among r to
-places_range d r (edge i e) = false
-places_range d r (vertex i v) = false
+places_range d r x = elim (contains_of x) as (λ _. Bool) [ Some e ↦ same_id e.0 d && is_among r e.1 | None ↦ false ]
 
 -- this document contains the range
 abbrev pub is_in : List ElementValue → IdValue → IdValue → Bool
-is_in elements d r = list_any (places_range d r) elements
+is_in elements d r = is_document (vertex_at elements d) && list_any (places_range d r) elements
 
 -- the spans of the ranges among these ids
 abbrev pub spans_of : List ElementValue → List IdValue → List SpanValue
@@ -31,9 +33,8 @@ spans_of elements is = filter_map (λ i. span_of (vertex_at elements i)) is
 
 -- the spans of the ranges that the element, where it's a `contains` edge out of this document, names
 abbrev pub spans_named : List ElementValue → IdValue → ElementValue → List SpanValue
-spans_named elements d (edge i (contains from to)) = if same_id from d then spans_of elements to else []
-spans_named elements d (edge i e) = []
-spans_named elements d (vertex i v) = []
+spans_named elements d x =
+    elim (contains_of x) as (λ _. List SpanValue) [ Some e ↦ if same_id e.0 d then spans_of elements e.1 else [] | None ↦ [] ]
 
 -- the spans of the ranges that the document contains
 abbrev pub spans_in : List ElementValue → IdValue → List SpanValue

@@ -1,7 +1,8 @@
 -- Which documents have begun and ended (LSIF 0.6.0, "Events": what ends is not named any more).
-use Rattle.std.specs.Prelude.{◌&&◌, ◌||◌, Bool, false, not, List}
+use Rattle.std.specs.Prelude.{◌&&◌, ◌||◌, Bool, false, not, List, Some, None}
 use Rattle.std.specs.List.{list_any}
-use Rattle.lsif.specs.Element.{IdValue, same_id, EventValue, begin_event, end_event, other_event, event, contains, ElementValue, vertex, edge}
+use Rattle.lsif.specs.Element.{IdValue, same_id, EventValue, begin_event, end_event, other_event, event, ElementValue, vertex, edge}
+use Rattle.dump.specs.Contained.{contains_of}
 use Rattle.dump.specs.Graph.{vertex_at, is_document, is_among, ends}
 
 -- the element is the event that this document begins
@@ -36,9 +37,7 @@ is_bad_event before (edge i e) = false
 
 -- the element is a `contains` edge out of a document that has ended, and names the range
 abbrev pub closes_range : List ElementValue → IdValue → ElementValue → Bool
-closes_range elements r (edge i (contains from to)) = is_among r to && has_ended elements from
-closes_range elements r (edge i e) = false
-closes_range elements r (vertex i v) = false
+closes_range elements r x = elim (contains_of x) as (λ _. Bool) [ Some e ↦ is_among r e.1 && has_ended elements e.0 | None ↦ false ]
 
 -- a document that has ended contains the range
 unfoldable pub is_closed : List ElementValue → IdValue → Bool
@@ -46,9 +45,7 @@ is_closed elements r = list_any (closes_range elements r) elements
 
 -- a `contains` edge leaves a document that has ended
 abbrev pub leaves_ended : List ElementValue → ElementValue → Bool
-leaves_ended before (edge i (contains from to)) = has_ended before from
-leaves_ended before (edge i e) = false
-leaves_ended before (vertex i v) = false
+leaves_ended before x = elim (contains_of x) as (λ _. Bool) [ Some e ↦ has_ended before e.0 | None ↦ false ]
 
 -- L18: a `contains` edge leaves a document that has ended, or an end of any edge is a range that one contains
 abbrev pub is_late : List ElementValue → ElementValue → Bool

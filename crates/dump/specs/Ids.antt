@@ -1,5 +1,5 @@
 -- Tables from ids to values.
-use Rattle.std.specs.Prelude.{◌≡◌, ℕ, Bool, List, Option, Some, None, nat_eq, nat_lt, get_or, if◌then◌else◌}
+use Rattle.std.specs.Prelude.{◌≡◌, ◌<◌, ℕ, Bool, List, Option, Some, None, nat_eq, nat_lt, get_or, if◌then◌else◌}
 use Rattle.std.specs.List.{position}
 use Rattle.std.specs.HashMap.{get, get_by_text}
 use Rattle.lsif.specs.Element.{IdValue, number, text}
@@ -24,3 +24,8 @@ IsTable table test elements = (i : IdValue) → table i ≡ position (test i) el
 abbrev pub entered : {V : Type 0} → Bool → V → Option V → Option V
 entered here new (Some old) = Some old
 entered here new None = if here then Some new else None
+
+-- the places are below a bound, and no two ids have the same
+pub record HasRows (table : PlaceMap) (bound : ℕ) : Type 0 where
+  pub below : (i : IdValue) (k : ℕ) → place_at table i ≡ Some k → k < bound
+  pub apart : (i j : IdValue) (k : ℕ) → place_at table i ≡ Some k → place_at table j ≡ Some k → i ≡ j

@@ -6,9 +6,10 @@ pub mod Graph
 pub mod Ids
 pub mod Index
 pub mod Judging
+pub mod Kinds
 pub mod Lines
+pub mod Links
 pub mod Places
-pub mod Results
 pub mod Spans
 pub mod Steps
 pub mod Walks

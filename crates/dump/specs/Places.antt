@@ -12,7 +12,9 @@ use Rattle.lsif.specs.declared.element.Property.{Property}
 use Rattle.lsif.specs.declared.element.Property.TheVariants.{Definitions}
 use Rattle.dump.specs.Graph.{vertex_at}
 use Rattle.dump.specs.Contained.{is_in}
-use Rattle.dump.specs.Walks.{IsChain, first_of_list, next_pairs, definition_pairs, references_pairs, hover_pairs}
+use Rattle.dump.specs.declared.single.SingleLabel.{SingleLabel}
+use Rattle.dump.specs.declared.single.SingleLabel.TheVariants.{Definition, References, Hover}
+use Rattle.dump.specs.Walks.{IsChain, first_of_list, single_pairs, next_pairs}
 
 -- a place in a document: the document's serialized URL, and a span of it
 pub record PlaceValue : Type 0 where
@@ -34,17 +36,19 @@ pub record IsAt (elements : List ElementValue) (r : IdValue) (place : PlaceValue
 abbrev pub IsCovering : List ElementValue → List ℕ → PositionValue → IdValue → SpanValue → Type 0
 IsCovering elements uri position r span = IsAt elements r (record { uri = uri; span = span }) × Covers span position
 
--- the definition result that a request at the vertex is answered by: that of the first member of its chain that has one
+-- the result that a request at the vertex is answered by, where edges of this label name results: that of the first member of
+-- the vertex's chain that has one
+abbrev pub FirstResult : SingleLabel → List ElementValue → IdValue → Option IdValue → Type 0
+FirstResult label elements x result = (xs : List IdValue) × IsChain (next_pairs elements) x xs × (result ≡ first_of_list (single_pairs label elements) xs)
+
 abbrev pub FirstDefinition : List ElementValue → IdValue → Option IdValue → Type 0
-FirstDefinition elements x result = (xs : List IdValue) × IsChain (next_pairs elements) x xs × (result ≡ first_of_list (definition_pairs elements) xs)
+FirstDefinition elements x result = FirstResult Definition elements x result
 
--- the same of the reference result
 abbrev pub FirstReferences : List ElementValue → IdValue → Option IdValue → Type 0
-FirstReferences elements x result = (xs : List IdValue) × IsChain (next_pairs elements) x xs × (result ≡ first_of_list (references_pairs elements) xs)
+FirstReferences elements x result = FirstResult References elements x result
 
--- the same of the hover result
 abbrev pub FirstHover : List ElementValue → IdValue → Option IdValue → Type 0
-FirstHover elements x result = (xs : List IdValue) × IsChain (next_pairs elements) x xs × (result ≡ first_of_list (hover_pairs elements) xs)
+FirstHover elements x result = FirstResult Hover elements x result
 
 -- the range is the innermost of those that cover the position and have a definition result: it nests in each of them
 pub record IsInnermost (elements : List ElementValue) (uri : List ℕ) (position : PositionValue) (r result : IdValue) : Type 0 where

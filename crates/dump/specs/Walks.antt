@@ -1,64 +1,44 @@
 -- Paths and chains over the pairs of vertices that edges of one label join (LSIF 0.6.0, "next": a request that a
 -- range or a result set doesn't answer is forwarded along the `next` edge).
-use Rattle.std.specs.Prelude.{◌≡◌, Bool, false, List, [], ◌∷◌, if◌then◌else◌, ◌||◌, ◌&&◌, Option, Some, None, Contains}
+use Rattle.std.specs.Prelude.{◌≡◌, ℕ, nat_eq, Bool, false, List, [], ◌∷◌, if◌then◌else◌, ◌||◌, ◌&&◌, Option, Some, None, Contains}
 use Rattle.std.specs.List.{flat_map}
 use Rattle.lsif.specs.Element.{IdValue, same_id, next, definition, references, hover, package_edge, ElementValue, vertex, edge}
+use Rattle.dump.specs.declared.single.SingleLabel.{SingleLabel}
+use Rattle.dump.specs.declared.single.SingleLabel.TheVariants.{Next, Definition, References, Hover, PackageInformation}
 
 abbrev pub Pair : Type 0
 Pair = IdValue × IdValue
 
--- the source and the target of a `next` edge
-abbrev pub next_in : ElementValue → List Pair
-next_in (edge i (next from to)) = (from, to) ∷ []
-next_in (edge i e) = []
-next_in (vertex i v) = []
+abbrev pub label_index : SingleLabel → ℕ
+label_index Next = 0
+label_index Definition = 1
+label_index References = 2
+label_index Hover = 3
+label_index PackageInformation = 4
 
--- the source and the target of a `textDocument/definition` edge
-abbrev pub definition_in : ElementValue → List Pair
-definition_in (edge i (definition from to)) = (from, to) ∷ []
-definition_in (edge i e) = []
-definition_in (vertex i v) = []
+abbrev pub same_label : SingleLabel → SingleLabel → Bool
+same_label a b = nat_eq (label_index a) (label_index b)
 
--- the source and the target of a `textDocument/references` edge
-abbrev pub references_in : ElementValue → List Pair
-references_in (edge i (references from to)) = (from, to) ∷ []
-references_in (edge i e) = []
-references_in (vertex i v) = []
+-- an edge of a label that leaves a vertex once at most: the label, and the source with the target
+abbrev pub single_of : ElementValue → Option (SingleLabel × Pair)
+single_of (edge i (next from to)) = Some (Next, (from, to))
+single_of (edge i (definition from to)) = Some (Definition, (from, to))
+single_of (edge i (references from to)) = Some (References, (from, to))
+single_of (edge i (hover from to)) = Some (Hover, (from, to))
+single_of (edge i (package_edge from to)) = Some (PackageInformation, (from, to))
+single_of (edge i e) = None
+single_of (vertex i v) = None
 
--- the source and the target of a `textDocument/hover` edge
-abbrev pub hover_in : ElementValue → List Pair
-hover_in (edge i (hover from to)) = (from, to) ∷ []
-hover_in (edge i e) = []
-hover_in (vertex i v) = []
+-- the source and the target of an edge of this label
+abbrev pub single_in : SingleLabel → ElementValue → List Pair
+single_in label x = elim (single_of x) as (λ _. List Pair) [ Some e ↦ if same_label e.0 label then e.1 ∷ [] else [] | None ↦ [] ]
 
--- the source and the target of a `packageInformation` edge
-abbrev pub package_in : ElementValue → List Pair
-package_in (edge i (package_edge from to)) = (from, to) ∷ []
-package_in (edge i e) = []
-package_in (vertex i v) = []
+-- the sources and the targets of the edges of this label
+abbrev pub single_pairs : SingleLabel → List ElementValue → List Pair
+single_pairs label elements = flat_map (single_in label) elements
 
 abbrev pub next_pairs : List ElementValue → List Pair
-next_pairs elements = flat_map next_in elements
-
-abbrev pub definition_pairs : List ElementValue → List Pair
-definition_pairs elements = flat_map definition_in elements
-
-abbrev pub references_pairs : List ElementValue → List Pair
-references_pairs elements = flat_map references_in elements
-
-abbrev pub hover_pairs : List ElementValue → List Pair
-hover_pairs elements = flat_map hover_in elements
-
-abbrev pub package_pairs : List ElementValue → List Pair
-package_pairs elements = flat_map package_in elements
-
--- the element is an edge out of this vertex, of the label whose edges have these pairs
-abbrev pub is_edge_from : (ElementValue → List Pair) → IdValue → ElementValue → Bool
-is_edge_from pairs_in x e = elim (pairs_in e) as (λ _. Bool) [ [] ↦ false | p ∷ ps ↦ same_id p.0 x ]
-
--- the target of an edge of that label
-abbrev pub edge_target : (ElementValue → List Pair) → ElementValue → Option IdValue
-edge_target pairs_in e = elim (pairs_in e) as (λ _. Option IdValue) [ [] ↦ None | p ∷ ps ↦ Some p.1 ]
+next_pairs elements = single_pairs Next elements
 
 -- what a vertex is joined to by the first pair out of it
 abbrev pub first_to : List Pair → IdValue → Option IdValue

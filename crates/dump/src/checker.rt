@@ -4,9 +4,10 @@ ghost use Rattle.lsif.specs.Element.{element_value, reading_value};
 ghost use Rattle.dump.specs.declared.fault.FeedFault.TheVariants.{Line};
 
 use crate::fault::{FeedFault, LineFault};
-use crate::graph::{Graph, Request};
+use crate::graph::Graph;
 use crate::laws::chain_law;
 use crate::order::{end_fault, order_code};
+use crate::single::SingleLabel;
 use crate::vertices::vertex_at;
 use crate::walks::first_result;
 use lsif::{Code, Element, Id, Profile, Vertex};
@@ -41,24 +42,10 @@ impl Checker {
     pub fn new(alloc: Global, _profile: Profile) -> Checker
         ensures { result ≡ running [] }
     {
-        Checker::over(Graph::new(alloc))
-    }
-
-    /// A checker that has seen no line and looks elements up by a search of their list.
-    #[cfg(test)]
-    pub(crate) fn without_index(alloc: Global) -> Checker
-        ensures { result ≡ running [] }
-    {
-        Checker::over(Graph::without_index(alloc))
-    }
-
-    /// A checker that has seen no line, over the graph of no element.
-    fn over(graph: Graph) -> Checker
-        requires { graph ≡ [] }
-        ensures { result ≡ running [] }
-    {
-        let fault = None;
-        Checker { graph, fault }
+        Checker {
+            graph: Graph::new(alloc),
+            fault: None,
+        }
     }
 
     /// Takes the next line: its element, or the fault of its shape. Answers the fault of the line, if it has one, and
@@ -142,7 +129,8 @@ impl CheckedDump {
     ghost use Rattle.dump.specs.Contained.{is_in};
     ghost use Rattle.dump.specs.Fault.{IsFaultless};
     ghost use Rattle.dump.specs.Places.{FirstDefinition, FirstReferences, FirstHover};
-    ghost use Rattle.dump.specs.Walks.{first_to, package_pairs};
+    ghost use Rattle.dump.specs.Walks.{first_to, single_pairs};
+    ghost use Rattle.dump.specs.declared.single.SingleLabel.TheVariants.{PackageInformation};
 
     /// The elements: that of line 1 first.
     pub fn elements(&self) -> &[Element]
@@ -160,7 +148,7 @@ impl CheckedDump {
         ensures only { (other : Option IdValue) → FirstDefinition self.now (id_value vertex.now) other → other ≡ option_map (λ i. id_value i.now) result }
     {
         chain_law();
-        first_result(&self.graph, Request::Definition, vertex)
+        first_result(&self.graph, SingleLabel::Definition, vertex)
     }
 
     /// The reference result that a request at this vertex is answered by: that of the first vertex along the chain of
@@ -170,7 +158,7 @@ impl CheckedDump {
         ensures only { (other : Option IdValue) → FirstReferences self.now (id_value vertex.now) other → other ≡ option_map (λ i. id_value i.now) result }
     {
         chain_law();
-        first_result(&self.graph, Request::References, vertex)
+        first_result(&self.graph, SingleLabel::References, vertex)
     }
 
     /// The hover result that a request at this vertex is answered by: that of the first vertex along the chain of `next`
@@ -180,14 +168,15 @@ impl CheckedDump {
         ensures only { (other : Option IdValue) → FirstHover self.now (id_value vertex.now) other → other ≡ option_map (λ i. id_value i.now) result }
     {
         chain_law();
-        first_result(&self.graph, Request::Hover, vertex)
+        first_result(&self.graph, SingleLabel::Hover, vertex)
     }
 
     /// The package that a `packageInformation` edge out of this moniker names.
     pub fn package_of(&self, moniker: &Id) -> Option<&Id>
-        ensures { option_map (λ i. id_value i.now) result ≡ first_to (package_pairs self.now) (id_value moniker.now) }
+        ensures { option_map (λ i. id_value i.now) result ≡ first_to (single_pairs PackageInformation self.now) (id_value moniker.now) }
     {
-        self.graph.package_of(moniker)
+        self.graph
+            .target_of(SingleLabel::PackageInformation, moniker)
     }
 
     /// What the vertex of this id says. None where the id is an edge's, or nobody's.
@@ -197,7 +186,7 @@ impl CheckedDump {
         vertex_at(&self.graph, id)
     }
 
-    /// Whether a `contains` edge out of this document names the range.
+    /// Whether this document contains the range.
     pub fn is_in(&self, document: &Id, range: &Id) -> bool
         ensures { result ≡ is_in self.now (id_value document.now) (id_value range.now) }
     {

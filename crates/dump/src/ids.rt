@@ -28,13 +28,6 @@ impl<V> IdMap<V> {
         }
     }
 
-    /// Whether the table has no value.
-    pub(crate) fn is_empty(&self) -> bool
-        ensures { result ≡ true → (i : IdValue) → value_at self.now i ≡ None }
-    {
-        self.numbers.is_empty() && self.texts.is_empty()
-    }
-
     /// The value at the id.
     pub(crate) fn get(&self, id: &Id) -> Option<&V>
         ensures { option_copied result ≡ value_at self.now (id_value id.now) }
@@ -63,9 +56,24 @@ impl<V: Drop> IdMap<V> {
         }
     }
 
+    /// Takes the value at the id out of the table.
+    pub(crate) fn remove(&mut self, id: &Id)
+        ensures { (i : IdValue) → value_at self.new i ≡ (if same_id (id_value id.now) i then None else value_at self.old i) }
+    {
+        match id {
+            Id::Number(n) => {
+                self.numbers.remove(n);
+            }
+            Id::Text(text) => {
+                self.texts.remove(text.as_str());
+            }
+        }
+    }
+
     /// Puts the value at the id where the table has none yet.
     pub(crate) fn enter(&mut self, id: &Id, value: V) -> Result<(), AllocError>
-        ensures { OnOk result ((i : IdValue) → value_at self.new i ≡ entered (same_id (id_value id.now) i) value (value_at self.old i)) }
+        ensures ok { OnOk result ((i : IdValue) → value_at self.new i ≡ entered (same_id (id_value id.now) i) value (value_at self.old i)) }
+        ensures err { OnErr result ((i : IdValue) → value_at self.new i ≡ value_at self.old i) }
     {
         match id {
             Id::Number(n) => {

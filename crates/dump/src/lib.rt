@@ -9,10 +9,11 @@ mod graph;
 mod ids;
 mod index;
 mod laws;
+mod links;
 mod order;
 mod place_map;
 mod reading;
-mod search;
+mod single;
 mod spans;
 mod vertices;
 mod walks;
@@ -25,7 +26,7 @@ pub use reading::{DumpFault, read_dump};
 #[cfg(test)]
 mod tests;
 #[cfg(test)]
-mod tests_index;
+mod tests_ids;
 #[cfg(test)]
 mod tests_place_map;
 #[cfg(test)]

@@ -11,10 +11,8 @@ use crate::contained::{any_contained, are_in};
 use crate::ended::{any_closed, either_closed, is_bad_event};
 use crate::fault::LineFault;
 use crate::graph::Graph;
-use crate::vertices::{
-    are_documents, are_ranges, are_reference_results, are_vertices, is_document,
-    is_reference_result, is_vertex, vertex_at,
-};
+use crate::single::single_of;
+use crate::vertices::{Kind, are_of_kind, is_document, is_reference_result, is_vertex, vertex_at};
 use crate::walks::leads;
 use lsif::{Code, Edge, Element, Id, Item, Property, Vertex};
 use std::alloc::AllocError;
@@ -40,7 +38,7 @@ fn joins_no_vertex(graph: &Graph, element: &Element) -> bool
     match element {
         Element::Vertex(_, _) => false,
         Element::Edge(_, Edge::Contains(from, to) | Edge::Other(from, to)) => {
-            !is_vertex(graph, from) || !are_vertices(graph, to)
+            !is_vertex(graph, from) || !are_of_kind(graph, Kind::Any, to)
         }
         Element::Edge(
             _,
@@ -53,7 +51,7 @@ fn joins_no_vertex(graph: &Graph, element: &Element) -> bool
             | Edge::Attach(from, to),
         ) => { !is_vertex(graph, from) || !is_vertex(graph, to) }
         Element::Edge(_, Edge::Item(item)) => {
-            !is_vertex(graph, &item.source) || !are_vertices(graph, &item.targets)
+            !is_vertex(graph, &item.source) || !are_of_kind(graph, Kind::Any, &item.targets)
         }
     }
 }
@@ -63,8 +61,8 @@ fn contents_fit(graph: &Graph, from: &Id, to: &[Id]) -> bool
     ensures { result ≡ (are_vertices graph.now (id_value from.now ∷ id_values to.now) && may_contain graph.now (vertex_at graph.now (id_value from.now)) (id_values to.now)) }
 {
     match vertex_at(graph, from) {
-        Some(Vertex::Project) => are_documents(graph, to),
-        Some(Vertex::Document(_)) => are_ranges(graph, to),
+        Some(Vertex::Project) => are_of_kind(graph, Kind::Document, to),
+        Some(Vertex::Document(_)) => are_of_kind(graph, Kind::Range, to),
         _ => false,
     }
 }
@@ -122,8 +120,16 @@ fn may_be_of_references(graph: &Graph, item: &Item) -> bool
 {
     match item.property {
         None => false,
-        Some(Property::Definitions | Property::References) => are_ranges(graph, &item.targets),
-        Some(Property::ReferenceResults) => are_reference_results(graph, &item.targets),
+        Some(Property::Definitions | Property::References) => are_of_kind(
+            graph,
+            Kind::Range,
+            &item.targets,
+        ),
+        Some(Property::ReferenceResults) => are_of_kind(
+            graph,
+            Kind::ReferenceResult,
+            &item.targets,
+        ),
     }
 }
 
@@ -134,10 +140,10 @@ fn item_fits(graph: &Graph, item: &Item) -> bool
 {
     match vertex_at(graph, &item.source) {
         Some(Vertex::DefinitionResult) => {
-            are_definitions(item.property) && are_ranges(graph, &item.targets)
+            are_definitions(item.property) && are_of_kind(graph, Kind::Range, &item.targets)
         }
         Some(Vertex::ReferenceResult) => may_be_of_references(graph, item),
-        Some(Vertex::Other) => are_vertices(graph, &item.targets),
+        Some(Vertex::Other) => are_of_kind(graph, Kind::Any, &item.targets),
         _ => false,
     }
 }
@@ -172,7 +178,7 @@ fn fits(graph: &Graph, element: &Element) -> bool
         }
         Element::Edge(_, Edge::Item(item)) => item_fits(graph, item),
         Element::Edge(_, Edge::Other(from, to)) => {
-            is_vertex(graph, from) && are_vertices(graph, to)
+            is_vertex(graph, from) && are_of_kind(graph, Kind::Any, to)
         }
     }
 }
@@ -205,12 +211,8 @@ fn is_conflicting(graph: &Graph, element: &Element) -> Result<bool, AllocError>
 fn leaves_again(graph: &Graph, element: &Element) -> bool
     ensures { result ≡ leaves_again graph.now (element_value element.now) }
 {
-    match element {
-        Element::Edge(_, Edge::Next(from, _)) => graph.next_of(from).is_some(),
-        Element::Edge(_, Edge::Definition(from, _)) => graph.definition_of(from).is_some(),
-        Element::Edge(_, Edge::References(from, _)) => graph.references_of(from).is_some(),
-        Element::Edge(_, Edge::Hover(from, _)) => graph.hover_of(from).is_some(),
-        Element::Edge(_, Edge::Package(from, _)) => graph.package_of(from).is_some(),
+    match single_of(element) {
+        Some((label, from, _)) => graph.target_of(label, from).is_some(),
         _ => false,
     }
 }

@@ -1,5 +1,5 @@
 //! Tables from ids to places in a list.
-ghost use Rattle.std.specs.Prelude.{◌≡◌, ◌<◌, ◌^◌, ℕ, None, true, IfOk, OnOk, get_or, nat_eq};
+ghost use Rattle.std.specs.Prelude.{◌≡◌, ◌<◌, ◌^◌, ℕ, None, OnOk, OnErr, get_or, nat_eq, if◌then◌else◌};
 ghost use Rattle.lsif.specs.Element.{IdValue, id_value, same_id};
 ghost use Rattle.dump.specs.Ids.{entered, place_at};
 
@@ -29,7 +29,8 @@ fn slot(slots: &[Option<usize>], number: usize) -> Option<usize>
 /// Enters the place in the slot of a number, where it has none yet.
 fn enter_slot(slots: &mut Vec<Option<usize>>, number: usize, place: usize) -> Result<(), AllocError>
     requires { number < 2 ^ 32 }
-    ensures { OnOk result ((n : ℕ) → get_or slots.new.items n None ≡ entered (nat_eq number n) place (get_or slots.old.items n None)) }
+    ensures ok { OnOk result ((n : ℕ) → get_or slots.new.items n None ≡ entered (nat_eq number n) place (get_or slots.old.items n None)) }
+    ensures err { OnErr result (slots.new.items ≡ slots.old.items) }
 {
     if number >= slots.len() {
         slots.resize(number + 1, None)?;
@@ -38,6 +39,15 @@ fn enter_slot(slots: &mut Vec<Option<usize>>, number: usize, place: usize) -> Re
         slots[number] = Some(place);
     }
     Ok(())
+}
+
+/// Empties the slot of a number.
+fn empty_slot(slots: &mut [Option<usize>], number: usize)
+    ensures { (n : ℕ) → get_or slots.new n None ≡ (if nat_eq number n then None else get_or slots.old n None) }
+{
+    if number < slots.len() {
+        slots[number] = None;
+    }
 }
 
 impl PlaceMap {
@@ -52,13 +62,6 @@ impl PlaceMap {
         }
     }
 
-    /// Whether the table has no place.
-    pub(crate) fn is_empty(&self) -> bool
-        ensures { result ≡ true → (i : IdValue) → place_at self.now i ≡ None }
-    {
-        self.slots.is_empty() && self.others.is_empty()
-    }
-
     /// The place at the id.
     pub(crate) fn get(&self, id: &Id) -> Option<usize>
         ensures { result ≡ place_at self.now (id_value id.now) }
@@ -71,7 +74,8 @@ impl PlaceMap {
 
     /// Enters the place at the id, where the table has none yet.
     pub(crate) fn enter(&mut self, id: &Id, place: usize) -> Result<(), AllocError>
-        ensures { OnOk result ((i : IdValue) → place_at self.new i ≡ entered (same_id (id_value id.now) i) place (place_at self.old i)) }
+        ensures ok { OnOk result ((i : IdValue) → place_at self.new i ≡ entered (same_id (id_value id.now) i) place (place_at self.old i)) }
+        ensures err { OnErr result ((i : IdValue) → place_at self.new i ≡ place_at self.old i) }
     {
         match id {
             Id::Number(n) if *n < self.bound as u64 => {
@@ -79,6 +83,17 @@ impl PlaceMap {
             }
             Id::Number(_) => self.others.enter(id, place),
             Id::Text(_) => self.others.enter(id, place),
+        }
+    }
+
+    /// Takes the place at the id out of the table.
+    pub(crate) fn remove(&mut self, id: &Id)
+        ensures { (i : IdValue) → place_at self.new i ≡ (if same_id (id_value id.now) i then None else place_at self.old i) }
+    {
+        match id {
+            Id::Number(n) if *n < self.bound as u64 => empty_slot(&mut self.slots, *n as usize),
+            Id::Number(_) => self.others.remove(id),
+            Id::Text(_) => self.others.remove(id),
         }
     }
 }

@@ -2,13 +2,19 @@
 ghost use Rattle.std.specs.Prelude.{◌≡◌, ◌||◌, ◌++◌, ◌+◌, ◌≤◌, ◌<◌, ℕ, true, false, length, IfOk, IsPermutation};
 ghost use Rattle.std.specs.List.{slice_get, slice_index_or};
 ghost use Rattle.positions.specs.Span.{SpanValue};
-ghost use Rattle.dump.specs.Contained.{any_conflicts, has_conflict};
+ghost use Rattle.dump.specs.Contained.{conflicts, any_conflicts, has_conflict};
 ghost use Rattle.dump.specs.Spans.{span_order, IsOrdered, is_passed, goes_first};
 
-use crate::search::contained::conflicts;
 use positions::Span;
 use std::alloc::{AllocError, Global};
 use std::cmp::Ordering;
+
+/// Whether the spans are equal, or overlap with neither nested in the other.
+fn conflicts(a: Span, b: Span) -> bool
+    ensures { result ≡ conflicts a b }
+{
+    (a.nests(b) && b.nests(a)) || (a.overlaps(b) && !a.nests(b) && !b.nests(a))
+}
 
 /// By the start, and of one start the longer first.
 fn order(a: &Span, b: &Span) -> Ordering

@@ -20,29 +20,35 @@ fn enter(alloc: Global, map: &mut PlaceMap, entered: &[(&str, usize)]) -> Result
     Ok(())
 }
 
-/// Whether a map is empty, and what is at each of these ids.
+/// What is at each of these ids.
 fn places(alloc: Global, map: &PlaceMap, ids: &[&str]) -> Result<String, Fail> {
-    let mut found = format!(in alloc; "{}", map.is_empty())?;
+    let mut found = String::new(alloc);
     for short in ids {
         let place = map.get(&id(alloc, short)?);
-        found.push_str(format!(in alloc; " {short} {place:?}")?.as_str())?;
+        found.push_str(format!(in alloc; "{short} {place:?};")?.as_str())?;
     }
     Ok(found)
 }
 
-/// The places of an empty map with slots below the bound, and those after these ids are entered.
+/// The places of a map with slots below the bound, after these ids are entered, and after one is taken out.
 fn places_of(
     alloc: Global,
     bound: u32,
     entered: &[(&str, usize)],
     ids: &[&str],
+    removed: &str,
 ) -> Result<String, Fail> {
     let mut map = PlaceMap::new(alloc, bound);
-    let before = places(alloc, &map, &["0"])?;
     enter(alloc, &mut map, entered)?;
+    let before = places(alloc, &map, ids)?;
+    map.remove(&id(alloc, removed)?);
     let after = places(alloc, &map, ids)?;
-    Ok(format!(in alloc; "{before}, {after}")?)
+    Ok(format!(in alloc; "{before}\n{after}")?)
 }
+
+const FOUND: &str = "\
+3 Some(7);0 Some(9);4 Some(10);9007199254740991 Some(12);'1 Some(13);1 None;5 None;'3 None;
+3 Some(7);0 None;4 Some(10);9007199254740991 Some(12);'1 Some(13);1 None;5 None;'3 None;";
 
 #[test]
 fn first_place_of_each_id(rt: HostRuntime) -> Result<(), Fail> {
@@ -56,16 +62,20 @@ fn first_place_of_each_id(rt: HostRuntime) -> Result<(), Fail> {
         ("'1", 13),
     ];
     let ids = ["3", "0", "4", "9007199254740991", "'1", "1", "5", "'3"];
-    let found = places_of(rt.alloc(), 4, &entered, &ids)?;
-    let wanted =
-        "true 0 None, false 3 Some(7) 0 Some(9) 4 Some(10) 9007199254740991 Some(12) '1 Some(13) 1 None 5 None '3 None";
-    assert_eq!(rt; found.as_str(), wanted);
+    let found = places_of(rt.alloc(), 4, &entered, &ids, "0")?;
+    assert_eq!(rt; found.as_str(), FOUND);
     Ok(())
 }
 
 #[test]
 fn first_place_without_slots(rt: HostRuntime) -> Result<(), Fail> {
-    let found = places_of(rt.alloc(), 0, &[("0", 5), ("0", 6)], &["0", "1"])?;
-    assert_eq!(rt; found.as_str(), "true 0 None, false 0 Some(5) 1 None");
+    let found = places_of(
+        rt.alloc(),
+        0,
+        &[("0", 5), ("0", 6), ("'0", 7)],
+        &["0", "'0"],
+        "'0",
+    )?;
+    assert_eq!(rt; found.as_str(), "0 Some(5);'0 Some(7);\n0 Some(5);'0 None;");
     Ok(())
 }

@@ -1,8 +1,9 @@
 //! What the vertices of ids are.
 ghost use Rattle.std.specs.Prelude.{◌≡◌, is_some, option_map};
 ghost use Rattle.lsif.specs.Element.{id_value, id_values, vertex_value};
-ghost use Rattle.dump.specs.Graph.{vertex_at, is_document, is_range, is_reference_result};
-ghost use Rattle.dump.specs.Conditions.{are_vertices, are_documents, are_ranges, are_reference_results};
+ghost use Rattle.std.specs.List.{list_all};
+ghost use Rattle.dump.specs.Graph.{vertex_at, is_document, is_reference_result};
+ghost use Rattle.dump.specs.Kinds.{is_of_kind};
 
 use crate::graph::Graph;
 use lsif::{Element, Id, Vertex};
@@ -29,60 +30,38 @@ pub(crate) fn is_document(graph: &Graph, id: &Id) -> bool
     matches!(vertex_at(graph, id), Some(Vertex::Document(_)))
 }
 
-fn is_range(graph: &Graph, id: &Id) -> bool
-    ensures { result ≡ is_range (vertex_at graph.now (id_value id.now)) }
-{
-    matches!(vertex_at(graph, id), Some(Vertex::Range(_)))
-}
-
 pub(crate) fn is_reference_result(graph: &Graph, id: &Id) -> bool
     ensures { result ≡ is_reference_result (vertex_at graph.now (id_value id.now)) }
 {
     matches!(vertex_at(graph, id), Some(Vertex::ReferenceResult))
 }
 
-/// Whether each id is that of a vertex.
-pub(crate) fn are_vertices(graph: &Graph, ids: &[Id]) -> bool
-    ensures { result ≡ are_vertices graph.now (id_values ids.now) }
-{
-    for id in ids {
-        if !is_vertex(graph, id) {
-            return false;
-        }
-    }
-    true
+/// What the vertices that an edge joins have to be.
+#[derive(Clone, Copy)]
+pub(crate) enum Kind {
+    Any,
+    Document,
+    Range,
+    ReferenceResult,
 }
 
-/// Whether each id is that of a document.
-pub(crate) fn are_documents(graph: &Graph, ids: &[Id]) -> bool
-    ensures { result ≡ are_documents graph.now (id_values ids.now) }
+fn is_of_kind(graph: &Graph, kind: Kind, id: &Id) -> bool
+    ensures { result ≡ is_of_kind kind (vertex_at graph.now (id_value id.now)) }
 {
-    for id in ids {
-        if !is_document(graph, id) {
-            return false;
-        }
+    match kind {
+        Kind::Any => is_vertex(graph, id),
+        Kind::Document => is_document(graph, id),
+        Kind::Range => matches!(vertex_at(graph, id), Some(Vertex::Range(_))),
+        Kind::ReferenceResult => is_reference_result(graph, id),
     }
-    true
 }
 
-/// Whether each id is that of a range.
-pub(crate) fn are_ranges(graph: &Graph, ids: &[Id]) -> bool
-    ensures { result ≡ are_ranges graph.now (id_values ids.now) }
+/// Whether each id is that of a vertex of this kind.
+pub(crate) fn are_of_kind(graph: &Graph, kind: Kind, ids: &[Id]) -> bool
+    ensures { result ≡ list_all (λ i. is_of_kind kind (vertex_at graph.now i)) (id_values ids.now) }
 {
     for id in ids {
-        if !is_range(graph, id) {
-            return false;
-        }
-    }
-    true
-}
-
-/// Whether each id is that of a reference result.
-pub(crate) fn are_reference_results(graph: &Graph, ids: &[Id]) -> bool
-    ensures { result ≡ are_reference_results graph.now (id_values ids.now) }
-{
-    for id in ids {
-        if !is_reference_result(graph, id) {
+        if !is_of_kind(graph, kind, id) {
             return false;
         }
     }

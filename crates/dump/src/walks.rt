@@ -2,10 +2,10 @@
 ghost use Rattle.std.specs.Prelude.{◌≡◌, List, option_map};
 ghost use Rattle.lsif.specs.Element.{IdValue, id_value};
 ghost use Rattle.dump.specs.Steps.{IsSound};
-ghost use Rattle.dump.specs.Results.{result_pairs};
-ghost use Rattle.dump.specs.Walks.{IsChain, HasChain, first_of_list, reaches, next_pairs};
+ghost use Rattle.dump.specs.Walks.{IsChain, HasChain, first_of_list, reaches, next_pairs, single_pairs};
 
-use crate::graph::{Graph, Request};
+use crate::graph::Graph;
+use crate::single::SingleLabel;
 use lsif::Id;
 
 /// Whether a path of `next` edges, of no step or more, goes from the one vertex to the other.
@@ -18,7 +18,7 @@ pub(crate) fn leads(graph: &Graph, from: &Id, to: &Id) -> bool
         if place.is(to) {
             return true;
         }
-        match graph.next_of(place) {
+        match graph.target_of(SingleLabel::Next, place) {
             Some(more) => place = more,
             None => return false,
         }
@@ -26,20 +26,21 @@ pub(crate) fn leads(graph: &Graph, from: &Id, to: &Id) -> bool
     place.is(to)
 }
 
-/// The result that the first vertex along the chain of `next` edges has for this request, of those from this one on.
-pub(crate) fn first_result<'a>(graph: &'a Graph, request: Request, from: &'a Id) -> Option<&'a Id>
+/// The target of the edge of this label out of the first vertex along the chain of `next` edges, from this one on, that has
+/// one.
+pub(crate) fn first_result<'a>(graph: &'a Graph, label: SingleLabel, from: &'a Id) -> Option<&'a Id>
     requires { HasChain (next_pairs graph.now) (id_value from.now) }
-    ensures { (xs : List IdValue) → IsChain (next_pairs graph.now) (id_value from.now) xs → option_map (λ i. id_value i.now) result ≡ first_of_list (result_pairs request graph.now) xs }
+    ensures { (xs : List IdValue) → IsChain (next_pairs graph.now) (id_value from.now) xs → option_map (λ i. id_value i.now) result ≡ first_of_list (single_pairs label graph.now) xs }
 {
     let mut place = from;
     for _step in 0..graph.len() {
-        if let Some(result) = graph.result_of(request, place) {
+        if let Some(result) = graph.target_of(label, place) {
             return Some(result);
         }
-        match graph.next_of(place) {
+        match graph.target_of(SingleLabel::Next, place) {
             Some(more) => place = more,
             None => return None,
         }
     }
-    graph.result_of(request, place)
+    graph.target_of(label, place)
 }

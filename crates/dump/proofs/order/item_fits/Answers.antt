@@ -8,7 +8,7 @@ use Rattle.dump.proofs.order.item_fits.Goals as goal
 pub returns-then-are_definitions : goal.returns-then-are_definitions
 returns-then-are_definitions c =
     let is : vertex_at c.args.graph.now (id_value c.args.item.now.source) ≡ Some definition_result = sym c.in-Some-DefinitionResult.ensures ∙ ap (λ v. Some (vertex_value v)) c.in-Some-DefinitionResult.field-0-is in
-    rw is (c.are_ranges.ensures ∙ ap (λ is. are_ranges c.args.graph.now (id_values is)) c.deref.ensures.value ∙ ap (λ b. b && are_ranges c.args.graph.now (id_values c.args.item.now.targets.items)) c.if-are_definitions.ensures ∙ definitions_fit c.args.graph.now c.args.item.now.property (id_values c.args.item.now.targets.items))
+    rw is (c.are_of_kind.ensures ∙ ap (λ is. are_ranges c.args.graph.now (id_values is)) c.deref.ensures.value ∙ ap (λ b. b && are_ranges c.args.graph.now (id_values c.args.item.now.targets.items)) c.if-are_definitions.ensures ∙ definitions_fit c.args.graph.now c.args.item.now.property (id_values c.args.item.now.targets.items))
 
 pub returns-in-Some-ReferenceResult : goal.returns-in-Some-ReferenceResult
 returns-in-Some-ReferenceResult c =

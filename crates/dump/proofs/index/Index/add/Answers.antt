@@ -1,49 +1,94 @@
-use Rattle.std.proofs.Common.{◌∙◌, ◌++◌, ◌∷◌, [], sym, ap, refl, map, length}
+use Rattle.std.proofs.Common.{◌≡◌, ◌∙◌, ◌&&◌, ◌++◌, ◌∷◌, [], Bool, List, Option, Some, None, length, refl, sym, ap, subst, map}
 use Rattle.std.proofs.lemmas.List.{length-map}
-use Rattle.lsif.specs.Element.{same_id, element_value}
-use Rattle.dump.specs.Conditions.{are_vertices}
-use Rattle.dump.specs.Contained.{contains_range, spans_of}
-use Rattle.dump.specs.Ended.{begins, finishes}
-use Rattle.dump.specs.Graph.{is_among, ends}
-use Rattle.dump.specs.Ids.{value_at, place_at}
-use Rattle.dump.specs.Index.{has_id, is_id}
-use Rattle.dump.specs.Walks.{is_edge_from, next_in, definition_in, references_in, hover_in, package_in}
-use Rattle.dump.proofs.Bools.{not_false}
+use Rattle.positions.specs.Span.{SpanValue}
+use Rattle.lsif.specs.Element.{IdValue, id_values, element_value, element_id}
+use Rattle.dump.specs.declared.links.Link.{Link}
+use Rattle.dump.specs.Contained.{spans_of}
+use Rattle.dump.specs.Graph.{is_among}
+use Rattle.dump.specs.Ids.{value_at, place_at, entered}
+use Rattle.dump.specs.Index.{has_id, is_id, contains_source, IsFilled}
+use Rattle.dump.specs.Links.{link_index, same_link, link_at, named_by, is_named}
+use Rattle.dump.proofs.Adds.{has_rows, fresh_place, vertices_have_places, named_known, named_some, row_more, links_after, blank, blank_row, rows_length}
 use Rattle.dump.proofs.Ends.{no_code}
-use Rattle.dump.proofs.Fills.{ranges_test, filled_from, fills}
-use Rattle.dump.proofs.Indexes.{position_same, table_enters, source_test, begun_test, ended_test, document_more}
-use Rattle.dump.proofs.Known.{ends_known, same_contained}
+use Rattle.dump.proofs.Fills.{fills}
+use Rattle.dump.proofs.Indexes.{table_enters, document_more}
+use Rattle.dump.proofs.Known.{ends_known, still_vertices}
+use Rattle.dump.proofs.Slots.{entered_not}
 use Rattle.dump.proofs.index.Index.add.Goals as goal
 
-pub returns : goal.returns
-returns c =
+pub enter-requires-clause-fresh : goal.enter-requires-clause-fresh
+enter-requires-clause-fresh c =
+    let d = map element_value c.args.elements.now in
+    let x = element_value c.args.element.now in
+    fresh_place c.args.self.now.places d x (no_code d x c.requires.free) c.requires.index.elements
+
+pub enter_all-requires-clause-rows : goal.enter_all-requires-clause-rows
+enter_all-requires-clause-rows c =
+    let d = map element_value c.args.elements.now in
+    let x = element_value c.args.element.now in
+    let long = sym (length-map c.args.elements.now element_value) in
+    let table = table_enters (place_at c.args.self.now.places) (place_at c.enter.new.self.places) has_id has_id d x _ _ long c.in_ok-enter.ensures.places (λ i. refl) (λ i. refl) c.requires.index.elements in
+    let kept : c.enter.new.self.rows.items ≡ c.args.self.now.rows.items = ap (λ rows. rows.items) c.in_ok-enter.ensures.rows ∙ c.reserve.ensures.items in
+    let pushed : c.push_reserved.new.self.items ≡ c.args.self.now.rows.items ++ blank ∷ [] = c.push_reserved.ensures.items ∙ ap (λ rows. rows ++ blank ∷ []) kept in
+    has_rows c.enter.new.self.places (d ++ x ∷ []) _ (sym (rows_length c.args.self.now.rows.items _ d x pushed c.requires.index.rows)) table
+
+pub enter_all-requires-clause-known : goal.enter_all-requires-clause-known
+enter_all-requires-clause-known c =
+    let d = map element_value c.args.elements.now in
+    let x = element_value c.args.element.now in
+    let long = sym (length-map c.args.elements.now element_value) in
+    let table = table_enters (place_at c.args.self.now.places) (place_at c.enter.new.self.places) has_id has_id d x _ _ long c.in_ok-enter.ensures.places (λ i. refl) (λ i. refl) c.requires.index.elements in
+    let named : Some (c.in-Some.link, id_values c.in-Some.ids.now) ≡ named_by d x = rw c.in-Some.is at c.named_by-named.ensures in
+    vertices_have_places c.enter.new.self.places (d ++ x ∷ []) table (id_values c.in-Some.ids.now)
+    (still_vertices d x (id_values c.in-Some.ids.now) (named_some d (named_by d x) (c.in-Some.link, id_values c.in-Some.ids.now) (named_known d x (no_code d x c.requires.free)) (sym named)))
+
+pub returns-in-Some-clause-ok : goal.returns-in-Some-clause-ok
+returns-in-Some-clause-ok c =
     let d = map element_value c.args.elements.now in
     let x = element_value c.args.element.now in
     let n = length c.args.elements.now in
     let long = sym (length-map c.args.elements.now element_value) in
     let known = ends_known d c.requires.sound in
     let free = no_code d x c.requires.free in
+    let old = c.args.self.now in
+    let places = c.enter.new.self.places in
+    let kept : c.enter.new.self.rows.items ≡ c.args.self.now.rows.items = ap (λ rows. rows.items) c.in_ok-enter.ensures.rows ∙ c.reserve.ensures.items in
+    let pushed : c.push_reserved.new.self.items ≡ c.args.self.now.rows.items ++ blank ∷ [] = c.push_reserved.ensures.items ∙ ap (λ rows. rows ++ blank ∷ []) kept in
+    let named : Some (c.in-Some.link, id_values c.in-Some.ids.now) ≡ named_by d x = rw c.in-Some.is at c.named_by-named.ensures in
+    let here : Link → IdValue → Bool = λ l i. same_link c.in-Some.link l && is_among i (id_values c.in-Some.ids.now) in
+    let more = row_more old.places places old.rows.items blank (element_id x) n (c.requires.index.rows ∙ sym long) (λ l. blank_row (link_index l)) (has_rows old.places d n (sym long) c.requires.index.elements) c.in_ok-enter.ensures.places in
     record {
-      elements = table_enters (place_at c.args.self.now.elements) (place_at c.enter.new.table) has_id has_id d x n _ long c.in_ok-enter.ensures
-          (λ i. ap (λ j. same_id j i) (sym c.id.ensures)) (λ i. refl) c.requires.index.elements;
-      next = table_enters (place_at c.args.self.now.next) (place_at c.enter-2.new.table) (is_edge_from next_in) (is_edge_from next_in) d x n _ long c.in_ok-enter-2.ensures
-          (λ i. source_test next_in x i ∙ ap (is_id i) (sym c.next_source.ensures)) (λ i. refl) c.requires.index.next;
-      definition = table_enters (place_at c.args.self.now.definition) (place_at c.enter-3.new.table) (is_edge_from definition_in) (is_edge_from definition_in) d x n _ long c.in_ok-enter-3.ensures
-          (λ i. source_test definition_in x i ∙ ap (is_id i) (sym c.definition_source.ensures)) (λ i. refl) c.requires.index.definition;
-      references = table_enters (place_at c.args.self.now.references) (place_at c.enter-4.new.table) (is_edge_from references_in) (is_edge_from references_in) d x n _ long c.in_ok-enter-4.ensures
-          (λ i. source_test references_in x i ∙ ap (is_id i) (sym c.references_source.ensures)) (λ i. refl) c.requires.index.references;
-      hover = table_enters (place_at c.args.self.now.hover) (place_at c.enter-5.new.table) (is_edge_from hover_in) (is_edge_from hover_in) d x n _ long c.in_ok-enter-5.ensures
-          (λ i. source_test hover_in x i ∙ ap (is_id i) (sym c.hover_source.ensures)) (λ i. refl) c.requires.index.hover;
-      package_information = table_enters (place_at c.args.self.now.«package») (place_at c.enter-6.new.table) (is_edge_from package_in) (is_edge_from package_in) d x n _ long c.in_ok-enter-6.ensures
-          (λ i. source_test package_in x i ∙ ap (is_id i) (sym c.package_source.ensures)) (λ i. refl) c.requires.index.package_information;
-      contained = table_enters (place_at c.args.self.now.contained) (place_at c.enter_all.new.table) (contains_range d) (contains_range (d ++ x ∷ [])) d x n _ long c.in_ok-enter_all.ensures
-          (λ i. same_contained d x x (not_false (are_vertices d (ends x)) free.ends) i ∙ sym (ranges_test d x i) ∙ ap (is_among i) (sym c.ranges_of-ranges.ensures))
-          (λ i. position_same (contains_range (d ++ x ∷ []) i) (contains_range d i) d (λ y at. same_contained d x y (known y at) i)) c.requires.index.contained;
-      begun = table_enters (place_at c.args.self.now.begun) (place_at c.enter-7.new.table) begins begins d x n _ long c.in_ok-enter-7.ensures
-          (λ i. begun_test x i ∙ ap (is_id i) (sym c.begun_document.ensures)) (λ i. refl) c.requires.index.begun;
-      ended = table_enters (place_at c.args.self.now.ended) (place_at c.enter-8.new.table) finishes finishes d x n _ long c.in_ok-enter-8.ensures
-          (λ i. ended_test x i ∙ ap (is_id i) (sym c.ended_document.ensures)) (λ i. refl) c.requires.index.ended;
-      documents = λ uri. document_more uri d x _ _ (c.requires.index.documents uri) (c.in_ok-enter_document.ensures uri);
-      spans = fills d x free known (value_at c.args.self.now.spans) (value_at c.fill.new.table) c.requires.index.spans
-          (filled_from x _ c.contains_source.ensures _ _ (c.in_ok-spans.ensures ∙ ap (spans_of d) c.ranges_of-ranges.ensures) _ _ c.in_ok-fill.ensures);
+      elements = table_enters (place_at old.places) (place_at places) has_id has_id d x n _ long c.in_ok-enter.ensures.places (λ i. refl) (λ i. refl) c.requires.index.elements;
+      rows = c.enter_all.ensures.length ∙ rows_length old.rows.items _ d x pushed c.requires.index.rows;
+      links = λ l. links_after d x free known l n long (link_at old.places old.rows.items l) (link_at places c.enter_all.new.rows.items l)
+          (λ i. c.enter_all.ensures.links l i ∙ ap (λ rows. entered (here l i) n (link_at places rows l i)) pushed ∙ ap (entered (here l i) n) (more l i) ∙ ap (λ o. entered (is_named o l i) n (link_at old.places old.rows.items l i)) named)
+          (c.requires.index.links l);
+      documents = λ uri. document_more uri d x _ _ (c.requires.index.documents uri) (c.in_ok-enter.ensures.documents uri);
+      spans = fills d x free known (value_at old.spans) (value_at c.enter.new.self.spans) c.requires.index.spans
+          (λ v. subst (λ (ss : List SpanValue). IsFilled (is_id v (contains_source x)) ss (value_at old.spans v) (value_at c.enter.new.self.spans v)) (c.in_ok-targets.ensures ∙ ap (spans_of d) c.ranges_of.ensures) (c.in_ok-enter.ensures.spans v));
+    }
+
+pub returns-in_default-clause-ok : goal.returns-in_default-clause-ok
+returns-in_default-clause-ok c =
+    let d = map element_value c.args.elements.now in
+    let x = element_value c.args.element.now in
+    let n = length c.args.elements.now in
+    let long = sym (length-map c.args.elements.now element_value) in
+    let known = ends_known d c.requires.sound in
+    let free = no_code d x c.requires.free in
+    let old = c.args.self.now in
+    let places = c.enter.new.self.places in
+    let kept : c.enter.new.self.rows.items ≡ c.args.self.now.rows.items = ap (λ rows. rows.items) c.in_ok-enter.ensures.rows ∙ c.reserve.ensures.items in
+    let pushed : c.push_reserved.new.self.items ≡ c.args.self.now.rows.items ++ blank ∷ [] = c.push_reserved.ensures.items ∙ ap (λ rows. rows ++ blank ∷ []) kept in
+    let named : None ≡ named_by d x = rw c.in_default.is at c.named_by-named.ensures in
+    let more = row_more old.places places old.rows.items blank (element_id x) n (c.requires.index.rows ∙ sym long) (λ l. blank_row (link_index l)) (has_rows old.places d n (sym long) c.requires.index.elements) c.in_ok-enter.ensures.places in
+    record {
+      elements = table_enters (place_at old.places) (place_at places) has_id has_id d x n _ long c.in_ok-enter.ensures.places (λ i. refl) (λ i. refl) c.requires.index.elements;
+      rows = rows_length old.rows.items _ d x pushed c.requires.index.rows;
+      links = λ l. links_after d x free known l n long (link_at old.places old.rows.items l) (link_at places c.push_reserved.new.self.items l)
+          (λ i. ap (λ rows. link_at places rows l i) pushed ∙ more l i ∙ sym (entered_not n (link_at old.places old.rows.items l i)) ∙ ap (λ o. entered (is_named o l i) n (link_at old.places old.rows.items l i)) named)
+          (c.requires.index.links l);
+      documents = λ uri. document_more uri d x _ _ (c.requires.index.documents uri) (c.in_ok-enter.ensures.documents uri);
+      spans = fills d x free known (value_at old.spans) (value_at c.enter.new.self.spans) c.requires.index.spans
+          (λ v. subst (λ (ss : List SpanValue). IsFilled (is_id v (contains_source x)) ss (value_at old.spans v) (value_at c.enter.new.self.spans v)) (c.in_ok-targets.ensures ∙ ap (spans_of d) c.ranges_of.ensures) (c.in_ok-enter.ensures.spans v));
     }
