@@ -213,15 +213,19 @@ def main():
     parser = argparse.ArgumentParser(prog="bench/edits.sh", description="Tries the edits that the check must refuse, in batches.")
     parser.add_argument("--fits", action="store_true", help="tell which texts don't stand exactly once, and try nothing")
     parser.add_argument("--all", action="store_true", help="try the edits of must-fail/ too")
-    parser.add_argument("names", nargs="*", metavar="NAME", help="a crate (default: every one)")
+    parser.add_argument("names", nargs="*", metavar="NAME", help="a crate, or CRATE/EDIT for one of its edits (default: every crate)")
     words = parser.parse_args()
     listed = re.findall(r"^(\w+).*:", (TOP / "crates.txt").read_text(encoding="utf-8"), re.M)
     folders = [it.name for it in (TOP / "edits").iterdir()]
-    unknown = sorted({*words.names, *folders} - {*listed})
+    single = {it for it in words.names if "/" in it}
+    named = {it.partition("/")[0] for it in words.names}
+    unknown = sorted({*named, *folders} - {*listed})
     if unknown:
         parser.error(f"crates.txt lists no {', '.join(unknown)}")
-    crates = words.names or listed
-    edits = {crate: edits_of(crate, words.all or words.fits) for crate in crates}
+    crates = [it for it in listed if it in named] if named else listed
+    edits = {crate: edits_of(crate, words.all or words.fits or bool(single)) for crate in crates}
+    if single:
+        edits = {crate: [it for it in of_crate if str(it) in single or crate in words.names] for crate, of_crate in edits.items()}
     failed = unfit([it for of_crate in edits.values() for it in of_crate])
     count = sum(map(len, edits.values()))
     if words.fits or failed:

@@ -1,6 +1,7 @@
 #!/usr/bin/env bash
 # Tries the edits that the check must refuse, those of edits/NAME beside those of crates/NAME/must-fail, in batches.
-# usage: bench/edits.sh [--all] [NAME..]      (default: every crate; --all tries those of must-fail/ too)
+# usage: bench/edits.sh [--all] [NAME..]      (default: every crate; --all tries those of must-fail/ too; NAME is a crate,
+#                                              or CRATE/EDIT for one of its edits, of must-fail/ too)
 #        bench/edits.sh --fits                which texts, there and in must-fail/, don't stand exactly once
 set -eu
 exec python3 "$(dirname "${BASH_SOURCE[0]}")/edits.py" "$@"
