@@ -1,11 +1,11 @@
 -- What the lines that a checker of tags has taken say of the whole file.
-use Rattle.std.proofs.Common.{◌≡◌, ◌∙◌, ℕ, ◌+◌, ◌<◌, Bool, true, false, not, nat_lt, List, [], ◌∷◌, length, fold, Option, Some, None, Result, Ok, Err, refl, sym, ap, subst, arith, if◌then◌else◌}
+use Rattle.std.proofs.Common.{◌≡◌, ◌∙◌, ℕ, ◌+◌, ◌<◌, Bool, true, false, not, nat_lt, List, [], ◌∷◌, length, fold, map, Option, Some, None, Result, Ok, Err, refl, sym, ap, subst, arith, if◌then◌else◌}
 use Rattle.std.specs.Prelude.{IfOk}
 use Rattle.std.proofs.lemmas.Bool.{ltb-true}
 use Rattle.lsif.specs.Lines.{Cutter}
 use Rattle.tags.specs.States.{Summary, State, running, stopped, add, advance, counted, next, order_in, state_after, summary_of, Finishes, IsRunning}
 use Rattle.tags.specs.Fault.{Reading, contents, is_descending, is_late, most_lines, tags_of, IsFaultless, IsFirstFault}
-use Rattle.tags.specs.Lines.{readings_of}
+use Rattle.tags.specs.Lines.{AreReadings, IsHanded, IsReading, Line, handed, lines_of, reading_of, readings_of}
 use Rattle.tags.specs.Values.{ContentValue, sorted, other, ordinary}
 use Rattle.tags.specs.declared.code.Code.{Code}
 use Rattle.tags.specs.declared.code.Code.TheVariants.{T09, T10, T11}
@@ -97,6 +97,21 @@ took_line (Some text) now later old new line h g e =
 
 -- ---- the first fault
 
+-- each line has the reading that the steps find
+abbrev pub HasReadings : Type 0
+HasReadings = (line : Line) → IsReading line (reading_of line)
+
+reads_all : (lines : List Line) → HasReadings → AreReadings lines (map reading_of lines)
+reads_all [] reads = tt
+reads_all (line ∷ lines) reads = (reads line, reads_all lines reads)
+
+pub reads_handed : (line : Result (List ℕ) Code) (ended : Bool) → HasReadings → IsHanded line ended (handed line ended)
+reads_handed (Ok bytes) ended reads = reads (record { bytes = bytes; ended = ended })
+reads_handed (Err code) ended reads = refl
+
+as_report : (text : List ℕ) (report : Report) → HasReadings → IsTagsReport (readings_of text) report → ReportsTags (Some text) report
+as_report text report reads h = (readings_of text, reads_all (lines_of text) reads, h)
+
 abbrev pub Stays : Type 0
 Stays = (lines : List Reading) (n : ℕ) (c : Code) → fold (next counted) (stopped n c) lines ≡ stopped n c
 
@@ -113,15 +128,15 @@ faulty_at lines f (Faulty l) law h g =
     let first = law lines f.line f.code h in
     (first.0, f.code, first.2, g.0 ∙ first.1, g.1)
 
-pub found_fault : (left now : Option (List ℕ)) (old : State ℕ) (line : Reading) (f : LineFault) (report : Report) → StopsAtFirst → Stays
+pub found_fault : (left now : Option (List ℕ)) (old : State ℕ) (line : Reading) (f : LineFault) (report : Report) → StopsAtFirst → Stays → HasReadings
     → HasTaken left old now → BeginsSo now line → next counted old line ≡ stopped f.line f.code → IsFaulty f report → ReportsTags left report
-found_fault None now old line f report law stays h g e shows = tt
-found_fault (Some text) now old line f report law stays h g e shows =
+found_fault None now old line f report law stays reads h g e shows = tt
+found_fault (Some text) now old line f report law stays reads h g e shows =
     let P : Option (List ℕ) → Type 0 = λ o. BeginsSo o line in
     let first = subst P h.1 g in
-    faulty_at (readings_of text) f report law
+    as_report text report reads (faulty_at (readings_of text) f report law
     (sym h.2 ∙ ap (fold (next counted) old) first.1 ∙ ap (λ s. fold (next counted) s first.0) e ∙ stays first.0 f.line f.code)
-    shows
+    shows)
 
 -- ---- the end of the lines
 
@@ -137,13 +152,13 @@ concluded_at lines state (Tags n) stops runs e h =
     (law.0, h.2 ∙ ap (λ (s : Summary ℕ). s.kept) law.1 ∙ kept_in _ (contents lines))
 concluded_at lines state (Faulty l) stops runs e h = faulty_at lines h.0 (Faulty l) stops (sym e ∙ h.1) h.2
 
-pub concluded : (left now : Option (List ℕ)) (old state : State ℕ) (report : Report) → StopsAtFirst → RunsFaultless
+pub concluded : (left now : Option (List ℕ)) (old state : State ℕ) (report : Report) → StopsAtFirst → RunsFaultless → HasReadings
     → HasTaken left old now → ReadsNone now → state ≡ old → Concludes state report → ReportsTags left report
-concluded None now old state report stops runs h g e c = tt
-concluded (Some text) now old state report stops runs h g e c =
+concluded None now old state report stops runs reads h g e c = tt
+concluded (Some text) now old state report stops runs reads h g e c =
     let P : Option (List ℕ) → Type 0 = λ o. ReadsNone o in
     let nothing : readings_of h.0 ≡ [] = subst P h.1 g in
-    concluded_at (readings_of text) state report stops runs (e ∙ sym (ap (fold (next counted) old) nothing) ∙ h.2) c
+    as_report text report reads (concluded_at (readings_of text) state report stops runs (e ∙ sym (ap (fold (next counted) old) nothing) ∙ h.2) c)
 
 -- what a checker's end says
 pub finished_tags : (tags : ℕ) (state : State ℕ) → Finishes (Ok tags) state → Concludes state (Tags tags)

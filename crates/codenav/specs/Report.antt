@@ -11,7 +11,7 @@ use Rattle.dump.specs.declared.fault.LineFault as dump_faults
 use Rattle.tags.specs.Codes as tags_codes
 use Rattle.tags.specs.Fault as tags_faults
 use Rattle.tags.specs.Fault.{contents, tags_of, IsFaultless, IsFirstFault}
-use Rattle.tags.specs.Lines.{readings_of}
+use Rattle.tags.specs.Lines.{AreReadings, lines_of}
 use Rattle.tags.specs.declared.code.Code as tags_code
 use Rattle.codenav.specs.declared.report.FaultyLine.{FaultyLine}
 use Rattle.codenav.specs.declared.report.Report.{Report}
@@ -54,7 +54,7 @@ IsTagsReport lines (Faulty l) = (k : ℕ) × (c : tags_code.Code) × IsFirstFaul
 -- the report of the bytes of a reader, where they are told
 abbrev pub ReportsTags : Option (List ℕ) → Report → Type 0
 ReportsTags None report = ⊤
-ReportsTags (Some text) report = IsTagsReport (readings_of text) report
+ReportsTags (Some text) report = (readings : List tags_faults.Reading) × AreReadings (lines_of text) readings × IsTagsReport readings report
 
 -- ---- what is printed
 

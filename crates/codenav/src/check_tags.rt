@@ -3,7 +3,8 @@ ghost use Rattle.std.specs.Prelude.{◌-◌, ◌^◌, ◌<◌, IfOk};
 ghost use Rattle.lsif.specs.Held.{told};
 ghost use Rattle.lsif.specs.Streams.{CanCount};
 ghost use Rattle.tags.specs.Faults.{result_map};
-ghost use Rattle.tags.specs.Lines.{handed};
+ghost use Rattle.tags.specs.Fault.{Reading};
+ghost use Rattle.tags.specs.Lines.{IsHanded};
 ghost use Rattle.tags.specs.States.{counted, next};
 ghost use Rattle.codenav.specs.Report.{Checks, CountsCheck, ReportsTags};
 ghost use Rattle.codenav.specs.Judging.{CountsRead};
@@ -12,7 +13,7 @@ ghost use Rattle.codenav.specs.TagsJudging.{Concludes, Feeds, IsFaulty, IsReady,
 use crate::report::{CheckFault, FaultyLine, Report, Status, send};
 use lsif::{LineBuffer, LinesFault, Sink, Source};
 use std::alloc::Global;
-use tags::{Code, LONGEST_LINE, LineFault, TagChecker, TagsFault, count_law};
+use tags::{Code, LONGEST_LINE, LineFault, TagChecker, TagsFault, count_law, reading_law};
 
 /// What a step of a check came upon.
 #[derive(Clone, Copy, Debug, PartialEq, Eq)]
@@ -42,7 +43,7 @@ fn feed(
     line: Result<&[u8], Code>,
     has_feed: bool,
 ) -> Result<Step, CheckFault>
-    ensures { Feeds result checker.new (next counted checker.old (handed (result_map (λ bytes. bytes.now) line.entry) has_feed)) }
+    ensures { (reading : Reading) → IsHanded (result_map (λ bytes. bytes.now) line.entry) has_feed reading → Feeds result checker.new (next counted checker.old reading) }
 {
     match checker.feed(line, has_feed) {
         Ok(()) => Ok(Step::Good),
@@ -62,6 +63,7 @@ fn take_line<R: Source>(
     ensures takes { IfOk result (λ step. Takes (told lines.old.pending (R.left r.old)) checker.old step checker.new lines.new (told lines.new.pending (R.left r.new))) }
     ensures counted { CountsRead (R.failed r.old) (R.failed r.new) result }
 {
+    reading_law();
     match lines.advance(r) {
         Ok(true) => feed(checker, Ok(lines.line()), lines.has_feed()),
         Ok(false) => Ok(Step::End),
@@ -89,6 +91,7 @@ fn judge<R: Source>(alloc: Global, r: &mut R) -> Result<Report, CheckFault>
     ensures counted { CountsRead (R.failed r.old) (R.failed r.new) result }
 {
     count_law();
+    reading_law();
     let Ok(mut lines) = LineBuffer::new(alloc, LONGEST_LINE) else {
         return Err(CheckFault::Memory);
     };

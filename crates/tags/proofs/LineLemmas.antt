@@ -6,8 +6,9 @@ use Rattle.tags.specs.Bytes.{line_feed}
 use Rattle.tags.specs.Fault.{Reading, contents, tags_of}
 use Rattle.tags.specs.Faults.{result_map}
 use Rattle.std.specs.List.{AllByRecursion, flat_map}
+use Rattle.tags.proofs.ConditionLemmas.{reads_all}
 use Rattle.tags.specs.Lines.{IsPiece, ended_line, ended_text, with_last, Line, lines_of, in_front, readings_of, reading_of, handed}
-use Rattle.tags.specs.Outcome.{Answers}
+use Rattle.tags.specs.Outcome.{Answers, AnswersLines}
 use Rattle.tags.specs.States.{State, Summary, running, stopped, listed, next, state_after, Tells, Finishes}
 use Rattle.tags.specs.Values.{TagValue}
 use Rattle.tags.specs.Views.{tag_values}
@@ -76,19 +77,19 @@ pub after_line : (old new : State (List TagValue)) (line : Reading) (rest all : 
 after_line old new line rest all tells h = ap (λ state. fold (next listed) state rest) tells.0 ∙ h
 
 -- a line's fault is that of the file
-pub fault_answers : (e : TagsFault) (old new : State (List TagValue)) (line : Reading) (rest all : List Reading) → Tells (Err e) old new (next listed old line) → fold (next listed) old (line ∷ rest) ≡ after_all all → Answers (Err e) all
+pub fault_answers : (e : TagsFault) (old new : State (List TagValue)) (line : Reading) (rest all : List Reading) → Tells (Err e) old new (next listed old line) → fold (next listed) old (line ∷ rest) ≡ after_all all → AnswersLines (Err e) all
 fault_answers faults.Memory old new line rest all tells h = tt
 fault_answers (faults.Line f) old new line rest all tells h =
     let ends : after_all all ≡ stopped f.line f.code = sym h ∙ ap (λ state. fold (next listed) state rest) tells.1 ∙ stays listed [] rest f.line f.code in
     stops_at listed [] all f.line f.code ends
 
-finished_ok : (tags : List Tag) (state : State (List TagValue)) (all : List Reading) → Finishes (Ok (tag_values tags)) state → state ≡ after_all all → Answers (Ok tags) all
+finished_ok : (tags : List Tag) (state : State (List TagValue)) (all : List Reading) → Finishes (Ok (tag_values tags)) state → state ≡ after_all all → AnswersLines (Ok tags) all
 finished_ok tags (stopped n c) all finishes h = absurd finishes
 finished_ok tags (running s) all finishes h =
     let passes = passes_all listed [] all s (sym h) in
     (passes.0, finishes ∙ ap (λ (t : Summary (List TagValue)). t.kept) passes.1 ∙ kept-summary _ (contents all) ∙ listed-all (tags_of (contents all)))
 
-finished_err : (e : TagsFault) (state : State (List TagValue)) (all : List Reading) → Finishes (Err e) state → state ≡ after_all all → Answers (Err e) all
+finished_err : (e : TagsFault) (state : State (List TagValue)) (all : List Reading) → Finishes (Err e) state → state ≡ after_all all → AnswersLines (Err e) all
 finished_err faults.Memory state all finishes h = tt
 finished_err (faults.Line f) (running s) all finishes h = absurd finishes
 finished_err (faults.Line f) (stopped n c) all finishes h =
@@ -96,9 +97,13 @@ finished_err (faults.Line f) (stopped n c) all finishes h =
     stops_at listed [] all f.line f.code ends
 
 -- what the end answers is what the lines answer
-pub finish_answers : {X : Type 0} (items : X → List Tag) (r : Result X TagsFault) (state : State (List TagValue)) (all : List Reading) → Finishes (result_map (λ x. tag_values (items x)) r) state → state ≡ after_all all → Answers (result_map items r) all
+pub finish_answers : {X : Type 0} (items : X → List Tag) (r : Result X TagsFault) (state : State (List TagValue)) (all : List Reading) → Finishes (result_map (λ x. tag_values (items x)) r) state → state ≡ after_all all → AnswersLines (result_map items r) all
 finish_answers items (Ok x) state all finishes h = finished_ok (items x) state all finishes h
 finish_answers items (Err e) state all finishes h = finished_err e state all finishes h
+
+-- what the lines answer is what the text does
+pub text_answers : (r : Result (List Tag) TagsFault) (text : List ℕ) → AnswersLines r (readings_of text) → Answers r text
+text_answers r text h = (readings_of text, reads_all (lines_of text), h)
 
 -- ---- the one list of lines
 

@@ -2,7 +2,8 @@
 ghost use Rattle.std.specs.Prelude.{◌≡◌, ◌+◌, ◌<◌, ◌≤◌, IfNone, OnErr, OnOk};
 ghost use Rattle.tags.specs.Contents.{IsContent, Reads};
 ghost use Rattle.tags.specs.Faults.{result_map};
-ghost use Rattle.tags.specs.Lines.{handed, line_text};
+ghost use Rattle.tags.specs.Fault.{Reading};
+ghost use Rattle.tags.specs.Lines.{IsHanded, handed, line_text};
 ghost use Rattle.tags.specs.Values.{ContentValue};
 
 use crate::code::{Code, LineFault, TagsFault};
@@ -161,15 +162,22 @@ impl TagChecker {
         self.counted.add(self.alloc, content)
     }
 
-    /// Takes the next line without its LF, or T01 where it was too long to be lent. `ended` says whether an
-    /// LF follows, and is false for the last line alone. After a fault of a line it answers that fault for
-    /// good; where memory runs out the line has no fault, and the checker is as before.
-    pub fn feed(&mut self, line: Result<&[u8], Code>, ended: bool) -> Result<(), TagsFault>
+    /// Judges the next line and takes it.
+    fn take_line(&mut self, line: Result<&[u8], Code>, ended: bool) -> Result<(), TagsFault>
         ensures { Tells result self.old self.new (next counted self.old (handed (result_map (λ bytes. bytes.now) line.entry) ended)) }
     {
         let content = self.judge(line, ended)?;
         self.take(content)?;
         Ok(())
+    }
+
+    /// Takes the next line without its LF, or T01 where it was too long to be lent. `ended` says whether an
+    /// LF follows, and is false for the last line alone. After a fault of a line it answers that fault for
+    /// good; where memory runs out the line has no fault, and the checker is as before.
+    pub fn feed(&mut self, line: Result<&[u8], Code>, ended: bool) -> Result<(), TagsFault>
+        ensures { (reading : Reading) → IsHanded (result_map (λ bytes. bytes.now) line.entry) ended reading → Tells result self.old self.new (next counted self.old reading) }
+    {
+        self.take_line(line, ended)
     }
 
     /// How many ordinary tags there were, or the fault of the first line that is faulty.

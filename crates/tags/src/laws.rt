@@ -4,7 +4,7 @@ ghost use Rattle.tags.specs.Bytes.{tab};
 ghost use Rattle.tags.specs.Escapes.{decoded};
 ghost use Rattle.tags.specs.Fault.{Reading, contents, tags_of, IsFaultless, IsFirstFault};
 ghost use Rattle.tags.specs.Grammar.{HasFront, IsName, Spells, TagLine};
-ghost use Rattle.tags.specs.Lines.{Cuts, lines_of, with_last};
+ghost use Rattle.tags.specs.Lines.{Cuts, IsReading, Line, lines_of, reading_of, with_last};
 ghost use Rattle.tags.specs.Parts.{parts_in};
 ghost use Rattle.tags.specs.Reading.{ordinary_of};
 ghost use Rattle.tags.specs.Said.{said_by, said_without_address};
@@ -29,6 +29,13 @@ pub fn grammar_law()
     ensures no_address { (line name file rest : List ℕ) → IsName name → IsName file
         → line ≡ name ++ tab ∷ (file ++ tab ∷ rest) → ((t : TagLine) → Spells t line → ⊥)
         → ordinary_of line ≡ said_without_address name file }
+{}
+
+/// Each line has one reading, which its steps find: the least code whose condition holds, or where none does what the
+/// line says.
+pub fn reading_law()
+    ensures holds { (line : Line) → IsReading line (reading_of line) }
+    ensures only { (line : Line) (reading : Reading) → IsReading line reading → reading ≡ reading_of line }
 {}
 
 /// There is one list of lines: the pieces that an LF ends, and a last one that isn't empty.

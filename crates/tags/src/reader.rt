@@ -1,7 +1,8 @@
 //! Lines whose tags are kept.
 ghost use Rattle.std.specs.Prelude.{◌≡◌, ◌++◌, ◌∷◌, ◌<◌, [], map, vec_capacity, vec_len};
 ghost use Rattle.tags.specs.Faults.{result_map};
-ghost use Rattle.tags.specs.Lines.{handed, readings_of};
+ghost use Rattle.tags.specs.Fault.{Reading};
+ghost use Rattle.tags.specs.Lines.{IsHanded, handed};
 ghost use Rattle.tags.specs.Outcome.{Answers};
 
 use crate::around::around_byte;
@@ -57,10 +58,8 @@ impl TagReader {
         }
     }
 
-    /// Takes the next line without its LF, or T01 where it was too long to be lent. `ended` says whether an
-    /// LF follows, and is false for the last line alone. After a fault of a line it answers that fault for
-    /// good; where memory runs out the line has no fault, and the reader is as before.
-    pub fn feed(&mut self, line: Result<&[u8], Code>, ended: bool) -> Result<(), TagsFault>
+    /// Judges the next line, and keeps its tag.
+    fn keep_line(&mut self, line: Result<&[u8], Code>, ended: bool) -> Result<(), TagsFault>
         ensures { Tells result self.old self.new (next listed self.old (handed (result_map (λ bytes. bytes.now) line.entry) ended)) }
     {
         let content = self.checker.judge(line, ended)?;
@@ -76,6 +75,15 @@ impl TagReader {
         Ok(())
     }
 
+    /// Takes the next line without its LF, or T01 where it was too long to be lent. `ended` says whether an
+    /// LF follows, and is false for the last line alone. After a fault of a line it answers that fault for
+    /// good; where memory runs out the line has no fault, and the reader is as before.
+    pub fn feed(&mut self, line: Result<&[u8], Code>, ended: bool) -> Result<(), TagsFault>
+        ensures { (reading : Reading) → IsHanded (result_map (λ bytes. bytes.now) line.entry) ended reading → Tells result self.old self.new (next listed self.old reading) }
+    {
+        self.keep_line(line, ended)
+    }
+
     /// The tags, or the fault of the first line that is faulty.
     pub fn finish(self) -> Result<Vec<Tag>, TagsFault>
         ensures { Finishes (result_map (λ tags. tag_values tags.items) result) self }
@@ -89,7 +97,7 @@ impl TagReader {
 /// The tags of a text, each with its line's number, or the first line that is faulty with the least code
 /// that holds of it.
 pub fn read_tags(alloc: Global, text: &[u8]) -> Result<Vec<Tag>, TagsFault>
-    ensures { Answers (result_map (λ tags. tags.items) result) (readings_of text.now) }
+    ensures { Answers (result_map (λ tags. tags.items) result) text.now }
 {
     let mut reader = TagReader::new(alloc);
     let mut rest = text;

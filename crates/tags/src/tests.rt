@@ -1,7 +1,7 @@
 //! Tags files that are read or counted, their faults and their limits; and the parts and the escapes of lines.
 use crate::{
     Code, LineFault, Part, SplitFault, Tag, TagChecker, TagReader, TagsFault, count_law, decode,
-    escape_law, grammar_law, lines_law, read_tags, split, state_law,
+    escape_law, grammar_law, lines_law, read_tags, reading_law, split, state_law,
 };
 use std::alloc::{AllocError, Global};
 use std::test::Fail;
@@ -309,6 +309,7 @@ fn limits(rt: HostRuntime) -> Result<(), Fail> {
     escape_law();
     grammar_law();
     lines_law();
+    reading_law();
     state_law();
     Ok(())
 }
