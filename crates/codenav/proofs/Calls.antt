@@ -2,7 +2,8 @@
 use Rattle.std.proofs.Common.{◌≡◌, true, List, sym, subst, inl, inr, refl}
 use Rattle.clap.specs.Words.{App, Text, HasKind, IsAmong, fault_of, is_simple_and_free, kind_of}
 use Rattle.clap.specs.declared.error.Error.{Error}
-use Rattle.codenav.specs.Call.{app, IsRefused, ShowsError}
+use Rattle.codenav.specs.Call.{app, IsRefused}
+use Rattle.codenav.specs.Steps.Call.{ShowsError}
 use Rattle.codenav.specs.declared.call.CallFault.{CallFault}
 use Rattle.codenav.specs.declared.call.CallFault.TheVariants.{Memory, Clap}
 

@@ -10,8 +10,8 @@ use Rattle.tags.specs.Values.{ContentValue, sorted, other, ordinary}
 use Rattle.tags.specs.declared.code.Code.{Code}
 use Rattle.tags.specs.declared.code.Code.TheVariants.{T09, T10, T11}
 use Rattle.tags.specs.declared.code.LineFault.{LineFault}
-use Rattle.codenav.specs.Judging.{CountsRead}
-use Rattle.codenav.specs.TagsJudging.{BeginsSo, Concludes, Feeds, HasTaken, IsFaulty, IsReady, ReadsFirst, ReadsNone, Takes, room_of}
+use Rattle.codenav.specs.Steps.Judging.{CountsRead}
+use Rattle.codenav.specs.Steps.TagsJudging.{BeginsSo, Concludes, Feeds, HasTaken, IsFaulty, IsReady, ReadsFirst, ReadsNone, Takes, room_of}
 use Rattle.codenav.specs.Report.{IsTagsReport, ReportsTags}
 use Rattle.codenav.specs.declared.report.CheckFault.{CheckFault}
 use Rattle.codenav.specs.declared.report.CheckFault.TheVariants as faults

@@ -76,16 +76,6 @@ call_of (Some sub) =
 abbrev pub IsCall : List Text → CallValue → Type 0
 IsCall words call = (fault_of app words ≡ []) × (call_of (subcommand_of app words) ≡ Some call)
 
--- what clap's error becomes
-abbrev pub ShowsError : Error → CallFault → Type 0
-ShowsError error Memory = kind_of error ≡ OutOfMemory
-ShowsError error (Clap shown) = (shown ≡ error) × (kind_of error ≢ OutOfMemory)
-
--- no memory was left, or the fault says that a value is missing
-abbrev pub IsMissing : CallFault → Type 0
-IsMissing Memory = ⊤
-IsMissing (Clap error) = kind_of error ≡ ValueValidation
-
 -- no memory was left, or clap's own error for these words, or they say no call
 abbrev pub IsRefused : List Text → CallFault → Type 0
 IsRefused words Memory = ⊤

@@ -1,7 +1,8 @@
 //! What the program's words ask for.
 ghost use Rattle.std.specs.Prelude.{◌≡◌, ◌≢◌, List, Option, Some, None, IfOk, IfErr, MatchResult, map, option_map, false, codes};
 ghost use Rattle.clap.specs.Words.{app_of, first_of, found_of, kind_of, rows_of, rule_of, subcommand_rows_of, with_subcommand};
-ghost use Rattle.codenav.specs.Call.{IsCall, IsMissing, IsRefused, ShowsError, app, call_of, call_value, check_lsif_app, check_lsif_of, check_tags_app, check_tags_of, replay_app, replay_of, replay_with, top_app, word};
+ghost use Rattle.codenav.specs.Call.{IsCall, IsRefused, app, call_of, call_value, check_lsif_app, check_lsif_of, check_tags_app, check_tags_of, replay_app, replay_of, replay_with, top_app, word};
+ghost use Rattle.codenav.specs.Steps.Call.{IsMissing, ShowsError};
 
 use clap::error::ErrorKind;
 use clap::{Arg, ArgAction, ArgMatches, Command, Error};
@@ -43,7 +44,7 @@ impl From<AllocError> for CallFault {
 }
 
 impl From<Error> for CallFault {
-    ghost use Rattle.codenav.specs.Call.{ShowsError};
+    ghost use Rattle.codenav.specs.Steps.Call.{ShowsError};
 
     ghost from_gives = { ShowsError };
 

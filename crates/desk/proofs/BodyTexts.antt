@@ -8,7 +8,7 @@ use Rattle.serde_json.proofs.OnLiterals.{serde_json_on_literals}
 use Rattle.serde_json.specs.View.{items_of}
 use Rattle.serde_json.specs.Written.{compact_text, items_text, has_float, items_have_float}
 use Rattle.dump.specs.Places.{PlaceValue}
-use Rattle.desk.specs.BodyData.{accepted_data, fault_data, position_data, place_data, places_data}
+use Rattle.desk.specs.Steps.BodyData.{accepted_data, fault_data, position_data, place_data, places_data}
 use Rattle.desk.specs.Reply.{dump_accepted_text, line_fault_text, position_text, place_text, place_texts, places_text}
 
 pub accepted_text : (n : ℕ) → compact_text (accepted_data n) ≡ dump_accepted_text n

@@ -8,7 +8,7 @@ use Rattle.lsif.specs.Element.{IdValue, same_id, VertexValue, document, range, E
 use Rattle.dump.specs.Graph.{vertex_at, span_of}
 use Rattle.dump.specs.Contained.{is_in, conflicts, IsNested}
 use Rattle.dump.specs.Places.{HasDocument, IsCovering, FirstDefinition, IsInnermost, HasNoAnswer}
-use Rattle.desk.specs.Candidates.{CandidateValue, is_inner, IsCandidate}
+use Rattle.desk.specs.Steps.Candidates.{CandidateValue, is_inner, IsCandidate}
 use Rattle.desk.proofs.Lookups.{VertexIs}
 use Rattle.desk.proofs.Members.{contains_cases, not_in_nil, same_id_eq, same_id_self}
 

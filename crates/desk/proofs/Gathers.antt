@@ -11,7 +11,7 @@ use Rattle.dump.specs.Graph.{vertex_at, is_document, is_among}
 use Rattle.dump.specs.Conditions.{are_definitions}
 use Rattle.dump.specs.Contained.{places_range}
 use Rattle.dump.specs.Places.{PlaceValue, IsAt, NamesDefinitions, IsDefinitionPlace, IsListing}
-use Rattle.desk.specs.Places.{places_at, places_contained, places_spanned, places_of_range, places_of_item, places_of}
+use Rattle.desk.specs.Steps.Places.{places_at, places_contained, places_spanned, places_of_range, places_of_item, places_of}
 use Rattle.desk.proofs.Members.{contains_head, contains_one, not_in_nil, flat_of, flat_from, in_if, if_in, and_both, and_of, any_of, any_from, same_id_eq, same_id_self}
 
 pub relisted : {X : Type 0} (cmp : X → X → Ordering) (P Q : X → Type 0) (xs : List X) → ((x : X) → P x ↔ Q x) → IsListing cmp P xs → IsListing cmp Q xs

@@ -5,7 +5,7 @@ use Rattle.std.proofs.lemmas.Slice.Eq.{bytes_eq-Decides}
 use Rattle.lsif.specs.Element.{IdValue, VertexValue, meta_data, project, document, range, result_set, definition_result, reference_result, hover_result, moniker, package_information, event, other_vertex, ElementValue, vertex, edge}
 use Rattle.dump.specs.Graph.{vertex_at}
 use Rattle.dump.specs.Places.{HasDocument}
-use Rattle.desk.specs.Documents.{document_in}
+use Rattle.desk.specs.Steps.Documents.{document_in}
 use Rattle.desk.proofs.Members.{contains_head, contains_tail, contains_cases, not_in_nil}
 
 found_by : (uri s : List ℕ) (i d : IdValue) (rest : List ElementValue) → (document_in uri rest ≡ Some d → Contains rest (vertex d (document uri))) → (b : Bool) → bytes_eq s uri ≡ b

@@ -1,7 +1,4 @@
 pub mod Bodies
-pub mod BodyData
-pub mod Candidates
-pub mod Documents
 pub mod Machine
 pub mod Names
 pub mod Places

@@ -1,3 +1,7 @@
 -- What private contracts and proofs name: steps of loops, and the values of the program's own types.
+pub mod BodyData
+pub mod Candidates
+pub mod Documents
 pub mod Names
+pub mod Places
 pub mod Plain

@@ -2,7 +2,7 @@
 ghost use Rattle.std.specs.Prelude.{◌≡◌, ◌++◌, ◌∷◌, [], IfOk, OnOk, false, map};
 ghost use Rattle.serde_json.specs.View.{view};
 ghost use Rattle.serde_json.specs.Written.{compact_text, has_float};
-ghost use Rattle.desk.specs.BodyData.{accepted_data, fault_data, position_data, place_data, places_data};
+ghost use Rattle.desk.specs.Steps.BodyData.{accepted_data, fault_data, position_data, place_data, places_data};
 ghost use Rattle.desk.specs.Places.{place_value};
 ghost use Rattle.desk.specs.Reply.{dump_accepted, faulty, places_found};
 

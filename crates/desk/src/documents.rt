@@ -3,7 +3,7 @@ ghost use Rattle.std.specs.Prelude.{◌≡◌, ◌↔◌, IsTrue, IfSome, IfNone
 ghost use Rattle.lsif.specs.Element.{IdValue, document, id_value, element_value};
 ghost use Rattle.dump.specs.Graph.{vertex_at};
 ghost use Rattle.dump.specs.Places.{HasDocument};
-ghost use Rattle.desk.specs.Documents.{document_in};
+ghost use Rattle.desk.specs.Steps.Documents.{document_in};
 
 use dump::{CheckedDump, uri_law, vertex_law};
 use lsif::{Element, Id, Vertex};

@@ -3,7 +3,7 @@ ghost use Rattle.std.specs.Prelude.{◌≡◌, IfSome, IfNone, option_map};
 ghost use Rattle.positions.specs.Span.{SpanValue};
 ghost use Rattle.lsif.specs.Element.{IdValue, id_value, range, vertex, element_value};
 ghost use Rattle.dump.specs.Places.{IsInnermost, HasNoAnswer};
-ghost use Rattle.desk.specs.Candidates.{CandidateValue, candidate_value, is_inner, IsCandidate};
+ghost use Rattle.desk.specs.Steps.Candidates.{CandidateValue, candidate_value, is_inner, IsCandidate};
 
 use crate::documents::document_of;
 use dump::{CheckedDump, nesting_law, vertex_law};

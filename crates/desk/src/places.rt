@@ -5,7 +5,8 @@ ghost use Rattle.lsif.specs.Element.{id_value, id_values, element_value};
 ghost use Rattle.dump.specs.Conditions.{are_definitions};
 ghost use Rattle.dump.specs.Graph.{vertex_at, span_of, is_among};
 ghost use Rattle.dump.specs.Places.{place_cmp, IsListing, IsDefinitionPlace};
-ghost use Rattle.desk.specs.Places.{place_value, places_at, places_contained, places_of_range, places_of_item, places_of};
+ghost use Rattle.desk.specs.Places.{place_value};
+ghost use Rattle.desk.specs.Steps.Places.{places_at, places_contained, places_of_range, places_of_item, places_of};
 
 use dump::CheckedDump;
 use lsif::{Edge, Element, Id, Property, Vertex};

@@ -6,7 +6,7 @@ use Rattle.lsif.specs.Streams.{AtEnd}
 use Rattle.http_edge.specs.Heads.{request_head, SettlesHead}
 use Rattle.http_edge.specs.Items.{IsUnended}
 use Rattle.http_edge.specs.Requests.{refused, item_of}
-use Rattle.http_edge.specs.Serving.{GivesHead, Gives}
+use Rattle.http_edge.specs.Steps.Serving.{GivesHead, Gives}
 use Rattle.http_edge.specs.declared.refusal.Refusal.TheVariants.{BodyCut}
 use Rattle.http_edge.proofs.ItemLemmas.{head-append, head_some}
 

@@ -6,7 +6,8 @@ use Rattle.std.proofs.lemmas.Nat.{pow-add}
 use Rattle.std.proofs.lemmas.List.{at_drop_more, at_drop_all}
 use Rattle.httparse.specs.Spans.{header_bytes}
 use Rattle.httparse.specs.declared.spans.HeaderSpan.{HeaderSpan}
-use Rattle.http_edge.specs.Values.{Values, absent, single, several, with_value, with_values}
+use Rattle.http_edge.specs.Values.{Values, absent, single, several}
+use Rattle.http_edge.specs.Steps.Values.{with_value, with_values}
 use Rattle.http_edge.specs.Fields.{Pair, field_values, same_name, body_limit}
 
 pub body_limit_is : body_limit ≡ 8388608

@@ -2,8 +2,10 @@
 use Rattle.std.proofs.Common.{◌≡◌, ℕ, Bool, true, false, List, [], ◌∷◌, refl, bytes_eq}
 use Rattle.std.specs.Prelude.{if◌then◌else◌}
 use Rattle.form_urlencoded.specs.Form.{DecodesTo}
-use Rattle.http_edge.specs.Values.{Values, absent, single, several, with_value, with_values}
-use Rattle.http_edge.specs.Parameters.{values_named, decoded, with_pair}
+use Rattle.http_edge.specs.Values.{Values, absent, single, several}
+use Rattle.http_edge.specs.Steps.Values.{with_value, with_values}
+use Rattle.http_edge.specs.Parameters.{values_named, decoded}
+use Rattle.http_edge.specs.Steps.Parameters.{with_pair}
 
 here : (name : List ℕ) (t : Values) (pair : List ℕ × List ℕ) (pairs : List (List ℕ × List ℕ)) → bytes_eq (decoded pair.0) name ≡ true
     → with_values (with_value t (decoded pair.1)) (values_named name pairs) ≡ with_values t (values_named name (pair ∷ pairs))

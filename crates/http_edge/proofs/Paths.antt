@@ -12,7 +12,8 @@ use Rattle.matchit.specs.Params.{walk, wild_from, wild_stop, part_of, named, All
 use Rattle.matchit.specs.Seek.{first, seek, param_step, segment, has_slash, longest_suffix, cuts, slash}
 use Rattle.matchit.specs.Router.{RouteOf}
 use Rattle.matchit.proofs.OnLiterals.{matchit_on_literals}
-use Rattle.http_edge.specs.Routes.{routes, suffix_of, first_segment, after_segment, after_prefix, route_after, with_project, below_projects, after_projects, route_of, NoSlash, IsPathOf}
+use Rattle.http_edge.specs.Steps.Routes.{routes}
+use Rattle.http_edge.specs.Routes.{suffix_of, first_segment, after_segment, after_prefix, route_after, with_project, below_projects, after_projects, route_of, NoSlash, IsPathOf}
 use Rattle.http_edge.specs.declared.route.Route.{Route}
 use Rattle.http_edge.specs.declared.route.Route.TheVariants.{Lsif, Definition}
 use Rattle.http_edge.proofs.Rows.{IsLiteral, AreLiteral, under, first_literal, first_under, first_other, first_past, first_param, seek_nil, seek_past}

@@ -1,9 +1,11 @@
 -- Runs that go on by one item, and what surely comes first.
 use Rattle.std.proofs.Common.{◌≡◌, ℕ, ◌-◌, ◌<◌, inl, inr, List, [], ◌∷◌, ◌++◌, length, Option, None, refl, sym, ◌∙◌, ap, arith, append_assoc, append-nil, subst, suc}
 use Rattle.desk.specs.Machine.{State}
-use Rattle.http_edge.specs.Items.{Settles, SettlesAll, BeginsEach}
+use Rattle.http_edge.specs.Items.{Settles, BeginsEach}
+use Rattle.http_edge.specs.Steps.Items.{SettlesAll}
 use Rattle.http_edge.specs.Requests.{ItemValue}
-use Rattle.http_edge.specs.Serving.{Answers, Run, joined, Gives, IsBegun}
+use Rattle.http_edge.specs.Serving.{Answers, Run, joined, IsBegun}
+use Rattle.http_edge.specs.Steps.Serving.{Gives}
 use Rattle.http_edge.proofs.ItemLemmas.{settles-append}
 use Rattle.http_edge.proofs.Sures.{requests-split, gives_first, served_first}
 

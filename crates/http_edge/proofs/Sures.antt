@@ -3,10 +3,12 @@ use Rattle.std.proofs.Common.{◌≡◌, ℕ, ◌+◌, ◌-◌, ◌<◌, inl, in
 use Rattle.std.proofs.lemmas.List.{take-append-drop, length-replicate, drop_all}
 use Rattle.std.specs.Prelude.{◌&&◌, if◌then◌else◌}
 use Rattle.http_edge.specs.Heads.{is_end, find_head, head_limit, rejected, request_head, SettlesHead}
-use Rattle.http_edge.specs.Items.{Settles, IsUnended, First, ends, Unless, Requests, IsPrefix, BeginsEach, Sure, SettlesAll}
+use Rattle.http_edge.specs.Items.{Settles, IsUnended, First, ends, Unless, Requests, IsPrefix, BeginsEach, Sure}
+use Rattle.http_edge.specs.Steps.Items.{SettlesAll}
 use Rattle.http_edge.specs.Refusals.{ends_stream}
 use Rattle.http_edge.specs.Requests.{ItemValue, refused, item_of}
-use Rattle.http_edge.specs.Serving.{Gives, StopsWell}
+use Rattle.http_edge.specs.Steps.Serving.{Gives}
+use Rattle.http_edge.specs.Serving.{StopsWell}
 use Rattle.http_edge.specs.declared.refusal.Refusal.{Refusal}
 use Rattle.http_edge.specs.declared.refusal.Refusal.TheVariants.{BadHead, HeadTooLarge, BodyCut}
 use Rattle.http_edge.proofs.Ends.{find_head-append}

@@ -24,11 +24,6 @@ field_values name [] = []
 field_values name (field ∷ fields) =
     if same_name field.0 name then field.1 ∷ field_values name fields else field_values name fields
 
-abbrev pub field_values_of : FieldValues → Values
-field_values_of Absent = absent
-field_values_of (Single value) = single value.now
-field_values_of Several = several
-
 -- how many bytes a body has at most
 unfoldable pub body_limit : ℕ
 body_limit = 8388608

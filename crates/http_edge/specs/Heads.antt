@@ -31,15 +31,6 @@ pub data HeadValue : Type 0 where
   rejected : Refusal → HeadValue
   request_head : List ℕ → List ℕ → ℕ → HeadValue
 
-abbrev pub head_value : List ℕ → Head → HeadValue
-head_value bytes (Refused refusal) = rejected refusal
-head_value bytes (Request line len) = request_head (span_bytes bytes line.method) (span_bytes bytes line.target) len
-
--- the body isn't longer than allowed, and the request line lies in so many bytes
-abbrev pub FitsIn : ℕ → Head → Type 0
-FitsIn n (Refused refusal) = ⊤
-FitsIn n (Request line len) = (len ≤ body_limit) × IsWithin n line.method × IsWithin n line.target
-
 -- these bytes are the head, whole, with at most 32 fields
 abbrev pub IsHead : List ℕ → RequestHead → Type 0
 IsHead bytes h = ReadsRequest bytes h [] × (length h.fields ≤ 32)

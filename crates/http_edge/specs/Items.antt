@@ -64,12 +64,6 @@ Sure limit bytes items =
     BeginsEach limit bytes items
     × ((others : List ItemValue) → BeginsEach limit bytes others → IsPrefix others items)
 
--- these items, none of which ends the stream, and what follows them
-abbrev pub SettlesAll : List ℕ → List ItemValue → List ℕ → Type 0
-SettlesAll bytes [] rest = rest ≡ bytes
-SettlesAll bytes (item ∷ items) rest =
-    (mid : List ℕ) × Settles bytes item mid × (ends item ≡ false) × SettlesAll mid items rest
-
 -- the last item ends the stream
 abbrev pub IsEnded : List ItemValue → Type 0
 IsEnded items =

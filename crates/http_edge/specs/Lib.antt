@@ -7,4 +7,5 @@ pub mod Replies
 pub mod Requests
 pub mod Routes
 pub mod Serving
+pub mod Steps
 pub mod Values

@@ -4,7 +4,7 @@ use Rattle.std.specs.Cow.{cow_str_bytes}
 use Rattle.std.specs.Str.{bytes_eq}
 use Rattle.std.specs.Str.Lossy.{utf8_lossy}
 use Rattle.form_urlencoded.specs.Form.{raw_pairs, decode}
-use Rattle.http_edge.specs.Values.{Values, absent, single, several, values, with_value}
+use Rattle.http_edge.specs.Values.{Values, absent, single, several, values}
 use Rattle.http_edge.specs.declared.parameters.ParameterValues.{ParameterValues}
 use Rattle.http_edge.specs.declared.parameters.ParameterValues.TheVariants.{Absent, Single, Several}
 
@@ -21,12 +21,3 @@ values_named name (pair ∷ pairs) =
 -- the values of the parameters of that name in a query string
 abbrev pub parameter : List ℕ → List ℕ → Values
 parameter query name = values (values_named name (raw_pairs query))
-
-abbrev pub parameter_values : ParameterValues → Values
-parameter_values Absent = absent
-parameter_values (Single text) = single (cow_str_bytes text)
-parameter_values Several = several
-
--- one more pair
-abbrev pub with_pair : Values → List ℕ → List ℕ → List ℕ → Values
-with_pair found key value name = if bytes_eq key name then with_value found value else found

@@ -41,7 +41,3 @@ abbrev pub refusal_text : Refusal → List ℕ
 refusal_text refusal = response_text (status_of refusal) (allow_of refusal) (body_of refusal)
 
 -- ---- the same of the program's values
-
-abbrev pub answer_text : Answer → List ℕ
-answer_text (Reply reply) = reply_text reply
-answer_text (Refused refusal) = refusal_text refusal

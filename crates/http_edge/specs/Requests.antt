@@ -90,7 +90,3 @@ unfoldable pub item_of : List ℕ → List ℕ → List ℕ → ItemValue
 item_of method target body = with_route (route_in (path_in target)) method (query_in target) body
 
 -- ---- the same of the program's values
-
-abbrev pub asked_value : Asked → ItemValue
-asked_value (Request q) = request (request_value q)
-asked_value (Refused refusal) = refused refusal

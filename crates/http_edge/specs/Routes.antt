@@ -66,19 +66,3 @@ NoSlash (x ∷ p) = (x ≢ 47) × NoSlash p
 abbrev pub IsPathOf : Route → List ℕ → List ℕ → Type 0
 IsPathOf route project path =
     (path ≡ codes "/projects/" ++ (project ++ suffix_of route)) × (project ≢ []) × NoSlash project
-
--- a route and the text of its project
-abbrev pub named_route : Route × Bor (List ℕ) → Route × List ℕ
-named_route found = (found.0, found.1.now)
-
--- the rows with one more route
-abbrev pub with_scan : Result Scan InsertError → Route → RowsOf (RouteOf Route) → RowsOf (RouteOf Route)
-with_scan (Ok s) value rows = placed (s.pattern, route_from s value) rows
-with_scan (Err e) value rows = rows
-
-abbrev pub with_route : List ℕ → Route → RowsOf (RouteOf Route) → RowsOf (RouteOf Route)
-with_route text value rows = with_scan (parse_route text) value rows
-
--- the routes as the router keeps them
-unfoldable pub routes : RowsOf (RouteOf Route)
-routes = with_route (codes "/projects/{p}/definition") Definition (with_route (codes "/projects/{p}/lsif") Lsif [])

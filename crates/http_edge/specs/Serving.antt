@@ -2,7 +2,7 @@
 use Rattle.std.specs.Prelude.{◌≡◌, ◌≢◌, ℕ, ◌+◌, ◌<◌, ◌≤◌, ◌⊎◌, Bool, true, false, List, [], ◌∷◌, ◌++◌, length, take, drop, Option, Some, None, Result, Ok, Err, ⊤}
 use Rattle.httparse.specs.Spans.{span_bytes, IsWithin}
 use Rattle.lsif.specs.Streams.{Output, Moves, AtEnd, SameCounts, OneFailure, OneZeroWrite}
-use Rattle.http_edge.specs.Heads.{HeadValue, rejected, head_value, SettlesHead, IsHeadUnended}
+use Rattle.http_edge.specs.Heads.{HeadValue, rejected, SettlesHead, IsHeadUnended}
 use Rattle.http_edge.specs.Requests.{ItemValue, request, refused, item_of}
 use Rattle.desk.specs.Machine.{State}
 use Rattle.desk.specs.Reply.{ReplyValue, out_of_memory}
@@ -25,66 +25,11 @@ abbrev pub MovesOrHides : Option (List ℕ) → Option (List ℕ) → List ℕ �
 MovesOrHides None new bytes = ⊤
 MovesOrHides (Some old) new bytes = (rest : List ℕ) × ((new ≡ Some rest) ⊎ (new ≡ None)) × (old ≡ bytes ++ rest)
 
--- the bytes settle what the head says, or the input ended with them
-abbrev pub GivesHead : List ℕ → HeadValue → List ℕ → Option (List ℕ) → Type 0
-GivesHead bytes head rest left =
-    SettlesHead bytes head rest
-    ⊎ (AtEnd left × IsHeadUnended bytes × (bytes ≢ []) × (head ≡ rejected BadHead) × (rest ≡ []))
-
--- what a call for the next head reads and gives: the bytes in hand then begin with it
-abbrev pub NextHead : {E : Type 0} → List ℕ → Option (List ℕ) → List ℕ → Option (List ℕ) → Result (Option (Head × ℕ)) E → Type 0
-NextHead held left held' left' (Ok (Some found)) =
-    (bytes : List ℕ) × Moves left left' bytes × (held' ≡ held ++ bytes) × GivesHead held' (head_value held' found.0) (drop found.1 held') left'
-    × (found.1 ≤ length held')
-NextHead held left held' left' (Ok None) =
-    (bytes : List ℕ) × Moves left left' bytes × AtEnd left' × (held ++ bytes ≡ []) × (held' ≡ [])
-NextHead held left held' left' (Err e) = (bytes : List ℕ) × MovesOrHides left left' bytes × IsHeadUnended (held ++ bytes)
-
--- what a call reads that fills a body, which begins with the bytes that came: all of it, or what there was at the end
-abbrev pub FillsBody : {E : Type 0} → ℕ → List ℕ → Option (List ℕ) → Option (List ℕ) → List ℕ → Result Bool E → Type 0
-FillsBody len came left left' body (Ok true) = (bytes : List ℕ) × Moves left left' bytes × (came ++ bytes ≡ body)
-FillsBody len came left left' body (Ok false) = (bytes : List ℕ) × Moves left left' bytes × AtEnd left' × (length (came ++ bytes) < len)
-FillsBody len came left left' body (Err e) = (bytes : List ℕ) × MovesOrHides left left' bytes × (length (came ++ bytes) < len)
-
--- what a call for a body reads and gives: how many of the bytes in hand are of the body
-abbrev pub ReadsBody : {E : Type 0} → ℕ → List ℕ → Option (List ℕ) → Option (List ℕ) → List ℕ → Result (Option ℕ) E → Type 0
-ReadsBody len held left left' body (Ok (Some count)) =
-    (bytes : List ℕ) × Moves left left' bytes × (held ++ bytes ≡ body ++ drop count held) × (count ≤ length held)
-ReadsBody len held left left' body (Ok None) = (bytes : List ℕ) × Moves left left' bytes × AtEnd left' × (length (held ++ bytes) < len)
-ReadsBody len held left left' body (Err e) = (bytes : List ℕ) × MovesOrHides left left' bytes × (length (held ++ bytes) < len)
-
--- an item whose request line is in those bytes and whose body is in the buffer for bodies
-abbrev pub item_value : List ℕ → List ℕ → Item → ItemValue
-item_value held body (Request line len) =
-    item_of (span_bytes held line.method) (span_bytes held line.target) (take len body)
-item_value held body (Refused refusal) = refused refusal
-
--- it is there
-abbrev pub ItemFits : ℕ → ℕ → Item → Type 0
-ItemFits held room (Request line len) = (len ≤ room) × IsWithin held line.method × IsWithin held line.target
-ItemFits held room (Refused refusal) = ⊤
-
--- the bytes settle this item, or the input ended with them
-abbrev pub Gives : List ℕ → ItemValue → List ℕ → Option (List ℕ) → Type 0
-Gives bytes item rest left =
-    Settles bytes item rest
-    ⊎ (AtEnd left × (refusal : Refusal) × IsUnended bytes refusal × (bytes ≢ []) × (item ≡ refused refusal) × (rest ≡ []))
-
 -- where serving stops with no fault: at the end of the input, or at the limit or an item that ends the stream
 abbrev pub StopsWell : ℕ → List ℕ → List ItemValue → Option (List ℕ) → Type 0
 StopsWell limit bytes items left =
     Requests limit bytes items
     × (AtEnd left ⊎ (((length items ≡ limit) ⊎ IsEnded items) × Sure limit bytes items))
-
--- what a call for the next item reads and gives
-abbrev pub NextItem : {E : Type 0} → List ℕ → Option (List ℕ) → List ℕ → Option (List ℕ) → List ℕ → Result (Option Next) E → Type 0
-NextItem held left held' left' body (Ok (Some next)) =
-    (bytes : List ℕ) × Moves left left' bytes × Gives (held ++ bytes) (item_value held' body next.item) (drop next.taken held') left'
-    × (next.taken ≤ length held')
-NextItem held left held' left' body (Ok None) =
-    (bytes : List ℕ) × Moves left left' bytes × AtEnd left' × (held ++ bytes ≡ []) × (held' ≡ [])
-NextItem held left held' left' body (Err e) =
-    (bytes : List ℕ) × MovesOrHides left left' bytes × (refusal : Refusal) × IsUnended (held ++ bytes) refusal
 
 -- ---- replies
 

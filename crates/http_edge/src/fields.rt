@@ -2,8 +2,10 @@
 ghost use Rattle.std.specs.Prelude.{◌≡◌, ℕ, ◌+◌, ◌<◌, ◌≤◌, List, [], ◌∷◌, Option, Some, None, IfOk, length, map, All, if◌then◌else◌};
 ghost use Rattle.std.specs.Str.Parse.{digits_value};
 ghost use Rattle.httparse.specs.Spans.{IsHeaderWithin, header_bytes};
-ghost use Rattle.http_edge.specs.Values.{values, with_value};
-ghost use Rattle.http_edge.specs.Fields.{same_name, field_values, field_values_of, is_length, limited, content_length, body_length, body_limit};
+ghost use Rattle.http_edge.specs.Values.{values};
+ghost use Rattle.http_edge.specs.Steps.Values.{with_value};
+ghost use Rattle.http_edge.specs.Fields.{same_name, field_values, is_length, limited, content_length, body_length, body_limit};
+ghost use Rattle.http_edge.specs.Steps.Fields.{field_values_of};
 
 use crate::refusal::Refusal;
 use httparse::spans::HeaderSpan;

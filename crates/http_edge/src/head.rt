@@ -1,6 +1,7 @@
 //! The head of a request: where it ends, and what it says.
 ghost use Rattle.std.specs.Prelude.{◌≡◌, ℕ, ◌+◌, ◌<◌, ◌≤◌, List, [], drop, take, Option, Some, None, IfSome, IfNone, MatchOption, length, option_map, codes};
-ghost use Rattle.http_edge.specs.Heads.{same, is_end, find_head, head_value, FitsIn, IsSaidBy, Says, SettlesHead, IsHeadUnended, head_limit, lines_in};
+ghost use Rattle.http_edge.specs.Heads.{same, is_end, find_head, IsSaidBy, Says, SettlesHead, IsHeadUnended, head_limit, lines_in};
+ghost use Rattle.http_edge.specs.Steps.Heads.{head_value, FitsIn};
 
 use crate::fields::body_length;
 use crate::refusal::Refusal;

@@ -1,7 +1,8 @@
 //! The parameters of a query string.
 ghost use Rattle.std.specs.Prelude.{◌≡◌, ℕ, List, [], IfOk};
 ghost use Rattle.std.specs.Cow.{cow_str_bytes};
-ghost use Rattle.http_edge.specs.Parameters.{parameter_values, with_pair, parameter};
+ghost use Rattle.http_edge.specs.Steps.Parameters.{parameter_values, with_pair};
+ghost use Rattle.http_edge.specs.Parameters.{parameter};
 
 use form_urlencoded::parse;
 use std::alloc::{AllocError, Global};

@@ -2,8 +2,9 @@
 ghost use Rattle.std.specs.Prelude.{◌≡◌, ◌≢◌, ℕ, ◌+◌, ◌-◌, ◌^◌, ◌<◌, ◌≤◌, List, [], drop, take, Option, Some, None, IfOk, IfSome, length};
 ghost use Rattle.lsif.specs.Streams.{AtEnd, CountsFailure, Moves, Pulls};
 ghost use Rattle.http_edge.specs.Fields.{body_limit};
-ghost use Rattle.http_edge.specs.Heads.{FitsIn, head_limit};
-ghost use Rattle.http_edge.specs.Serving.{NextHead, FillsBody, ReadsBody, NextItem, ItemFits};
+ghost use Rattle.http_edge.specs.Steps.Heads.{FitsIn};
+ghost use Rattle.http_edge.specs.Heads.{head_limit};
+ghost use Rattle.http_edge.specs.Steps.Serving.{NextHead, FillsBody, ReadsBody, NextItem, ItemFits};
 
 use crate::head::{Head, RequestLine, first_head};
 use crate::refusal::Refusal;

@@ -2,7 +2,8 @@
 ghost use Rattle.std.specs.Prelude.{◌≡◌, ◌++◌, codes};
 ghost use Rattle.lsif.specs.Sending.{Sends};
 ghost use Rattle.lsif.specs.Streams.{CanCount};
-ghost use Rattle.http_edge.specs.Replies.{phrase, status_line, fields_text, body_text, response_text, answer_text};
+ghost use Rattle.http_edge.specs.Replies.{phrase, status_line, fields_text, body_text, response_text};
+ghost use Rattle.http_edge.specs.Steps.Replies.{answer_text};
 
 use crate::refusal::Refusal;
 use crate::route::Route;

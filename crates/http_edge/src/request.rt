@@ -4,8 +4,10 @@ ghost use Rattle.positions.specs.Position.{number_limit};
 ghost use Rattle.desk.specs.Names.{is_project_name, is_key, where_so, number_in};
 ghost use Rattle.desk.specs.Requests.{command_value, query_value, request_value};
 ghost use Rattle.http_edge.specs.Parameters.{parameter};
-ghost use Rattle.http_edge.specs.Requests.{path_in, query_in, required, uri_in, put_of, position_in, definition_of, request_of, route_in, item_of, asked_value};
-ghost use Rattle.http_edge.specs.Routes.{method_of, named_route, routes};
+ghost use Rattle.http_edge.specs.Requests.{path_in, query_in, required, uri_in, put_of, position_in, definition_of, request_of, route_in, item_of};
+ghost use Rattle.http_edge.specs.Steps.Requests.{asked_value};
+ghost use Rattle.http_edge.specs.Routes.{method_of};
+ghost use Rattle.http_edge.specs.Steps.Routes.{named_route, routes};
 ghost use Rattle.std.specs.Str.{bytes_eq};
 
 use crate::parameters::{ParameterValues, parameter};

@@ -1,6 +1,7 @@
 //! The routes of paths.
 ghost use Rattle.std.specs.Prelude.{◌≡◌, ◌↔◌, ℕ, List, IfOk, Some, option_map};
-ghost use Rattle.http_edge.specs.Routes.{routes, method_of, route_of, named_route, IsPathOf};
+ghost use Rattle.http_edge.specs.Steps.Routes.{routes, named_route};
+ghost use Rattle.http_edge.specs.Routes.{method_of, route_of, IsPathOf};
 
 use matchit::{InsertError, Router};
 use std::alloc::Global;

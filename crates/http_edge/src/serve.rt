@@ -6,10 +6,11 @@ ghost use Rattle.lsif.specs.Streams.{CanCount};
 ghost use Rattle.http_edge.specs.Fields.{body_limit};
 ghost use Rattle.http_edge.specs.Heads.{head_limit};
 ghost use Rattle.http_edge.specs.Items.{ends};
-ghost use Rattle.http_edge.specs.Replies.{answer_text};
+ghost use Rattle.http_edge.specs.Steps.Replies.{answer_text};
 ghost use Rattle.http_edge.specs.Requests.{item_of};
-ghost use Rattle.http_edge.specs.Routes.{routes};
-ghost use Rattle.http_edge.specs.Serving.{Answers, CountsRead, CountsWrite, ItemFits, item_value, Serves};
+ghost use Rattle.http_edge.specs.Steps.Routes.{routes};
+ghost use Rattle.http_edge.specs.Serving.{Answers, CountsRead, CountsWrite, Serves};
+ghost use Rattle.http_edge.specs.Steps.Serving.{ItemFits, item_value};
 ghost use Rattle.http_edge.specs.declared.serve.ServeFault.TheVariants.{Memory};
 
 use crate::fields::BODY_LIMIT;

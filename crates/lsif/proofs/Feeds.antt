@@ -3,7 +3,7 @@ use Rattle.std.proofs.Common.{◌≡◌, ◌≢◌, ◌∙◌, ℕ, ◌+◌, ◌
 use Rattle.std.proofs.lemmas.List.{take-append-drop, drop-drop}
 use Rattle.std.proofs.lemmas.List.Elements.{All-append}
 use Rattle.std.proofs.Math.Seq.{take-add, take-length}
-use Rattle.lsif.specs.Cutting.{HasNoFeed, IsFirstFeed}
+use Rattle.lsif.specs.Steps.Cutting.{HasNoFeed, IsFirstFeed}
 use Rattle.lsif.specs.Lines.{line_feed}
 
 abbrev is_other : ℕ → Type 0

@@ -4,7 +4,7 @@ use Rattle.std.specs.List.{AllByRecursion, flat_map}
 use Rattle.std.proofs.lemmas.Bool.Decides.{nat_tests}
 use Rattle.std.proofs.lemmas.List.Elements.{All-head, All-tail}
 use Rattle.lsif.specs.Lines.{line_feed, lines_of, onto_first, IsLine, ended, Cuts}
-use Rattle.lsif.specs.Cutting.{HasNoFeed}
+use Rattle.lsif.specs.Steps.Cutting.{HasNoFeed}
 
 abbrev is_other : ℕ → Type 0
 is_other b = b ≢ line_feed

@@ -1,7 +1,7 @@
 -- What was taken of the bytes, in the words of the lines of a text.
 use Rattle.std.proofs.Common.{◌≡◌, ◌∙◌, ℕ, ◌<◌, List, [], ◌∷◌, ◌++◌, Option, Some, None, Result, Ok, Err, Bool, true, false, length, refl, ap, sym, inl, inr, arith, length-append}
 use Rattle.lsif.specs.Lines.{Reader, lines_of, BeginsWith, GivesLine, GivesNone, HasLongLine, NextLine}
-use Rattle.lsif.specs.Cutting.{HasNoFeed, TakesLine, TakesTold, EndsTold, BeginsLong, NextTaken}
+use Rattle.lsif.specs.Steps.Cutting.{HasNoFeed, TakesLine, TakesTold, EndsTold, BeginsLong, NextTaken}
 use Rattle.lsif.specs.declared.lines.LinesFault.{LinesFault}
 use Rattle.lsif.specs.declared.lines.LinesFault.TheVariants.{Memory, TooLong, Read}
 use Rattle.lsif.proofs.LinesOf.{is_line, lines_of-feed, lines_of-last, lines_of-front}

@@ -1,8 +1,6 @@
 pub mod Code
-pub mod Cutting
 pub mod Edges
 pub mod Element
-pub mod Streams
 pub mod Events
 pub mod Held
 pub mod Hovers
@@ -12,4 +10,6 @@ pub mod Monikers
 pub mod Reading
 pub mod Sending
 pub mod Shape
+pub mod Steps
+pub mod Streams
 pub mod Vertices

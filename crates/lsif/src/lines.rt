@@ -1,6 +1,6 @@
 //! Lines of a reader.
 ghost use Rattle.std.specs.Prelude.{◌≡◌, ◌≢◌, ℕ, ◌+◌, ◌-◌, ◌^◌, ◌<◌, ◌≤◌, List, [], ◌∷◌, ◌++◌, drop, take, Option, Some, None, IfOk, IfErr, MatchOption, MatchResult, length, false};
-ghost use Rattle.lsif.specs.Cutting.{HasNoFeed, IsFirstFeed, Scans, CountsRead, KeepsTold, NextTaken};
+ghost use Rattle.lsif.specs.Steps.Cutting.{HasNoFeed, IsFirstFeed, Scans, CountsRead, KeepsTold, NextTaken};
 ghost use Rattle.lsif.specs.Streams.{AtEnd};
 ghost use Rattle.lsif.specs.Held.{SameTold, told};
 ghost use Rattle.lsif.specs.Lines.{Cuts, NextLine, lent, lines_of, over, shown};

@@ -1,6 +1,6 @@
 use Rattle.std.proofs.Common.{◌≡◌, ◌++◌, map, drop}
 use Rattle.serde_json.specs.View.{view}
-use Rattle.desk.specs.BodyData.{place_data}
+use Rattle.desk.specs.Steps.BodyData.{place_data}
 use Rattle.desk.specs.Places.{place_value}
 use Rattle.desk.proofs.bodies.place_list.Given as goal
 

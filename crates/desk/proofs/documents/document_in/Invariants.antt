@@ -1,6 +1,6 @@
 use Rattle.std.proofs.Common.{◌≡◌, map, drop}
 use Rattle.lsif.specs.Element.{element_value}
-use Rattle.desk.specs.Documents.{document_in}
+use Rattle.desk.specs.Steps.Documents.{document_in}
 use Rattle.desk.proofs.documents.document_in.Given as goal
 
 abbrev pub invariant-loop-element : goal.invariant-loop-element

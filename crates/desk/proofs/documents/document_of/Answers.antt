@@ -1,6 +1,6 @@
 use Rattle.std.proofs.Common.{◌∙◌, ap}
 use Rattle.lsif.specs.Element.{id_value}
-use Rattle.desk.specs.Documents.{document_in}
+use Rattle.desk.specs.Steps.Documents.{document_in}
 use Rattle.desk.proofs.Lookups.{finds, finds_only, finds_none}
 use Rattle.desk.proofs.documents.document_of.Goals as goal
 

@@ -2,7 +2,7 @@ use Rattle.std.proofs.Common.{◌+◌, [], map, drop, sym, subst}
 use Rattle.std.proofs.Math.ListN.{drop_of_length-le}
 use Rattle.std.specs.Prelude.{Contains, option_map}
 use Rattle.lsif.specs.Element.{id_value, element_value}
-use Rattle.desk.specs.Candidates.{candidate_value}
+use Rattle.desk.specs.Steps.Candidates.{candidate_value}
 use Rattle.desk.proofs.Members.{drop_next, item_in}
 use Rattle.desk.proofs.Candidates.{Seeking, seeks_in, seeks_out, seeks_past, innermost, no_answer}
 use Rattle.desk.proofs.innermost.innermost_definition.Goals as goal

@@ -1,7 +1,7 @@
 use Rattle.std.proofs.Common.{drop, map}
 use Rattle.std.specs.Prelude.{option_map}
 use Rattle.lsif.specs.Element.{id_value, element_value}
-use Rattle.desk.specs.Candidates.{candidate_value}
+use Rattle.desk.specs.Steps.Candidates.{candidate_value}
 use Rattle.desk.proofs.Candidates.{Seeking}
 use Rattle.desk.proofs.innermost.innermost_definition.Given as goal
 

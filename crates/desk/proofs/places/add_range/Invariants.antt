@@ -1,7 +1,8 @@
 use Rattle.std.proofs.Common.{◌≡◌, drop, ◌++◌, map}
 use Rattle.std.specs.List.{flat_map}
 use Rattle.lsif.specs.Element.{id_value, element_value}
-use Rattle.desk.specs.Places.{place_value, places_contained}
+use Rattle.desk.specs.Places.{place_value}
+use Rattle.desk.specs.Steps.Places.{places_contained}
 use Rattle.desk.proofs.places.add_range.Given as goal
 
 abbrev pub invariant-loop-element : goal.invariant-loop-element

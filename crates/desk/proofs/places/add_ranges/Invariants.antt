@@ -1,7 +1,8 @@
 use Rattle.std.proofs.Common.{◌≡◌, drop, ◌++◌, map}
 use Rattle.std.specs.List.{flat_map}
 use Rattle.lsif.specs.Element.{id_values}
-use Rattle.desk.specs.Places.{place_value, places_of_range}
+use Rattle.desk.specs.Places.{place_value}
+use Rattle.desk.specs.Steps.Places.{places_of_range}
 use Rattle.desk.proofs.places.add_ranges.Given as goal
 
 abbrev pub invariant-loop-range : goal.invariant-loop-range

@@ -4,7 +4,8 @@ use Rattle.std.specs.Prelude.{Contains}
 use Rattle.std.specs.List.{flat_map}
 use Rattle.lsif.specs.Element.{id_value, element_value}
 use Rattle.dump.specs.Places.{place_cmp, IsListing, IsDefinitionPlace}
-use Rattle.desk.specs.Places.{place_value, places_of, places_of_item}
+use Rattle.desk.specs.Places.{place_value}
+use Rattle.desk.specs.Steps.Places.{places_of, places_of_item}
 use Rattle.desk.proofs.Gathers.{relisted, gathered}
 use Rattle.desk.proofs.places.places_of.Goals as goal
 

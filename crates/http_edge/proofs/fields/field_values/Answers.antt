@@ -1,5 +1,5 @@
 use Rattle.std.proofs.Common.{◌∙◌, sym}
-use Rattle.http_edge.specs.Fields.{field_values_of}
+use Rattle.http_edge.specs.Steps.Fields.{field_values_of}
 use Rattle.http_edge.proofs.FieldLemmas.{find_step, find_skip, find_end}
 use Rattle.http_edge.proofs.fields.field_values.Goals as goal
 

@@ -1,7 +1,9 @@
 use Rattle.std.proofs.Common.{◌≡◌, drop, map}
 use Rattle.httparse.specs.Spans.{header_bytes}
-use Rattle.http_edge.specs.Fields.{field_values, field_values_of}
-use Rattle.http_edge.specs.Values.{values, with_values}
+use Rattle.http_edge.specs.Fields.{field_values}
+use Rattle.http_edge.specs.Steps.Fields.{field_values_of}
+use Rattle.http_edge.specs.Values.{values}
+use Rattle.http_edge.specs.Steps.Values.{with_values}
 use Rattle.http_edge.proofs.fields.field_values.Given as goal
 
 abbrev pub invariant-loop-header : goal.invariant-loop-header

@@ -1,5 +1,5 @@
 use Rattle.std.proofs.Common.{◌∙◌, sym}
-use Rattle.http_edge.specs.Parameters.{parameter_values}
+use Rattle.http_edge.specs.Steps.Parameters.{parameter_values}
 use Rattle.http_edge.proofs.PairLemmas.{more, ended}
 use Rattle.http_edge.proofs.parameters.parameter.Goals as goal
 

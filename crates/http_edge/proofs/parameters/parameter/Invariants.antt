@@ -1,7 +1,8 @@
 use Rattle.std.proofs.Common.{◌≡◌}
 use Rattle.form_urlencoded.specs.Parse.{pairs_left}
-use Rattle.http_edge.specs.Parameters.{parameter, parameter_values, values_named}
-use Rattle.http_edge.specs.Values.{with_values}
+use Rattle.http_edge.specs.Parameters.{parameter, values_named}
+use Rattle.http_edge.specs.Steps.Parameters.{parameter_values}
+use Rattle.http_edge.specs.Steps.Values.{with_values}
 use Rattle.http_edge.proofs.parameters.parameter.Given as goal
 
 abbrev pub invariant-loop-pair : goal.invariant-loop-pair

@@ -1,6 +1,6 @@
 use Rattle.std.proofs.Common.{refl}
 use Rattle.matchit.proofs.OnLiterals.{matchit_on_literals}
-use Rattle.http_edge.specs.Routes.{routes}
+use Rattle.http_edge.specs.Steps.Routes.{routes}
 use Rattle.http_edge.proofs.route.router.Goals as goal
 
 pub returns : goal.returns

@@ -1,5 +1,5 @@
 use Rattle.std.proofs.Common.{◌≡◌, ◌<◌, ◌++◌, inl, inr, [], ◌∷◌, length, sym, arith, refl, ◌∙◌, length-append}
-use Rattle.http_edge.specs.Serving.{item_value}
+use Rattle.http_edge.specs.Steps.Serving.{item_value}
 use Rattle.http_edge.proofs.MovedLemmas.{writes_nothing, writes_more, writes_to_more, moves_refl, moves_more, moves_or_more}
 use Rattle.http_edge.proofs.Runs.{run-snoc, joined-snoc, begun}
 use Rattle.http_edge.proofs.Sures.{settled-append, settled-snoc, requests-full, requests-ended, sure-full, gives_settles, stops-last, sure-unended}

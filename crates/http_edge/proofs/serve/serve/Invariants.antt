@@ -1,7 +1,7 @@
 use Rattle.std.proofs.Common.{◌≡◌, ◌-◌, ◌≤◌, ℕ, List, length}
 use Rattle.lsif.specs.Streams.{Moves, SameCounts}
 use Rattle.lsif.specs.Sending.{Writes}
-use Rattle.http_edge.specs.Items.{SettlesAll}
+use Rattle.http_edge.specs.Steps.Items.{SettlesAll}
 use Rattle.http_edge.specs.Requests.{ItemValue}
 use Rattle.desk.specs.Machine.{State}
 use Rattle.http_edge.specs.Serving.{Run, joined}

@@ -1,5 +1,5 @@
 use Rattle.std.proofs.Common.{take}
-use Rattle.lsif.specs.Cutting.{HasNoFeed}
+use Rattle.lsif.specs.Steps.Cutting.{HasNoFeed}
 use Rattle.lsif.proofs.lines.find_feed.Given as goal
 
 abbrev pub invariant-loop-k : goal.invariant-loop-k

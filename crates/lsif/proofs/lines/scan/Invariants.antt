@@ -1,5 +1,5 @@
 use Rattle.std.proofs.Common.{◌≡◌, ◌≤◌, ◌-◌, take, length}
-use Rattle.lsif.specs.Cutting.{HasNoFeed}
+use Rattle.lsif.specs.Steps.Cutting.{HasNoFeed}
 use Rattle.lsif.specs.Held.{SameTold}
 use Rattle.lsif.proofs.lines.scan.Given as goal
 

@@ -1,0 +1,41 @@
+-- The places of a definition result, as the walk gathers them.
+use Rattle.std.specs.Prelude.{◌&&◌, List, [], ◌∷◌, Option, Some, None, if◌then◌else◌, string_bytes}
+use Rattle.std.specs.List.{flat_map}
+use Rattle.positions.specs.Span.{SpanValue}
+use Rattle.lsif.specs.Element.{IdValue, same_id, VertexValue, document, range, contains, item, ElementValue, vertex, edge}
+use Rattle.dump.specs.Graph.{vertex_at, is_among}
+use Rattle.dump.specs.Conditions.{are_definitions}
+use Rattle.dump.specs.Places.{PlaceValue}
+use Rattle.desk.specs.declared.places.Place.{Place}
+
+-- the span in the document that the vertex is
+abbrev pub places_at : Option VertexValue → SpanValue → List PlaceValue
+places_at (Some (document uri)) span = record { uri = uri; span = span } ∷ []
+places_at (Some v) span = []
+places_at None span = []
+
+-- the place of the range by the element, where that's a `contains` edge that names it
+abbrev pub places_contained : List ElementValue → IdValue → SpanValue → ElementValue → List PlaceValue
+places_contained elements r span (edge i (contains from to)) = if is_among r to then places_at (vertex_at elements from) span else []
+places_contained elements r span (edge i e) = []
+places_contained elements r span (vertex i v) = []
+
+abbrev pub places_spanned : List ElementValue → IdValue → Option VertexValue → List PlaceValue
+places_spanned elements r (Some (range span)) = flat_map (places_contained elements r span) elements
+places_spanned elements r (Some v) = []
+places_spanned elements r None = []
+
+-- the places of the range
+abbrev pub places_of_range : List ElementValue → IdValue → List PlaceValue
+places_of_range elements r = places_spanned elements r (vertex_at elements r)
+
+-- the places of the ranges that the element, where it's an `item` edge, joins to the result as definitions
+abbrev pub places_of_item : List ElementValue → IdValue → ElementValue → List PlaceValue
+places_of_item elements result (edge i (item e)) =
+    if same_id e.source result && are_definitions e.property then flat_map (places_of_range elements) e.targets else []
+places_of_item elements result (edge i e) = []
+places_of_item elements result (vertex i v) = []
+
+-- the places of the result
+abbrev pub places_of : List ElementValue → IdValue → List PlaceValue
+places_of elements result = flat_map (places_of_item elements result) elements

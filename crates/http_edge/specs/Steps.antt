@@ -1,0 +1,10 @@
+-- What private contracts and proofs name: steps of loops, and the values of the program's own types.
+pub mod Fields
+pub mod Heads
+pub mod Items
+pub mod Parameters
+pub mod Replies
+pub mod Requests
+pub mod Routes
+pub mod Serving
+pub mod Values

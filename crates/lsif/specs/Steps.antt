@@ -1,0 +1,2 @@
+-- What private contracts and proofs name: steps of loops, and the values of the program's own types.
+pub mod Cutting
