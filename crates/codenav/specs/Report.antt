@@ -74,15 +74,6 @@ abbrev pub exit_code_of : Status → ℕ
 exit_code_of statuses.Sound = 0
 exit_code_of statuses.Faulty = 1
 
--- what sending a report answers and writes: all of the report's line, or by a writer that fails a beginning of it;
--- nothing where memory was refused
-abbrev pub Sends : Report → Option (List ℕ) → Option (List ℕ) → Result Status CheckFault → Type 0
-Sends report taken taken' (Ok status) = (status ≡ status_of report) × Gains taken taken' (report_text report)
-Sends report taken taken' (Err faults.Memory) = Gains taken taken' []
-Sends report taken taken' (Err faults.Read) = ⊥
-Sends report taken taken' (Err faults.Write) =
-    (front : List ℕ) × (back : List ℕ) × (report_text report ≡ front ++ back) × GainsOrHides taken taken' front
-
 -- what a check answers and writes whose report is one of these: all of the report's line, or by a writer that fails a
 -- beginning of it; nothing where memory was refused or the reader failed
 abbrev pub Checks : (Report → Type 0) → Option (List ℕ) → Option (List ℕ) → Result Status CheckFault → Type 0

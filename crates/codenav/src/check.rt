@@ -1,7 +1,7 @@
 //! `codenav check-lsif`: the report of a dump.
 ghost use Rattle.std.specs.Prelude.{◌≡◌, ◌-◌, ◌^◌, ◌<◌, IfOk};
 ghost use Rattle.codenav.specs.Report.{Checks, CountsCheck, ReportsDump};
-ghost use Rattle.codenav.specs.Judging.{CountsRead};
+ghost use Rattle.codenav.specs.Steps.Judging.{CountsRead};
 
 use crate::report::{CheckFault, FaultyLine, Report, Status, send};
 use dump::{DumpFault, read_dump};
