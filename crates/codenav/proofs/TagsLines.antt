@@ -5,9 +5,10 @@ use Rattle.std.proofs.lemmas.Bool.Decides.{nat_tests}
 use Rattle.lsif.specs.Lines as lent
 use Rattle.lsif.specs.Lines.{BeginsWith, GivesLine, GivesNone, HasLongLine, IsLine, onto_first}
 use Rattle.tags.specs.Bytes.{line_feed}
-use Rattle.tags.specs.Lines.{Line, ended_line, handed, in_front, lines_of, longest_line, reading_of, readings_of}
+use Rattle.tags.specs.Lines.{Line, ended_line, in_front, lines_of, longest_line}
+use Rattle.tags.specs.Steps.Readings.{handed, reading_of, readings_of}
 use Rattle.tags.specs.declared.code.Code.TheVariants.{T01}
-use Rattle.codenav.specs.TagsJudging.{BeginsSo, ReadsFirst, ReadsNone}
+use Rattle.codenav.specs.Steps.TagsJudging.{BeginsSo, ReadsFirst, ReadsNone}
 
 not_feed : (b : ℕ) → b ≢ line_feed → (b == line_feed) ≡ false
 not_feed b h = grind (arith, nat_tests, h)

@@ -1,5 +1,4 @@
 pub mod Call
-pub mod Judging
 pub mod Replay
 pub mod Report
-pub mod TagsJudging
+pub mod Steps

@@ -2,7 +2,7 @@
 ghost use Rattle.std.specs.Prelude.{◌≡◌, ◌-◌, ◌^◌, ◌<◌, IfOk};
 ghost use Rattle.lsif.specs.Streams.{CanCount};
 ghost use Rattle.codenav.specs.Report.{Checks, CountsCheck, ReportsDump};
-ghost use Rattle.codenav.specs.Judging.{CountsRead};
+ghost use Rattle.codenav.specs.Steps.Judging.{CountsRead};
 
 use crate::report::{CheckFault, FaultyLine, Report, Status, send};
 use dump::{DumpFault, read_dump};

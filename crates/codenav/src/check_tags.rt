@@ -7,8 +7,8 @@ ghost use Rattle.tags.specs.Fault.{Reading};
 ghost use Rattle.tags.specs.Lines.{IsHanded};
 ghost use Rattle.tags.specs.States.{counted, next};
 ghost use Rattle.codenav.specs.Report.{Checks, CountsCheck, ReportsTags};
-ghost use Rattle.codenav.specs.Judging.{CountsRead};
-ghost use Rattle.codenav.specs.TagsJudging.{Concludes, Feeds, IsFaulty, IsReady, Takes};
+ghost use Rattle.codenav.specs.Steps.Judging.{CountsRead};
+ghost use Rattle.codenav.specs.Steps.TagsJudging.{Concludes, Feeds, IsFaulty, IsReady, Takes};
 
 use crate::report::{CheckFault, FaultyLine, Report, Status, send};
 use lsif::{LineBuffer, LinesFault, Sink, Source};

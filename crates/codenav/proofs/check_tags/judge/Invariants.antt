@@ -1,6 +1,6 @@
 use Rattle.std.proofs.Common.{◌≡◌}
 use Rattle.lsif.specs.Held.{told}
-use Rattle.codenav.specs.TagsJudging.{HasTaken, IsReady, room_of}
+use Rattle.codenav.specs.Steps.TagsJudging.{HasTaken, IsReady, room_of}
 use Rattle.codenav.proofs.check_tags.judge.Given as goal
 
 abbrev pub invariant-reading : goal.invariant-reading

@@ -1,0 +1,3 @@
+-- What only private contracts and proofs name.
+pub mod Judging
+pub mod TagsJudging
