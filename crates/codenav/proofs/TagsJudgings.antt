@@ -5,7 +5,8 @@ use Rattle.std.proofs.lemmas.Bool.{ltb-true}
 use Rattle.lsif.specs.Lines.{Cutter}
 use Rattle.tags.specs.States.{Summary, State, running, stopped, add, advance, counted, next, order_in, state_after, summary_of, Finishes, IsRunning}
 use Rattle.tags.specs.Fault.{Reading, contents, is_descending, is_late, most_lines, tags_of, IsFaultless, IsFirstFault}
-use Rattle.tags.specs.Lines.{AreReadings, IsHanded, IsReading, Line, handed, lines_of, reading_of, readings_of}
+use Rattle.tags.specs.Lines.{AreReadings, IsHanded, IsReading, Line, lines_of}
+use Rattle.tags.specs.Steps.Readings.{handed, reading_of, readings_of}
 use Rattle.tags.specs.Values.{ContentValue, sorted, other, ordinary}
 use Rattle.tags.specs.declared.code.Code.{Code}
 use Rattle.tags.specs.declared.code.Code.TheVariants.{T09, T10, T11}

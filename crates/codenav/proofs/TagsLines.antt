@@ -5,7 +5,8 @@ use Rattle.std.proofs.lemmas.Bool.Decides.{nat_tests}
 use Rattle.lsif.specs.Lines as lent
 use Rattle.lsif.specs.Lines.{BeginsWith, GivesLine, GivesNone, HasLongLine, IsLine, onto_first}
 use Rattle.tags.specs.Bytes.{line_feed}
-use Rattle.tags.specs.Lines.{Line, ended_line, handed, in_front, lines_of, longest_line, reading_of, readings_of}
+use Rattle.tags.specs.Lines.{Line, ended_line, in_front, lines_of, longest_line}
+use Rattle.tags.specs.Steps.Readings.{handed, reading_of, readings_of}
 use Rattle.tags.specs.declared.code.Code.TheVariants.{T01}
 use Rattle.codenav.specs.Steps.TagsJudging.{BeginsSo, ReadsFirst, ReadsNone}
 

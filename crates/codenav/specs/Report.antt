@@ -74,14 +74,6 @@ abbrev pub exit_code_of : Status → ℕ
 exit_code_of statuses.Sound = 0
 exit_code_of statuses.Faulty = 1
 
--- what sending a report answers and writes: all of the report's line, or by a writer that fails a beginning of it;
--- nothing where memory was refused
-abbrev pub Sends : Report → Output → Result Status CheckFault → Output → Type 0
-Sends report old (Ok status) new = (status ≡ status_of report) × Writes old (report_text report) new
-Sends report old (Err faults.Memory) new = Writes old [] new
-Sends report old (Err faults.Read) new = ⊥
-Sends report old (Err faults.Write) new = CutsShort old (report_text report) new
-
 -- what a check answers and writes whose report is one of these: all of the report's line, or by a writer that fails a
 -- beginning of it; nothing where memory was refused or the reader failed
 abbrev pub Checks : (Report → Type 0) → Output → Result Status CheckFault → Output → Type 0

@@ -1,7 +1,8 @@
 //! What a check reports: the count of a sound file, or the fault of a line.
 ghost use Rattle.std.specs.Prelude.{◌≡◌, IfOk, string_bytes};
 ghost use Rattle.lsif.specs.Streams.{CanCount};
-ghost use Rattle.codenav.specs.Report.{Sends, exit_code_of, report_text, status_of};
+ghost use Rattle.codenav.specs.Report.{exit_code_of, report_text, status_of};
+ghost use Rattle.codenav.specs.Steps.Judging.{Sends};
 
 use lsif::{Sink, push_all};
 use std::alloc::{AllocError, Global};
@@ -92,7 +93,7 @@ fn report_text(alloc: Global, report: Report) -> Result<String, AllocError>
 
 /// Writes the line of a report, and answers its status. Refuses where memory was refused, or the writer failed or took
 /// no byte.
-pub fn send<W: Sink>(alloc: Global, report: Report, w: &mut W) -> Result<Status, CheckFault>
+pub(crate) fn send<W: Sink>(alloc: Global, report: Report, w: &mut W) -> Result<Status, CheckFault>
     requires { CanCount (W.output w.old) }
     ensures { Sends report (W.output w.old) result (W.output w.new) }
 {

@@ -1,4 +1,4 @@
--- What private contracts and proofs name: steps of loops, and the values of the program's own types.
+-- What only private contracts and proofs name: steps of loops, and values of the program's own types.
 pub mod BodyData
 pub mod Candidates
 pub mod Documents

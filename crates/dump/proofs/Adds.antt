@@ -25,7 +25,7 @@ use Rattle.dump.proofs.Uniques.{found_member}
 
 -- ---- the places of ids
 
-find_any : {X : Type 0} (p : X → Bool) (xs : List X) → is_some (find p xs) ≡ list_any p xs
+pub find_any : {X : Type 0} (p : X → Bool) (xs : List X) → is_some (find p xs) ≡ list_any p xs
 find_any p [] = refl
 find_any p (x ∷ xs) = by (find_any p xs) (p x)
   where
@@ -33,7 +33,7 @@ find_any p (x ∷ xs) = by (find_any p xs) (p x)
     by rest true = refl
     by rest false = rest
 
-found_place : (d : List ElementValue) (i : IdValue) (k : ℕ) → position (has_id i) d ≡ Some k → (y : ElementValue) × (slice_get d k ≡ Some y) × (element_id y ≡ i)
+pub found_place : (d : List ElementValue) (i : IdValue) (k : ℕ) → position (has_id i) d ≡ Some k → (y : ElementValue) × (slice_get d k ≡ Some y) × (element_id y ≡ i)
 found_place d i k is = by (find (has_id i) d) refl (sym (ap (option_and_then (slice_get d)) is) ∙ position-item (has_id i) d)
   where
     there : is_some (find (has_id i) d) ≡ true
@@ -61,7 +61,7 @@ fresh_place table d x free is =
     nothing (place_at table (element_id x)) (ap is_some (is (element_id x)) ∙ position-any (has_id (element_id x)) d ∙ sym (find_any (has_id (element_id x)) d) ∙ free.fresh)
 
 -- a vertex has a place
-vertex_place : (d : List ElementValue) (i : IdValue) → is_some (vertex_at d i) ≡ true → is_some (position (has_id i) d) ≡ true
+pub vertex_place : (d : List ElementValue) (i : IdValue) → is_some (vertex_at d i) ≡ true → is_some (position (has_id i) d) ≡ true
 unfolding element_at
 vertex_place d i e = position-any (has_id i) d ∙ sym (find_any (has_id i) d) ∙ by (element_at d i) refl
   where

@@ -16,7 +16,7 @@ unique pairs x xs zs (links {y = y} {ys = ys} e c) (links {y = w} {ys = ws} f d)
     ap (λ l. x ∷ l) (unique pairs y ys ws c (subst (λ v. IsChain pairs v ws) (sym same) d))
 
 -- from a member on there is a chain too
-suffix : (pairs : List Pair) (y : IdValue) (ys : List IdValue) (x : IdValue) → IsChain pairs y ys → Contains ys x → (zs : List IdValue) × IsChain pairs x zs × (length zs ≤ length ys)
+pub suffix : (pairs : List Pair) (y : IdValue) (ys : List IdValue) (x : IdValue) → IsChain pairs y ys → Contains ys x → (zs : List IdValue) × IsChain pairs x zs × (length zs ≤ length ys)
 suffix pairs y ys x (ends e) at = ⊎_elim (λ (s : y ≡ x). (y ∷ [], subst (λ v. IsChain pairs v (y ∷ [])) s (ends e), omega arith)) (λ (n : Contains [] x). absurd (not_in_nil x n)) (contains_cases y [] x at)
 suffix pairs y ys x (links {y = w} {ys = ws} e c) at = ⊎_elim
     (λ (s : y ≡ x). (y ∷ ws, subst (λ v. IsChain pairs v (y ∷ ws)) s (links e c), omega arith))

@@ -23,6 +23,7 @@ pub mod Repeats
 pub mod Rows
 pub mod SameIds
 pub mod Slots
+pub mod Shortcuts
 pub mod Sweeps
 pub mod Tables
 pub mod Uniques

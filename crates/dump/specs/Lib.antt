@@ -1,3 +1,4 @@
+pub mod Chains
 pub mod Conditions
 pub mod Contained
 pub mod Ended

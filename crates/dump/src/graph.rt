@@ -8,8 +8,9 @@ ghost use Rattle.dump.specs.Ended.{has_begun, has_ended, is_closed};
 ghost use Rattle.dump.specs.Graph.{element_at, has_repeated};
 ghost use Rattle.dump.specs.Index.{container};
 ghost use Rattle.dump.specs.Steps.{IsSound};
-ghost use Rattle.dump.specs.Walks.{first_to, single_pairs};
+ghost use Rattle.dump.specs.Walks.{Path, first_to, single_pairs, next_pairs};
 
+use crate::chain_ends::{end_of, follow};
 use crate::ids::is_repeating;
 use crate::index::{Index, contains_source};
 use crate::links::Link;
@@ -23,18 +24,23 @@ use std::marker::Model;
 pub(crate) struct Graph {
     elements: Vec<Element>,
     index: Index,
+    /// Of each element a vertex further on in its chain of `next` edges.
+    shortcuts: Vec<Option<usize>>,
 }
 
 impl Model for Graph {
     ghost use Rattle.std.specs.Prelude.{List, map};
     ghost use Rattle.lsif.specs.Element.{ElementValue, element_value};
+    ghost use Rattle.dump.specs.Chains.{HasShortcuts};
     ghost use Rattle.dump.specs.Index.{IsIndex};
+    ghost use Rattle.dump.specs.Walks.{next_pairs};
 
     ghost Value = { List ElementValue };
 
     ghost view = { λ g. map element_value g.elements.items };
 
-    ghost invariant = { λ g. IsIndex g.index (map element_value g.elements.items) };
+    ghost invariant = { λ g. IsIndex g.index (map element_value g.elements.items)
+        × HasShortcuts (next_pairs (map element_value g.elements.items)) (map element_value g.elements.items) g.shortcuts.items };
 }
 
 impl Graph {
@@ -45,6 +51,7 @@ impl Graph {
         Graph {
             elements: Vec::new(alloc),
             index: Index::new(alloc),
+            shortcuts: Vec::new(alloc),
         }
     }
 
@@ -74,9 +81,24 @@ impl Graph {
         ensures err { OnErr result (self.new ≡ self.old) }
     {
         self.elements.reserve(1)?;
+        self.shortcuts.reserve(1)?;
+        let joined = self.index.joined_places(&self.elements, &element);
         self.index.add(&self.elements, &element)?;
+        follow(&mut self.shortcuts, &self.elements, &element, joined);
         self.elements.push_reserved(element);
         Ok(())
+    }
+
+    /// The last vertex of the chain of `next` edges from this one.
+    pub(crate) fn end_of<'a>(&'a self, id: &'a Id) -> &'a Id
+        requires { IsSound self.now }
+        ensures path { Path (next_pairs self.now) (id_value id.now) (id_value result.now) }
+        ensures last { first_to (next_pairs self.now) (id_value result.now) ≡ None }
+    {
+        match self.index.place_of_id(&self.elements, id) {
+            Some(place) => self.elements[end_of(&self.shortcuts, &self.elements, place)].id(),
+            None => id,
+        }
     }
 
     /// The element of this id.

@@ -3,6 +3,7 @@ ghost use Rattle.std.specs.Prelude.{◌≡◌, ◌++◌, ◌∷◌, ◌||◌, []
 ghost use Rattle.std.specs.HashMap.{get_by_text};
 ghost use Rattle.std.specs.List.{list_any};
 ghost use Rattle.lsif.specs.Element.{IdValue, id_value, id_values, element_value, element_id, same_id};
+ghost use Rattle.dump.specs.Chains.{place_in, JoinsPlaces};
 ghost use Rattle.dump.specs.Conditions.{is_document_of, order_code};
 ghost use Rattle.dump.specs.Contained.{spans_of, spans_in, any_conflicts, has_conflict};
 ghost use Rattle.dump.specs.Graph.{element_at, vertex_at, is_document};
@@ -15,7 +16,7 @@ ghost use Rattle.dump.specs.Steps.{IsSound};
 use crate::ids::IdMap;
 use crate::links::{LINKS, Link, Row, cell, enter_all};
 use crate::place_map::PlaceMap;
-use crate::single::single_of;
+use crate::single::{SingleLabel, single_of};
 use crate::spans::{conflict_after, merged};
 use lsif::{Edge, Element, Event, Id, Vertex};
 use positions::Span;
@@ -147,6 +148,32 @@ impl Index {
         ensures { option_map (λ e. element_value e.now) result ≡ element_at (map element_value elements.now) (id_value id.now) }
     {
         at(elements, self.places.get(id))
+    }
+
+    /// The place of the element of this id.
+    pub(crate) fn place_of_id(&self, elements: &[Element], id: &Id) -> Option<usize>
+        requires { IsIndex self.now (map element_value elements.now) }
+        ensures { result ≡ place_in (map element_value elements.now) (id_value id.now) }
+    {
+        self.places.get(id)
+    }
+
+    /// The places of the source and the target of a `next` edge that follows these elements.
+    pub(crate) fn joined_places(
+        &self,
+        elements: &[Element],
+        element: &Element,
+    ) -> Option<(usize, usize)>
+        requires index { IsIndex self.now (map element_value elements.now) }
+        requires free { order_code (map element_value elements.now) (element_value element.now) ≡ None }
+        ensures { JoinsPlaces (map element_value elements.now) (element_value element.now) result }
+    {
+        match single_of(element) {
+            Some((SingleLabel::Next, from, to)) => {
+                Some((self.places.get(from)?, self.places.get(to)?))
+            }
+            _ => None,
+        }
     }
 
     /// The place of the first element that names the vertex in this way.

@@ -1,6 +1,7 @@
 //! The checker of a dump: takes the readings of its lines, and names the first fault or keeps the elements.
 #![tactic(auto)]
 
+mod chain_ends;
 mod checker;
 mod contained;
 mod ended;

@@ -1,5 +1,5 @@
 //! What an element may not be after the elements before it, and what a whole dump may not have.
-ghost use Rattle.std.specs.Prelude.{◌≡◌, ◌<◌, ◌≤◌, ◌&&◌, ◌∷◌, IfOk, IfNone, length, not};
+ghost use Rattle.std.specs.Prelude.{◌≡◌, false, ◌<◌, ◌≤◌, ◌&&◌, ◌∷◌, IfOk, IfNone, length, not};
 ghost use Rattle.std.specs.List.{list_any};
 ghost use Rattle.lsif.specs.Element.{id_value, id_values, item_value, element_value};
 ghost use Rattle.dump.specs.Conditions.{is_misplaced, are_vertices, joins_no_vertex, may_contain, may_ask, is_result_set, is_definition_result, is_hover_result, is_moniker, is_package, are_definitions, may_be_of_references, may_have_item, may_not_join, is_contained_again, is_conflicting, leaves_again, closes_cycle, has_effect, is_place, has_no_place, has_ranges, is_misplaced_item, has_used_uri, order_code, is_uncontained, end_code, most_elements};
@@ -219,7 +219,8 @@ fn leaves_again(graph: &Graph, element: &Element) -> bool
 
 /// A path of `next` edges goes from the target to the source already.
 fn closes_cycle(graph: &Graph, element: &Element) -> bool
-    requires { IsSound graph.now }
+    requires sound { IsSound graph.now }
+    requires first { leaves_again graph.now (element_value element.now) ≡ false }
     ensures { result ≡ closes_cycle graph.now (element_value element.now) }
 {
     match element {

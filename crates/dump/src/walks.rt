@@ -1,29 +1,20 @@
 //! What paths and chains of `next` edges lead to.
-ghost use Rattle.std.specs.Prelude.{◌≡◌, List, option_map};
+ghost use Rattle.std.specs.Prelude.{◌≡◌, List, None, option_map};
 ghost use Rattle.lsif.specs.Element.{IdValue, id_value};
 ghost use Rattle.dump.specs.Steps.{IsSound};
-ghost use Rattle.dump.specs.Walks.{IsChain, HasChain, first_of_list, reaches, next_pairs, single_pairs};
+ghost use Rattle.dump.specs.Walks.{IsChain, HasChain, first_to, first_of_list, reaches, next_pairs, single_pairs};
 
 use crate::graph::Graph;
 use crate::single::SingleLabel;
 use lsif::Id;
 
-/// Whether a path of `next` edges, of no step or more, goes from the one vertex to the other.
+/// Whether a path of `next` edges, of no step or more, goes from the one vertex to the other, which no such edge leaves.
 pub(crate) fn leads(graph: &Graph, from: &Id, to: &Id) -> bool
-    requires { IsSound graph.now }
+    requires sound { IsSound graph.now }
+    requires last { first_to (next_pairs graph.now) (id_value to.now) ≡ None }
     ensures { result ≡ reaches (next_pairs graph.now) (id_value from.now) (id_value to.now) }
 {
-    let mut place = from;
-    for _step in 0..graph.len() {
-        if place.is(to) {
-            return true;
-        }
-        match graph.target_of(SingleLabel::Next, place) {
-            Some(more) => place = more,
-            None => return false,
-        }
-    }
-    place.is(to)
+    graph.end_of(from).is(to)
 }
 
 /// The target of the edge of this label out of the first vertex along the chain of `next` edges, from this one on, that has

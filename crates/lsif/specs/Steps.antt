@@ -1,2 +1,2 @@
--- What private contracts and proofs name: steps of loops, and the values of the program's own types.
+-- What only private contracts and proofs name: steps of loops, and values of the program's own types.
 pub mod Cutting

@@ -7,7 +7,7 @@ use Rattle.std.specs.List.{list_all}
 use Rattle.std.specs.Char.{is_ascii_digit, digit_value}
 use Rattle.std.specs.Str.Parse.{digits_value_after}
 use Rattle.tags.specs.Bytes.{backslash}
-use Rattle.tags.specs.Cutting.{closing, further, digits_len, greatest_number}
+use Rattle.tags.specs.Steps.Cutting.{closing, further, digits_len, greatest_number}
 
 -- ---- digits
 

@@ -1,5 +1,5 @@
 -- The steps of a reading, in the order of the codes, find the least code whose condition holds.
-use Rattle.std.proofs.Common.{◌≡◌, ◌≢◌, ◌∙◌, ℕ, Bool, true, false, not, ◌&&◌, ◌||◌, ◌⊎◌, cond, if◌then◌else◌, nat_lt, map, List, [], ◌∷◌, ◌++◌, drop, length, Option, Some, None, Result, Ok, Err, refl, ap, sym, subst, inl, inr, codes, bytes_eq, IsUtf8, slice_get}
+use Rattle.std.proofs.Common.{◌≡◌, ◌≢◌, ◌∙◌, ℕ, Bool, true, false, not, ◌&&◌, ◌⊎◌, if◌then◌else◌, nat_lt, map, List, [], ◌∷◌, ◌++◌, drop, length, Option, Some, None, Result, Ok, Err, refl, ap, sym, subst, inl, inr, codes, bytes_eq, slice_get}
 use Rattle.std.proofs.lemmas.Bool.{false_from_ne_true, lt-ltb, ltb-true}
 use Rattle.std.proofs.lemmas.Option.{some_pair_parts}
 use Rattle.std.proofs.lemmas.Slice.Eq.{bytes_eq-Decides, starts_is}
@@ -9,18 +9,20 @@ use Rattle.std.specs.List.{filter_map, list_any}
 use Rattle.std.specs.Str.{is_utf8}
 use Rattle.tags.specs.Around.{around}
 use Rattle.tags.specs.Bytes.{tab}
-use Rattle.tags.specs.Conditions.{IsPseudoTag, IsOrdinary, HasValue, LacksParts, HasBadName, HasBadEscape, HasBadAddress, HasBadField, HasOtherFormat, TextCondition, text_codes, HoldsNone, IsFirst, Says, SaysTag, ReadsBy, is_control}
-use Rattle.tags.specs.Cutting.{Front, Tail, front_of, tail_of, each_field}
+use Rattle.tags.specs.Conditions.{IsPseudoTag, IsOrdinary, HasValue, LacksParts, HasBadName, HasBadEscape, HasOtherFormat, TextCondition, text_codes, HoldsNone, IsFirst, Says, SaysTag, ReadsBy, is_control}
+use Rattle.tags.specs.Steps.Cutting.{Front, Tail, front_of, tail_of, each_field}
 use Rattle.tags.specs.Escapes.{decoded}
-use Rattle.tags.specs.Fields.{fields_by, fields_of, has_bad_escape, has_bad_fields, kind_in, other_in}
-use Rattle.tags.specs.Grammar.{HasFront, IsName, Spells, TagLine, address_text, fields_in, fields_text}
-use Rattle.tags.specs.Reading.{entry_of, is_pseudo_tag, ordinary_of, pseudo_by, pseudo_of, reading}
+use Rattle.tags.specs.Steps.Fields.{fields_by, fields_of}
+use Rattle.tags.specs.Fields.{has_bad_escape, has_bad_fields, kind_in, other_in}
+use Rattle.tags.specs.Grammar.{HasFront, Spells, TagLine, address_text, fields_in, fields_text}
+use Rattle.tags.specs.Steps.Reading.{entry_of, is_pseudo_tag, ordinary_of, pseudo_by, pseudo_of, reading}
 use Rattle.tags.specs.Fault.{Reading}
-use Rattle.tags.specs.Lines.{AreReadings, Condition, IsHanded, IsReading, Line, handed, line_codes, line_text, longest_line, reading_of}
+use Rattle.tags.specs.Lines.{AreReadings, Condition, IsHanded, IsReading, Line, line_codes, line_text, longest_line}
+use Rattle.tags.specs.Steps.Readings.{handed, reading_of}
 use Rattle.tags.specs.Values.{ContentValue, EntryValue, FieldValue, FieldsValue, sorted, other, ordinary}
 use Rattle.tags.specs.declared.code.Code.{Code}
 use Rattle.tags.specs.declared.code.Code.TheVariants.{T01, T02, T03, T04, T05, T06, T07, T08}
-use Rattle.tags.proofs.CutLemmas.{CutTree, front_of-cuts, HasFront-front_of, IsFree-around, around-first, each_field-joined, front_of-HasFront, front_of-front, front_of-line, joined_fields, tail_of-tail, tail_of-tree}
+use Rattle.tags.proofs.CutLemmas.{front_of-cuts, HasFront-front_of, IsFree-around, around-first, each_field-joined, front_of-HasFront, front_of-front, front_of-line, joined_fields, tail_of-tail, tail_of-tree}
 use Rattle.tags.proofs.PartLemmas.{no_line}
 use Rattle.tags.proofs.TextLemmas.{around-surrounds, is_utf8-text}
 

@@ -4,15 +4,15 @@ use Rattle.std.specs.List.{list_any}
 use Rattle.std.specs.Option.{ForSome}
 use Rattle.std.specs.Str.{is_utf8}
 use Rattle.tags.specs.Conditions.{is_control}
-use Rattle.tags.specs.Contents.{Reads, ReadsTag}
-use Rattle.tags.specs.Cutting as cutting
-use Rattle.tags.specs.Cutting.{front_of, tail_of, each_field}
+use Rattle.tags.specs.Steps.Contents.{Reads, ReadsTag}
+use Rattle.tags.specs.Steps.Cutting as cutting
+use Rattle.tags.specs.Steps.Cutting.{front_of, tail_of, each_field}
 use Rattle.tags.specs.Escapes.{decoded}
-use Rattle.tags.specs.Faults.{fault_in}
-use Rattle.tags.specs.Fields.{fields_of}
-use Rattle.tags.specs.Reading.{entry_of, is_pseudo_tag, ordinary_of, reading}
+use Rattle.tags.specs.Steps.Faults.{fault_in}
+use Rattle.tags.specs.Steps.Fields.{fields_of}
+use Rattle.tags.specs.Steps.Reading.{entry_of, is_pseudo_tag, ordinary_of, reading}
 use Rattle.tags.specs.Values.{FieldsValue, ordinary}
-use Rattle.tags.specs.Views.{front, tail}
+use Rattle.tags.specs.Steps.Views.{front, tail}
 use Rattle.tags.specs.declared.code.Code.{Code}
 use Rattle.tags.specs.declared.content.Content.TheVariants.{Ordinary}
 use Rattle.tags.specs.declared.cut.Cut.{Cut}

@@ -6,7 +6,8 @@ use Rattle.std.proofs.lemmas.Option.{some_pair_parts}
 use Rattle.std.specs.List.{AllByRecursion, flat_map, slice_split, onto_first}
 use Rattle.tags.specs.Around.{around, longer}
 use Rattle.tags.specs.Bytes.{tab, semicolon, double_quote}
-use Rattle.tags.specs.Cutting.{Front, front_by, front_of, is_empty, Tail, tail_at, tail_of, fields_after, address_len, each_field}
+use Rattle.tags.specs.Steps.Cutting.{Front, front_by, front_of, Tail, tail_at, tail_of, fields_after, address_len, each_field}
+use Rattle.tags.specs.Fields.{is_empty}
 use Rattle.tags.specs.Grammar.{fields_in, Address, address_text, IsAddress, TagLine, field_text, fields_text, line_of, HasNoTab, IsName, AreFields, IsTagLine, Spells, HasFront}
 use Rattle.tags.proofs.AroundLemmas.{is, parts_by, split-around}
 use Rattle.tags.proofs.NumberLemmas.{Follows, nothing, extension, address_len-address, ReadsAddress, address_len-reads}

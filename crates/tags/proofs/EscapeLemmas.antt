@@ -3,7 +3,8 @@ use Rattle.std.proofs.Common.{◌≡◌, ◌∙◌, ◌==◌, ℕ, Bool, true, f
 use Rattle.std.proofs.lemmas.Bool.Decides.{nat_tests}
 use Rattle.tags.specs.Around.{around, longer}
 use Rattle.tags.specs.Bytes.{backslash, letter_x}
-use Rattle.tags.specs.Escapes.{onto, decoded, after_backslash, after_x, escape_at, letter_value, hex_value}
+use Rattle.tags.specs.Escapes.{onto, decoded, after_backslash, after_x, letter_value, hex_value}
+use Rattle.tags.specs.Steps.Escapes.{escape_at}
 
 -- bytes in front of what is read of the rest
 abbrev pub front : List ℕ → Option (List ℕ) → Option (List ℕ)

@@ -2,11 +2,11 @@
 use Rattle.std.proofs.Common.{◌≡◌, ◌++◌, ◌||◌, ℕ, suc, Bool, true, false, not, nat_lt, List, [], ◌∷◌, Option, Some, None, is_some, is_none, Ok, Err, Result, refl, ap, ◌∙◌, sym, arith, append_assoc, append-nil, if◌then◌else◌}
 use Rattle.std.proofs.lemmas.Bool.Decides.{nat_tests}
 use Rattle.std.specs.List.{list_any, filter_map}
-use Rattle.tags.specs.Cutting.{is_empty}
+use Rattle.tags.specs.Fields.{is_empty, name_in, value_in, is_field_name, has_bad_escape, is_bad_field, other_in}
 use Rattle.tags.specs.Escapes.{decoded}
-use Rattle.tags.specs.Faults.{fault_in}
-use Rattle.tags.specs.Fields.{name_in, value_in, is_field_name, has_bad_escape, is_bad_field, other_in, fields_of}
-use Rattle.tags.specs.Gathering.{gathered}
+use Rattle.tags.specs.Steps.Faults.{fault_in}
+use Rattle.tags.specs.Steps.Fields.{fields_of}
+use Rattle.tags.specs.Steps.Gathering.{gathered}
 use Rattle.tags.specs.Values.{FieldValue, FieldsValue}
 use Rattle.tags.specs.declared.code.Code.{Code}
 use Rattle.tags.specs.declared.code.Code.TheVariants.{T05, T07}

@@ -7,7 +7,8 @@ use Rattle.tags.specs.Fault.{Reading, contents, tags_of}
 use Rattle.tags.specs.Faults.{result_map}
 use Rattle.std.specs.List.{AllByRecursion, flat_map}
 use Rattle.tags.proofs.ConditionLemmas.{reads_all}
-use Rattle.tags.specs.Lines.{IsPiece, ended_line, ended_text, with_last, Line, lines_of, in_front, readings_of, reading_of, handed}
+use Rattle.tags.specs.Lines.{IsPiece, ended_line, ended_text, with_last, Line, lines_of, in_front}
+use Rattle.tags.specs.Steps.Readings.{readings_of, reading_of, handed}
 use Rattle.tags.specs.Outcome.{Answers, AnswersLines}
 use Rattle.tags.specs.States.{State, Summary, running, stopped, listed, next, state_after, Tells, Finishes}
 use Rattle.tags.specs.Values.{TagValue}

@@ -7,7 +7,7 @@ use Rattle.std.specs.List.{AllByRecursion, list_all}
 use Rattle.std.specs.Char.{is_ascii_digit}
 use Rattle.std.specs.Str.Parse.{digits_value}
 use Rattle.tags.specs.Bytes.{digit_zero, semicolon, double_quote}
-use Rattle.tags.specs.Cutting.{is_number, is_in_range_number, greatest_number, is_delimiter, pattern_len, digits_len, after_number_len, numbered_len, address_len, further}
+use Rattle.tags.specs.Steps.Cutting.{is_number, is_in_range_number, greatest_number, is_delimiter, pattern_len, digits_len, after_number_len, numbered_len, address_len, further}
 use Rattle.tags.specs.Grammar.{Pattern, pattern_text, IsPattern, Address, number, pattern, combined, address_text, IsAddress, IsNumber}
 use Rattle.tags.proofs.AddressLemmas.{digits_len-le-length}
 use Rattle.tags.proofs.PatternLemmas.{pattern_len-pattern, ReadsPattern, pattern_len-reads, is_delimiter-from_IsDelimiter, from_further}

@@ -3,10 +3,12 @@ use Rattle.std.proofs.Common.{◌≡◌, ◌∙◌, ℕ, ◌+◌, ◌-◌, List,
 use Rattle.std.proofs.lemmas.List.{take_at, drop_at}
 use Rattle.std.specs.List.{AllByRecursion, flat_map}
 use Rattle.tags.specs.Bytes.{tab, semicolon, double_quote}
-use Rattle.tags.specs.Cutting.{Front, Tail, front_of, tail_of, each_field}
-use Rattle.tags.specs.Faults.{Gives, result_map, some_or, ◌>>=◌}
+use Rattle.tags.specs.Steps.Cutting.{Front, Tail, front_of, tail_of, each_field}
+use Rattle.tags.specs.Steps.Faults.{Gives, some_or, ◌>>=◌}
+use Rattle.tags.specs.Faults.{result_map}
 use Rattle.tags.specs.Grammar.{fields_in, address_text, TagLine, field_text, fields_text, line_of, IsTagLine, Spells}
-use Rattle.tags.specs.Parts.{PartValue, part_at, fields_at, parts_with, parts_of, parts_in, split_of, IsSlice, Splits}
+use Rattle.tags.specs.Parts.{PartValue, part_at, fields_at, parts_with, parts_in, IsSlice, Splits}
+use Rattle.tags.specs.Steps.Parts.{parts_of, split_of}
 use Rattle.tags.specs.declared.code.Code.{Code}
 use Rattle.tags.specs.declared.code.Code.TheVariants.{T04, T06}
 use Rattle.tags.specs.declared.code.SplitFault.{SplitFault}

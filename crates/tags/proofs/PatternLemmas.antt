@@ -3,7 +3,7 @@ use Rattle.std.proofs.Common.{◌≡◌, ◌≢◌, ◌∙◌, ◌==◌, ◌||�
 use Rattle.std.proofs.lemmas.Bool.Decides.{nat_tests}
 use Rattle.std.specs.List.{AllByRecursion, flat_map}
 use Rattle.tags.specs.Bytes.{slash, question_mark, backslash}
-use Rattle.tags.specs.Cutting.{closing, further, is_delimiter, pattern_len}
+use Rattle.tags.specs.Steps.Cutting.{closing, further, is_delimiter, pattern_len}
 use Rattle.tags.specs.Grammar.{PatternPart, plain, escaped, part_text, IsPatternPart, IsDelimiter, Pattern, pattern_text, IsPattern}
 use Rattle.tags.proofs.AddressLemmas.{closing-escaped, closing-here, closing-later}
 

@@ -1,11 +1,12 @@
 -- A reader goes the way of its checker.
 use Rattle.std.proofs.Common.{◌≡◌, ◌∙◌, ℕ, ◌+◌, List, [], ◌∷◌, ◌++◌, None, Ok, ap, sym, subst}
 use Rattle.std.proofs.lemmas.List.{map-append}
-use Rattle.tags.specs.Contents.{HasRoom, IsContent, IsCut, IsGoodNext, number_of, taken}
+use Rattle.tags.specs.Steps.Contents.{HasRoom, IsContent, IsCut, IsGoodNext, number_of, taken}
 use Rattle.tags.specs.Fault.{Reading}
 use Rattle.tags.specs.States.{IsRunning, State, Summary, add, advance, counted, listed, next, order_in, running, stopped}
 use Rattle.tags.specs.Values.{ContentValue, EntryValue, TagValue, numbered, ordinary}
-use Rattle.tags.specs.Views.{tag_value, tag_values, with_kept}
+use Rattle.tags.specs.Views.{tag_value, tag_values}
+use Rattle.tags.specs.Steps.Views.{with_kept}
 use Rattle.tags.specs.declared.content.Content.TheVariants.{Ordinary}
 use Rattle.tags.specs.declared.cut.Cut.{Cut}
 use Rattle.tags.specs.declared.tag.Tag.{Tag}

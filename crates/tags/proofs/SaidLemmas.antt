@@ -1,10 +1,10 @@
 -- What lines of the grammar say, and lines that aren't of it.
 use Rattle.std.proofs.Common.{◌≡◌, ◌∙◌, ℕ, List, ◌∷◌, ◌++◌, Option, Some, None, Err, refl, ap}
 use Rattle.tags.specs.Bytes.{tab}
-use Rattle.tags.specs.Cutting.{Front, Tail, front_of, tail_of}
+use Rattle.tags.specs.Steps.Cutting.{Front, Tail, front_of, tail_of}
 use Rattle.tags.specs.Grammar.{TagLine, line_of, IsName, IsTagLine, Spells, HasFront}
-use Rattle.tags.specs.Reading.{ordinary_of}
-use Rattle.tags.specs.Said.{said_by, said_without_address}
+use Rattle.tags.specs.Steps.Reading.{ordinary_of}
+use Rattle.tags.specs.Steps.Said.{said_by, said_without_address}
 use Rattle.tags.specs.declared.code.Code.TheVariants.{T04}
 use Rattle.tags.proofs.CutLemmas.{front_of-front, front_of-line, tail_of-tail, each_field-joined, tail_of-tree, HasFront-front_of}
 

@@ -1,7 +1,7 @@
 -- What may be wrong with a line alone, code by code, and what a line says: tags(5), "Proposal", with the escapes of
 -- "Exceptions in Universal Ctags". Nothing here says how a line is read. A line's text is the line without a CR before
 -- its LF; the conditions on the lines before it are in Fault.antt.
-use Rattle.std.specs.Prelude.{◌≡◌, ◌≢◌, ℕ, ◌<◌, ◌==◌, ◌&&◌, ◌||◌, ◌⊎◌, Bool, nat_le, List, [], ◌∷◌, ◌++◌, length, codes, bytes_eq, slice_get, Option, Some, None, Result, Ok, Err, IsTrue, IsUtf8}
+use Rattle.std.specs.Prelude.{◌≡◌, ◌≢◌, ℕ, ◌==◌, ◌&&◌, ◌||◌, ◌⊎◌, Bool, nat_le, List, [], ◌∷◌, ◌++◌, codes, bytes_eq, slice_get, Some, None, Result, Ok, Err, IsTrue, IsUtf8}
 use Rattle.std.specs.List.{AllByRecursion, filter_map, list_any}
 use Rattle.tags.specs.Bytes.{tab}
 use Rattle.tags.specs.Escapes.{decoded}

@@ -49,10 +49,3 @@ unfoldable mutual
   pub after_digit : ℕ → List ℕ → Option (List ℕ)
   after_digit high [] = None
   after_digit high (low ∷ bs) = option_and_then (λ v. onto v (decoded bs)) (hex_value high low)
-
--- the byte that stands at the front after a backslash, and how many bytes its escape takes there
-unfoldable pub escape_at : List ℕ → Option (ℕ × ℕ)
-escape_at [] = None
-escape_at (c ∷ []) = option_map (λ v. (v, 1)) (letter_value c)
-escape_at (c ∷ d ∷ []) = option_map (λ v. (v, 1)) (letter_value c)
-escape_at (c ∷ d ∷ e ∷ bs) = if c == letter_x then option_map (λ v. (v, 3)) (hex_value d e) else option_map (λ v. (v, 1)) (letter_value c)

@@ -1,16 +1,13 @@
 -- The fields of a tag: tags(5), "Proposal", on tagfield, and "Exceptions in Universal Ctags" on digits in
 -- a field's name.
-use Rattle.std.specs.Prelude.{ℕ, ◌||◌, ◌&&◌, Bool, false, not, nat_lt, List, [], ◌∷◌, length, codes, bytes_eq, Option, Some, None, is_none, option_map, option_and_then, slice_get, Result, Ok, Err, if◌then◌else◌}
+use Rattle.std.specs.Prelude.{ℕ, ◌==◌, ◌||◌, ◌&&◌, Bool, false, not, nat_lt, List, [], ◌∷◌, length, codes, bytes_eq, Option, Some, None, is_none, option_map, option_and_then, if◌then◌else◌}
 use Rattle.std.specs.List.{list_all, list_any, filter_map}
 use Rattle.std.specs.Option.{option_map_or}
 use Rattle.std.specs.Char.{is_ascii_alphabetic, is_ascii_alphanumeric}
 use Rattle.tags.specs.Around.{around}
 use Rattle.tags.specs.Bytes.{colon}
-use Rattle.tags.specs.Cutting.{is_empty}
 use Rattle.tags.specs.Escapes.{decoded}
-use Rattle.tags.specs.Values.{FieldValue, FieldsValue}
-use Rattle.tags.specs.declared.code.Code.{Code}
-use Rattle.tags.specs.declared.code.Code.TheVariants.{T05, T07}
+use Rattle.tags.specs.Values.{FieldValue}
 
 -- what stands before a colon, unless it's the name of the kind
 abbrev pub other_name : List ℕ × List ℕ → Option (List ℕ)
@@ -23,6 +20,9 @@ name_in field = option_and_then other_name (around colon field)
 -- what stands after the first colon, or the whole field where it has none
 abbrev pub value_in : List ℕ → List ℕ
 value_in field = option_map_or (λ p. p.1) (around colon field) field
+
+abbrev pub is_empty : List ℕ → Bool
+is_empty bs = length bs == 0
 
 -- a letter, and then letters and digits
 abbrev pub is_field_name : List ℕ → Bool
@@ -57,16 +57,6 @@ other_of (Some name) value = option_map (λ v. record { name = name; value = v }
 abbrev pub other_in : List ℕ → Option FieldValue
 other_in field = other_of (name_in field) (decoded (value_in field))
 
-abbrev pub fields_by : List (List ℕ) → List FieldValue → FieldsValue
-fields_by kinds others = record { kind = slice_get kinds 0; others = others }
-
 -- a bad field, or a second kind
 abbrev pub has_bad_fields : List (List ℕ) → Bool
 has_bad_fields fields = list_any is_bad_field fields || nat_lt 1 (length (filter_map kind_in fields))
-
--- what the fields say: the kind, of which there is one at most, and the others in order
-unfoldable pub fields_of : List (List ℕ) → Result FieldsValue Code
-fields_of fields =
-    if list_any has_bad_escape fields then Err T05
-    else if has_bad_fields fields then Err T07
-    else Ok (fields_by (filter_map kind_in fields) (filter_map other_in fields))

@@ -1,12 +1,10 @@
 -- The lines of a tags file, and what each says.
-use Rattle.std.specs.Prelude.{◌≡◌, ◌≢◌, ℕ, ◌<◌, ◌==◌, ◌++◌, Bool, true, false, nat_lt, List, [], ◌∷◌, length, map, Result, Ok, Err, ⊤, if◌then◌else◌}
+use Rattle.std.specs.Prelude.{◌≡◌, ◌≢◌, ℕ, ◌<◌, ◌==◌, ◌++◌, Bool, true, false, List, [], ◌∷◌, length, map, Result, Ok, Err, ⊤, if◌then◌else◌}
 use Rattle.std.specs.List.{AllByRecursion, flat_map}
 use Rattle.std.specs.Str.Lines.{strip_carriage_return}
 use Rattle.tags.specs.Bytes.{line_feed}
 use Rattle.tags.specs.Conditions.{ReadsBy, TextCondition, text_codes}
 use Rattle.tags.specs.Fault.{Reading}
-use Rattle.tags.specs.Reading.{reading}
-use Rattle.tags.specs.Values.{ContentValue}
 use Rattle.tags.specs.declared.code.Code.{Code}
 use Rattle.tags.specs.declared.code.Code.TheVariants.{T01}
 
@@ -78,18 +76,3 @@ AreReadings (line ∷ lines) (r ∷ rs) = IsReading line r × AreReadings lines 
 abbrev pub IsHanded : Result (List ℕ) Code → Bool → Reading → Type 0
 IsHanded (Ok bytes) ended reading = IsReading (record { bytes = bytes; ended = ended }) reading
 IsHanded (Err code) ended reading = reading ≡ Err code
-
--- ---- the steps of a reading
-
--- what a line says, or the least code of the line alone
-abbrev pub reading_of : Line → Result ContentValue Code
-reading_of line = if nat_lt longest_line (length line.bytes) then Err T01 else reading (line_text line)
-
--- what the lines of a text say
-abbrev pub readings_of : List ℕ → List (Result ContentValue Code)
-readings_of text = map reading_of (lines_of text)
-
--- what a line that is handed in says: its bytes, or the code that was found before
-abbrev pub handed : Result (List ℕ) Code → Bool → Result ContentValue Code
-handed (Ok bytes) ended = reading_of (record { bytes = bytes; ended = ended })
-handed (Err code) ended = Err code

@@ -1,9 +1,6 @@
 -- The parts of a line, each with its span.
-use Rattle.std.specs.Prelude.{◌≡◌, ℕ, ◌+◌, ◌-◌, List, [], ◌∷◌, ◌++◌, length, slice_range, Option, None, Some, Result, Ok, Err}
-use Rattle.tags.specs.Cutting.{Front, Tail, front_of, tail_of, each_field}
-use Rattle.tags.specs.Faults.{◌>>=◌, some_or}
+use Rattle.std.specs.Prelude.{◌≡◌, ℕ, ◌+◌, List, [], ◌∷◌, ◌++◌, length, slice_range, Result, Ok, Err}
 use Rattle.tags.specs.Grammar.{TagLine, address_text, fields_in, Spells, HasFront}
-use Rattle.tags.specs.declared.code.Code.{Code}
 use Rattle.tags.specs.declared.code.Code.TheVariants.{T04, T06}
 use Rattle.tags.specs.declared.code.SplitFault.{SplitFault}
 use Rattle.tags.specs.declared.code.SplitFault.TheVariants as faults
@@ -22,28 +19,11 @@ abbrev pub fields_at : ℕ → List (List ℕ) → List PartValue
 fields_at from [] = []
 fields_at from (field ∷ fields) = part_at from field ∷ fields_at (from + length field + 1) fields
 
--- the fields that stand at the end of a line of so many bytes
-abbrev pub fields_from : ℕ → Option (List ℕ) → List PartValue
-fields_from len None = []
-fields_from len (Some bs) = fields_at (len - length bs) (each_field (Some bs))
-
 -- a name, a file, an address and fields, one byte apart but for the `;"` and the Tab before the fields
 abbrev pub parts_with : List ℕ → List ℕ → List ℕ → List (List ℕ) → List PartValue
 parts_with name file address fields =
     (part_at 0 name ∷ part_at (length name + 1) file ∷ part_at (length name + length file + 2) address ∷ [])
     ++ fields_at (length name + length file + length address + 5) fields
-
-abbrev pub parts_of : Front → Tail → List PartValue
-parts_of f t = parts_with f.name f.file t.address (each_field t.fields)
-
--- the name, the file, the address and each field, or the least of T04 and T06
-unfoldable pub split_of : List ℕ → Result (List PartValue) Code
-split_of line = do
-  f ← some_or T04 (front_of line)
-  t ← some_or T06 (tail_of f.rest)
-  Ok (parts_of f t)
-
--- ---- in the words of the grammar
 
 -- the parts of a line of the grammar
 abbrev pub parts_in : TagLine → List PartValue

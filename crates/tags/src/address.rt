@@ -1,6 +1,6 @@
 ghost use Rattle.std.specs.Prelude.{◌≡◌, ◌≤◌, ◌<◌, ◌&&◌, IfSome, false, length, not, position};
 ghost use Rattle.std.specs.Char.{is_ascii_digit};
-ghost use Rattle.tags.specs.Cutting.{address_len, after_number_len, closing, digits_len, is_delimiter, is_in_range_number, is_number, pattern_len};
+ghost use Rattle.tags.specs.Steps.Cutting.{address_len, after_number_len, closing, digits_len, is_delimiter, is_in_range_number, is_number, pattern_len};
 
 /// The greatest number of a line.
 const GREATEST_NUMBER: u64 = 2147483647;
@@ -48,7 +48,7 @@ fn is_in_range_number(digits: &[u8]) -> bool
 }
 
 /// A line's number, from 1 to 2147483647 without leading zero.
-#[tactic(auto, unfolding(crate::specs::Cutting::is_number))]
+#[tactic(auto, unfolding(crate::specs::Steps::Cutting::is_number))]
 fn is_number(digits: &[u8]) -> bool
     ensures { result ≡ is_number digits.now }
 {
@@ -77,7 +77,7 @@ fn closing(bytes: &[u8], delimiter: u8) -> Option<usize>
 }
 
 /// How many bytes the pattern at the front takes, with both delimiters.
-#[tactic(auto, unfolding(crate::specs::Cutting::pattern_len))]
+#[tactic(auto, unfolding(crate::specs::Steps::Cutting::pattern_len))]
 fn pattern_len(bytes: &[u8]) -> Option<usize>
     ensures value { result ≡ pattern_len bytes.now }
     ensures within { IfSome result (λ n. n ≤ length bytes.now) }
@@ -91,7 +91,7 @@ fn pattern_len(bytes: &[u8]) -> Option<usize>
 }
 
 /// How many bytes the pattern after a number takes, with its `;`.
-#[tactic(auto, unfolding(crate::specs::Cutting::after_number_len))]
+#[tactic(auto, unfolding(crate::specs::Steps::Cutting::after_number_len))]
 fn after_number_len(bytes: &[u8]) -> Option<usize>
     ensures value { result ≡ after_number_len bytes.now }
     ensures within { IfSome result (λ n. n ≤ length bytes.now) }
@@ -103,7 +103,7 @@ fn after_number_len(bytes: &[u8]) -> Option<usize>
 }
 
 /// How many bytes the address at the front takes.
-#[tactic(auto, unfolding(crate::specs::Cutting::address_len))]
+#[tactic(auto, unfolding(crate::specs::Steps::Cutting::address_len))]
 pub(crate) fn address_len(bytes: &[u8]) -> Option<usize>
     ensures value { result ≡ address_len bytes.now }
     ensures within { IfSome result (λ n. n ≤ length bytes.now) }

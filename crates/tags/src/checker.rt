@@ -1,9 +1,10 @@
 //! Lines that are judged, and whose tags are counted.
 ghost use Rattle.std.specs.Prelude.{◌≡◌, ◌+◌, ◌<◌, ◌≤◌, IfNone, OnErr, OnOk};
-ghost use Rattle.tags.specs.Contents.{IsContent, Reads};
+ghost use Rattle.tags.specs.Steps.Contents.{IsContent, Reads};
 ghost use Rattle.tags.specs.Faults.{result_map};
 ghost use Rattle.tags.specs.Fault.{Reading};
-ghost use Rattle.tags.specs.Lines.{IsHanded, handed, line_text};
+ghost use Rattle.tags.specs.Lines.{IsHanded, line_text};
+ghost use Rattle.tags.specs.Steps.Readings.{handed};
 ghost use Rattle.tags.specs.Values.{ContentValue};
 
 use crate::code::{Code, LineFault, TagsFault};
@@ -46,7 +47,7 @@ struct Counted {
 
 impl Counted {
     ghost use Rattle.tags.specs.States.{add, counted, order_in};
-    ghost use Rattle.tags.specs.Views.{count_of};
+    ghost use Rattle.tags.specs.Steps.Views.{count_of};
 
     /// The least of T09 to T11 that holds of the next line.
     fn order_code(&self, content: Content<'_>) -> Option<Code>
@@ -93,7 +94,7 @@ pub struct TagChecker {
 impl Model for TagChecker {
     ghost use Rattle.std.specs.Prelude.{◌≤◌, ℕ};
     ghost use Rattle.tags.specs.States.{State};
-    ghost use Rattle.tags.specs.Views.{checked_state};
+    ghost use Rattle.tags.specs.Steps.Views.{checked_state};
 
     ghost Value = { State ℕ };
 
@@ -103,8 +104,8 @@ impl Model for TagChecker {
 }
 
 impl TagChecker {
-    ghost use Rattle.tags.specs.Contents.{HasRoom, Judges, number_of, taken};
     ghost use Rattle.tags.specs.States.{Finishes, Tells, counted, next, start};
+    ghost use Rattle.tags.specs.Steps.Contents.{HasRoom, Judges, number_of, taken};
 
     /// A checker of no line yet.
     pub fn new(alloc: Global) -> TagChecker

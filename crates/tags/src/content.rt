@@ -3,9 +3,9 @@ ghost use Rattle.std.specs.Prelude.{◌≡◌, IsUtf8, nat_eq, codes};
 ghost use Rattle.std.specs.List.{list_any};
 ghost use Rattle.tags.specs.Faults.{result_map};
 ghost use Rattle.tags.specs.Conditions.{is_control};
-ghost use Rattle.tags.specs.Contents.{Reads, ReadsTag};
-ghost use Rattle.tags.specs.Reading.{is_pseudo_tag, ordinary_of, pseudo_of, reading};
-ghost use Rattle.tags.specs.Views.{pseudo_value};
+ghost use Rattle.tags.specs.Steps.Contents.{Reads, ReadsTag};
+ghost use Rattle.tags.specs.Steps.Reading.{is_pseudo_tag, ordinary_of, pseudo_of, reading};
+ghost use Rattle.tags.specs.Steps.Views.{pseudo_value};
 
 use crate::around::around_char;
 use crate::code::Code;
@@ -48,7 +48,7 @@ fn is_pseudo_tag(line: &str) -> bool
 }
 
 /// What a pseudo-tag says. An `Err` is T04 or T08.
-#[tactic(auto, unfolding(crate::specs::Reading::pseudo_of))]
+#[tactic(auto, unfolding(crate::specs::Steps::Reading::pseudo_of))]
 fn pseudo_tag(line: &str) -> Result<PseudoTag, Code>
     ensures { result_map pseudo_value result ≡ pseudo_of line.now }
 {
@@ -68,7 +68,7 @@ fn pseudo_tag(line: &str) -> Result<PseudoTag, Code>
 }
 
 /// The cut of an ordinary line, or the least of T04 to T07.
-#[tactic(auto, unfolding(crate::specs::Reading::ordinary_of))]
+#[tactic(auto, unfolding(crate::specs::Steps::Reading::ordinary_of))]
 fn ordinary_tag(line: &[u8]) -> Result<Cut<'_>, Code>
     requires { IsUtf8 line.now }
     ensures { ReadsTag result (ordinary_of line.now) }
@@ -94,7 +94,7 @@ fn ordinary_tag(line: &[u8]) -> Result<Cut<'_>, Code>
 }
 
 /// What a line says, which is no longer than a line may be, or the least of T02 to T08. It takes no memory.
-#[tactic(auto, using(crate::proofs::TextLemmas::texts), unfolding(crate::specs::Reading::reading))]
+#[tactic(auto, using(crate::proofs::TextLemmas::texts), unfolding(crate::specs::Steps::Reading::reading))]
 pub(crate) fn read_content(line: &[u8]) -> Result<Content<'_>, Code>
     ensures { Reads result (reading line.now) }
 {

@@ -1,7 +1,7 @@
 //! A line of a tag cut at its Tabs and at the end of its address.
 ghost use Rattle.std.specs.Prelude.{◌≡◌, ◌∷◌, ◌≤◌, ◌+◌, ◌<◌, IfSome, OnSome, Some, None, length, option_map, slice_index, IsUtf8};
-ghost use Rattle.tags.specs.Cutting.{each_field, fields_after, front_of, tail_of};
-ghost use Rattle.tags.specs.Views.{front, tail};
+ghost use Rattle.tags.specs.Steps.Cutting.{each_field, fields_after, front_of, tail_of};
+ghost use Rattle.tags.specs.Steps.Views.{front, tail};
 
 use crate::address::address_len;
 use crate::around::around_byte;
@@ -31,7 +31,7 @@ pub(crate) struct Cut<'a> {
 }
 
 /// The name and the file, where each stands before a Tab and isn't empty.
-#[tactic(auto, unfolding(crate::specs::Cutting::front_of))]
+#[tactic(auto, unfolding(crate::specs::Steps::Cutting::front_of))]
 pub(crate) fn front_of(line: &[u8]) -> Option<Front<'_>>
     ensures value { option_map front result ≡ front_of line.now }
     ensures lengths { IfSome result (λ f. length f.name.now + length f.file.now + length f.rest.now + 2 ≡ length line.now) }
@@ -46,7 +46,7 @@ pub(crate) fn front_of(line: &[u8]) -> Option<Front<'_>>
 }
 
 /// What stands after an address, unless it's of no form: the fields.
-#[tactic(auto, unfolding(crate::specs::Cutting::fields_after))]
+#[tactic(auto, unfolding(crate::specs::Steps::Cutting::fields_after))]
 fn fields_after(bytes: &[u8]) -> Option<Option<&[u8]>>
     ensures value { option_map (λ fields. option_map (λ bs. bs.now) fields) result ≡ fields_after bytes.now }
     ensures length { IfSome result (λ fields. IfSome fields (λ bs. length bs.now + 3 ≡ length bytes.now)) }
@@ -61,7 +61,7 @@ fn fields_after(bytes: &[u8]) -> Option<Option<&[u8]>>
 }
 
 /// The address, and the fields after it.
-#[tactic(auto, unfolding(crate::specs::Cutting::tail_of))]
+#[tactic(auto, unfolding(crate::specs::Steps::Cutting::tail_of))]
 pub(crate) fn tail_of(rest: &[u8]) -> Option<Tail<'_>>
     ensures value { option_map tail result ≡ tail_of rest.now }
     ensures address { IfSome result (λ t. length t.address.now ≤ length rest.now) }

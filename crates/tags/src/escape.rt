@@ -1,6 +1,7 @@
 //! The escapes of a name, a file, a kind and a field's value.
 ghost use Rattle.std.specs.Prelude.{◌≡◌, ◌<◌, ◌≤◌, ◌-◌, IfOk, IfSome, IsUtf8, Some, length, option_map, is_some, slice_index, string_bytes, true};
-ghost use Rattle.tags.specs.Escapes.{decoded, escape_at, hex_value, letter_value};
+ghost use Rattle.tags.specs.Escapes.{decoded, hex_value, letter_value};
+ghost use Rattle.tags.specs.Steps.Escapes.{escape_at};
 
 use crate::around::{around_byte, around_char, text_of};
 use std::alloc::{AllocError, Global};
@@ -41,7 +42,7 @@ fn hex_value(high: u8, low: u8) -> Option<u8>
 }
 
 /// The byte that stands after a backslash, and how many bytes its escape takes there.
-#[tactic(auto, unfolding(crate::specs::Escapes::escape_at))]
+#[tactic(auto, unfolding(crate::specs::Steps::Escapes::escape_at))]
 fn escape_at(text: &[u8]) -> Option<(u8, usize)>
     ensures value { result ≡ escape_at text.now }
     ensures within { IfSome result (λ e. (0 < e.1) × (e.1 ≤ length text.now)) }

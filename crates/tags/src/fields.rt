@@ -3,11 +3,12 @@ ghost use Rattle.std.specs.Prelude.{◌≡◌, IfOk, IsUtf8, None, Ok, OnOk, fal
 ghost use Rattle.std.specs.Char.{is_ascii_alphanumeric};
 ghost use Rattle.std.specs.List.{list_all};
 ghost use Rattle.std.specs.Option.{ForSome};
-ghost use Rattle.tags.specs.Cutting.{each_field};
-ghost use Rattle.tags.specs.Faults.{fault_in};
-ghost use Rattle.tags.specs.Gathering.{Notes};
-ghost use Rattle.tags.specs.Views.{fields_value};
-ghost use Rattle.tags.specs.Fields.{fields_of, has_bad_escape, is_field_name, name_in, value_in};
+ghost use Rattle.tags.specs.Steps.Cutting.{each_field};
+ghost use Rattle.tags.specs.Steps.Faults.{fault_in};
+ghost use Rattle.tags.specs.Steps.Gathering.{Notes};
+ghost use Rattle.tags.specs.Steps.Views.{fields_value};
+ghost use Rattle.tags.specs.Steps.Fields.{fields_of};
+ghost use Rattle.tags.specs.Fields.{has_bad_escape, is_field_name, name_in, value_in};
 
 use crate::around::{around_byte, text_of};
 use crate::code::Code;
@@ -53,7 +54,7 @@ pub(crate) struct Gathered {
 }
 
 impl Gathered {
-    ghost use Rattle.tags.specs.Gathering.{Gathers};
+    ghost use Rattle.tags.specs.Steps.Gathering.{Gathers};
 
     /// Takes the next field.
     pub fn add(&mut self, alloc: Global, field: &[u8]) -> Result<(), AllocError>

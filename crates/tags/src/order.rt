@@ -43,7 +43,7 @@ pub(crate) struct Order {
 }
 
 impl Order {
-    ghost use Rattle.tags.specs.Views.{last_of, room_of};
+    ghost use Rattle.tags.specs.Steps.Views.{last_of, room_of};
 
     /// That of no line yet.
     pub fn new() -> Order

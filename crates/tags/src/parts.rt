@@ -1,8 +1,10 @@
 ghost use Rattle.std.specs.Prelude.{◌≡◌, ◌+◌, ◌-◌, ◌^◌, ◌<◌, ◌≤◌, ◌++◌, IfOk, OnOk, length, option_map};
 ghost use Rattle.std.specs.List.{AllByRecursion};
 ghost use Rattle.std.specs.Option.{ForSome};
-ghost use Rattle.tags.specs.Faults.{Gives, result_map};
-ghost use Rattle.tags.specs.Parts.{IsSlice, Splits, part_at, split_of, fields_from};
+ghost use Rattle.tags.specs.Steps.Faults.{Gives};
+ghost use Rattle.tags.specs.Faults.{result_map};
+ghost use Rattle.tags.specs.Parts.{IsSlice, Splits, part_at};
+ghost use Rattle.tags.specs.Steps.Parts.{split_of, fields_from};
 ghost use Rattle.tags.specs.Views.{part_value, part_values};
 
 use crate::code::{Code, SplitFault};
@@ -50,7 +52,7 @@ fn push_fields<'a>(
 }
 
 /// The parts of a tag's line, or the least of T04 and T06.
-#[tactic(auto, unfolding(crate::specs::Parts::split_of))]
+#[tactic(auto, unfolding(crate::specs::Steps::Parts::split_of))]
 fn parts_of<'a>(alloc: Global, line: &'a [u8]) -> Result<Vec<Part<'a>>, SplitFault>
     ensures { Gives (λ parts. part_values parts.items) result (split_of line.now) }
 {

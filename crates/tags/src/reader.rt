@@ -2,7 +2,8 @@
 ghost use Rattle.std.specs.Prelude.{◌≡◌, ◌++◌, ◌∷◌, ◌<◌, [], map, vec_capacity, vec_len};
 ghost use Rattle.tags.specs.Faults.{result_map};
 ghost use Rattle.tags.specs.Fault.{Reading};
-ghost use Rattle.tags.specs.Lines.{IsHanded, handed};
+ghost use Rattle.tags.specs.Lines.{IsHanded};
+ghost use Rattle.tags.specs.Steps.Readings.{handed};
 ghost use Rattle.tags.specs.Outcome.{Answers};
 
 use crate::around::around_byte;
@@ -36,7 +37,8 @@ impl Model for TagReader {
     ghost use Rattle.std.specs.Prelude.{List};
     ghost use Rattle.tags.specs.States.{State};
     ghost use Rattle.tags.specs.Values.{TagValue};
-    ghost use Rattle.tags.specs.Views.{tag_values, with_kept};
+    ghost use Rattle.tags.specs.Views.{tag_values};
+    ghost use Rattle.tags.specs.Steps.Views.{with_kept};
 
     ghost Value = { State (List TagValue) };
 

@@ -1,6 +1,6 @@
 //! A tag, and how it's made of the cut of its line.
 ghost use Rattle.std.specs.Prelude.{◌≡◌, IfOk};
-ghost use Rattle.tags.specs.Contents.{IsCut};
+ghost use Rattle.tags.specs.Steps.Contents.{IsCut};
 ghost use Rattle.tags.specs.Values.{EntryValue, numbered};
 ghost use Rattle.tags.specs.Views.{tag_value};
 

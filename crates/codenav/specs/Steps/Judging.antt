@@ -1,7 +1,12 @@
--- How the parts of a check fail.
-use Rattle.std.specs.Prelude.{ℕ, ◌+◌, Result, Ok, Err, ◌≡◌}
+-- What the parts of a check answer, and how they fail.
+use Rattle.std.specs.Prelude.{ℕ, ◌+◌, [], Result, Ok, Err, ◌≡◌}
+use Rattle.lsif.specs.Sending.{Writes, CutsShort}
+use Rattle.lsif.specs.Streams.{Output}
+use Rattle.codenav.specs.Report.{report_text, status_of}
 use Rattle.codenav.specs.declared.report.CheckFault.{CheckFault}
 use Rattle.codenav.specs.declared.report.CheckFault.TheVariants as faults
+use Rattle.codenav.specs.declared.report.Report.{Report}
+use Rattle.codenav.specs.declared.report.Status.{Status}
 
 -- the reader's count of failures, where a step fails only by it or for want of memory
 abbrev pub CountsRead : {A : Type 0} → ℕ → ℕ → Result A CheckFault → Type 0
@@ -9,3 +14,11 @@ CountsRead old new (Ok a) = new ≡ old
 CountsRead old new (Err faults.Memory) = new ≡ old
 CountsRead old new (Err faults.Read) = new ≡ old + 1
 CountsRead old new (Err faults.Write) = ⊥
+
+-- what sending a report answers and writes: all of the report's line, or by a writer that fails a beginning of it;
+-- nothing where memory was refused
+abbrev pub Sends : Report → Output → Result Status CheckFault → Output → Type 0
+Sends report old (Ok status) new = (status ≡ status_of report) × Writes old (report_text report) new
+Sends report old (Err faults.Memory) new = Writes old [] new
+Sends report old (Err faults.Read) new = ⊥
+Sends report old (Err faults.Write) new = CutsShort old (report_text report) new

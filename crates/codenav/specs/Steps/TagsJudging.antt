@@ -3,7 +3,8 @@ use Rattle.std.specs.Prelude.{◌≡◌, ℕ, ◌+◌, ◌-◌, List, [], ◌∷
 use Rattle.lsif.specs.Lines.{Cutter}
 use Rattle.tags.specs.States.{Summary, State, running, stopped, counted, next, state_after, IsRunning}
 use Rattle.tags.specs.Fault.{Reading, most_lines}
-use Rattle.tags.specs.Lines.{longest_line, readings_of}
+use Rattle.tags.specs.Lines.{longest_line}
+use Rattle.tags.specs.Steps.Readings.{readings_of}
 use Rattle.codenav.specs.declared.report.CheckFault.{CheckFault}
 use Rattle.codenav.specs.declared.report.CheckFault.TheVariants as faults
 use Rattle.codenav.specs.declared.check_tags.Step.{Step}

@@ -152,7 +152,8 @@ fn lines_of_input_in_pieces(rt: HostRuntime) -> Result<(), Fail> {
 }
 
 /// What the first line of a lent source is, and how many are left.
-fn lent_lines(alloc: Global, lines: &mut LineBuffer) -> Result<String, Fail> {
+fn lent_lines(alloc: Global) -> Result<String, Fail> {
+    let mut lines = LineBuffer::new(alloc, 3)?;
     let mut source = Counted::new(b"one\ntwo".as_slice());
     let first = lines.advance(&mut source);
     if source.failures() != 0 {
@@ -160,15 +161,16 @@ fn lent_lines(alloc: Global, lines: &mut LineBuffer) -> Result<String, Fail> {
     }
     let line = str::from_utf8(lines.line()).unwrap_or("no text");
     let found = format!(in alloc; "{first:?} {line}")?;
-    let left = count_lines_of(lines, &mut source);
+    let left = count_lines_of(&mut lines, &mut source);
     Ok(format!(in alloc; "{found} {left:?}")?)
 }
 
 #[test]
 fn lines_of_a_source_that_is_lent(rt: HostRuntime) -> Result<(), Fail> {
-    let mut lines = LineBuffer::new(rt.alloc(), 3)?;
-    let found = lent_lines(rt.alloc(), &mut lines)?;
-    assert_eq!(rt; found.as_str(), "Ok(true) one Ok(Some(1))");
+    assert_eq!(rt;
+        lent_lines(rt.alloc())?.as_str(),
+        "Ok(true) one Ok(Some(1))"
+    );
     Ok(())
 }
 

@@ -226,50 +226,69 @@ fn longest_lines(rt: HostRuntime) -> Result<(), Fail> {
     Ok(())
 }
 
-/// The targets of a `contains` edge out of the element with the number 1.
-fn targets_of_one(element: &Element) -> Option<&Vec<Id>> {
-    match element {
-        Element::Edge(_, edge) => match edge {
-            Edge::Contains(from, to) => from.is(&Id::Number(1)).then_some(to),
-            _ => None,
-        },
-        Element::Vertex(_, _) => None,
+/// Whether the element of this line has the id.
+fn has_id(alloc: Global, line: &[u8], id: &Id) -> Option<bool> {
+    match read_element(alloc, line) {
+        Ok(element) => Some(element.id().is(id)),
+        Err(_) => None,
     }
 }
 
-#[test]
-fn ids_of_elements(rt: HostRuntime) -> Result<(), Fail> {
-    let one = Id::Number(1);
-    assert!(rt; one.is(&Id::Number(1)));
-    assert!(rt; !one.is(&Id::Text(String::from_str(rt.alloc(), "1")?)));
-    let line = br#"{"id":"d","type":"vertex","label":"document","uri":"FILE:///a.ts"}"#;
-    let document = read_element(rt.alloc(), line).map_err(|_| "no element")?;
-    assert!(rt;
-        document
-            .id()
-            .is(&Id::Text(String::from_str(rt.alloc(), "d")?))
-    );
-    let line = br#"{"id":3,"type":"edge","label":"contains","outV":1,"inVs":[2,"2"]}"#;
-    let contains = read_element(rt.alloc(), line).map_err(|_| "no element")?;
-    let targets = targets_of_one(&contains).ok_or("no targets")?;
-    assert_eq!(rt; targets.len(), 2);
-    Ok(())
+/// How many targets a `contains` edge out of the element with the number 1 has, and how many of them from the first on are
+/// the numbers from 0 on.
+fn counts(element: &Element) -> Option<(usize, u64)> {
+    match element {
+        Element::Edge(_, Edge::Contains(from, to)) if from.is(&Id::Number(1)) => {
+            Some((to.len(), in_turn(to)))
+        }
+        _ => None,
+    }
 }
 
-/// A list of ten thousand ids doesn't end in want of memory.
-#[test]
-fn many_targets(rt: HostRuntime) -> Result<(), Fail> {
+/// How many of the ids from the first on are the numbers from 0 on.
+fn in_turn(ids: &[Id]) -> u64 {
+    let mut count = 0u64;
+    for id in ids {
+        if !id.is(&Id::Number(count)) {
+            break;
+        }
+        count = count.saturating_add(1);
+    }
+    count
+}
+
+/// The counts of the element that is read of a line.
+fn counts_of(alloc: Global, line: &[u8]) -> Option<(usize, u64)> {
+    match read_element(alloc, line) {
+        Ok(element) => counts(&element),
+        Err(_) => None,
+    }
+}
+
+/// The line of a `contains` edge whose targets are the numbers below 10,000.
+fn with_targets(alloc: Global) -> Result<String, Fail> {
     let before = r#"{"id":1,"type":"edge","label":"contains","outV":1,"inVs":[0"#;
-    let mut line = String::from_str(rt.alloc(), before)?;
+    let mut line = String::from_str(alloc, before)?;
     for number in 1..10000 {
-        line.push_str(format!(in rt.alloc(); ",{number}")?.as_str())?;
+        line.push_str(format!(in alloc; ",{number}")?.as_str())?;
     }
     line.push_str("]}")?;
-    let contains = read_element(rt.alloc(), line.as_bytes()).map_err(|_| "no element")?;
-    let targets = targets_of_one(&contains).ok_or("no targets")?;
-    assert_eq!(rt; targets.len(), 10000);
-    for (number, target) in targets.iter().enumerate() {
-        assert!(rt; target.is(&Id::Number(number as u64)), "{number}");
-    }
+    Ok(line)
+}
+
+#[test]
+fn ids_and_targets(rt: HostRuntime) -> Result<(), Fail> {
+    let document = br#"{"id":"1","type":"vertex","label":"document","uri":"FILE:///a.ts"}"#;
+    let text = Id::Text(String::from_str(rt.alloc(), "1")?);
+    let number = Id::Number(1);
+    assert_eq!(rt; has_id(rt.alloc(), document, &text), Some(true));
+    assert_eq!(rt; has_id(rt.alloc(), document, &number), Some(false));
+    let contains = br#"{"id":3,"type":"edge","label":"contains","outV":1,"inVs":[0,1,"2"]}"#;
+    assert_eq!(rt; counts_of(rt.alloc(), contains), Some((3, 2)));
+    let line = with_targets(rt.alloc())?;
+    assert_eq!(rt;
+        counts_of(rt.alloc(), line.as_bytes()),
+        Some((10000, 10000))
+    );
     Ok(())
 }

@@ -54,6 +54,12 @@ fn pulls(alloc: Global, reader: &mut Counted<&[u8]>) -> Result<String, Fail> {
     Ok(found)
 }
 
+/// The same of a slice.
+fn slice_pulls(alloc: Global) -> Result<String, Fail> {
+    let mut reader = Counted::new(b"abc".as_slice());
+    pulls(alloc, &mut reader)
+}
+
 /// Pushes each of the parts: the answers, and then how often a push failed and how often one took nothing.
 fn pushes<W: Sink>(alloc: Global, writer: &mut W, parts: &[&str]) -> Result<String, Fail> {
     let mut found = String::new(alloc);
@@ -89,11 +95,13 @@ fn slow_pushes(alloc: Global, most: usize, fails_at: u32, parts: &[&str]) -> Res
 #[test]
 fn slices_and_vectors(rt: HostRuntime) -> Result<(), Fail> {
     counted_law::<&[u8], Vec<u8>>();
-    let mut reader = Counted::new(b"abc".as_slice());
-    let pulled = pulls(rt.alloc(), &mut reader)?;
-    assert_eq!(rt; pulled.as_str(), "Ok(2) ab; Ok(1) cb; Ok(0) cb; ");
-    let pushed = vector_pushes(rt.alloc(), &["ab", "", "c"])?;
-    assert_eq!(rt; pushed.as_str(), "Ok(2) Ok(0) Ok(1) 0 0 abc");
+    let wanted = "Ok(2) ab; Ok(1) cb; Ok(0) cb; ";
+    assert_eq!(rt; slice_pulls(rt.alloc())?.as_str(), wanted);
+    let wanted = "Ok(2) Ok(0) Ok(1) 0 0 abc";
+    assert_eq!(rt;
+        vector_pushes(rt.alloc(), &["ab", "", "c"])?.as_str(),
+        wanted
+    );
     Ok(())
 }
 
@@ -104,16 +112,20 @@ Ok(2) Err(Failed) Ok(2) 1 0 abef
 ";
 
 /// Writers that take little, nothing, and one that fails once.
-#[test]
-fn slow_writers(rt: HostRuntime) -> Result<(), Fail> {
-    let mut found = String::new(rt.alloc());
+fn all_slow_pushes(alloc: Global) -> Result<String, Fail> {
+    let mut found = String::new(alloc);
     for (most, fails_at, parts) in [
         (1, 0, ["ab", "b", ""]),
         (0, 0, ["ab", "", "ab"]),
         (9, 2, ["ab", "cd", "ef"]),
     ] {
-        found.push_str(slow_pushes(rt.alloc(), most, fails_at, &parts)?.as_str())?;
+        found.push_str(slow_pushes(alloc, most, fails_at, &parts)?.as_str())?;
     }
-    assert_eq!(rt; found.as_str(), SLOW);
+    Ok(found)
+}
+
+#[test]
+fn slow_writers(rt: HostRuntime) -> Result<(), Fail> {
+    assert_eq!(rt; all_slow_pushes(rt.alloc())?.as_str(), SLOW);
     Ok(())
 }

@@ -1,5 +1,5 @@
 use Rattle.std.proofs.Common.{◌∙◌, Ok, Err, refl, rules}
-use Rattle.tags.specs.Lines.{handed}
+use Rattle.tags.specs.Steps.Readings.{handed}
 use Rattle.tags.specs.declared.code.Code.TheVariants.{T01}
 use Rattle.codenav.proofs.TagsJudgings.{fed_code, fed_counts, fed_line, reads_handed}
 use Rattle.codenav.proofs.TagsLines.{long_line, reads_line, reads_none}

@@ -1,6 +1,6 @@
 use Rattle.std.proofs.Common.{◌≡◌, ◌∙◌, ◌==◌, false, true, get_or, refl, sym, arith, eq-eqb}
 use Rattle.std.proofs.lemmas.Bool.Decides.{nat_tests}
-use Rattle.tags.specs.Cutting.{closing}
+use Rattle.tags.specs.Steps.Cutting.{closing}
 use Rattle.tags.proofs.AddressLemmas.{closing_from, closing_from-here, closing_from-later, closing_from-escaped, closing_from-end}
 use Rattle.tags.proofs.address.closing.Goals as goal
 use Rattle.tags.proofs.address.closing.Goals.{then-escaped, else-escaped+else-byte-delimiter}

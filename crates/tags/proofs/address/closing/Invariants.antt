@@ -1,5 +1,5 @@
 use Rattle.std.proofs.Common.{◌≡◌, false}
-use Rattle.tags.specs.Cutting.{closing}
+use Rattle.tags.specs.Steps.Cutting.{closing}
 use Rattle.tags.proofs.AddressLemmas.{closing_from}
 use Rattle.tags.proofs.address.closing.Given as goal
 

@@ -1,6 +1,6 @@
 use Rattle.std.proofs.Common.{◌≡◌, ◌∙◌, ◌+◌, ◌*◌, ◌-◌, ◌<◌, true, drop, get_or, refl, sym, arith}
 use Rattle.std.specs.Char.{is_ascii_digit}
-use Rattle.tags.specs.Cutting.{greatest_number}
+use Rattle.tags.specs.Steps.Cutting.{greatest_number}
 use Rattle.tags.proofs.AddressLemmas.{in_range-next, in_range_from-large}
 use Rattle.tags.proofs.address.is_in_range_number.Goals as goal
 

@@ -1,5 +1,5 @@
 use Rattle.std.proofs.Common.{◌≡◌, ◌≤◌, drop}
-use Rattle.tags.specs.Cutting.{is_in_range_number, greatest_number}
+use Rattle.tags.specs.Steps.Cutting.{is_in_range_number, greatest_number}
 use Rattle.tags.proofs.AddressLemmas.{in_range_from}
 use Rattle.tags.proofs.address.is_in_range_number.Given as goal
 

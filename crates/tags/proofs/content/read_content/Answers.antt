@@ -1,5 +1,5 @@
 use Rattle.std.proofs.Common.{◌≡◌, false, sym}
-use Rattle.tags.specs.Reading.{is_pseudo_tag}
+use Rattle.tags.specs.Steps.Reading.{is_pseudo_tag}
 use Rattle.tags.proofs.ContentLemmas.{reads_ordinary}
 use Rattle.tags.proofs.TextLemmas.{is_utf8-text}
 use Rattle.tags.proofs.content.read_content.Goals as goal

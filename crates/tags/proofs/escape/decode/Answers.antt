@@ -2,7 +2,7 @@ use Rattle.std.proofs.Common.{◌≡◌, ◌∙◌, ◌<◌, ◌+◌, ◌-◌, �
 use Rattle.std.specs.Str.{IsUtf8}
 use Rattle.std.proofs.lemmas.Str.{IsCharBoundary-after_ascii, encode_ascii}
 use lib.Utf8.{encode}
-use Rattle.tags.specs.Escapes.{escape_at}
+use Rattle.tags.specs.Steps.Escapes.{escape_at}
 use Rattle.tags.proofs.EscapeLemmas.{decoded-step, decoded-stop, decoded-end}
 use Rattle.tags.proofs.escape.decode.Goals as goal
 

@@ -1,8 +1,8 @@
 use Rattle.std.proofs.Common.{◌≡◌, ◌∙◌, [], None, Some, true, refl, sym, ap, option_map}
-use Rattle.tags.specs.Cutting.{each_field}
-use Rattle.tags.specs.Faults.{fault_in}
-use Rattle.tags.specs.Fields.{fields_of}
-use Rattle.tags.specs.Gathering.{Notes, gathered}
+use Rattle.tags.specs.Steps.Cutting.{each_field}
+use Rattle.tags.specs.Steps.Faults.{fault_in}
+use Rattle.tags.specs.Steps.Fields.{fields_of}
+use Rattle.tags.specs.Steps.Gathering.{Notes, gathered}
 use Rattle.tags.proofs.FieldLemmas.{fields_of-gathered, gathered-end, gathered-bad_end}
 use Rattle.tags.proofs.fields.fields_code.Goals as goal
 

@@ -1,8 +1,8 @@
 use Rattle.std.proofs.Common.{◌≡◌, ℕ, List, Option, ◌+◌, length, option_map}
 use Rattle.std.specs.Option.{option_map_or}
-use Rattle.tags.specs.Cutting.{each_field}
-use Rattle.tags.specs.Fields.{fields_of}
-use Rattle.tags.specs.Gathering.{Stands, gathered}
+use Rattle.tags.specs.Steps.Cutting.{each_field}
+use Rattle.tags.specs.Steps.Fields.{fields_of}
+use Rattle.tags.specs.Steps.Gathering.{Stands, gathered}
 use Rattle.tags.specs.Values.{FieldValue}
 use Rattle.tags.proofs.fields.fields_code.Given as goal
 

@@ -1,8 +1,8 @@
 use Rattle.std.proofs.Common.{◌≡◌, ◌∙◌, [], None, Some, true, map, option_map, string_bytes, sym, ap}
-use Rattle.tags.specs.Cutting.{each_field}
-use Rattle.tags.specs.Faults.{fault_in}
-use Rattle.tags.specs.Fields.{fields_of}
-use Rattle.tags.specs.Gathering.{gathered, gathered_in}
+use Rattle.tags.specs.Steps.Cutting.{each_field}
+use Rattle.tags.specs.Steps.Faults.{fault_in}
+use Rattle.tags.specs.Steps.Fields.{fields_of}
+use Rattle.tags.specs.Steps.Gathering.{gathered, gathered_in}
 use Rattle.tags.specs.Views.{field_value}
 use Rattle.tags.proofs.FieldLemmas.{fields_of-gathered, gathered-end, good_escape}
 use Rattle.tags.proofs.fields.gather.Goals as goal

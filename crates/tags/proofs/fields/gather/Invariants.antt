@@ -1,8 +1,8 @@
 use Rattle.std.proofs.Common.{◌≡◌, ◌+◌, length, option_map, IsUtf8}
 use Rattle.std.specs.Option.{ForSome, option_map_or}
-use Rattle.tags.specs.Cutting.{each_field}
-use Rattle.tags.specs.Fields.{fields_of}
-use Rattle.tags.specs.Gathering.{gathered_in}
+use Rattle.tags.specs.Steps.Cutting.{each_field}
+use Rattle.tags.specs.Steps.Fields.{fields_of}
+use Rattle.tags.specs.Steps.Gathering.{gathered_in}
 use Rattle.tags.proofs.fields.gather.Given as goal
 
 abbrev pub invariant-loop-rest : goal.invariant-loop-rest

@@ -1,5 +1,5 @@
 use Rattle.std.proofs.Common.{◌∙◌, ap}
-use Rattle.tags.specs.Reading.{ordinary_of}
+use Rattle.tags.specs.Steps.Reading.{ordinary_of}
 use Rattle.tags.proofs.PartLemmas.{one_cut}
 use Rattle.tags.proofs.SaidLemmas.{ordinary_of-line, ordinary_of-no_front, ordinary_of-no_address}
 use Rattle.tags.proofs.laws.grammar_law.Goals as goal

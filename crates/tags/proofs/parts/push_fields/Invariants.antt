@@ -1,6 +1,6 @@
 use Rattle.std.proofs.Common.{◌≡◌, ◌+◌, ◌++◌, ◌≤◌, length, option_map}
 use Rattle.std.specs.Option.{ForSome, option_map_or}
-use Rattle.tags.specs.Parts.{fields_from}
+use Rattle.tags.specs.Steps.Parts.{fields_from}
 use Rattle.tags.specs.Views.{part_values}
 use Rattle.tags.proofs.parts.push_fields.Given as goal
 

@@ -1,6 +1,6 @@
 use Rattle.std.proofs.Common.{◌≡◌, ◌∙◌, ◌==◌, [], true, false, fold, length, Ok, sym, ap}
 use Rattle.std.proofs.lemmas.Result.{err_from_is_err_and}
-use Rattle.tags.specs.Lines.{handed, readings_of}
+use Rattle.tags.specs.Steps.Readings.{handed, readings_of}
 use Rattle.tags.specs.States.{listed, next}
 use Rattle.tags.proofs.ConditionLemmas.{reads_handed}
 use Rattle.tags.proofs.LineLemmas.{readings_of-line, readings_of-last, readings_of-end, after_line, fault_answers, finish_answers, text_answers}

@@ -1,5 +1,5 @@
 use Rattle.std.proofs.Common.{◌≡◌, fold, length}
-use Rattle.tags.specs.Lines.{readings_of}
+use Rattle.tags.specs.Steps.Readings.{readings_of}
 use Rattle.tags.specs.States.{listed, next}
 use Rattle.tags.proofs.LineLemmas.{after_all}
 use Rattle.tags.proofs.reader.read_tags.Given as goal

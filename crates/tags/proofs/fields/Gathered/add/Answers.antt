@@ -2,7 +2,7 @@ use Rattle.std.proofs.Common.{◌≡◌, ◌∙◌, ◌++◌, ◌∷◌, [], Som
 use Rattle.std.proofs.lemmas.List.{map-append}
 use Rattle.tags.specs.Escapes.{decoded}
 use Rattle.tags.specs.Fields.{name_in, value_in}
-use Rattle.tags.specs.Gathering.{gathered}
+use Rattle.tags.specs.Steps.Gathering.{gathered}
 use Rattle.tags.specs.Views.{field_value}
 use Rattle.tags.proofs.FieldLemmas.{good_other, good_kind}
 use Rattle.tags.proofs.fields.Gathered.add.Goals as goal

@@ -1,7 +1,6 @@
 use Rattle.std.proofs.Common.{◌≡◌, ◌∙◌, None, Some, is_some, option_map, true, false, sym, ap}
-use Rattle.tags.specs.Cutting.{is_empty}
+use Rattle.tags.specs.Fields.{is_empty, name_in, value_in}
 use Rattle.tags.specs.Escapes.{decoded}
-use Rattle.tags.specs.Fields.{name_in, value_in}
 use Rattle.tags.proofs.FieldLemmas.{noted-escape, noted-other, noted-bad_name, noted-empty, noted-first_kind, noted-second_kind}
 use Rattle.tags.proofs.fields.Noted.add.Goals as goal
 use Rattle.tags.proofs.fields.Noted.add.Goals.{in_default-via-in-Some+else-is_field_name, in_default-via-in-None+then-not-is_empty+else-not-self, in_default-via-in-None+else-not-is_empty}

@@ -2,13 +2,13 @@
 use Rattle.std.specs.Prelude.{◌≡◌, ◌<◌, ◌+◌, ℕ, None, Some, Result, Ok, Err, IsUtf8}
 use Rattle.std.specs.Option.{ForSome}
 use Rattle.std.specs.Prelude.{option_map}
-use Rattle.tags.specs.Cutting.{each_field}
+use Rattle.tags.specs.Steps.Cutting.{each_field}
 use Rattle.tags.specs.Escapes.{decoded}
 use Rattle.tags.specs.Fault.{Reading, most_lines}
-use Rattle.tags.specs.Fields.{fields_of}
+use Rattle.tags.specs.Steps.Fields.{fields_of}
 use Rattle.tags.specs.States.{State, add, counted, next, order_in, running, stopped}
 use Rattle.tags.specs.Values.{ContentValue, EntryValue, ordinary}
-use Rattle.tags.specs.Views.{pseudo_value}
+use Rattle.tags.specs.Steps.Views.{pseudo_value}
 use Rattle.tags.specs.declared.code.Code.{Code}
 use Rattle.tags.specs.declared.code.LineFault.{LineFault}
 use Rattle.tags.specs.declared.content.Content.{Content}

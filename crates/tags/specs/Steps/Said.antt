@@ -1,10 +1,10 @@
 -- What a line of the grammar says: tags(5), "Proposal".
 use Rattle.std.specs.Prelude.{ℕ, List, Result, Ok, Err}
 use Rattle.tags.specs.Escapes.{decoded}
-use Rattle.tags.specs.Faults.{◌>>=◌, some_or}
-use Rattle.tags.specs.Fields.{fields_of}
+use Rattle.tags.specs.Steps.Faults.{◌>>=◌, some_or}
+use Rattle.tags.specs.Steps.Fields.{fields_of}
 use Rattle.tags.specs.Grammar.{TagLine, address_text, fields_in}
-use Rattle.tags.specs.Reading.{entry_of}
+use Rattle.tags.specs.Steps.Reading.{entry_of}
 use Rattle.tags.specs.Values.{ContentValue, ordinary}
 use Rattle.tags.specs.declared.code.Code.{Code}
 use Rattle.tags.specs.declared.code.Code.TheVariants.{T05, T06}

@@ -1,14 +1,14 @@
 -- What a line says, or the least code of the line alone: tags(5), "Proposal".
-use Rattle.std.specs.Prelude.{ℕ, ◌==◌, ◌&&◌, ◌||◌, Bool, not, nat_eq, nat_le, List, codes, bytes_eq, Result, Ok, Err, if◌then◌else◌}
+use Rattle.std.specs.Prelude.{ℕ, ◌&&◌, Bool, not, nat_eq, List, codes, bytes_eq, Result, Ok, Err, if◌then◌else◌}
 use Rattle.std.specs.List.{list_any, starts_with}
 use Rattle.std.specs.Str.{is_utf8}
 use Rattle.tags.specs.Around.{around}
 use Rattle.tags.specs.Bytes.{tab}
 use Rattle.tags.specs.Conditions.{is_control}
-use Rattle.tags.specs.Cutting.{front_of, tail_of, each_field}
+use Rattle.tags.specs.Steps.Cutting.{front_of, tail_of, each_field}
 use Rattle.tags.specs.Escapes.{decoded}
-use Rattle.tags.specs.Faults.{◌>>=◌, some_or}
-use Rattle.tags.specs.Fields.{fields_of}
+use Rattle.tags.specs.Steps.Faults.{◌>>=◌, some_or}
+use Rattle.tags.specs.Steps.Fields.{fields_of}
 use Rattle.tags.specs.Values.{EntryValue, FieldsValue, ContentValue, sorted, other, ordinary}
 use Rattle.tags.specs.declared.code.Code.{Code}
 use Rattle.tags.specs.declared.code.Code.TheVariants.{T02, T03, T04, T05, T06, T08}

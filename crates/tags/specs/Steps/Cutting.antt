@@ -1,9 +1,10 @@
 -- A line of a tag cut at its Tabs and at the end of its address: tags(5), "Proposal".
-use Rattle.std.specs.Prelude.{ℕ, ◌+◌, ◌==◌, ◌&&◌, ◌||◌, Bool, true, false, not, nat_le, List, [], ◌∷◌, length, take, drop, Option, Some, None, option_map, option_and_then, if◌then◌else◌}
+use Rattle.std.specs.Prelude.{ℕ, ◌+◌, ◌==◌, ◌&&◌, ◌||◌, Bool, true, false, not, nat_le, List, [], ◌∷◌, take, drop, Option, Some, None, option_map, option_and_then, if◌then◌else◌}
 use Rattle.std.specs.List.{list_all, position_or_len, slice_split}
 use Rattle.std.specs.Char.{is_ascii_digit}
 use Rattle.std.specs.Str.Parse.{digits_value}
 use Rattle.tags.specs.Around.{around}
+use Rattle.tags.specs.Fields.{is_empty}
 use Rattle.tags.specs.Bytes.{tab, double_quote, slash, digit_zero, semicolon, question_mark, backslash}
 
 -- ---- the name and the file
@@ -13,9 +14,6 @@ pub record Front : Type 0 where
   pub name : List ℕ
   pub file : List ℕ
   pub rest : List ℕ
-
-abbrev pub is_empty : List ℕ → Bool
-is_empty bs = length bs == 0
 
 abbrev pub front_by : List ℕ → List ℕ × List ℕ → Option Front
 front_by name p =

@@ -2,8 +2,9 @@
 use Rattle.std.specs.Prelude.{◌≡◌, ℕ, ◌++◌, ◌||◌, ◌∷◌, Bool, not, nat_lt, List, length, map, Option, None, option_map, string_bytes, is_some, Result, Ok, Err, true, false, if◌then◌else◌}
 use Rattle.std.specs.List.{list_any, filter_map}
 use Rattle.std.specs.Option.{option_to_list}
-use Rattle.tags.specs.Faults.{fault_in}
-use Rattle.tags.specs.Fields.{fields_by, has_bad_escape, is_bad_field, kind_in, other_in}
+use Rattle.tags.specs.Steps.Faults.{fault_in}
+use Rattle.tags.specs.Steps.Fields.{fields_by}
+use Rattle.tags.specs.Fields.{has_bad_escape, is_bad_field, kind_in, other_in}
 use Rattle.tags.specs.Values.{FieldValue, FieldsValue}
 use Rattle.tags.specs.Views.{field_value}
 use Rattle.tags.specs.declared.code.Code.{Code}

@@ -1,0 +1,83 @@
+//! Where chains of `next` edges end.
+ghost use Rattle.std.specs.Prelude.{◌≡◌, ◌<◌, ◌++◌, ◌∷◌, [], None, Some, map, vec_len, vec_capacity};
+ghost use Rattle.lsif.specs.Element.{IdValue, element_value};
+ghost use Rattle.dump.specs.Chains.{place_in, HasShortcuts, IsPlace, IsEnd, CanJoin, JoinsPlaces};
+ghost use Rattle.dump.specs.Conditions.{order_code};
+ghost use Rattle.dump.specs.Steps.{IsSound};
+ghost use Rattle.dump.specs.Walks.{next_pairs};
+
+use lsif::Element;
+
+/// The place of the last vertex of the chain from the vertex at this place. Of each vertex that a `next` edge leaves,
+/// `shortcuts` has the place of one further on.
+pub(crate) fn end_of(shortcuts: &[Option<usize>], elements: &[Element], place: usize) -> usize
+    requires shortcuts { HasShortcuts (next_pairs (map element_value elements.now)) (map element_value elements.now) shortcuts.now }
+    requires sound { IsSound (map element_value elements.now) }
+    requires place { IsPlace (map element_value elements.now) place }
+    ensures { IsEnd (next_pairs (map element_value elements.now)) (map element_value elements.now) place result }
+{
+    let mut at = place;
+    for _step in 0..shortcuts.len() {
+        match shortcuts[at] {
+            Some(further) => at = further,
+            None => return at,
+        }
+    }
+    at
+}
+
+/// Lets the shortcuts from this place on lead to the end of the chain, so that the next walk along them is short.
+fn shorten(shortcuts: &mut Vec<Option<usize>>, elements: &[Element], place: usize, end: usize)
+    requires shortcuts { HasShortcuts (next_pairs (map element_value elements.now)) (map element_value elements.now) shortcuts.old.items }
+    requires sound { IsSound (map element_value elements.now) }
+    requires last { IsEnd (next_pairs (map element_value elements.now)) (map element_value elements.now) place end }
+    ensures shortcuts { HasShortcuts (next_pairs (map element_value elements.now)) (map element_value elements.now) shortcuts.new.items }
+    ensures len { vec_len shortcuts.new ≡ vec_len shortcuts.old }
+    ensures capacity { vec_capacity shortcuts.new ≡ vec_capacity shortcuts.old }
+{
+    let mut at = place;
+    for _step in 0..shortcuts.len() {
+        match shortcuts[at] {
+            Some(further) => {
+                shortcuts[at] = Some(end);
+                at = further;
+            }
+            None => return,
+        }
+    }
+}
+
+/// Enters a `next` edge from the vertex at a place to that at another.
+fn join(shortcuts: &mut Vec<Option<usize>>, elements: &[Element], from: usize, to: usize)
+    requires shortcuts { HasShortcuts (next_pairs (map element_value elements.now)) (map element_value elements.now) shortcuts.old.items }
+    requires sound { IsSound (map element_value elements.now) }
+    requires joins { CanJoin (next_pairs (map element_value elements.now)) (map element_value elements.now) from to }
+    ensures shortcuts { (a b : IdValue) → place_in (map element_value elements.now) a ≡ Some from → place_in (map element_value elements.now) b ≡ Some to
+        → HasShortcuts (next_pairs (map element_value elements.now) ++ (a, b) ∷ []) (map element_value elements.now) shortcuts.new.items }
+    ensures len { vec_len shortcuts.new ≡ vec_len shortcuts.old }
+    ensures capacity { vec_capacity shortcuts.new ≡ vec_capacity shortcuts.old }
+{
+    let end = end_of(shortcuts, elements, to);
+    shorten(shortcuts, elements, to, end);
+    shortcuts[from] = Some(end);
+}
+
+/// Enters the element that follows these; it joins the vertices at these places, where it's a `next` edge.
+pub(crate) fn follow(
+    shortcuts: &mut Vec<Option<usize>>,
+    elements: &[Element],
+    element: &Element,
+    joined: Option<(usize, usize)>,
+)
+    requires room { vec_len shortcuts.old < vec_capacity shortcuts.old }
+    requires shortcuts { HasShortcuts (next_pairs (map element_value elements.now)) (map element_value elements.now) shortcuts.old.items }
+    requires sound { IsSound (map element_value elements.now) }
+    requires free { order_code (map element_value elements.now) (element_value element.now) ≡ None }
+    requires joined { JoinsPlaces (map element_value elements.now) (element_value element.now) joined }
+    ensures { HasShortcuts (next_pairs (map element_value elements.now ++ element_value element.now ∷ [])) (map element_value elements.now ++ element_value element.now ∷ []) shortcuts.new.items }
+{
+    if let Some((from, to)) = joined {
+        join(shortcuts, elements, from, to);
+    }
+    shortcuts.push_reserved(None);
+}
