@@ -33,7 +33,7 @@ IsDumpReport dump (Elements n) = IsFault dump None × (n ≡ length dump)
 IsDumpReport dump (Tags n) = ⊥
 IsDumpReport dump (Faulty l) = (f : dump_faults.LineFault) × IsFault dump (Some f) × ShowsDumpFault f l
 
--- the report of the bytes of a reader, where they are told
+-- the report of the bytes of a reader, where they are known
 abbrev pub ReportsDump : Option (List ℕ) → Report → Type 0
 ReportsDump None report = ⊤
 ReportsDump (Some text) report = IsDumpReport (dump_of text) report
@@ -51,7 +51,7 @@ IsTagsReport lines (Elements n) = ⊥
 IsTagsReport lines (Tags n) = IsFaultless lines × (n ≡ length (tags_of (contents lines)))
 IsTagsReport lines (Faulty l) = (k : ℕ) × (c : tags_code.Code) × IsFirstFault lines k c × (l.line ≡ k + 1) × ShowsTagsCode c l
 
--- the report of the bytes of a reader, where they are told
+-- the report of the bytes of a reader, where they are known
 abbrev pub ReportsTags : Option (List ℕ) → Report → Type 0
 ReportsTags None report = ⊤
 ReportsTags (Some text) report = (readings : List tags_faults.Reading) × AreReadings (lines_of text) readings × IsTagsReport readings report

@@ -1,6 +1,6 @@
 //! `codenav check-tags`: the report of a tags file.
 ghost use Rattle.std.specs.Prelude.{◌-◌, ◌^◌, ◌<◌, IfOk};
-ghost use Rattle.lsif.specs.Held.{told};
+ghost use Rattle.lsif.specs.Buffered.{unread};
 ghost use Rattle.lsif.specs.Streams.{CanCount};
 ghost use Rattle.tags.specs.Faults.{result_map};
 ghost use Rattle.tags.specs.Fault.{Reading};
@@ -60,7 +60,7 @@ fn take_line<R: Source>(
 ) -> Result<Step, CheckFault>
     requires count { R.failed r.old < 2 ^ 64 - 1 }
     requires ready { IsReady lines.old }
-    ensures takes { IfOk result (λ step. Takes (told lines.old.pending (R.left r.old)) checker.old step checker.new lines.new (told lines.new.pending (R.left r.new))) }
+    ensures takes { IfOk result (λ step. Takes (unread lines.old.pending (R.left r.old)) checker.old step checker.new lines.new (unread lines.new.pending (R.left r.new))) }
     ensures counted { CountsRead (R.failed r.old) (R.failed r.new) result }
 {
     reading_law();

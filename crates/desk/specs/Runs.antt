@@ -1,4 +1,4 @@
--- Runs of the machine, with refusals for want of memory or of the store in between.
+-- Runs of the machine, with refusals in between, because memory ran out or the store refused.
 use Rattle.std.specs.Prelude.{◌≡◌, ◌⊎◌, List, [], ◌∷◌, if◌then◌else◌}
 use Rattle.desk.specs.Machine.{State, reply_to, after, AnswersIn}
 use Rattle.desk.specs.Reply.{ReplyValue, out_of_memory, store_refused, is_refusal}

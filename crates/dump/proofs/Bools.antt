@@ -1,4 +1,4 @@
--- What the parts of a test tell of it, and it of them.
+-- What the parts of a test say of it, and it of them.
 use Rattle.std.proofs.Common.{◌≡◌, ◌⊎◌, inl, inr, ◌&&◌, ◌||◌, Bool, true, false, not, refl, sym}
 
 pub or_none : (a b : Bool) → (a || b) ≡ false → (a ≡ false) × (b ≡ false)

@@ -1,4 +1,4 @@
--- What tables tell of elements, and what an element more makes of them.
+-- What tables say of elements, and what an element more makes of them.
 use Rattle.std.proofs.Common.{◌≡◌, ◌∙◌, ◌&&◌, ◌||◌, ◌+◌, ◌<◌, ◌++◌, ◌∷◌, [], ℕ, nat_eq, Bool, true, false, cond, List, length, refl, sym, ap, arith, Option, Some, None, option_and_then, is_some}
 use Rattle.std.specs.Prelude.{Contains, option_map}
 use Rattle.std.specs.List.{list_any, position}

@@ -164,7 +164,7 @@ one_more d x free both = (
 pub one_container : (elements : List ElementValue) → IsSound elements → HasOneContainer elements
 one_container elements h = (holds (λ d. AreEndsKnown d × HasOneContainer d) (λ x at. absurd (not_in_nil x at), λ r y z at. absurd (not_in_nil y at)) one_more elements h).1
 
--- ---- what the container of a range tells
+-- ---- what the container of a range says
 
 true_only : (b : Bool) → (b ≡ true → ⊥) → b ≡ false
 true_only true e = absurd (e refl)

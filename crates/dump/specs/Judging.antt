@@ -15,7 +15,7 @@ use Rattle.dump.specs.Fault.{IsFault}
 use Rattle.dump.specs.Lines.{dump_of}
 use Rattle.dump.specs.Steps.{Progress, running, stopped, progress}
 
--- what the reading of told bytes answers: the elements of a dump without fault, or the dump's fault
+-- what the reading of known bytes answers: the elements of a dump without fault, or the dump's fault
 abbrev pub ReadsDump : Option (List ℕ) → Result (List ElementValue) DumpFault → Type 0
 ReadsDump None result = ⊤
 ReadsDump (Some text) (Ok elements) = IsFault (dump_of text) None × (dump_of text ≡ map Ok elements)
@@ -47,13 +47,13 @@ abbrev pub ReadsFirst : List ℕ → Reading → Option (List ℕ) → Type 0
 ReadsFirst text (Ok x) left = (rest : List ℕ) × (left ≡ Some rest) × (dump_of text ≡ Ok x ∷ dump_of rest)
 ReadsFirst text (Err c) left = (others : List Reading) × (dump_of text ≡ Err c ∷ others)
 
--- the reading of the next line of told bytes, or that there is none
+-- the reading of the next line of known bytes, or that there is none
 abbrev pub ReadsNext : Option (List ℕ) → Option Reading → Option (List ℕ) → Type 0
 ReadsNext None next left = ⊤
 ReadsNext (Some text) (Some line) left = ReadsFirst text line left
 ReadsNext (Some text) None left = dump_of text ≡ []
 
--- of told bytes the checker has taken the lines before those that are left
+-- of known bytes the checker has taken the lines before those that are left
 abbrev pub HasTaken : Option (List ℕ) → Progress → Option (List ℕ) → Type 0
 HasTaken None state left = ⊤
 HasTaken (Some text) state left =

@@ -60,7 +60,7 @@ IsRunning (running elements) = ⊤
 IsRunning (stopped f) = ⊥
 
 -- what `feed` answers, where the step leads from old to due: a line without fault goes on, a faulty one stops for
--- good, and want of memory leaves everything as it was
+-- good, and where memory runs out everything stays as it was
 abbrev pub Feeds : Result (Unit {0}) FeedFault → Progress → Progress → Progress → Type 0
 Feeds (Ok u) old due new = (new ≡ due) × IsRunning due
 Feeds (Err faults.Memory) old due new = (new ≡ old) × IsRunning old

@@ -83,7 +83,7 @@ fn enter_document(
     Ok(())
 }
 
-/// Keeps what an element tells beside its own id: of a `contains` edge the spans of its targets, of a document its
+/// Keeps what an element says beside its own id: of a `contains` edge the spans of its targets, of a document its
 /// serialized URL. Where memory is refused all stays as it is.
 fn keep(
     alloc: Global,

@@ -1,7 +1,7 @@
 //! The dump that a reader's bytes are.
 ghost use Rattle.std.specs.Prelude.{◌≡◌, ◌-◌, ◌^◌, ◌<◌, IfOk, IfErr, option_map};
 ghost use Rattle.lsif.specs.Element.{reading_value};
-ghost use Rattle.lsif.specs.Held.{told};
+ghost use Rattle.lsif.specs.Buffered.{unread};
 ghost use Rattle.dump.specs.Judging.{CountsRead, GoesOn, IsOutside, IsReady, ReadsDump, ReadsNext, as_dump_fault};
 
 use crate::checker::{CheckedDump, Checker};
@@ -42,7 +42,7 @@ fn next_reading<R: Source>(
 ) -> Result<Option<Result<Element, Code>>, DumpFault>
     requires count { R.failed r.old < 2 ^ 64 - 1 }
     requires ready { IsReady lines.old }
-    ensures read { IfOk result (λ next. ReadsNext (told lines.old.pending (R.left r.old)) (option_map reading_value next) (told lines.new.pending (R.left r.new))) }
+    ensures read { IfOk result (λ next. ReadsNext (unread lines.old.pending (R.left r.old)) (option_map reading_value next) (unread lines.new.pending (R.left r.new))) }
     ensures goes_on { IfOk result (λ next. GoesOn next lines.new) }
     ensures unfaulty { IfErr result IsOutside }
     ensures counted { CountsRead (R.failed r.old) (R.failed r.new) result }

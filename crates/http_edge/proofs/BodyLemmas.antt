@@ -4,11 +4,11 @@ use Rattle.std.proofs.Math.Seq.{drop-nil}
 use Rattle.std.proofs.lemmas.List.{take-append-le, drop-append-le, take_all, drop_all, length-take, length-drop}
 use Rattle.lsif.specs.Streams.{AtEnd}
 use Rattle.http_edge.specs.Heads.{request_head, SettlesHead}
-use Rattle.http_edge.specs.Items.{IsUnended}
-use Rattle.http_edge.specs.Requests.{refused, item_of}
+use Rattle.http_edge.specs.Messages.{IsUnended}
+use Rattle.http_edge.specs.Requests.{refused, message_of}
 use Rattle.http_edge.specs.Steps.Serving.{GivesHead, Gives}
 use Rattle.http_edge.specs.declared.refusal.Refusal.TheVariants.{BodyCut}
-use Rattle.http_edge.proofs.ItemLemmas.{head-append, head_some}
+use Rattle.http_edge.proofs.MessageLemmas.{head-append, head_some}
 
 -- a head that asks for a body came whole
 pub head_whole : (bytes method target : List ℕ) (len : ℕ) (rest : List ℕ) (left : Option (List ℕ))
@@ -20,7 +20,7 @@ head_whole bytes method target len rest left given = elim given [
 
 pub body_whole : (held c rest body junk next method target : List ℕ) (len : ℕ) (left : Option (List ℕ))
     → SettlesHead held (request_head method target len) rest → rest ++ c ≡ body ++ next → length body ≡ len
-    → Gives (held ++ c) (item_of method target (take len (body ++ junk))) next left
+    → Gives (held ++ c) (message_of method target (take len (body ++ junk))) next left
 body_whole held c rest body junk next method target len left s e fits =
     let le : len ≤ length body = omega (arith, fits) in
     let whole : (ys : List ℕ) → take len (body ++ ys) ≡ body = λ ys. take-append-le len body ys le ∙ take_all len body (omega (arith, fits)) in
@@ -53,10 +53,10 @@ body_ended held c rest method target len next left s short ended e =
 pub room_taken : (xs : List ℕ) (len most : ℕ) → len ≤ most → most ≤ length xs → length (take len xs) ≡ len
 room_taken xs len most a b = let l = length-take len xs in omega arith
 
--- the same, of bytes in hand that came one part after another
+-- the same, of buffered bytes that came one part after another
 pub gives_whole : (old b held c rest body junk next method target : List ℕ) (len : ℕ) (left left' : Option (List ℕ))
     → held ≡ old ++ b → GivesHead held (request_head method target len) rest left' → rest ++ c ≡ body ++ next → length body ≡ len
-    → Gives (old ++ (b ++ c)) (item_of method target (take len (body ++ junk))) next left
+    → Gives (old ++ (b ++ c)) (message_of method target (take len (body ++ junk))) next left
 gives_whole old b held c rest body junk next method target len left left' e given f fits =
     rw (← append_assoc old b c, ← e)
     (body_whole held c rest body junk next method target len left (head_whole held method target len rest left' given) f fits)

@@ -2,7 +2,7 @@ pub mod BodyLemmas
 pub mod Ends
 pub mod FieldLemmas
 pub mod HeadLemmas
-pub mod ItemLemmas
+pub mod MessageLemmas
 pub mod MovedLemmas
 pub mod PairLemmas
 pub mod Paths

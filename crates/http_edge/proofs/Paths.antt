@@ -140,7 +140,7 @@ one_segment b path byte ne h =
 suffix_slash : (x : ℕ) (p : List ℕ) → longest_suffix (x ∷ (p ++ slash ∷ [])) after_param ≡ slash ∷ []
 suffix_slash x p = rw (cuts_slash x p) refl
 
--- after a segment the routes are told apart by what follows
+-- after a segment the routes differ by what follows
 more_segments : (x : ℕ) (p rest : List ℕ) → x < 256 → NoSlash (x ∷ p) → first at_param (x ∷ (p ++ slash ∷ rest)) ≡ first after_param (slash ∷ rest)
 more_segments x p rest byte a =
     first_param at_param x p rest (rw (ne_eqb 256 x (λ e. absurd (omega (arith, e)))) refl) refl (segment_is (x ∷ p) rest a) (suffix_slash x p)

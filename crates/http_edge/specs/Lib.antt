@@ -1,6 +1,6 @@
 pub mod Fields
 pub mod Heads
-pub mod Items
+pub mod Messages
 pub mod Parameters
 pub mod Refusals
 pub mod Replies

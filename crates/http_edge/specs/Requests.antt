@@ -16,10 +16,10 @@ use Rattle.http_edge.specs.declared.request.Asked.TheVariants.{Request, Refused}
 use Rattle.http_edge.specs.declared.refusal.Refusal.{Refusal}
 use Rattle.http_edge.specs.declared.refusal.Refusal.TheVariants.{NoSuchRoute, MethodNotAllowed, BadParameter}
 
--- an item of a stream: a request of the desk, or a refusal
-pub data ItemValue : Type 0 where
-  request : RequestValue → ItemValue
-  refused : Refusal → ItemValue
+-- a message of a stream: a request of the desk, or a refusal
+pub data MessageValue : Type 0 where
+  request : RequestValue → MessageValue
+  refused : Refusal → MessageValue
 
 -- a target up to its first `?`, and what follows that (RFC 9112, section 3.2.1)
 abbrev pub path_in : List ℕ → List ℕ
@@ -68,15 +68,15 @@ request_of Lsif project query body =
 request_of Definition project query body =
     definition_of (where_so is_project_name project) (required uri_in (parameter query (codes "uri"))) (position_in query)
 
-abbrev pub with_form : Option RequestValue → ItemValue
+abbrev pub with_form : Option RequestValue → MessageValue
 with_form None = refused BadParameter
 with_form (Some asked) = request asked
 
-abbrev pub with_method : Bool → Route → Option RequestValue → ItemValue
+abbrev pub with_method : Bool → Route → Option RequestValue → MessageValue
 with_method true route asked = with_form asked
 with_method false route asked = refused (MethodNotAllowed route)
 
-abbrev pub with_route : Option (Route × List ℕ) → List ℕ → List ℕ → List ℕ → ItemValue
+abbrev pub with_route : Option (Route × List ℕ) → List ℕ → List ℕ → List ℕ → MessageValue
 with_route None method query body = refused NoSuchRoute
 with_route (Some found) method query body =
     with_method (bytes_eq method (method_of found.0)) found.0 (request_of found.0 found.1 query body)
@@ -86,7 +86,7 @@ abbrev pub route_in : List ℕ → Option (Route × List ℕ)
 route_in path = if is_utf8 path then route_of path else None
 
 -- what a method, a target and a body ask
-unfoldable pub item_of : List ℕ → List ℕ → List ℕ → ItemValue
-item_of method target body = with_route (route_in (path_in target)) method (query_in target) body
+unfoldable pub message_of : List ℕ → List ℕ → List ℕ → MessageValue
+message_of method target body = with_route (route_in (path_in target)) method (query_in target) body
 
 -- ---- the same of the program's values

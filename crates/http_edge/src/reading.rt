@@ -1,10 +1,10 @@
-//! Reads the next item of a stream.
+//! Reads the next message of a stream.
 ghost use Rattle.std.specs.Prelude.{◌≡◌, ◌≢◌, ℕ, ◌+◌, ◌-◌, ◌^◌, ◌<◌, ◌≤◌, List, [], drop, take, Option, Some, None, IfOk, IfSome, length};
 ghost use Rattle.lsif.specs.Streams.{AtEnd, CountsFailure, Moves, Pulls};
 ghost use Rattle.http_edge.specs.Fields.{body_limit};
 ghost use Rattle.http_edge.specs.Steps.Heads.{FitsIn};
 ghost use Rattle.http_edge.specs.Heads.{head_limit};
-ghost use Rattle.http_edge.specs.Steps.Serving.{NextHead, FillsBody, ReadsBody, NextItem, ItemFits};
+ghost use Rattle.http_edge.specs.Steps.Serving.{NextHead, FillsBody, ReadsBody, NextMessage, MessageFits};
 
 use crate::head::{Head, RequestLine, first_head};
 use crate::refusal::Refusal;
@@ -12,20 +12,20 @@ use lsif::{Buffer, Failed, Source};
 
 /// What comes next in a stream.
 #[derive(Clone, Copy, Debug, PartialEq, Eq)]
-pub(crate) enum Item {
-    /// Where a request's line is in the bytes in hand, and the length of its body, which is in the buffer for bodies.
+pub(crate) enum Message {
+    /// Where a request's line is in the buffered bytes, and the length of its body, which is in the buffer for bodies.
     Request(RequestLine, usize),
     Refused(Refusal),
 }
 
-/// The next item, and how many of the bytes in hand it takes.
+/// The next message, and how many of the buffered bytes it takes.
 #[derive(Clone, Copy, Debug, PartialEq, Eq)]
 pub(crate) struct Next {
-    pub item: Item,
+    pub message: Message,
     pub taken: usize,
 }
 
-/// What the next head says, and how many of the bytes in hand it takes. None at the end of the input.
+/// What the next head says, and how many of the buffered bytes it takes. None at the end of the input.
 fn next_head<R: Source>(r: &mut R, buffer: &mut Buffer) -> Result<Option<(Head, usize)>, Failed>
     requires count { R.failed r.old < 2 ^ 64 - 1 }
     requires room { head_limit ≤ buffer.old.capacity }
@@ -85,7 +85,7 @@ fn fill_body<R: Source>(r: &mut R, body: &mut [u8], came: usize) -> Result<bool,
     Ok(true)
 }
 
-/// Reads a body, of the bytes in hand first. Says how many of those are of it, or None where the input ended in it.
+/// Reads a body, of the buffered bytes first. Says how many of those are of it, or None where the input ended in it.
 fn read_body<R: Source>(r: &mut R, held: &[u8], body: &mut [u8]) -> Result<Option<usize>, Failed>
     requires count { R.failed r.old < 2 ^ 64 - 1 }
     ensures body { ReadsBody (length body.old) held.now (R.left r.old) (R.left r.new) body.new result }
@@ -101,9 +101,9 @@ fn read_body<R: Source>(r: &mut R, held: &[u8], body: &mut [u8]) -> Result<Optio
     }
 }
 
-/// The next item: of the bytes in hand, and then of those that are read. Its request line stays in hand, and its body
+/// The next message: of the buffered bytes, and then of those that are read. Its request line stays buffered, and its body
 /// is in the buffer for bodies. None at the end of the input.
-pub(crate) fn next_item<R: Source>(
+pub(crate) fn next_message<R: Source>(
     r: &mut R,
     buffer: &mut Buffer,
     body: &mut [u8],
@@ -111,8 +111,8 @@ pub(crate) fn next_item<R: Source>(
     requires count { R.failed r.old < 2 ^ 64 - 1 }
     requires room { head_limit ≤ buffer.old.capacity }
     requires body_room { body_limit ≤ length body.old }
-    ensures item { NextItem buffer.old.pending (R.left r.old) buffer.new.pending (R.left r.new) body.new result }
-    ensures fits { IfOk result (λ o. IfSome o (λ next. ItemFits (length buffer.new.pending) (length body.old) next.item)) }
+    ensures message { NextMessage buffer.old.pending (R.left r.old) buffer.new.pending (R.left r.new) body.new result }
+    ensures fits { IfOk result (λ o. IfSome o (λ next. MessageFits (length buffer.new.pending) (length body.old) next.message)) }
     ensures counted { CountsFailure (R.failed r.old) (R.failed r.new) result }
     ensures capacity { buffer.new.capacity ≡ buffer.old.capacity }
     ensures len { length body.new ≡ length body.old }
@@ -120,8 +120,8 @@ pub(crate) fn next_item<R: Source>(
     let (line, len, taken) = match next_head(r, buffer) {
         Ok(None) => return Ok(None),
         Ok(Some((Head::Refused(refusal), taken))) => {
-            let item = Item::Refused(refusal);
-            return Ok(Some(Next { item, taken }));
+            let message = Message::Refused(refusal);
+            return Ok(Some(Next { message, taken }));
         }
         Ok(Some((Head::Request(line, len), taken))) => (line, len, taken),
         Err(e) => return Err(e),
@@ -129,11 +129,11 @@ pub(crate) fn next_item<R: Source>(
     let held = buffer.pending();
     match read_body(r, &held[taken..], &mut body[..len]) {
         Ok(Some(count)) => Ok(Some(Next {
-            item: Item::Request(line, len),
+            message: Message::Request(line, len),
             taken: taken + count,
         })),
         Ok(None) => Ok(Some(Next {
-            item: Item::Refused(Refusal::BodyCut),
+            message: Message::Refused(Refusal::BodyCut),
             taken: held.len(),
         })),
         Err(e) => Err(e),

@@ -4,7 +4,7 @@ ghost use Rattle.positions.specs.Position.{number_limit};
 ghost use Rattle.desk.specs.Names.{is_project_name, is_key, where_so, number_in};
 ghost use Rattle.desk.specs.Requests.{command_value, query_value, request_value};
 ghost use Rattle.http_edge.specs.Parameters.{parameter};
-ghost use Rattle.http_edge.specs.Requests.{path_in, query_in, required, uri_in, put_of, position_in, definition_of, request_of, route_in, item_of};
+ghost use Rattle.http_edge.specs.Requests.{path_in, query_in, required, uri_in, put_of, position_in, definition_of, request_of, route_in, message_of};
 ghost use Rattle.http_edge.specs.Steps.Requests.{asked_value};
 ghost use Rattle.http_edge.specs.Routes.{method_of};
 ghost use Rattle.http_edge.specs.Steps.Routes.{named_route, routes};
@@ -158,7 +158,7 @@ pub(crate) fn read_request<'b>(
     body: &'b [u8],
 ) -> Result<Asked<'b>, AllocError>
     requires { router.now ≡ routes }
-    ensures { IfOk result (λ asked. asked_value asked ≡ item_of method.now target.now body.now) }
+    ensures { IfOk result (λ asked. asked_value asked ≡ message_of method.now target.now body.now) }
 {
     let (path, query) = split_target(target);
     let (route, project) = match route_in(router, path) {

@@ -5,17 +5,17 @@ ghost use Rattle.lsif.specs.Sending.{CountsSending, Sends};
 ghost use Rattle.lsif.specs.Streams.{CanCount};
 ghost use Rattle.http_edge.specs.Fields.{body_limit};
 ghost use Rattle.http_edge.specs.Heads.{head_limit};
-ghost use Rattle.http_edge.specs.Items.{ends};
+ghost use Rattle.http_edge.specs.Messages.{ends};
 ghost use Rattle.http_edge.specs.Steps.Replies.{answer_text};
-ghost use Rattle.http_edge.specs.Requests.{item_of};
+ghost use Rattle.http_edge.specs.Requests.{message_of};
 ghost use Rattle.http_edge.specs.Steps.Routes.{routes};
 ghost use Rattle.http_edge.specs.Serving.{Answers, CountsRead, CountsWrite, Serves};
-ghost use Rattle.http_edge.specs.Steps.Serving.{ItemFits, item_value};
+ghost use Rattle.http_edge.specs.Steps.Serving.{MessageFits, message_value};
 ghost use Rattle.http_edge.specs.declared.serve.ServeFault.TheVariants.{Memory};
 
 use crate::fields::BODY_LIMIT;
 use crate::head::HEAD_LIMIT;
-use crate::reading::{Item, Next, next_item};
+use crate::reading::{Message, Next, next_message};
 use crate::reply::Answer;
 use crate::request::{Asked, read_request};
 use crate::route::{Route, router};
@@ -29,7 +29,7 @@ use std::alloc::{AllocError, Global};
 pub enum ServeFault {
     /// Memory was refused before anything was read or written.
     Memory,
-    /// The reader failed. The request in hand has no reply and no effect.
+    /// The reader failed. The request that was being read has no reply and no effect.
     Read,
     /// The writer failed, or took no byte. The request whose reply was cut has its effect.
     Write,
@@ -66,7 +66,7 @@ fn answer<D: Desk>(
 ) -> Answer
     requires { router.now ≡ routes }
     ensures { (m : State) → D.stands desk.old m → (n : State)
-        × Answers D.store_may_refuse m (item_of method.now target.now body.now) (answer_text result) n × D.stands desk.new n }
+        × Answers D.store_may_refuse m (message_of method.now target.now body.now) (answer_text result) n × D.stands desk.new n }
 {
     match read_request(alloc, router, method, target, body) {
         Ok(Asked::Request(Request::Command(command))) => Answer::Reply(desk.apply(&command)),
@@ -76,53 +76,53 @@ fn answer<D: Desk>(
     }
 }
 
-/// Answers an item.
-fn answer_item<D: Desk>(
+/// Answers a message.
+fn answer_message<D: Desk>(
     alloc: Global,
     desk: &mut D,
     router: &Router<Route>,
-    item: Item,
+    message: Message,
     held: &[u8],
     body: &[u8],
 ) -> Answer
     requires routes { router.now ≡ routes }
-    requires fits { ItemFits (length held.now) (length body.now) item }
+    requires fits { MessageFits (length held.now) (length body.now) message }
     ensures { (m : State) → D.stands desk.old m → (n : State)
-        × Answers D.store_may_refuse m (item_value held.now body.now item) (answer_text result) n × D.stands desk.new n }
+        × Answers D.store_may_refuse m (message_value held.now body.now message) (answer_text result) n × D.stands desk.new n }
 {
-    match item {
-        Item::Request(line, len) => {
+    match message {
+        Message::Request(line, len) => {
             let method = line.method.of(held);
             let target = line.target.of(held);
             answer(alloc, desk, router, method, target, &body[..len])
         }
-        Item::Refused(refusal) => Answer::Refused(refusal),
+        Message::Refused(refusal) => Answer::Refused(refusal),
     }
 }
 
-/// Answers an item, and writes the reply.
+/// Answers a message, and writes the reply.
 fn respond<D: Desk, W: Sink>(
     alloc: Global,
     desk: &mut D,
     router: &Router<Route>,
     w: &mut W,
-    item: Item,
+    message: Message,
     held: &[u8],
     body: &[u8],
 ) -> Result<(), Failed>
     requires routes { router.now ≡ routes }
-    requires fits { ItemFits (length held.now) (length body.now) item }
+    requires fits { MessageFits (length held.now) (length body.now) message }
     requires count { CanCount (W.output w.old) }
     ensures sent { (m : State) → D.stands desk.old m → (n : State) × (text : List ℕ)
-        × Answers D.store_may_refuse m (item_value held.now body.now item) text n × D.stands desk.new n
+        × Answers D.store_may_refuse m (message_value held.now body.now message) text n × D.stands desk.new n
         × Sends (W.output w.old) text result (W.output w.new) }
     ensures counted { CountsSending (W.output w.old) result (W.output w.new) }
 {
-    let answer = answer_item(alloc, desk, router, item, held, body);
+    let answer = answer_message(alloc, desk, router, message, held, body);
     answer.write(w)
 }
 
-/// Answers the next item, writes the reply, and lets the bytes in hand go that it takes.
+/// Answers the next message, writes the reply, and drops the buffered bytes that it takes.
 fn respond_next<D: Desk, W: Sink>(
     alloc: Global,
     desk: &mut D,
@@ -133,28 +133,28 @@ fn respond_next<D: Desk, W: Sink>(
     body: &[u8],
 ) -> Result<(), Failed>
     requires routes { router.now ≡ routes }
-    requires fits { ItemFits (length buffer.old.pending) (length body.now) next.item }
+    requires fits { MessageFits (length buffer.old.pending) (length body.now) next.message }
     requires taken { next.taken ≤ length buffer.old.pending }
     requires count { CanCount (W.output w.old) }
     ensures sent { (m : State) → D.stands desk.old m → (n : State) × (text : List ℕ)
-        × Answers D.store_may_refuse m (item_value buffer.old.pending body.now next.item) text n × D.stands desk.new n
+        × Answers D.store_may_refuse m (message_value buffer.old.pending body.now next.message) text n × D.stands desk.new n
         × Sends (W.output w.old) text result (W.output w.new) }
     ensures pending { buffer.new.pending ≡ drop next.taken buffer.old.pending }
     ensures capacity { buffer.new.capacity ≡ buffer.old.capacity }
     ensures counted { CountsSending (W.output w.old) result (W.output w.new) }
 {
-    let written = respond(alloc, desk, router, w, next.item, buffer.pending(), body);
+    let written = respond(alloc, desk, router, w, next.message, buffer.pending(), body);
     buffer.advance(next.taken);
     written
 }
 
-/// Whether nothing after the item is served.
-fn ends(item: Item) -> bool
-    ensures { (held body : List ℕ) → result ≡ ends (item_value held body item) }
+/// Whether nothing after the message is served.
+fn ends(message: Message) -> bool
+    ensures { (held body : List ℕ) → result ≡ ends (message_value held body message) }
 {
-    match item {
-        Item::Request(_, _) => false,
-        Item::Refused(refusal) => refusal.ends_stream(),
+    match message {
+        Message::Request(_, _) => false,
+        Message::Refused(refusal) => refusal.ends_stream(),
     }
 }
 
@@ -183,7 +183,7 @@ fn serve<D: Desk, R: Source, W: Sink>(
 {
     let mut count = 0;
     'serving: while count < limit {
-        let next = match next_item(r, buffer, body) {
+        let next = match next_message(r, buffer, body) {
             Ok(Some(next)) => next,
             Ok(None) => return Ok(count),
             Err(_) => return Err(ServeFault::Read),
@@ -194,7 +194,7 @@ fn serve<D: Desk, R: Source, W: Sink>(
             Err(_) => return Err(ServeFault::Write),
         }
         count += 1;
-        if ends(next.item) {
+        if ends(next.message) {
             return Ok(count);
         }
     }
@@ -220,7 +220,7 @@ fn body_buffer(alloc: Global) -> Result<Vec<u8>, AllocError>
 ///
 /// A head has at most 8,192 bytes, 34 lines and 32 fields, and a body at most 8,388,608 bytes. Both are whole in memory
 /// before the request is served. The buffers and the router are made first: where memory for them is refused, nothing was
-/// read or written. What is in hand is served before more is read.
+/// read or written. What is buffered is served before more is read.
 pub fn serve_stream<D: Desk, R: Source, W: Sink>(
     alloc: Global,
     desk: &mut D,

@@ -1,7 +1,7 @@
 -- What was taken of the bytes, in the words of the lines of a text.
 use Rattle.std.proofs.Common.{◌≡◌, ◌∙◌, ℕ, ◌<◌, List, [], ◌∷◌, ◌++◌, Option, Some, None, Result, Ok, Err, Bool, true, false, length, refl, ap, sym, inl, inr, arith, length-append}
 use Rattle.lsif.specs.Lines.{Reader, lines_of, BeginsWith, GivesLine, GivesNone, HasLongLine, NextLine}
-use Rattle.lsif.specs.Steps.Cutting.{HasNoFeed, TakesLine, TakesTold, EndsTold, BeginsLong, NextTaken}
+use Rattle.lsif.specs.Steps.Cutting.{HasNoFeed, TakesLine, TakesKnown, EndsKnown, BeginsLong, NextTaken}
 use Rattle.lsif.specs.declared.lines.LinesFault.{LinesFault}
 use Rattle.lsif.specs.declared.lines.LinesFault.TheVariants.{Memory, TooLong, Read}
 use Rattle.lsif.proofs.LinesOf.{is_line, lines_of-feed, lines_of-last, lines_of-front}
@@ -21,12 +21,12 @@ begins_with : (text line : List ℕ) (has_feed : Bool) (rest : List ℕ) → Tak
 begins_with text line true rest t = elim t.1 [ inl e ↦ e.1 | inr f ↦ cc (f.0) ]
 begins_with text line false rest t = elim t.1 [ inl e ↦ cc (e.0) | inr f ↦ (f.1, f.2, f.3) ]
 
-gives_line : (old : Option (List ℕ)) (line : List ℕ) (has_feed : Bool) (new : Option (List ℕ)) → TakesTold old line has_feed new → GivesLine old line has_feed new
+gives_line : (old : Option (List ℕ)) (line : List ℕ) (has_feed : Bool) (new : Option (List ℕ)) → TakesKnown old line has_feed new → GivesLine old line has_feed new
 gives_line None line has_feed new t = tt
 gives_line (Some text) line has_feed new t =
     (t.0, t.1, lines_of-takes text line has_feed t.0 t.2, is_line line t.2.0, begins_with text line has_feed t.0 t.2)
 
-gives_none : (old new : Option (List ℕ)) → EndsTold old new → GivesNone old new
+gives_none : (old new : Option (List ℕ)) → EndsKnown old new → GivesNone old new
 gives_none None new t = tt
 gives_none (Some text) new t = (ap lines_of t.0 ∙ no_lines, t.1)
 

@@ -2,7 +2,7 @@
 use Rattle.std.proofs.Common.{◌≡◌, ◌∙◌, ℕ, ◌+◌, Bool, List, [], ◌∷◌, ◌++◌, Option, Some, None, length, refl, ap, sym, arith, length-append, append_assoc}
 use Rattle.lsif.specs.Lines.{lines_of, GivesLine}
 
--- told lines are this many and then those that are left
+-- known lines are this many and then those that are left
 abbrev pub Seen : Option (List ℕ) → ℕ → Option (List ℕ) → Type 0
 Seen None n left = Unit {0}
 Seen (Some text) n left =

@@ -6,7 +6,7 @@ use Rattle.std.proofs.lemmas.Slice.{between_is}
 use Rattle.std.proofs.lemmas.Grind.{common_steps}
 use Rattle.std.proofs.Math.Seq.{take-add}
 use Rattle.lsif.specs.Streams.{Moves, AtEnd}
-use Rattle.lsif.specs.Held.{SameTold}
+use Rattle.lsif.specs.Buffered.{SameUnread}
 
 pub range_more : (xs : List ℕ) (s e n : ℕ) → s ≤ e → slice_range xs s (e + n) ≡ slice_range xs s e ++ take n (drop e xs)
 range_more xs s e n h =
@@ -21,7 +21,7 @@ range_drop xs s e n h =
     rw (← drop-drop n s xs) (sym cut)
 
 pub same_told : (old more bytes : List ℕ) (left left' : Option (List ℕ)) → more ≡ old ++ bytes → Moves left left' bytes
-    → SameTold old left more left'
+    → SameUnread old left more left'
 same_told old more bytes None left' e m = tt
 same_told old more bytes (Some xs) left' e m = (m.0, m.1, rw (m.2, e) (sym (append_assoc old bytes m.0)))
 
@@ -36,18 +36,18 @@ pub filled : (pending bytes : List ℕ) (start end n : ℕ) (left left' : Option
     → slice_range bytes start end ≡ pending
     → Moves left left' (take n (drop end bytes)) × (n ≡ 0 → 0 < length (drop end bytes) → AtEnd left')
     → (more : List ℕ) × (length more ≡ n) × (slice_range bytes start (end + n) ≡ pending ++ more)
-    × SameTold pending left (slice_range bytes start (end + n)) left' × Moves left left' more × (n ≡ 0 → AtEnd left')
+    × SameUnread pending left (slice_range bytes start (end + n)) left' × Moves left left' more × (n ≡ 0 → AtEnd left')
 filled pending bytes start end n left left' ordered room within is pulled =
     let more = take n (drop end bytes) in
     let grows : slice_range bytes start (end + n) ≡ pending ++ more = rw (range_more bytes start end n ordered, is) refl in
     let ends : n ≡ 0 → AtEnd left' = λ none. pulled.1 none (simp length-drop (omega arith)) in
     (more, grind (arith, common_steps), grows, same_told pending _ more left left' grows pulled.0, pulled.0, ends)
 
-pub same_told_refl : (pending : List ℕ) (left : Option (List ℕ)) → SameTold pending left pending left
+pub same_told_refl : (pending : List ℕ) (left : Option (List ℕ)) → SameUnread pending left pending left
 same_told_refl pending None = tt
 same_told_refl pending (Some xs) = (xs, refl, refl)
 
-pub same_told_trans : (p q r : List ℕ) (a b c : Option (List ℕ)) → SameTold p a q b → SameTold q b r c → SameTold p a r c
+pub same_told_trans : (p q r : List ℕ) (a b c : Option (List ℕ)) → SameUnread p a q b → SameUnread q b r c → SameUnread p a r c
 same_told_trans p q r None b c f g = tt
 same_told_trans p q r (Some xs) None c f g = cc (f.1)
 same_told_trans p q r (Some xs) (Some ys) c f g =

@@ -1,8 +1,8 @@
+pub mod Buffered
 pub mod Code
 pub mod Edges
 pub mod Element
 pub mod Events
-pub mod Held
 pub mod Hovers
 pub mod Ids
 pub mod Lines

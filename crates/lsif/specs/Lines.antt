@@ -2,7 +2,7 @@
 use Rattle.std.specs.Prelude.{◌≡◌, ◌≢◌, ℕ, ◌+◌, ◌<◌, ◌≤◌, ◌⊎◌, List, [], ◌∷◌, ◌++◌, length, Option, Some, None, Result, Ok, Err, ⊤, if◌then◌else◌, ◌==◌, Bool, true, false}
 use Rattle.std.specs.List.{AllByRecursion, flat_map}
 use Rattle.std.specs.Borrow.{Bor}
-use Rattle.lsif.specs.Held.{told}
+use Rattle.lsif.specs.Buffered.{unread}
 use Rattle.lsif.specs.declared.lines.LinesFault.{LinesFault}
 use Rattle.lsif.specs.declared.lines.LinesFault.TheVariants.{Memory, TooLong, Read}
 
@@ -35,7 +35,7 @@ Cuts text lines =
     ⊎ ((front : List (List ℕ)) × (last : List ℕ)
     × (lines ≡ front ++ last ∷ []) × (0 < length last) × (text ≡ flat_map ended front ++ last)))
 
--- what lines are read from: the bytes not handed out, where they are told, the longest line, the reader's failures,
+-- what lines are read from: the bytes not handed out, where they are known, the longest line, the reader's failures,
 -- the fault that is answered for good, the line that came last, and whether a line feed ended it
 pub record Reader : Type 0 where
   pub left : Option (List ℕ)
@@ -45,7 +45,7 @@ pub record Reader : Type 0 where
   pub line : List ℕ
   pub has_feed : Bool
 
--- what cuts lines: the bytes in hand that weren't handed out, and the rest of a `Reader` but for its failures
+-- what cuts lines: the buffered bytes that weren't handed out, and the rest of a `Reader` but for its failures
 pub record Cutter : Type 0 where
   pub pending : List ℕ
   pub longest : ℕ
@@ -56,25 +56,25 @@ pub record Cutter : Type 0 where
 -- what cuts lines, over a reader with this left and so many failures
 abbrev pub over : Cutter → Option (List ℕ) → ℕ → Reader
 over cutter left failures =
-    record { left = told cutter.pending left; longest = cutter.longest; failures = failures; fault = cutter.fault; line = cutter.line; has_feed = cutter.has_feed }
+    record { left = unread cutter.pending left; longest = cutter.longest; failures = failures; fault = cutter.fault; line = cutter.line; has_feed = cutter.has_feed }
 
 -- the text is the line, its line feed and the rest; without a line feed it is the line alone, which isn't empty
 abbrev pub BeginsWith : List ℕ → List ℕ → Bool → List ℕ → Type 0
 BeginsWith text line true rest = text ≡ line ++ line_feed ∷ rest
 BeginsWith text line false rest = (0 < length line) × (text ≡ line) × (rest ≡ [])
 
--- of told bytes this is the first line, with or without a line feed, and the others are the lines of what is told after it
+-- of known bytes this is the first line, with or without a line feed, and the others are the lines of what is left after it
 abbrev pub GivesLine : Option (List ℕ) → List ℕ → Bool → Option (List ℕ) → Type 0
 GivesLine None line has_feed new = ⊤
 GivesLine (Some text) line has_feed new =
     (rest : List ℕ) × (new ≡ Some rest) × (lines_of text ≡ line ∷ lines_of rest) × IsLine line × BeginsWith text line has_feed rest
 
--- told bytes have no line, and none is left
+-- known bytes have no line, and none is left
 abbrev pub GivesNone : Option (List ℕ) → Option (List ℕ) → Type 0
 GivesNone None new = ⊤
 GivesNone (Some text) new = (lines_of text ≡ []) × (new ≡ Some [])
 
--- the first line of told bytes is longer than that
+-- the first line of known bytes is longer than that
 abbrev pub HasLongLine : ℕ → Option (List ℕ) → Type 0
 HasLongLine longest None = ⊤
 HasLongLine longest (Some text) = (line : List ℕ) × (others : List (List ℕ)) × (lines_of text ≡ line ∷ others) × (longest < length line)

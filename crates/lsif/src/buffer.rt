@@ -1,13 +1,13 @@
-//! Bytes in hand.
+//! Buffered bytes.
 ghost use Rattle.std.specs.Prelude.{◌≡◌, ℕ, ◌+◌, ◌-◌, ◌^◌, ◌<◌, ◌≤◌, List, [], ◌++◌, drop, take, Option, Some, IfOk, length, vec_len, slice_range, ◌==◌};
 ghost use Rattle.lsif.specs.Streams.{CountsFailure, Pulls};
-ghost use Rattle.lsif.specs.Held.{Fills};
+ghost use Rattle.lsif.specs.Buffered.{Fills};
 
 use crate::streams::{Failed, Source};
 use std::alloc::{AllocError, Global};
 use std::marker::Model;
 
-/// Bytes in hand, in room for so many.
+/// Bytes that were read and not yet used, in room for so many.
 #[derive(Drop)]
 pub struct Buffer {
     bytes: Vec<u8>,
@@ -17,9 +17,9 @@ pub struct Buffer {
 
 impl Model for Buffer {
     ghost use Rattle.std.specs.Prelude.{◌≤◌, vec_len, slice_range};
-    ghost use Rattle.lsif.specs.Held.{Held};
+    ghost use Rattle.lsif.specs.Buffered.{Buffered};
 
-    ghost Value = { Held };
+    ghost Value = { Buffered };
 
     ghost view = { λ b. record { pending = slice_range b.bytes.items b.start b.end; capacity = vec_len b.bytes } };
 
@@ -27,7 +27,7 @@ impl Model for Buffer {
 }
 
 impl Buffer {
-    /// A buffer with nothing in hand.
+    /// A buffer with no byte.
     pub fn new(alloc: Global, capacity: usize) -> Result<Buffer, AllocError>
         ensures { IfOk result (λ b. (b.pending ≡ []) × (b.capacity ≡ capacity)) }
     {
@@ -39,7 +39,7 @@ impl Buffer {
         })
     }
 
-    /// The bytes in hand.
+    /// The buffered bytes.
     pub fn pending(&self) -> &[u8]
         ensures bytes { result.now ≡ self.now.pending }
         ensures fits { length result.now ≤ self.now.capacity }

@@ -36,7 +36,7 @@ pub struct Package {
     pub version: String,
 }
 
-/// What an `$event` tells (LSIF 0.6.0, "Events").
+/// What an `$event` says (LSIF 0.6.0, "Events").
 #[derive(Debug, Drop)]
 pub enum Event {
     /// The document of this id begins.

@@ -36,7 +36,7 @@ fn document_event(alloc: Global, value: &Value) -> Result<Option<Event>, AllocEr
     }
 }
 
-/// What an `$event` tells. None where a member that is read isn't of its form.
+/// What an `$event` says. None where a member that is read isn't of its form.
 #[tactic(auto, unfolding(crate::specs::Events::event_in))]
 pub(crate) fn event(alloc: Global, value: &Value) -> Result<Option<Event>, AllocError>
     ensures { IfOk result (λ o. option_map event_value o ≡ event_in (view value.now)) }

@@ -7,7 +7,7 @@ ghost use Rattle.serde_json.specs.View.{view, items_view};
 use serde_json::Value;
 use std::alloc::{AllocError, Global};
 
-/// The greatest number that is an id: the greatest that JavaScript tells from its neighbours.
+/// The greatest number that is an id: the greatest that JavaScript distinguishes from its neighbours.
 const GREATEST_ID: u64 = 9007199254740991;
 
 /// The greatest length of an id's text, in bytes.

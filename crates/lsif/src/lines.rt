@@ -1,8 +1,8 @@
 //! Lines of a reader.
 ghost use Rattle.std.specs.Prelude.{◌≡◌, ◌≢◌, ℕ, ◌+◌, ◌-◌, ◌^◌, ◌<◌, ◌≤◌, List, [], ◌∷◌, ◌++◌, drop, take, Option, Some, None, IfOk, IfErr, MatchOption, MatchResult, length, false};
-ghost use Rattle.lsif.specs.Steps.Cutting.{HasNoFeed, IsFirstFeed, Scans, CountsRead, KeepsTold, NextTaken};
+ghost use Rattle.lsif.specs.Steps.Cutting.{HasNoFeed, IsFirstFeed, Scans, CountsRead, KeepsUnread, NextTaken};
 ghost use Rattle.lsif.specs.Streams.{AtEnd};
-ghost use Rattle.lsif.specs.Held.{SameTold, told};
+ghost use Rattle.lsif.specs.Buffered.{SameUnread, unread};
 ghost use Rattle.lsif.specs.Lines.{Cuts, NextLine, lent, lines_of, over, shown};
 ghost use Rattle.lsif.specs.contracts.lines.Lines.{the_row as lines_row};
 ghost use Rattle.std.specs.Io.BufRead.{Rests};
@@ -16,7 +16,7 @@ use std::marker::Model;
 /// Why no line came.
 #[derive(Clone, Copy, Debug, PartialEq, Eq)]
 pub enum LinesFault {
-    /// The memory for the bytes in hand was refused. Only a constructor answers it.
+    /// The memory for the buffer was refused. Only a constructor answers it.
     Memory,
     /// The line is longer than the longest that is asked for.
     TooLong,
@@ -45,7 +45,7 @@ pub fn lines_law()
 #[derive(Drop)]
 pub struct LineBuffer {
     buffer: Buffer,
-    /// How many of the bytes in hand were handed out, the last line and its line feed.
+    /// How many of the buffered bytes were handed out, the last line and its line feed.
     given: usize,
     /// The length of that line.
     line_len: usize,
@@ -110,11 +110,11 @@ fn last_line(len: usize) -> Option<usize>
     if len == 0 { None } else { Some(len) }
 }
 
-/// Looks for a line in hand, and pulls more bytes until there is one. It looks at each byte once.
+/// Looks for a line among the buffered bytes, and reads more until there is one. It looks at each byte once.
 fn scan<S: Source>(source: &mut S, buffer: &mut Buffer) -> Result<Option<usize>, LinesFault>
     requires { S.failed source.old < 2 ^ 64 - 1 }
     ensures found { Scans buffer.old.capacity buffer.new.pending (S.left source.new) result }
-    ensures told { KeepsTold result (SameTold buffer.old.pending (S.left source.old) buffer.new.pending (S.left source.new)) }
+    ensures unread { KeepsUnread result (SameUnread buffer.old.pending (S.left source.old) buffer.new.pending (S.left source.new)) }
     ensures counted { CountsRead (S.failed source.old) (S.failed source.new) result }
     ensures capacity { buffer.new.capacity ≡ buffer.old.capacity }
 {

@@ -7,7 +7,7 @@ use Rattle.tags.specs.declared.code.TagsFault.{TagsFault}
 use Rattle.tags.specs.declared.code.TagsFault.TheVariants as faults
 use Rattle.tags.specs.declared.tag.Tag.{Tag}
 
--- the tags of lines without fault, or the first fault, or want of memory
+-- the tags of lines without fault, or the first fault, or that memory ran out
 abbrev pub AnswersLines : Result (List Tag) TagsFault → List Reading → Type 0
 AnswersLines (Ok tags) lines = IsFaultless lines × (tag_values tags ≡ tags_of (contents lines))
 AnswersLines (Err faults.Memory) lines = Unit {0}

@@ -1,3 +1,4 @@
+//! What stands around the first byte of a value.
 ghost use Rattle.std.specs.Prelude.{◌≡◌, ◌==◌, ◌+◌, ◌<◌, IfSome, length, option_map, position, IsUtf8};
 ghost use Rattle.tags.specs.Around.{around};
 

@@ -80,7 +80,7 @@ fn count(alloc: Global, text: &str) -> Result<u32, TagsFault> {
     Ok(u32::try_from(tags.len()).unwrap_or(u32::MAX))
 }
 
-/// The faulty line, where an answer tells one.
+/// The faulty line, where an answer names one.
 fn line_fault(fault: Option<TagsFault>) -> Option<LineFault> {
     match fault {
         Some(TagsFault::Line(fault)) => Some(fault),
@@ -224,7 +224,7 @@ fn fields(alloc: Global, first: &str, separator: char) -> Result<String, AllocEr
     Ok(text)
 }
 
-/// A line of many fields doesn't end in want of memory.
+/// A line of many fields doesn't run out of memory.
 #[test]
 fn many_fields(rt: HostRuntime) -> Result<(), Fail> {
     let text = fields(rt.alloc(), "x\tf.c\t1;\"\tf", '\t')?;

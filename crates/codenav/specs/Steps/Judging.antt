@@ -8,7 +8,7 @@ use Rattle.codenav.specs.declared.report.CheckFault.TheVariants as faults
 use Rattle.codenav.specs.declared.report.Report.{Report}
 use Rattle.codenav.specs.declared.report.Status.{Status}
 
--- the reader's count of failures, where a step fails only by it or for want of memory
+-- the reader's count of failures, where a step fails only by it or because memory ran out
 abbrev pub CountsRead : {A : Type 0} → ℕ → ℕ → Result A CheckFault → Type 0
 CountsRead old new (Ok a) = new ≡ old
 CountsRead old new (Err faults.Memory) = new ≡ old

@@ -23,17 +23,17 @@ Feeds (Err faults.Memory) new to = IsRunning to
 Feeds (Err faults.Read) new to = ⊥
 Feeds (Err faults.Write) new to = ⊥
 
--- the first line of told bytes reads so
+-- the first line of known bytes reads so
 abbrev pub BeginsSo : Option (List ℕ) → Reading → Type 0
 BeginsSo None line = ⊤
 BeginsSo (Some text) line = (others : List Reading) × (readings_of text ≡ line ∷ others)
 
--- the first line of told bytes reads so, and the bytes left hold the other lines
+-- the first line of known bytes reads so, and the bytes left hold the other lines
 abbrev pub ReadsFirst : Option (List ℕ) → Reading → Option (List ℕ) → Type 0
 ReadsFirst None line left = ⊤
 ReadsFirst (Some text) line left = (rest : List ℕ) × (left ≡ Some rest) × (readings_of text ≡ line ∷ readings_of rest)
 
--- told bytes have no line
+-- known bytes have no line
 abbrev pub ReadsNone : Option (List ℕ) → Type 0
 ReadsNone None = ⊤
 ReadsNone (Some text) = readings_of text ≡ []
@@ -50,7 +50,7 @@ Takes left old (steps.Faulty f) new lines left' =
     (line : Reading) × BeginsSo left line × (next counted old line ≡ stopped f.line f.code)
 Takes left old steps.End new lines left' = (new ≡ old) × ReadsNone left
 
--- of told bytes the lines that are left lead from this state to that of the whole file
+-- of known bytes the lines that are left lead from this state to that of the whole file
 abbrev pub HasTaken : Option (List ℕ) → State ℕ → Option (List ℕ) → Type 0
 HasTaken None state left = ⊤
 HasTaken (Some text) state left =

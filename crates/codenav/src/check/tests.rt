@@ -137,7 +137,7 @@ fn expect_rows<R: AllocGlobal + Abort>(
 #[test]
 fn readers_and_writers_that_fail(rt: HostRuntime) -> Result<(), Fail> {
     let text = text_of(rt.alloc(), BASE)?;
-    // The 780 bytes come in 13 reads, and the 14th tells their end.
+    // The 780 bytes come in 13 reads, and the 14th finds their end.
     for fails_at in 1..15 {
         let mut reader = in_pieces(text.as_bytes(), 64);
         reader.fails_at = fails_at;

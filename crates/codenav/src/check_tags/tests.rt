@@ -106,7 +106,7 @@ fn lines_that_are_too_many(rt: HostRuntime) -> Result<(), Fail> {
 #[test]
 fn readers_and_writers_that_fail(rt: HostRuntime) {
     let text = b"a\tf.c\t1\nb\tf.c\t2\r\nc\tf.c\t3".as_slice();
-    // The 24 bytes come in 4 reads, and the 5th tells their end.
+    // The 24 bytes come in 4 reads, and the 5th finds their end.
     for fails_at in 1..6 {
         let mut reader = in_pieces(text, 7);
         reader.fails_at = fails_at;

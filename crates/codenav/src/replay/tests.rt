@@ -101,7 +101,7 @@ fn streams(rt: HostRuntime) -> Result<(), Fail> {
 #[test]
 fn readers_that_fail(rt: HostRuntime) -> Result<(), Fail> {
     let (stream, _) = demo(rt.alloc(), 4)?;
-    // The 1,107 bytes come in 12 reads or more, and another tells their end.
+    // The 1,107 bytes come in 12 reads or more, and another finds their end.
     for fails_at in 1..14 {
         let mut reader = in_pieces(stream.as_bytes(), 100);
         reader.fails_at = fails_at;

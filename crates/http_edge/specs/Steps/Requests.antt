@@ -15,8 +15,8 @@ use Rattle.http_edge.specs.declared.request.Asked.{Asked}
 use Rattle.http_edge.specs.declared.request.Asked.TheVariants.{Request, Refused}
 use Rattle.http_edge.specs.declared.refusal.Refusal.{Refusal}
 use Rattle.http_edge.specs.declared.refusal.Refusal.TheVariants.{NoSuchRoute, MethodNotAllowed, BadParameter}
-use Rattle.http_edge.specs.Requests.{ItemValue, request, refused}
+use Rattle.http_edge.specs.Requests.{MessageValue, request, refused}
 
-abbrev pub asked_value : Asked → ItemValue
+abbrev pub asked_value : Asked → MessageValue
 asked_value (Request q) = request (request_value q)
 asked_value (Refused refusal) = refused refusal

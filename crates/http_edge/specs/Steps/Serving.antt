@@ -3,17 +3,17 @@ use Rattle.std.specs.Prelude.{◌≡◌, ◌≢◌, ℕ, ◌+◌, ◌<◌, ◌�
 use Rattle.httparse.specs.Spans.{span_bytes, IsWithin}
 use Rattle.lsif.specs.Streams.{Output, Moves, AtEnd, SameCounts, OneFailure, OneZeroWrite}
 use Rattle.http_edge.specs.Heads.{HeadValue, rejected, SettlesHead, IsHeadUnended}
-use Rattle.http_edge.specs.Requests.{ItemValue, request, refused, item_of}
+use Rattle.http_edge.specs.Requests.{MessageValue, request, refused, message_of}
 use Rattle.desk.specs.Machine.{State}
 use Rattle.desk.specs.Reply.{ReplyValue, out_of_memory}
 use Rattle.desk.specs.Runs.{MayReply, moved}
 use Rattle.lsif.specs.Sending.{Writes, WritesTo}
 use Rattle.std.specs.List.{flat_map}
-use Rattle.http_edge.specs.Items.{Settles, IsUnended, Requests, Sure, IsEnded, IsPrefix, BeginsEach}
+use Rattle.http_edge.specs.Messages.{Settles, IsUnended, Requests, Sure, IsEnded, IsPrefix, BeginsEach}
 use Rattle.http_edge.specs.Replies.{reply_text, refusal_text}
 use Rattle.http_edge.specs.declared.head.Head.{Head}
-use Rattle.http_edge.specs.declared.reading.Item.{Item}
-use Rattle.http_edge.specs.declared.reading.Item.TheVariants.{Request, Refused}
+use Rattle.http_edge.specs.declared.reading.Message.{Message}
+use Rattle.http_edge.specs.declared.reading.Message.TheVariants.{Request, Refused}
 use Rattle.http_edge.specs.declared.reading.Next.{Next}
 use Rattle.http_edge.specs.declared.refusal.Refusal.{Refusal}
 use Rattle.http_edge.specs.declared.refusal.Refusal.TheVariants.{BadHead}
@@ -28,7 +28,7 @@ GivesHead bytes head rest left =
     SettlesHead bytes head rest
     ⊎ (AtEnd left × IsHeadUnended bytes × (bytes ≢ []) × (head ≡ rejected BadHead) × (rest ≡ []))
 
--- what a call for the next head reads and gives: the bytes in hand then begin with it
+-- what a call for the next head reads and gives: the buffered bytes then begin with it
 abbrev pub NextHead : {E : Type 0} → List ℕ → Option (List ℕ) → List ℕ → Option (List ℕ) → Result (Option (Head × ℕ)) E → Type 0
 NextHead held left held' left' (Ok (Some found)) =
     (bytes : List ℕ) × Moves left left' bytes × (held' ≡ held ++ bytes) × GivesHead held' (head_value held' found.0) (drop found.1 held') left'
@@ -43,36 +43,36 @@ FillsBody len came left left' body (Ok true) = (bytes : List ℕ) × Moves left 
 FillsBody len came left left' body (Ok false) = (bytes : List ℕ) × Moves left left' bytes × AtEnd left' × (length (came ++ bytes) < len)
 FillsBody len came left left' body (Err e) = (bytes : List ℕ) × MovesOrHides left left' bytes × (length (came ++ bytes) < len)
 
--- what a call for a body reads and gives: how many of the bytes in hand are of the body
+-- what a call for a body reads and gives: how many of the buffered bytes are of the body
 abbrev pub ReadsBody : {E : Type 0} → ℕ → List ℕ → Option (List ℕ) → Option (List ℕ) → List ℕ → Result (Option ℕ) E → Type 0
 ReadsBody len held left left' body (Ok (Some count)) =
     (bytes : List ℕ) × Moves left left' bytes × (held ++ bytes ≡ body ++ drop count held) × (count ≤ length held)
 ReadsBody len held left left' body (Ok None) = (bytes : List ℕ) × Moves left left' bytes × AtEnd left' × (length (held ++ bytes) < len)
 ReadsBody len held left left' body (Err e) = (bytes : List ℕ) × MovesOrHides left left' bytes × (length (held ++ bytes) < len)
 
--- an item whose request line is in those bytes and whose body is in the buffer for bodies
-abbrev pub item_value : List ℕ → List ℕ → Item → ItemValue
-item_value held body (Request line len) =
-    item_of (span_bytes held line.method) (span_bytes held line.target) (take len body)
-item_value held body (Refused refusal) = refused refusal
+-- a message whose request line is in those bytes and whose body is in the buffer for bodies
+abbrev pub message_value : List ℕ → List ℕ → Message → MessageValue
+message_value held body (Request line len) =
+    message_of (span_bytes held line.method) (span_bytes held line.target) (take len body)
+message_value held body (Refused refusal) = refused refusal
 
 -- it is there
-abbrev pub ItemFits : ℕ → ℕ → Item → Type 0
-ItemFits held room (Request line len) = (len ≤ room) × IsWithin held line.method × IsWithin held line.target
-ItemFits held room (Refused refusal) = ⊤
+abbrev pub MessageFits : ℕ → ℕ → Message → Type 0
+MessageFits held room (Request line len) = (len ≤ room) × IsWithin held line.method × IsWithin held line.target
+MessageFits held room (Refused refusal) = ⊤
 
--- the bytes settle this item, or the input ended with them
-abbrev pub Gives : List ℕ → ItemValue → List ℕ → Option (List ℕ) → Type 0
-Gives bytes item rest left =
-    Settles bytes item rest
-    ⊎ (AtEnd left × (refusal : Refusal) × IsUnended bytes refusal × (bytes ≢ []) × (item ≡ refused refusal) × (rest ≡ []))
+-- the bytes settle this message, or the input ended with them
+abbrev pub Gives : List ℕ → MessageValue → List ℕ → Option (List ℕ) → Type 0
+Gives bytes message rest left =
+    Settles bytes message rest
+    ⊎ (AtEnd left × (refusal : Refusal) × IsUnended bytes refusal × (bytes ≢ []) × (message ≡ refused refusal) × (rest ≡ []))
 
--- what a call for the next item reads and gives
-abbrev pub NextItem : {E : Type 0} → List ℕ → Option (List ℕ) → List ℕ → Option (List ℕ) → List ℕ → Result (Option Next) E → Type 0
-NextItem held left held' left' body (Ok (Some next)) =
-    (bytes : List ℕ) × Moves left left' bytes × Gives (held ++ bytes) (item_value held' body next.item) (drop next.taken held') left'
+-- what a call for the next message reads and gives
+abbrev pub NextMessage : {E : Type 0} → List ℕ → Option (List ℕ) → List ℕ → Option (List ℕ) → List ℕ → Result (Option Next) E → Type 0
+NextMessage held left held' left' body (Ok (Some next)) =
+    (bytes : List ℕ) × Moves left left' bytes × Gives (held ++ bytes) (message_value held' body next.message) (drop next.taken held') left'
     × (next.taken ≤ length held')
-NextItem held left held' left' body (Ok None) =
+NextMessage held left held' left' body (Ok None) =
     (bytes : List ℕ) × Moves left left' bytes × AtEnd left' × (held ++ bytes ≡ []) × (held' ≡ [])
-NextItem held left held' left' body (Err e) =
+NextMessage held left held' left' body (Err e) =
     (bytes : List ℕ) × MovesOrHides left left' bytes × (refusal : Refusal) × IsUnended (held ++ bytes) refusal

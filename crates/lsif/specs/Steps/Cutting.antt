@@ -1,4 +1,4 @@
--- How the next line is found among the bytes in hand.
+-- How the next line is found among the buffered bytes.
 use Rattle.std.specs.Prelude.{◌≡◌, ◌≢◌, ℕ, ◌+◌, ◌<◌, ◌≤◌, ◌⊎◌, List, [], ◌∷◌, ◌++◌, length, take, drop, Option, Some, None, Result, Ok, Err, ⊤, All, Bool, true, false}
 use Rattle.lsif.specs.Streams.{AtEnd}
 use Rattle.lsif.specs.Lines.{Reader, line_feed}
@@ -13,14 +13,14 @@ HasNoFeed bytes = All (λ b. b ≢ line_feed) bytes
 abbrev pub IsFirstFeed : List ℕ → ℕ → Type 0
 IsFirstFeed bytes k = (k < length bytes) × HasNoFeed (take k bytes) × (bytes ≡ take k bytes ++ line_feed ∷ drop (k + 1) bytes)
 
--- a line of that length is in hand, with its line feed or with the end after it
+-- a line of that length is buffered, with its line feed or with the end after it
 abbrev pub IsLineIn : List ℕ → ℕ → Option (List ℕ) → Type 0
 IsLineIn pending k left =
     (k ≤ length pending) × HasNoFeed (take k pending)
     × (((k < length pending) × (pending ≡ take k pending ++ line_feed ∷ drop (k + 1) pending))
     ⊎ ((0 < k) × (k ≡ length pending) × AtEnd left))
 
--- what a search for a line finds in hand
+-- what a search for a line finds among the buffered bytes
 abbrev pub Scans : ℕ → List ℕ → Option (List ℕ) → Result (Option ℕ) LinesFault → Type 0
 Scans capacity pending left (Ok (Some k)) = (k < capacity) × IsLineIn pending k left
 Scans capacity pending left (Ok None) = (pending ≡ []) × AtEnd left
@@ -35,12 +35,12 @@ CountsRead old new (Err Memory) = ⊥
 CountsRead old new (Err TooLong) = new ≡ old
 CountsRead old new (Err Read) = new ≡ old + 1
 
--- unless reading failed, what is told stays
-abbrev pub KeepsTold : {A : Type 0} → Result A LinesFault → Type 0 → Type 0
-KeepsTold (Err Read) P = ⊤
-KeepsTold (Err TooLong) P = P
-KeepsTold (Err Memory) P = P
-KeepsTold (Ok a) P = P
+-- unless reading failed, what is known stays
+abbrev pub KeepsUnread : {A : Type 0} → Result A LinesFault → Type 0 → Type 0
+KeepsUnread (Err Read) P = ⊤
+KeepsUnread (Err TooLong) P = P
+KeepsUnread (Err Memory) P = P
+KeepsUnread (Ok a) P = P
 
 -- the text is the line, its line feed and the rest, or it ends with the line, which isn't empty
 abbrev pub TakesLine : List ℕ → List ℕ → Bool → List ℕ → Type 0
@@ -49,15 +49,15 @@ TakesLine text line has_feed rest =
     × (((has_feed ≡ true) × (text ≡ line ++ line_feed ∷ rest))
     ⊎ ((has_feed ≡ false) × (0 < length line) × (text ≡ line) × (rest ≡ [])))
 
-abbrev pub TakesTold : Option (List ℕ) → List ℕ → Bool → Option (List ℕ) → Type 0
-TakesTold None line has_feed new = ⊤
-TakesTold (Some text) line has_feed new = (rest : List ℕ) × (new ≡ Some rest) × TakesLine text line has_feed rest
+abbrev pub TakesKnown : Option (List ℕ) → List ℕ → Bool → Option (List ℕ) → Type 0
+TakesKnown None line has_feed new = ⊤
+TakesKnown (Some text) line has_feed new = (rest : List ℕ) × (new ≡ Some rest) × TakesLine text line has_feed rest
 
-abbrev pub EndsTold : Option (List ℕ) → Option (List ℕ) → Type 0
-EndsTold None new = ⊤
-EndsTold (Some text) new = (text ≡ []) × (new ≡ Some [])
+abbrev pub EndsKnown : Option (List ℕ) → Option (List ℕ) → Type 0
+EndsKnown None new = ⊤
+EndsKnown (Some text) new = (text ≡ []) × (new ≡ Some [])
 
--- told bytes begin with more bytes than that with no line feed
+-- known bytes begin with more bytes than that with no line feed
 abbrev pub BeginsLong : ℕ → Option (List ℕ) → Type 0
 BeginsLong longest None = ⊤
 BeginsLong longest (Some text) = (front : List ℕ) × (rest : List ℕ) × (text ≡ front ++ rest) × HasNoFeed front × (longest < length front)
@@ -72,7 +72,7 @@ FaultsBy old Read new = new.failures ≡ old.failures + 1
 abbrev pub NextTaken : Reader → Result (Option (List ℕ)) LinesFault → Reader → Type 0
 NextTaken old (Ok (Some line)) new =
     (new.fault ≡ None) × (new.failures ≡ old.failures) × (new.longest ≡ old.longest)
-    × (length line ≤ old.longest) × TakesTold old.left line new.has_feed new.left
+    × (length line ≤ old.longest) × TakesKnown old.left line new.has_feed new.left
 NextTaken old (Ok None) new =
-    (new.fault ≡ None) × (new.failures ≡ old.failures) × (new.longest ≡ old.longest) × EndsTold old.left new.left
+    (new.fault ≡ None) × (new.failures ≡ old.failures) × (new.longest ≡ old.longest) × EndsKnown old.left new.left
 NextTaken old (Err fault) new = (new.fault ≡ Some fault) × (new.longest ≡ old.longest) × FaultsBy old fault new

@@ -1,6 +1,6 @@
 //! Lines of input that comes in pieces, and callers that the contracts alone prove.
 ghost use Rattle.std.specs.Prelude.{◌≡◌, ◌+◌, ◌-◌, ◌^◌, ◌<◌, length, IfOk, IfSome};
-ghost use Rattle.lsif.specs.Held.{told};
+ghost use Rattle.lsif.specs.Buffered.{unread};
 ghost use Rattle.lsif.specs.Lines.{lines_of};
 
 use super::*;
@@ -61,7 +61,7 @@ fn count_lines_of<S: Source>(
     source: &mut S,
 ) -> Result<Option<u64>, LinesFault>
     requires { S.failed source.old < 2 ^ 64 - 1 }
-    ensures { IfOk result (λ o. IfSome o (λ n. IfSome (told lines.old.pending (S.left source.old)) (λ text. n ≡ length (lines_of text)))) }
+    ensures { IfOk result (λ o. IfSome o (λ n. IfSome (unread lines.old.pending (S.left source.old)) (λ text. n ≡ length (lines_of text)))) }
 {
     for n in 0..u64::MAX {
         match lines.advance(source) {

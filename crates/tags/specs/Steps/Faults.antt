@@ -13,7 +13,7 @@ abbrev pub some_or : {A : Type 0} → Code → Option A → Result A Code
 some_or code None = Err code
 some_or code (Some x) = Ok x
 
--- Want of memory says nothing; another refusal is that of the reading.
+-- That memory ran out says nothing; another refusal is that of the reading.
 abbrev pub Refuses : {Y : Type 0} → SplitFault → Result Y Code → Type 0
 Refuses faults.Memory reading = Unit {0}
 Refuses (faults.Line code) reading = reading ≡ Err code

@@ -1,5 +1,5 @@
 use Rattle.std.proofs.Common.{◌≡◌}
-use Rattle.lsif.specs.Held.{told}
+use Rattle.lsif.specs.Buffered.{unread}
 use Rattle.codenav.specs.Steps.TagsJudging.{HasTaken, IsReady, room_of}
 use Rattle.codenav.proofs.check_tags.judge.Given as goal
 
@@ -7,7 +7,7 @@ abbrev pub invariant-reading : goal.invariant-reading
 invariant-reading g l = record {
   failed : g.R.Source.failed l.r ≡ g.R.Source.failed l.fn.r;
   ready : IsReady l.lines;
-  taken : HasTaken (g.R.Source.left l.fn.r) l.checker (told l.lines.pending (g.R.Source.left l.r));
+  taken : HasTaken (g.R.Source.left l.fn.r) l.checker (unread l.lines.pending (g.R.Source.left l.r));
 }
 
 abbrev pub decreases-reading : goal.decreases-reading

@@ -1,6 +1,6 @@
 use Rattle.std.proofs.Common.{◌≡◌, ◌∙◌, rules, sym, subst, Some, None, Ok, Err}
 use Rattle.lsif.specs.Element.{reading_value}
-use Rattle.lsif.specs.Held.{told}
+use Rattle.lsif.specs.Buffered.{unread}
 use Rattle.dump.specs.Steps.{next}
 use Rattle.dump.specs.Judging.{ReadsDump, ReadsNext, GoesOn, as_dump_fault}
 use Rattle.dump.specs.declared.reading.DumpFault.{DumpFault}
@@ -12,7 +12,7 @@ reading-preserved g c =
     let is : c.feed.new.self ≡ next c.reading.checker (reading_value c.in-Some.reading) = search rules in
     let runs = c.in-Ok-feed.ensures.1 in
     let goes : GoesOn (Some c.in-Some.reading) c.next_reading.new.lines = rw c.in-Some.is at c.in_ok-reading.ensures.goes_on in
-    let read : ReadsNext (told c.reading.lines.pending (g.R.Source.left c.reading.r)) (Some (reading_value c.in-Some.reading)) (told c.next_reading.new.lines.pending (g.R.Source.left c.next_reading.new.r)) = rw c.in-Some.is at c.in_ok-reading.ensures.read in
+    let read : ReadsNext (unread c.reading.lines.pending (g.R.Source.left c.reading.r)) (Some (reading_value c.in-Some.reading)) (unread c.next_reading.new.lines.pending (g.R.Source.left c.next_reading.new.r)) = rw c.in-Some.is at c.in_ok-reading.ensures.read in
     record {
       failed = c.in_ok-reading.ensures.counted ∙ c.reading.invariant.failed;
       ready = goes_ready c.in-Some.reading _ c.reading.checker goes runs;
@@ -22,19 +22,19 @@ reading-preserved g c =
 
 pub returns-in-Err-clause-dump : goal.returns-in-Err-clause-dump
 returns-in-Err-clause-dump g c =
-    let read : ReadsNext (told c.reading.lines.pending (g.R.Source.left c.reading.r)) (Some (reading_value c.in-Some.reading)) (told c.next_reading.new.lines.pending (g.R.Source.left c.next_reading.new.r)) = rw c.in-Some.is at c.in_ok-reading.ensures.read in
+    let read : ReadsNext (unread c.reading.lines.pending (g.R.Source.left c.reading.r)) (Some (reading_value c.in-Some.reading)) (unread c.next_reading.new.lines.pending (g.R.Source.left c.next_reading.new.r)) = rw c.in-Some.is at c.in_ok-reading.ensures.read in
     let fault = fed_fault _ _ _ c.reading.checker _ (reading_value c.in-Some.reading) c.in-Err.fault c.fault_law.ensures.holds c.fault_law.ensures.stays c.reading.invariant.taken read c.in-Err.ensures in
     let P : DumpFault → Type 0 = λ f. ReadsDump (g.R.Source.left c.args.r.now) (Err f) in
     subst P (sym c.from.ensures) fault
 
 pub returns-in_err-finish-clause-dump : goal.returns-in_err-finish-clause-dump
 returns-in_err-finish-clause-dump g c =
-    let read : ReadsNext (told c.reading.lines.pending (g.R.Source.left c.reading.r)) None (told c.next_reading.new.lines.pending (g.R.Source.left c.next_reading.new.r)) = rw c.in_default-2.is at c.in_ok-reading.ensures.read in
+    let read : ReadsNext (unread c.reading.lines.pending (g.R.Source.left c.reading.r)) None (unread c.next_reading.new.lines.pending (g.R.Source.left c.next_reading.new.r)) = rw c.in_default-2.is at c.in_ok-reading.ensures.read in
     let fault = concluded _ _ _ c.reading.checker (Err c.in_err-finish.field-0.0) c.fault_law.ensures.holds c.fault_law.ensures.elements c.reading.invariant.taken read c.in_err-finish.ensures in
     let is : c.from_residual-in_err-finish.result ≡ Err (as_dump_fault c.in_err-finish.field-0.0) = search rules in
     subst (ReadsDump (g.R.Source.left c.args.r.now)) (sym is) fault
 
 pub returns-clause-dump : goal.returns-clause-dump
 returns-clause-dump g c =
-    let read : ReadsNext (told c.reading.lines.pending (g.R.Source.left c.reading.r)) None (told c.next_reading.new.lines.pending (g.R.Source.left c.next_reading.new.r)) = rw c.in_default-2.is at c.in_ok-reading.ensures.read in
+    let read : ReadsNext (unread c.reading.lines.pending (g.R.Source.left c.reading.r)) None (unread c.next_reading.new.lines.pending (g.R.Source.left c.next_reading.new.r)) = rw c.in_default-2.is at c.in_ok-reading.ensures.read in
     concluded _ _ _ c.reading.checker (Ok c.in_ok-finish.field-0) c.fault_law.ensures.holds c.fault_law.ensures.elements c.reading.invariant.taken read c.in_ok-finish.ensures

@@ -1,5 +1,5 @@
 use Rattle.std.proofs.Common.{◌≡◌}
-use Rattle.lsif.specs.Held.{told}
+use Rattle.lsif.specs.Buffered.{unread}
 use Rattle.dump.specs.Steps.{IsRunning}
 use Rattle.dump.specs.Judging.{HasTaken, IsReady, room_of}
 use Rattle.dump.proofs.reading.read_dump.Given as goal
@@ -9,7 +9,7 @@ invariant-reading g l = record {
   failed : g.R.Source.failed l.r ≡ g.R.Source.failed l.fn.r;
   ready : IsReady l.lines;
   runs : IsRunning l.checker;
-  taken : HasTaken (g.R.Source.left l.fn.r) l.checker (told l.lines.pending (g.R.Source.left l.r));
+  taken : HasTaken (g.R.Source.left l.fn.r) l.checker (unread l.lines.pending (g.R.Source.left l.r));
 }
 
 abbrev pub decreases-reading : goal.decreases-reading

@@ -1,5 +1,5 @@
 use Rattle.std.proofs.Common.{◌≡◌, ◌<◌, ◌++◌, inl, inr, [], ◌∷◌, length, sym, arith, refl, ◌∙◌, length-append}
-use Rattle.http_edge.specs.Steps.Serving.{item_value}
+use Rattle.http_edge.specs.Steps.Serving.{message_value}
 use Rattle.http_edge.proofs.MovedLemmas.{writes_nothing, writes_more, writes_to_more, moves_refl, moves_more, moves_or_more}
 use Rattle.http_edge.proofs.Runs.{run-snoc, joined-snoc, begun}
 use Rattle.http_edge.proofs.Sures.{settled-append, settled-snoc, requests-full, requests-ended, sure-full, gives_settles, stops-last, sure-unended}
@@ -8,7 +8,7 @@ use Rattle.http_edge.proofs.serve.serve.Goals as goal
 pub serving-init : goal.serving-init
 serving-init g c = record {
   bytes = [];
-  items = [];
+  messages = [];
   moved = moves_refl _;
   chain = c.requires.empty;
   count = refl;
@@ -23,15 +23,15 @@ serving-init g c = record {
 pub returns-clause-served : goal.returns-clause-served
 returns-clause-served g c = λ m s.
     let i = c.serving.invariant in
-    let full : length i.items ≡ c.args.limit = omega (arith, i.count, i.within) in
+    let full : length i.messages ≡ c.args.limit = omega (arith, i.count, i.within) in
     let run = i.run m s in (
       run.0,
       (
         i.bytes,
-        i.items,
+        i.messages,
         run.1,
         i.moved,
-        (requests-full c.args.limit i.bytes i.items c.serving.buffer.pending i.chain full, inr (inl full, sure-full c.args.limit i.bytes i.items c.serving.buffer.pending i.chain full)),
+        (requests-full c.args.limit i.bytes i.messages c.serving.buffer.pending i.chain full, inr (inl full, sure-full c.args.limit i.bytes i.messages c.serving.buffer.pending i.chain full)),
         i.count,
         run.2,
         run.4,
@@ -43,16 +43,16 @@ pub returns-in-Ok-None-clause-served : goal.returns-in-Ok-None-clause-served
 returns-in-Ok-None-clause-served g c = λ m s.
     let i = c.serving.invariant in
     let run = i.run m s in
-    let next = rw c.in-Ok-None.field-0-is at c.in-Ok-None.ensures.item in
-    let chain = settled-append i.bytes i.items c.serving.buffer.pending next.0 i.chain in
-    let lt : length i.items < c.args.limit = omega (arith, i.count, c.serving-test.true) in (
+    let next = rw c.in-Ok-None.field-0-is at c.in-Ok-None.ensures.message in
+    let chain = settled-append i.bytes i.messages c.serving.buffer.pending next.0 i.chain in
+    let lt : length i.messages < c.args.limit = omega (arith, i.count, c.serving-test.true) in (
       run.0,
       (
         i.bytes ++ next.0,
-        i.items,
+        i.messages,
         run.1,
         moves_more _ _ _ i.bytes next.0 i.moved next.1,
-        (requests-ended c.args.limit _ i.items _ chain lt next.3, inl next.2),
+        (requests-ended c.args.limit _ i.messages _ chain lt next.3, inl next.2),
         i.count,
         run.2,
         run.4,
@@ -64,20 +64,20 @@ pub returns-then-ends-clause-served : goal.returns-then-ends-clause-served
 returns-then-ends-clause-served g c = λ m s.
     let i = c.serving.invariant in
     let run = i.run m s in
-    let next = rw c.in-Ok-Some.field-0-is at c.in-Ok-Some.ensures.item in
+    let next = rw c.in-Ok-Some.field-0-is at c.in-Ok-Some.ensures.message in
     let said = c.in-Ok.ensures.sent run.0 run.3 in
-    let chain = settled-append i.bytes i.items c.serving.buffer.pending next.0 i.chain in
-    let lt : length i.items < c.args.limit = omega (arith, i.count, c.serving-test.true) in
-    let last = sym (c.if-ends.ensures c.next_item.new.buffer.pending c.next_item.new.body) in (
+    let chain = settled-append i.bytes i.messages c.serving.buffer.pending next.0 i.chain in
+    let lt : length i.messages < c.args.limit = omega (arith, i.count, c.serving-test.true) in
+    let last = sym (c.if-ends.ensures c.next_message.new.buffer.pending c.next_message.new.body) in (
       said.0,
       (
         i.bytes ++ next.0,
-        i.items ++ (item_value c.next_item.new.buffer.pending c.next_item.new.body c.in-Ok-Some.next.item) ∷ [],
+        i.messages ++ (message_value c.next_message.new.buffer.pending c.next_message.new.body c.in-Ok-Some.next.message) ∷ [],
         run.1 ++ said.1 ∷ [],
         moves_more _ _ _ i.bytes next.0 i.moved next.1,
-        stops-last c.args.limit _ i.items _ (item_value c.next_item.new.buffer.pending c.next_item.new.body c.in-Ok-Some.next.item) _ _ chain lt next.2 last,
+        stops-last c.args.limit _ i.messages _ (message_value c.next_message.new.buffer.pending c.next_message.new.body c.in-Ok-Some.next.message) _ _ chain lt next.2 last,
         simp length-append (omega (arith, i.count)),
-        run-snoc _ m i.items run.1 run.0 (item_value c.next_item.new.buffer.pending c.next_item.new.body c.in-Ok-Some.next.item) said.1 said.0 run.2 said.2,
+        run-snoc _ m i.messages run.1 run.0 (message_value c.next_message.new.buffer.pending c.next_message.new.body c.in-Ok-Some.next.message) said.1 said.0 run.2 said.2,
         rw (joined-snoc run.1 said.1) (writes_more _ _ _ _ _ run.4 said.4),
       ),
       said.3,
@@ -86,15 +86,15 @@ returns-then-ends-clause-served g c = λ m s.
 pub serving-preserved : goal.serving-preserved
 serving-preserved g c =
     let i = c.serving.invariant in
-    let next = rw c.in-Ok-Some.field-0-is at c.in-Ok-Some.ensures.item in
-    let chain = settled-append i.bytes i.items c.serving.buffer.pending next.0 i.chain in
-    let settled = gives_settles _ (item_value c.next_item.new.buffer.pending c.next_item.new.body c.in-Ok-Some.next.item) _ _ next.2 (sym (c.if-ends.ensures c.next_item.new.buffer.pending c.next_item.new.body)) in
+    let next = rw c.in-Ok-Some.field-0-is at c.in-Ok-Some.ensures.message in
+    let chain = settled-append i.bytes i.messages c.serving.buffer.pending next.0 i.chain in
+    let settled = gives_settles _ (message_value c.next_message.new.buffer.pending c.next_message.new.body c.in-Ok-Some.next.message) _ _ next.2 (sym (c.if-ends.ensures c.next_message.new.buffer.pending c.next_message.new.body)) in
     record {
       bytes = i.bytes ++ next.0;
-      items = i.items ++ (item_value c.next_item.new.buffer.pending c.next_item.new.body c.in-Ok-Some.next.item) ∷ [];
+      messages = i.messages ++ (message_value c.next_message.new.buffer.pending c.next_message.new.body c.in-Ok-Some.next.message) ∷ [];
       moved = moves_more _ _ _ i.bytes next.0 i.moved next.1;
       chain = rw c.respond_next-written.ensures.pending
-          (settled-snoc _ i.items _ (item_value c.next_item.new.buffer.pending c.next_item.new.body c.in-Ok-Some.next.item) _ chain settled (sym (c.if-ends.ensures c.next_item.new.buffer.pending c.next_item.new.body)));
+          (settled-snoc _ i.messages _ (message_value c.next_message.new.buffer.pending c.next_message.new.body c.in-Ok-Some.next.message) _ chain settled (sym (c.if-ends.ensures c.next_message.new.buffer.pending c.next_message.new.body)));
       count = simp length-append (omega (arith, i.count));
       within = omega (arith, c.serving-test.true);
       run = λ m s.
@@ -102,30 +102,30 @@ serving-preserved g c =
           let said = c.in-Ok.ensures.sent run.0 run.3 in (
             said.0,
             run.1 ++ said.1 ∷ [],
-            run-snoc _ m i.items run.1 run.0 (item_value c.next_item.new.buffer.pending c.next_item.new.body c.in-Ok-Some.next.item) said.1 said.0 run.2 said.2,
+            run-snoc _ m i.messages run.1 run.0 (message_value c.next_message.new.buffer.pending c.next_message.new.body c.in-Ok-Some.next.message) said.1 said.0 run.2 said.2,
             said.3,
             rw (joined-snoc run.1 said.1) (writes_more _ _ _ _ _ run.4 said.4),
           );
-      capacity = c.respond_next-written.ensures.capacity ∙ c.next_item.ensures.capacity ∙ i.capacity;
+      capacity = c.respond_next-written.ensures.capacity ∙ c.next_message.ensures.capacity ∙ i.capacity;
       reads = c.in-Ok-Some.ensures.counted ∙ i.reads;
       counts = (c.in-Ok.ensures.counted.0 ∙ i.counts.0, c.in-Ok.ensures.counted.1 ∙ i.counts.1);
-      room = c.next_item.ensures.len ∙ i.room;
+      room = c.next_message.ensures.len ∙ i.room;
     }
 
 pub returns-in-Err-clause-served : goal.returns-in-Err-clause-served
 returns-in-Err-clause-served g c = λ m s.
     let i = c.serving.invariant in
     let run = i.run m s in
-    let next = c.in-Err.ensures.item in
-    let chain = settled-append i.bytes i.items c.serving.buffer.pending next.0 i.chain in
-    let lt : length i.items < c.args.limit = omega (arith, i.count, c.serving-test.true) in (
+    let next = c.in-Err.ensures.message in
+    let chain = settled-append i.bytes i.messages c.serving.buffer.pending next.0 i.chain in
+    let lt : length i.messages < c.args.limit = omega (arith, i.count, c.serving-test.true) in (
       run.0,
       (
         i.bytes ++ next.0,
-        i.items,
+        i.messages,
         run.1,
         moves_or_more _ _ _ i.bytes next.0 i.moved next.1,
-        sure-unended c.args.limit _ i.items _ next.2 chain next.3 lt,
+        sure-unended c.args.limit _ i.messages _ next.2 chain next.3 lt,
         run.2,
         run.4,
       ),
@@ -136,23 +136,23 @@ pub returns-in-Err-written-clause-served : goal.returns-in-Err-written-clause-se
 returns-in-Err-written-clause-served g c = λ m s.
     let i = c.serving.invariant in
     let run = i.run m s in
-    let next = rw c.in-Ok-Some.field-0-is at c.in-Ok-Some.ensures.item in
+    let next = rw c.in-Ok-Some.field-0-is at c.in-Ok-Some.ensures.message in
     let said = c.in-Err-written.ensures.sent run.0 run.3 in
-    let chain = settled-append i.bytes i.items c.serving.buffer.pending next.0 i.chain in
-    let lt : length i.items < c.args.limit = omega (arith, i.count, c.serving-test.true) in (
+    let chain = settled-append i.bytes i.messages c.serving.buffer.pending next.0 i.chain in
+    let lt : length i.messages < c.args.limit = omega (arith, i.count, c.serving-test.true) in (
       said.0,
       (
         i.bytes ++ next.0,
-        i.items ++ (item_value c.next_item.new.buffer.pending c.next_item.new.body c.in-Ok-Some.next.item) ∷ [],
+        i.messages ++ (message_value c.next_message.new.buffer.pending c.next_message.new.body c.in-Ok-Some.next.message) ∷ [],
         run.1,
         said.1,
         said.4.0,
         said.4.1,
         moves_more _ _ _ i.bytes next.0 i.moved next.1,
-        begun c.args.limit _ i.items _ (item_value c.next_item.new.buffer.pending c.next_item.new.body c.in-Ok-Some.next.item) _ _ chain lt next.2,
+        begun c.args.limit _ i.messages _ (message_value c.next_message.new.buffer.pending c.next_message.new.body c.in-Ok-Some.next.message) _ _ chain lt next.2,
         said.4.2,
         said.4.3,
-        run-snoc _ m i.items run.1 run.0 (item_value c.next_item.new.buffer.pending c.next_item.new.body c.in-Ok-Some.next.item) said.1 said.0 run.2 said.2,
+        run-snoc _ m i.messages run.1 run.0 (message_value c.next_message.new.buffer.pending c.next_message.new.body c.in-Ok-Some.next.message) said.1 said.0 run.2 said.2,
         writes_to_more _ _ _ _ _ run.4 said.4.4,
       ),
       said.3,

@@ -1,8 +1,8 @@
 use Rattle.std.proofs.Common.{◌≡◌, ◌-◌, ◌≤◌, ℕ, List, length}
 use Rattle.lsif.specs.Streams.{Moves, SameCounts}
 use Rattle.lsif.specs.Sending.{Writes}
-use Rattle.http_edge.specs.Steps.Items.{SettlesAll}
-use Rattle.http_edge.specs.Requests.{ItemValue}
+use Rattle.http_edge.specs.Steps.Messages.{SettlesAll}
+use Rattle.http_edge.specs.Requests.{MessageValue}
 use Rattle.desk.specs.Machine.{State}
 use Rattle.http_edge.specs.Serving.{Run, joined}
 use Rattle.http_edge.proofs.serve.serve.Given as goal
@@ -10,12 +10,12 @@ use Rattle.http_edge.proofs.serve.serve.Given as goal
 abbrev pub invariant-serving : goal.invariant-serving
 invariant-serving g l = record {
   bytes : List ℕ;
-  items : List ItemValue;
+  messages : List MessageValue;
   moved : Moves (g.R.Source.left l.fn.r) (g.R.Source.left l.r) bytes;
-  chain : SettlesAll bytes items l.buffer.pending;
-  count : l.count ≡ length items;
+  chain : SettlesAll bytes messages l.buffer.pending;
+  count : l.count ≡ length messages;
   within : l.count ≤ l.limit;
-  run : (m : State) → g.D.Desk.stands l.fn.desk m → (n : State) × (texts : List (List ℕ)) × Run g.D.Desk.store_may_refuse m items texts n
+  run : (m : State) → g.D.Desk.stands l.fn.desk m → (n : State) × (texts : List (List ℕ)) × Run g.D.Desk.store_may_refuse m messages texts n
       × g.D.Desk.stands l.desk n × Writes (g.W.Sink.output l.fn.w) (joined texts) (g.W.Sink.output l.w);
   capacity : l.buffer.capacity ≡ l.fn.buffer.capacity;
   reads : g.R.Source.failed l.r ≡ g.R.Source.failed l.fn.r;

@@ -1,11 +1,11 @@
 use Rattle.std.proofs.Common.{◌≡◌, ◌≤◌, ◌-◌, take, length}
 use Rattle.lsif.specs.Steps.Cutting.{HasNoFeed}
-use Rattle.lsif.specs.Held.{SameTold}
+use Rattle.lsif.specs.Buffered.{SameUnread}
 use Rattle.lsif.proofs.lines.scan.Given as goal
 
 abbrev pub invariant-filling : goal.invariant-filling
 invariant-filling g l = record {
-  told : SameTold l.fn.buffer.pending (g.S.Source.left l.fn.source) l.buffer.pending (g.S.Source.left l.source);
+  unread : SameUnread l.fn.buffer.pending (g.S.Source.left l.fn.source) l.buffer.pending (g.S.Source.left l.source);
   capacity : l.buffer.capacity ≡ l.fn.buffer.capacity;
   within : l.searched ≤ length l.buffer.pending;
   searched : HasNoFeed (take l.searched l.buffer.pending);

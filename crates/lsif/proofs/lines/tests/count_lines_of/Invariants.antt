@@ -1,10 +1,10 @@
 use Rattle.std.proofs.Common.{◌≡◌}
-use Rattle.lsif.specs.Held.{told}
+use Rattle.lsif.specs.Buffered.{unread}
 use Rattle.lsif.proofs.Seen.{Seen}
 use Rattle.lsif.proofs.lines.tests.count_lines_of.Given as goal
 
 abbrev pub invariant-loop-n : goal.invariant-loop-n
 invariant-loop-n g l = record {
   failures : g.S.Source.failed l.source ≡ g.S.Source.failed l.fn.source;
-  seen : Seen (told l.fn.lines.pending (g.S.Source.left l.fn.source)) l.n (told l.lines.pending (g.S.Source.left l.source));
+  seen : Seen (unread l.fn.lines.pending (g.S.Source.left l.fn.source)) l.n (unread l.lines.pending (g.S.Source.left l.source));
 }

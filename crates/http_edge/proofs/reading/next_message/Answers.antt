@@ -4,15 +4,15 @@ use Rattle.http_edge.specs.Fields.{body_limit}
 use Rattle.http_edge.specs.declared.refusal.Refusal.TheVariants.{BadHead, BodyCut}
 use Rattle.http_edge.proofs.MovedLemmas.{moves_more, moves_or_more}
 use Rattle.http_edge.proofs.BodyLemmas.{gives_whole, gives_cut, cut_unended, room_taken, drop_twice, within_twice}
-use Rattle.http_edge.proofs.reading.next_item.Goals as goal
+use Rattle.http_edge.proofs.reading.next_message.Goals as goal
 
-pub returns-in-Err-clause-item : goal.returns-in-Err-clause-item
-returns-in-Err-clause-item g c =
+pub returns-in-Err-clause-message : goal.returns-in-Err-clause-message
+returns-in-Err-clause-message g c =
     let head = c.in-Err.ensures.head in
     (head.0, head.1, BadHead, inl (head.2, refl))
 
-pub returns-in-Ok-Some-clause-item : goal.returns-in-Ok-Some-clause-item
-returns-in-Ok-Some-clause-item g c =
+pub returns-in-Ok-Some-clause-message : goal.returns-in-Ok-Some-clause-message
+returns-in-Ok-Some-clause-message g c =
     let framed = c.in-Ok-Some-Request-default in
     let head = rw (framed.field-0-is, framed.field-0-0-0-is) at framed.ensures.head in
     let fits = rw (framed.field-0-is, framed.field-0-0-0-is) at framed.ensures.fits in
@@ -25,8 +25,8 @@ returns-in-Ok-Some-clause-item g c =
       within_twice framed.taken c.in-Ok-Some.count c.next_head.new.buffer.pending head.4 body.3,
     )
 
-pub returns-in-Ok-None-read_body-clause-item : goal.returns-in-Ok-None-read_body-clause-item
-returns-in-Ok-None-read_body-clause-item g c =
+pub returns-in-Ok-None-read_body-clause-message : goal.returns-in-Ok-None-read_body-clause-message
+returns-in-Ok-None-read_body-clause-message g c =
     let framed = c.in-Ok-Some-Request-default in
     let head = rw (framed.field-0-is, framed.field-0-0-0-is) at framed.ensures.head in
     let fits = rw (framed.field-0-is, framed.field-0-0-0-is) at framed.ensures.fits in
@@ -39,8 +39,8 @@ returns-in-Ok-None-read_body-clause-item g c =
       rw c.pending-held.ensures.bytes (omega arith),
     )
 
-pub returns-in-Err-read_body-clause-item : goal.returns-in-Err-read_body-clause-item
-returns-in-Err-read_body-clause-item g c =
+pub returns-in-Err-read_body-clause-message : goal.returns-in-Err-read_body-clause-message
+returns-in-Err-read_body-clause-message g c =
     let framed = c.in-Ok-Some-Request-default in
     let head = rw (framed.field-0-is, framed.field-0-0-0-is) at framed.ensures.head in
     let fits = rw (framed.field-0-is, framed.field-0-0-0-is) at framed.ensures.fits in

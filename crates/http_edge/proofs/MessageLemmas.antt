@@ -1,12 +1,12 @@
--- Laws of how bytes are cut into items.
+-- Laws of how bytes are cut into messages.
 use Rattle.std.proofs.Common.{◌≡◌, ℕ, ◌<◌, ◌≤◌, inl, inr, Bool, true, false, List, [], ◌∷◌, ◌++◌, length, take, Option, Some, None, refl, sym, ◌∙◌, ap, arith, subst, suc, zero, length-append, lit<}
 use Rattle.std.proofs.lemmas.List.{take-append-le, drop-append-le, length-take}
 use Rattle.std.proofs.Math.Seq.{take-nil}
 use Rattle.std.proofs.lemmas.Grind.{common_steps}
 use Rattle.httparse.proofs.GrammarLemmas.{request_unique}
 use Rattle.http_edge.specs.Heads.{find_head, HeadValue, rejected, request_head, said_by, IsSaidBy, SaysAt, head_limit, SettlesHeadAt, SettlesHead, IsHeadUnended}
-use Rattle.http_edge.specs.Items.{HasBody, Settles, IsUnended}
-use Rattle.http_edge.specs.Requests.{ItemValue}
+use Rattle.http_edge.specs.Messages.{HasBody, Settles, IsUnended}
+use Rattle.http_edge.specs.Requests.{MessageValue}
 use Rattle.http_edge.specs.declared.refusal.Refusal.{Refusal}
 use Rattle.http_edge.proofs.Ends.{find_head-within, find_head-append}
 
@@ -37,12 +37,12 @@ pub head-unique : (xs : List ℕ) (a b : HeadValue) (r q : List ℕ) → Settles
 unfolding SettlesHead
 head-unique xs a b r q s t = at_unique (find_head (take head_limit xs)) xs a b r q s t
 
-at_append : (o p : Option ℕ) (xs ys : List ℕ) (item : HeadValue) (rest : List ℕ)
+at_append : (o p : Option ℕ) (xs ys : List ℕ) (message : HeadValue) (rest : List ℕ)
     → ((n : ℕ) → o ≡ Some n → (p ≡ Some n) × (n ≤ length xs)) → (o ≡ None → head_limit ≤ length xs → p ≡ None)
-    → SettlesHeadAt o xs item rest → SettlesHeadAt p (xs ++ ys) item (rest ++ ys)
-at_append None p xs ys item rest some none s =
+    → SettlesHeadAt o xs message rest → SettlesHeadAt p (xs ++ ys) message (rest ++ ys)
+at_append None p xs ys message rest some none s =
     rw (none refl s.0) (let l = length-append xs ys in omega arith, s.1, ap (λ l. l ++ ys) s.2)
-at_append (Some n) p xs ys item rest some none s =
+at_append (Some n) p xs ys message rest some none s =
     let at = some n refl in
     let fits = at.1 in
     rw at.0 (rw (take-append-le n xs ys fits) s.0, rw (drop-append-le n xs ys fits) (ap (λ l. l ++ ys) s.1))
@@ -63,10 +63,10 @@ late_none : (k : ℕ) (xs ys : List ℕ) → k ≤ length xs → find_head (take
 late_none k xs ys long h = rw (take-append-le k xs ys long) h
 
 -- and whatever follows leaves it
-pub head-append : (xs ys : List ℕ) (item : HeadValue) (rest : List ℕ) → SettlesHead xs item rest → SettlesHead (xs ++ ys) item (rest ++ ys)
+pub head-append : (xs ys : List ℕ) (message : HeadValue) (rest : List ℕ) → SettlesHead xs message rest → SettlesHead (xs ++ ys) message (rest ++ ys)
 unfolding SettlesHead
-head-append xs ys item rest s =
-    at_append (find_head (take head_limit xs)) (find_head (take head_limit (xs ++ ys))) xs ys item rest
+head-append xs ys message rest s =
+    at_append (find_head (take head_limit xs)) (find_head (take head_limit (xs ++ ys))) xs ys message rest
     (λ n e. late_append head_limit xs ys n e) (λ e long. late_none head_limit xs ys long e) s
 
 head_decided_at : (o : Option ℕ) (xs : List ℕ) (head : HeadValue) (r : List ℕ) → o ≡ None → length xs < head_limit → SettlesHeadAt o xs head r → ⊥
@@ -81,41 +81,41 @@ pub head-decided : (xs : List ℕ) (head : HeadValue) (r : List ℕ) → Settles
 unfolding SettlesHead
 head-decided xs head r s u = head_decided_at (find_head (take head_limit xs)) xs head r (ap find_head (front_short xs head_limit u.0) ∙ u.1) u.0 s
 
-pub body-append : (head : HeadValue) (bytes : List ℕ) (item : ItemValue) (rest more : List ℕ) → HasBody head bytes item rest → HasBody head (bytes ++ more) item (rest ++ more)
-body-append (rejected refusal) bytes item rest more f = (f.0, ap (λ l. l ++ more) f.1)
-body-append (request_head method target len) bytes item rest more f = (
+pub body-append : (head : HeadValue) (bytes : List ℕ) (message : MessageValue) (rest more : List ℕ) → HasBody head bytes message rest → HasBody head (bytes ++ more) message (rest ++ more)
+body-append (rejected refusal) bytes message rest more f = (f.0, ap (λ l. l ++ more) f.1)
+body-append (request_head method target len) bytes message rest more f = (
   (let l = length-append bytes more in let h = f.0 in omega arith),
   rw (take-append-le len bytes more f.0) f.1,
   rw (drop-append-le len bytes more f.0) (ap (λ l. l ++ more) f.2),
 )
 
-pub body-unique : (head : HeadValue) (bytes : List ℕ) (a b : ItemValue) (r q : List ℕ) → HasBody head bytes a r → HasBody head bytes b q → (a ≡ b) × (r ≡ q)
+pub body-unique : (head : HeadValue) (bytes : List ℕ) (a b : MessageValue) (r q : List ℕ) → HasBody head bytes a r → HasBody head bytes b q → (a ≡ b) × (r ≡ q)
 body-unique (rejected refusal) bytes a b r q f g = (f.0 ∙ sym g.0, f.1 ∙ sym g.1)
 body-unique (request_head method target len) bytes a b r q f g = (f.1 ∙ sym g.1, f.2 ∙ sym g.2)
 
--- whatever follows leaves a settled item
-pub settles-append : (xs more : List ℕ) (item : ItemValue) (rest : List ℕ) → Settles xs item rest → Settles (xs ++ more) item (rest ++ more)
-settles-append xs more item rest s = (s.0, s.1 ++ more, head-append xs more s.0 s.1 s.2, body-append s.0 s.1 item rest more s.3)
+-- whatever follows leaves a settled message
+pub settles-append : (xs more : List ℕ) (message : MessageValue) (rest : List ℕ) → Settles xs message rest → Settles (xs ++ more) message (rest ++ more)
+settles-append xs more message rest s = (s.0, s.1 ++ more, head-append xs more s.0 s.1 s.2, body-append s.0 s.1 message rest more s.3)
 
--- bytes settle one item
-pub settles-unique : (xs : List ℕ) (a b : ItemValue) (r q : List ℕ) → Settles xs a r → Settles xs b q → (a ≡ b) × (r ≡ q)
+-- bytes settle one message
+pub settles-unique : (xs : List ℕ) (a b : MessageValue) (r q : List ℕ) → Settles xs a r → Settles xs b q → (a ≡ b) × (r ≡ q)
 settles-unique xs a b r q s t =
     let one = head-unique xs s.0 t.0 s.1 t.1 s.2 t.2 in
     body-unique t.0 t.1 a b r q (rw (← one.0, ← one.1) s.3) t.3
 
-body_decided : (head : HeadValue) (method target : List ℕ) (len : ℕ) (after : List ℕ) (item : ItemValue) (rest : List ℕ) → head ≡ request_head method target len
-    → HasBody head after item rest → length after < len → ⊥
-body_decided (rejected refusal) method target len after item rest e f short = cc e
-body_decided (request_head m t n) method target len after item rest e f short = let same : n ≡ len = cc e in let long = f.0 in omega arith
+body_decided : (head : HeadValue) (method target : List ℕ) (len : ℕ) (after : List ℕ) (message : MessageValue) (rest : List ℕ) → head ≡ request_head method target len
+    → HasBody head after message rest → length after < len → ⊥
+body_decided (rejected refusal) method target len after message rest e f short = cc e
+body_decided (request_head m t n) method target len after message rest e f short = let same : n ≡ len = cc e in let long = f.0 in omega arith
 
 -- what is settled isn't undecided
-pub decided : (xs : List ℕ) (item : ItemValue) (r : List ℕ) (refusal : Refusal) → Settles xs item r → IsUnended xs refusal → ⊥
-decided xs item r refusal s u = elim u [
+pub decided : (xs : List ℕ) (message : MessageValue) (r : List ℕ) (refusal : Refusal) → Settles xs message r → IsUnended xs refusal → ⊥
+decided xs message r refusal s u = elim u [
   | inl h ↦ head-decided xs s.0 s.1 s.2 h.0
   | inr b ↦
       let part = b.0 in
       let one = head-unique xs s.0 (request_head part.0 part.1 part.2) s.1 part.3 s.2 part.4 in
-      body_decided s.0 part.0 part.1 part.2 s.1 item r one.0 s.3 (rw one.1 part.5)
+      body_decided s.0 part.0 part.1 part.2 s.1 message r one.0 s.3 (rw one.1 part.5)
 ]
 
 -- an end of the input is refused by one refusal
