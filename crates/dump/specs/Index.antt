@@ -13,14 +13,6 @@ use Rattle.dump.specs.Links.{is_link, link_at}
 use Rattle.dump.specs.Spans.{IsOrdered}
 use Rattle.dump.specs.declared.links.Link.{Link}
 
--- the source of a `contains` edge
-abbrev pub contains_source : ElementValue → Option IdValue
-contains_source x = option_map (λ e. e.0) (contains_of x)
-
--- the document that contains the range: the source of the first `contains` edge out of a document that names it
-abbrev pub container : List ElementValue → IdValue → Option IdValue
-container elements r = option_and_then contains_source (find (contains_range elements r) elements)
-
 -- there is an id, and it's this one
 abbrev pub is_id : IdValue → Option IdValue → Bool
 is_id i (Some j) = same_id j i
