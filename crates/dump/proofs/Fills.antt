@@ -163,11 +163,6 @@ other_fills d x e known old new none had now v =
     subst (λ ss. IsPermutation ss (kept (new v)) × IsClear (kept (new v))) (sym (spans_more d x known e v ∙ ap (λ ss. spans_in d v ++ ss) (none v) ∙ append-nil (spans_in d v)))
     (subst (λ o. IsPermutation (spans_in d v) (kept o) × IsClear (kept o)) (sym (now v)) (had v))
 
--- what the code filled, in the words of the element
-pub filled_from : (x : ElementValue) (key : Option IdValue) → key ≡ contains_source x → (found targets : List SpanValue) → found ≡ targets → (old new : IdValue → Option (Vec SpanValue Global))
-    → ((v : IdValue) → IsFilled (is_id v key) found (old v) (new v)) → (v : IdValue) → IsFilled (is_id v (contains_source x)) targets (old v) (new v)
-filled_from x key e found targets f old new h v = subst (λ ss. IsFilled (is_id v (contains_source x)) ss (old v) (new v)) f (subst (λ k. IsFilled (is_id v k) found (old v) (new v)) e (h v))
-
 pub fills : (d : List ElementValue) (x : ElementValue) → HasNoCode d x → AreEndsKnown d → (old new : IdValue → Option (Vec SpanValue Global))
     → ((v : IdValue) → IsPermutation (spans_in d v) (kept (old v)) × IsClear (kept (old v)))
     → ((v : IdValue) → IsFilled (is_id v (contains_source x)) (spans_of d (ranges_in d x)) (old v) (new v))

@@ -1,6 +1,6 @@
 -- What is known of the elements of a sound dump: the ends of each are vertices, one `contains` edge out of a document at most
 -- names a range, and what has ended is a document.
-use Rattle.std.proofs.Common.{◌≡◌, ⊎_elim, inl, inr, ◌∙◌, ◌&&◌, ◌||◌, ◌++◌, ◌∷◌, [], Bool, true, false, not, cond, List, refl, sym, ap, subst, append_assoc, append-nil, find, Option, Some, None, option_and_then, is_some}
+use Rattle.std.proofs.Common.{◌≡◌, ⊎_elim, inl, inr, ◌∙◌, ◌&&◌, ◌||◌, ◌++◌, ◌∷◌, [], Bool, true, false, not, cond, List, refl, sym, ap, subst, find, Option, Some, None, option_and_then, is_some}
 use Rattle.std.specs.Prelude.{Contains, ◌↔◌}
 use Rattle.std.specs.List.{list_any}
 use Rattle.std.proofs.lemmas.List.Elements.{Contains-push_cases}
@@ -18,17 +18,7 @@ use Rattle.dump.proofs.SameIds.{same_id_eq, same_id_self}
 use Rattle.dump.proofs.Members.{contains_head, contains_tail, contains_cases, not_in_nil}
 use Rattle.dump.proofs.Nests.{kept_vertex, vertex_there}
 use Rattle.dump.proofs.Uniques.{any_from, found_member}
-use Rattle.dump.proofs.Ends.{HasNoCode, no_code, SoundAfter, sound_after}
-
--- ---- a fact of the empty list that an element without a code keeps
-
-module _ (P : List ElementValue → Type 0) (none : P []) (more : (d : List ElementValue) (x : ElementValue) → HasNoCode d x → P d → P (d ++ x ∷ [])) where
-  holds_after : (rest before : List ElementValue) → SoundAfter before rest → P before → P (before ++ rest)
-  holds_after [] before h p = subst P (sym (append-nil before)) p
-  holds_after (x ∷ rest) before h p = subst P (append_assoc before (x ∷ []) rest) (holds_after rest (before ++ x ∷ []) h.1 (more before x (no_code before x h.0) p))
-
-  pub holds : (elements : List ElementValue) → IsSound elements → P elements
-  holds elements h = holds_after elements [] (sound_after elements h) none
+use Rattle.dump.proofs.Ends.{HasNoCode, holds}
 
 -- ---- ends are vertices
 

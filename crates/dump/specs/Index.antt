@@ -1,5 +1,5 @@
 -- What is kept beside the elements of a dump, so that they are looked up without a search.
-use Rattle.std.specs.Prelude.{◌≡◌, ℕ, Bool, true, false, List, [], ◌∷◌, ◌++◌, Vec, IsPermutation, length, Option, Some, None, is_some, option_and_then, option_map, find}
+use Rattle.std.specs.Prelude.{◌≡◌, ℕ, Bool, true, false, List, [], ◌++◌, Vec, IsPermutation, length, Option, Some, None, is_some, option_and_then, option_map, find}
 use Rattle.std.specs.List.{list_any}
 use Rattle.std.specs.HashMap.{get_by_text}
 use Rattle.positions.specs.Span.{SpanValue}
