@@ -110,6 +110,19 @@ make_ranges() {
     }'
 }
 
+# A dump of so many result sets in one chain of `next` edges, which begins to be joined at its end where the order falls.
+make_chain() {
+    awk -v count="$1" -v order="$2" "$print_elements"'BEGIN {
+        meta_data()
+        for (n = 0; n < count; n++)
+            first = vertex("resultSet", "") - n
+        for (n = 0; n < count - 1; n++) {
+            from = first + (order == "rising" ? n : count - 2 - n)
+            edge("next", from, from + 1)
+        }
+    }'
+}
+
 # The microseconds that a command takes.
 time_of() {
     local start=$EPOCHREALTIME
@@ -153,7 +166,7 @@ measure_dump() {
 }
 
 measure_dumps() {
-    local file count edges
+    local file count edges order
     printf '%-20s %8s %9s %14s %14s %7s %7s  %s\n' dump elements bytes check-lsif 'jq -c .' ratio memory report
     for file in "$@"; do
         measure_dump "$(basename "$file")" "$file"
@@ -165,6 +178,10 @@ measure_dumps() {
     for edges in 1 400; do
         make_ranges 40000 "$edges" >"$folder/ranges.lsif"
         measure_dump "contains edges: $edges" "$folder/ranges.lsif"
+    done
+    for order in rising falling; do
+        make_chain 49000 "$order" >"$folder/chain.lsif"
+        measure_dump "chain, $order" "$folder/chain.lsif"
     done
 }
 

@@ -9,9 +9,9 @@ use Rattle.lsif.specs.declared.element.Property.TheVariants.{Definitions, Refere
 use Rattle.lsif.specs.Element.{IdValue, same_id, VertexValue, meta_data, project, document, range, result_set, definition_result, reference_result, hover_result, moniker, package_information, event, other_vertex, contains, next, definition, references, hover, moniker_edge, package_edge, attach, item, other_edge, ElementValue, vertex, edge}
 use Rattle.dump.specs.Graph.{vertex_at, is_document, is_among}
 use Rattle.dump.specs.Conditions.{are_definitions}
-use Rattle.dump.specs.Contained.{places_range}
+use Rattle.dump.specs.Contained.{is_in, container}
 use Rattle.dump.specs.Places.{PlaceValue, IsAt, NamesDefinitions, IsDefinitionPlace, IsListing}
-use Rattle.desk.specs.Steps.Places.{places_at, places_contained, places_spanned, places_of_range, places_of_item, places_of}
+use Rattle.desk.specs.Steps.Places.{places_at, places_in, places_spanned, places_of_range, places_of_item, places_of}
 use Rattle.desk.proofs.Members.{contains_head, contains_one, not_in_nil, flat_of, flat_from, in_if, if_in, and_both, and_of, any_of, any_from, same_id_eq, same_id_self}
 
 pub relisted : {X : Type 0} (cmp : X → X → Ordering) (P Q : X → Type 0) (xs : List X) → ((x : X) → P x ↔ Q x) → IsListing cmp P xs → IsListing cmp Q xs
@@ -40,63 +40,36 @@ at_to (Some other_vertex) span place at = absurd (not_in_nil place at)
 at_from : (v : Option VertexValue) (place : PlaceValue) → v ≡ Some (document place.uri) → Contains (places_at v place.span) place
 at_from v place e = subst (λ w. Contains (places_at w place.span) place) (sym e) (contains_head place [])
 
-contained_to : (d : List ElementValue) (r : IdValue) (span : SpanValue) (place : PlaceValue) (y : ElementValue) → Contains d y → Contains (places_contained d r span y) place
-    → (from : IdValue) × (list_any (places_range from r) d ≡ true) × Contains (places_at (vertex_at d from) span) place
-contained_to d r span place (edge i (contains from to)) here at =
-    let h = in_if (is_among r to) (places_at (vertex_at d from) span) place at in
-    (from, any_from (places_range from r) d (edge i (contains from to)) here (and_of (same_id from from) (is_among r to) (same_id_self from) h.0), h.1)
-contained_to d r span place (edge i (next from to)) here at = absurd (not_in_nil place at)
-contained_to d r span place (edge i (definition from to)) here at = absurd (not_in_nil place at)
-contained_to d r span place (edge i (references from to)) here at = absurd (not_in_nil place at)
-contained_to d r span place (edge i (hover from to)) here at = absurd (not_in_nil place at)
-contained_to d r span place (edge i (moniker_edge from to)) here at = absurd (not_in_nil place at)
-contained_to d r span place (edge i (package_edge from to)) here at = absurd (not_in_nil place at)
-contained_to d r span place (edge i (attach from to)) here at = absurd (not_in_nil place at)
-contained_to d r span place (edge i (item e)) here at = absurd (not_in_nil place at)
-contained_to d r span place (edge i (other_edge from to)) here at = absurd (not_in_nil place at)
-contained_to d r span place (vertex i v) here at = absurd (not_in_nil place at)
+-- what is known of the containers of a dump's ranges
+abbrev pub HasContainers : List ElementValue → Type 0
+HasContainers d = (v r : IdValue) → (is_in d v r ≡ true) ↔ (container d r ≡ Some v)
 
-contained_from : (d : List ElementValue) (r container : IdValue) (place : PlaceValue) (y : ElementValue) → places_range container r y ≡ true → vertex_at d container ≡ Some (document place.uri)
-    → Contains (places_contained d r place.span y) place
-contained_from d r container place (edge i (contains from to)) test e =
-    let b = and_both (same_id from container) (is_among r to) test in
-    if_in (is_among r to) (places_at (vertex_at d from) place.span) place b.1 (at_from (vertex_at d from) place (ap (vertex_at d) (same_id_eq from container b.0) ∙ e))
-contained_from d r container place (edge i (next from to)) test e = cc
-contained_from d r container place (edge i (definition from to)) test e = cc
-contained_from d r container place (edge i (references from to)) test e = cc
-contained_from d r container place (edge i (hover from to)) test e = cc
-contained_from d r container place (edge i (moniker_edge from to)) test e = cc
-contained_from d r container place (edge i (package_edge from to)) test e = cc
-contained_from d r container place (edge i (attach from to)) test e = cc
-contained_from d r container place (edge i (item f)) test e = cc
-contained_from d r container place (edge i (other_edge from to)) test e = cc
-contained_from d r container place (vertex i v) test e = cc
+placed_to : (d : List ElementValue) → HasContainers d → (r : IdValue) (span : SpanValue) (place : PlaceValue) (o : Option IdValue) → container d r ≡ o
+    → Contains (places_in d span o) place → vertex_at d r ≡ Some (range span) → IsAt d r place
+placed_to d law r span place None e at is = absurd (not_in_nil place at)
+placed_to d law r span place (Some v) e at is =
+    let p = at_to (vertex_at d v) span place at in
+    record { container = v; uri = p.0; contained = (law v r).1 e; span = is ∙ ap (λ s. Some (range s)) p.1 }
 
-spanned_to : (d : List ElementValue) (r : IdValue) (place : PlaceValue) (v : Option VertexValue) → vertex_at d r ≡ v → Contains (places_spanned d r v) place → IsAt d r place
-spanned_to d r place None is at = absurd (not_in_nil place at)
-spanned_to d r place (Some (range span)) is at =
-    let f = flat_of (places_contained d r span) d place at in
-    let c = contained_to d r span place f.0 f.1 f.2 in
-    let p = at_to (vertex_at d c.0) span place c.2 in
-    record { container = c.0; uri = p.0; contained = and_of (is_document (vertex_at d c.0)) (list_any (places_range c.0 r) d) (ap is_document p.0) c.1; span = is ∙ ap (λ s. Some (range s)) p.1 }
-spanned_to d r place (Some (document s)) is at = absurd (not_in_nil place at)
-spanned_to d r place (Some (meta_data b)) is at = absurd (not_in_nil place at)
-spanned_to d r place (Some project) is at = absurd (not_in_nil place at)
-spanned_to d r place (Some result_set) is at = absurd (not_in_nil place at)
-spanned_to d r place (Some definition_result) is at = absurd (not_in_nil place at)
-spanned_to d r place (Some reference_result) is at = absurd (not_in_nil place at)
-spanned_to d r place (Some (hover_result t)) is at = absurd (not_in_nil place at)
-spanned_to d r place (Some (moniker m)) is at = absurd (not_in_nil place at)
-spanned_to d r place (Some (package_information p)) is at = absurd (not_in_nil place at)
-spanned_to d r place (Some (event v)) is at = absurd (not_in_nil place at)
-spanned_to d r place (Some other_vertex) is at = absurd (not_in_nil place at)
+spanned_to : (d : List ElementValue) → HasContainers d → (r : IdValue) (place : PlaceValue) (v : Option VertexValue) → vertex_at d r ≡ v → Contains (places_spanned d r v) place → IsAt d r place
+spanned_to d law r place None is at = absurd (not_in_nil place at)
+spanned_to d law r place (Some (range span)) is at = placed_to d law r span place (container d r) refl at is
+spanned_to d law r place (Some (document s)) is at = absurd (not_in_nil place at)
+spanned_to d law r place (Some (meta_data b)) is at = absurd (not_in_nil place at)
+spanned_to d law r place (Some project) is at = absurd (not_in_nil place at)
+spanned_to d law r place (Some result_set) is at = absurd (not_in_nil place at)
+spanned_to d law r place (Some definition_result) is at = absurd (not_in_nil place at)
+spanned_to d law r place (Some reference_result) is at = absurd (not_in_nil place at)
+spanned_to d law r place (Some (hover_result t)) is at = absurd (not_in_nil place at)
+spanned_to d law r place (Some (moniker m)) is at = absurd (not_in_nil place at)
+spanned_to d law r place (Some (package_information p)) is at = absurd (not_in_nil place at)
+spanned_to d law r place (Some (event v)) is at = absurd (not_in_nil place at)
+spanned_to d law r place (Some other_vertex) is at = absurd (not_in_nil place at)
 
-range_from : (d : List ElementValue) (r : IdValue) (place : PlaceValue) → IsAt d r place → Contains (places_of_range d r) place
-range_from d r place there =
-    let both = and_both (is_document (vertex_at d there.container)) (list_any (places_range there.container r) d) there.contained in
-    let y = any_of (places_range there.container r) d both.1 in
+range_from : (d : List ElementValue) → HasContainers d → (r : IdValue) (place : PlaceValue) → IsAt d r place → Contains (places_of_range d r) place
+range_from d law r place there =
     subst (λ v. Contains (places_spanned d r v) place) (sym there.span)
-    (flat_from (places_contained d r place.span) d y.0 place y.1 (contained_from d r there.container place y.0 y.2 there.uri))
+    (subst (λ o. Contains (places_in d place.span o) place) (sym ((law there.container r).0 there.contained)) (at_from (vertex_at d there.container) place there.uri))
 
 -- ---- the places of a result
 
@@ -110,32 +83,32 @@ names_from : (o : Option Property) → NamesDefinitions o → are_definitions o 
 names_from o (inl e) = ap are_definitions e
 names_from o (inr e) = ap are_definitions e
 
-item_to : (d : List ElementValue) (result : IdValue) (place : PlaceValue) (x : ElementValue) → Contains d x → Contains (places_of_item d result x) place → IsDefinitionPlace d result place
-item_to d result place (edge i (item e)) here at =
+item_to : (d : List ElementValue) → HasContainers d → (result : IdValue) (place : PlaceValue) (x : ElementValue) → Contains d x → Contains (places_of_item d result x) place → IsDefinitionPlace d result place
+item_to d law result place (edge i (item e)) here at =
     let h = in_if (same_id e.source result && are_definitions e.property) (flat_map (places_of_range d) e.targets) place at in
     let b = and_both (same_id e.source result) (are_definitions e.property) h.0 in
     let f = flat_of (places_of_range d) e.targets place h.1 in
-    (f.0, (i, e, here, same_id_eq e.source result b.0, names_of e.property b.1, f.1), spanned_to d f.0 place (vertex_at d f.0) refl f.2)
-item_to d result place (edge i (contains from to)) here at = absurd (not_in_nil place at)
-item_to d result place (edge i (next from to)) here at = absurd (not_in_nil place at)
-item_to d result place (edge i (definition from to)) here at = absurd (not_in_nil place at)
-item_to d result place (edge i (references from to)) here at = absurd (not_in_nil place at)
-item_to d result place (edge i (hover from to)) here at = absurd (not_in_nil place at)
-item_to d result place (edge i (moniker_edge from to)) here at = absurd (not_in_nil place at)
-item_to d result place (edge i (package_edge from to)) here at = absurd (not_in_nil place at)
-item_to d result place (edge i (attach from to)) here at = absurd (not_in_nil place at)
-item_to d result place (edge i (other_edge from to)) here at = absurd (not_in_nil place at)
-item_to d result place (vertex i v) here at = absurd (not_in_nil place at)
+    (f.0, (i, e, here, same_id_eq e.source result b.0, names_of e.property b.1, f.1), spanned_to d law f.0 place (vertex_at d f.0) refl f.2)
+item_to d law result place (edge i (contains from to)) here at = absurd (not_in_nil place at)
+item_to d law result place (edge i (next from to)) here at = absurd (not_in_nil place at)
+item_to d law result place (edge i (definition from to)) here at = absurd (not_in_nil place at)
+item_to d law result place (edge i (references from to)) here at = absurd (not_in_nil place at)
+item_to d law result place (edge i (hover from to)) here at = absurd (not_in_nil place at)
+item_to d law result place (edge i (moniker_edge from to)) here at = absurd (not_in_nil place at)
+item_to d law result place (edge i (package_edge from to)) here at = absurd (not_in_nil place at)
+item_to d law result place (edge i (attach from to)) here at = absurd (not_in_nil place at)
+item_to d law result place (edge i (other_edge from to)) here at = absurd (not_in_nil place at)
+item_to d law result place (vertex i v) here at = absurd (not_in_nil place at)
 
-pub gathered : (d : List ElementValue) (result : IdValue) (place : PlaceValue) → Contains (places_of d result) place ↔ IsDefinitionPlace d result place
-gathered d result place = (to, back)
+pub gathered : (d : List ElementValue) → HasContainers d → (result : IdValue) (place : PlaceValue) → Contains (places_of d result) place ↔ IsDefinitionPlace d result place
+gathered d law result place = (to, back)
   where
     to : Contains (places_of d result) place → IsDefinitionPlace d result place
-    to at = let f = flat_of (places_of_item d result) d place at in item_to d result place f.0 f.1 f.2
+    to at = let f = flat_of (places_of_item d result) d place at in item_to d law result place f.0 f.1 f.2
 
     back : IsDefinitionPlace d result place → Contains (places_of d result) place
     back (r, (i, e, here, source, named, target), there) =
         let test = and_of (same_id e.source result) (are_definitions e.property) (subst (λ s. same_id e.source s ≡ true) source (same_id_self e.source)) (names_from e.property named) in
         flat_from (places_of_item d result) d (edge i (item e)) place here
         (if_in (same_id e.source result && are_definitions e.property) (flat_map (places_of_range d) e.targets) place test
-        (flat_from (places_of_range d) e.targets r place target (range_from d r place there)))
+        (flat_from (places_of_range d) e.targets r place target (range_from d law r place there)))

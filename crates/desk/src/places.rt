@@ -3,12 +3,12 @@ ghost use Rattle.std.specs.Prelude.{◌≡◌, ◌++◌, IfOk, OnOk, Contains, m
 ghost use Rattle.std.specs.List.{flat_map};
 ghost use Rattle.lsif.specs.Element.{id_value, id_values, element_value};
 ghost use Rattle.dump.specs.Conditions.{are_definitions};
-ghost use Rattle.dump.specs.Graph.{vertex_at, span_of, is_among};
+ghost use Rattle.dump.specs.Graph.{vertex_at, span_of};
 ghost use Rattle.dump.specs.Places.{place_cmp, IsListing, IsDefinitionPlace};
 ghost use Rattle.desk.specs.Places.{place_value};
-ghost use Rattle.desk.specs.Steps.Places.{places_at, places_contained, places_of_range, places_of_item, places_of};
+ghost use Rattle.desk.specs.Steps.Places.{places_at, places_of_range, places_of_item, places_of};
 
-use dump::CheckedDump;
+use dump::{CheckedDump, container_law};
 use lsif::{Edge, Element, Id, Property, Vertex};
 use positions::Span;
 use std::alloc::{AllocError, Global};
@@ -28,17 +28,6 @@ fn list_places(places: &mut Vec<Place>)
 {
     places.sort_unstable();
     places.dedup();
-}
-
-fn is_among(id: &Id, ids: &[Id]) -> bool
-    ensures { result ≡ is_among (id_value id.now) (id_values ids.now) }
-{
-    for other in ids {
-        if other.is(id) {
-            return true;
-        }
-    }
-    false
 }
 
 /// Whether the targets of an `item` edge with this property are definitions.
@@ -64,35 +53,17 @@ fn add_place(
     Ok(())
 }
 
-/// Adds the place of the range, where the element is a `contains` edge that names it.
-fn add_contained(
-    places: &mut Vec<Place>,
-    dump: &CheckedDump,
-    range: &Id,
-    span: Span,
-    element: &Element,
-) -> Result<(), AllocError>
-    ensures { OnOk result (map place_value places.new.items ≡ map place_value places.old.items ++ places_contained dump.now (id_value range.now) span (element_value element.now)) }
-{
-    match element {
-        Element::Edge(_, Edge::Contains(from, to)) if is_among(range, to) => {
-            add_place(places, dump, from, span)
-        }
-        _ => Ok(()),
-    }
-}
-
-/// Adds the places of the range.
+/// Adds the place of the range: its span in the document that contains it.
 fn add_range(places: &mut Vec<Place>, dump: &CheckedDump, range: &Id) -> Result<(), AllocError>
     ensures { OnOk result (map place_value places.new.items ≡ map place_value places.old.items ++ places_of_range dump.now (id_value range.now)) }
 {
     let Some(Vertex::Range(span)) = dump.vertex_at(range) else {
         return Ok(());
     };
-    for element in dump.elements() {
-        add_contained(places, dump, range, *span, element)?;
+    match dump.container(range) {
+        Some(document) => add_place(places, dump, document, *span),
+        None => Ok(()),
     }
-    Ok(())
 }
 
 /// Adds the places of the ranges.
@@ -131,6 +102,7 @@ pub(crate) fn places_of(
 ) -> Result<Vec<Place>, AllocError>
     ensures { IfOk result (λ places. IsListing place_cmp (IsDefinitionPlace dump.now (id_value of.now)) (map place_value places.items)) }
 {
+    container_law();
     let mut places = Vec::new(alloc);
     for element in dump.elements() {
         add_item(&mut places, dump, of, element)?;

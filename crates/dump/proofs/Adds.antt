@@ -1,6 +1,6 @@
 -- What the tables are after an element more.
-use Rattle.std.proofs.Common.{◌≡◌, ⊎_elim, ◌∙◌, ◌&&◌, ◌||◌, ◌++◌, ◌∷◌, [], ◌+◌, ◌<◌, ◌≤◌, ℕ, Bool, true, false, cond, not, List, length, length-append, get_or, replicate, zero, suc, find, refl, sym, ap, subst, arith, Option, Some, None, option_and_then, is_some, if◌then◌else◌}
-use Rattle.std.specs.Prelude.{Contains, slice_get}
+use Rattle.std.proofs.Common.{◌≡◌, ◌∙◌, ◌&&◌, ◌||◌, ◌++◌, ◌∷◌, [], ◌+◌, ℕ, Bool, true, false, cond, not, List, length, length-append, get_or, replicate, zero, suc, find, refl, sym, ap, subst, arith, Option, Some, None, option_and_then, is_some, if◌then◌else◌}
+use Rattle.std.specs.Prelude.{slice_get}
 use Rattle.std.specs.List.{list_any, list_all, position}
 use Rattle.std.proofs.lemmas.List.{get_or_append_left}
 use Rattle.std.proofs.Math.Seq.{get_or-append_seam}

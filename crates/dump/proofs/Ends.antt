@@ -142,6 +142,18 @@ no_code before x e =
       uri = at_19.0;
     }
 
+-- ---- a fact of the empty list that an element without a code keeps
+
+module _ (P : List ElementValue → Type 0) (none : P []) (more : (d : List ElementValue) (x : ElementValue) → HasNoCode d x → P d → P (d ++ x ∷ [])) where
+  holds_after : (rest before : List ElementValue) → SoundAfter before rest → P before → P (before ++ rest)
+  holds_after [] before h p = subst P (sym (append-nil before)) p
+  holds_after (x ∷ rest) before h p = subst P (append_assoc before (x ∷ []) rest) (holds_after rest (before ++ x ∷ []) h.1 (more before x (no_code before x h.0) p))
+
+  pub holds : (elements : List ElementValue) → IsSound elements → P elements
+  holds elements h = holds_after elements [] (sound_after elements h) none
+
+-- ---- chains end
+
 none_of : (o : Option IdValue) → is_some o ≡ false → o ≡ None
 none_of None e = refl
 none_of (Some x) e = cc
@@ -149,11 +161,10 @@ none_of (Some x) e = cc
 same_pairs : (before : List ElementValue) (x : ElementValue) → single_in Next x ≡ [] → ((v : IdValue) → HasChain (next_pairs before) v) → (v : IdValue) → HasChain (next_pairs (before ++ x ∷ [])) v
 same_pairs before x e each v = subst (λ ps. HasChain ps v) (sym (pairs_more (single_in Next) before x ∙ ap (λ ps. next_pairs before ++ ps) e ∙ append-nil (next_pairs before))) (each v)
 
-one_more : (before : List ElementValue) (x : ElementValue) → order_code before x ≡ None → ((v : IdValue) → HasChain (next_pairs before) v) → (v : IdValue) → HasChain (next_pairs (before ++ x ∷ [])) v
-one_more before (edge i (next a b)) e each v =
-    let no = no_code before (edge i (next a b)) e in
-    let apart = λ (path : Path (next_pairs before) b a). let yes = reaches_of (next_pairs before) b a path in absurd (absurd_true (sym yes ∙ no.cycle)) in
-    subst (λ ps. HasChain ps v) (sym (pairs_more (single_in Next) before (edge i (next a b)))) (all_end (next_pairs before) a b (none_of (first_to (next_pairs before) a) no.single) apart each v)
+one_more : (before : List ElementValue) (x : ElementValue) → HasNoCode before x → ((v : IdValue) → HasChain (next_pairs before) v) → (v : IdValue) → HasChain (next_pairs (before ++ x ∷ [])) v
+one_more before (edge i (next a b)) free each v =
+    let apart = λ (path : Path (next_pairs before) b a). let yes = reaches_of (next_pairs before) b a path in absurd (absurd_true (sym yes ∙ free.cycle)) in
+    subst (λ ps. HasChain ps v) (sym (pairs_more (single_in Next) before (edge i (next a b)))) (all_end (next_pairs before) a b (none_of (first_to (next_pairs before) a) free.single) apart each v)
 one_more before (edge i (contains a bs)) e each v = same_pairs before (edge i (contains a bs)) refl each v
 one_more before (edge i (definition a b)) e each v = same_pairs before (edge i (definition a b)) refl each v
 one_more before (edge i (references a b)) e each v = same_pairs before (edge i (references a b)) refl each v
@@ -165,12 +176,8 @@ one_more before (edge i (item a)) e each v = same_pairs before (edge i (item a))
 one_more before (edge i (other_edge a bs)) e each v = same_pairs before (edge i (other_edge a bs)) refl each v
 one_more before (vertex i w) e each v = same_pairs before (vertex i w) refl each v
 
-end_after : (rest before : List ElementValue) → SoundAfter before rest → ((v : IdValue) → HasChain (next_pairs before) v) → (v : IdValue) → HasChain (next_pairs (before ++ rest)) v
-end_after [] before h each v = subst (λ d. HasChain (next_pairs d) v) (sym (append-nil before)) (each v)
-end_after (x ∷ rest) before h each v = subst (λ d. HasChain (next_pairs d) v) (append_assoc before (x ∷ []) rest) (end_after rest (before ++ x ∷ []) h.1 (one_more before x h.0 each) v)
-
 pub each_ends : (elements : List ElementValue) → IsSound elements → (v : IdValue) → HasChain (next_pairs elements) v
-each_ends elements h v = end_after elements [] (sound_after elements h) (λ w. (w ∷ [], ends refl)) v
+each_ends = holds (λ d. (v : IdValue) → HasChain (next_pairs d) v) (λ w. (w ∷ [], ends refl)) one_more
 
 -- ---- no vertex is left twice
 
@@ -191,10 +198,9 @@ single_more ps a b free one x y at = ⊎_elim
 same_single : (before : List ElementValue) (x : ElementValue) → single_in Next x ≡ [] → Single (next_pairs before) → Single (next_pairs (before ++ x ∷ []))
 same_single before x e one = subst Single (sym (pairs_more (single_in Next) before x ∙ ap (λ ps. next_pairs before ++ ps) e ∙ append-nil (next_pairs before))) one
 
-single_one : (before : List ElementValue) (x : ElementValue) → order_code before x ≡ None → Single (next_pairs before) → Single (next_pairs (before ++ x ∷ []))
-single_one before (edge i (next a b)) e one =
-    let no = no_code before (edge i (next a b)) e in
-    subst Single (sym (pairs_more (single_in Next) before (edge i (next a b)))) (single_more (next_pairs before) a b (none_of (first_to (next_pairs before) a) no.single) one)
+single_one : (before : List ElementValue) (x : ElementValue) → HasNoCode before x → Single (next_pairs before) → Single (next_pairs (before ++ x ∷ []))
+single_one before (edge i (next a b)) free one =
+    subst Single (sym (pairs_more (single_in Next) before (edge i (next a b)))) (single_more (next_pairs before) a b (none_of (first_to (next_pairs before) a) free.single) one)
 single_one before (edge i (contains a bs)) e one = same_single before (edge i (contains a bs)) refl one
 single_one before (edge i (definition a b)) e one = same_single before (edge i (definition a b)) refl one
 single_one before (edge i (references a b)) e one = same_single before (edge i (references a b)) refl one
@@ -206,9 +212,5 @@ single_one before (edge i (item a)) e one = same_single before (edge i (item a))
 single_one before (edge i (other_edge a bs)) e one = same_single before (edge i (other_edge a bs)) refl one
 single_one before (vertex i w) e one = same_single before (vertex i w) refl one
 
-single_after : (rest before : List ElementValue) → SoundAfter before rest → Single (next_pairs before) → Single (next_pairs (before ++ rest))
-single_after [] before h one = subst (λ d. Single (next_pairs d)) (sym (append-nil before)) one
-single_after (x ∷ rest) before h one = subst (λ d. Single (next_pairs d)) (append_assoc before (x ∷ []) rest) (single_after rest (before ++ x ∷ []) h.1 (single_one before x h.0 one))
-
 pub each_single : (elements : List ElementValue) → IsSound elements → Single (next_pairs elements)
-each_single elements h = single_after elements [] (sound_after elements h) (λ x y at. absurd (not_in_nil (x, y) at))
+each_single = holds (λ d. Single (next_pairs d)) (λ x y at. absurd (not_in_nil (x, y) at)) single_one

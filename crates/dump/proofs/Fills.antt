@@ -9,7 +9,8 @@ use Rattle.lsif.specs.Element.{IdValue, same_id, VertexValue, meta_data, project
 use Rattle.dump.specs.Graph.{vertex_at, is_document, span_of, is_among, ends}
 use Rattle.dump.specs.Conditions.{are_vertices, are_documents, may_contain}
 use Rattle.dump.specs.Contained.{contains_range, spans_of, spans_named, spans_in, conflicts, any_conflicts, has_conflict}
-use Rattle.dump.specs.Index.{contains_source, is_id, kept, IsClear, IsFilled}
+use Rattle.dump.specs.Index.{is_id, kept, IsClear, IsFilled}
+use Rattle.dump.specs.Contained.{contains_source}
 use Rattle.dump.specs.Links.{ranges_in}
 use Rattle.dump.proofs.Bools.{and_both, not_false}
 use Rattle.dump.proofs.Conflicts.{conflict_of_both, has_conflict-permutation}
@@ -161,11 +162,6 @@ other_fills : (d : List ElementValue) (x : ElementValue) → are_vertices d (end
 other_fills d x e known old new none had now v =
     subst (λ ss. IsPermutation ss (kept (new v)) × IsClear (kept (new v))) (sym (spans_more d x known e v ∙ ap (λ ss. spans_in d v ++ ss) (none v) ∙ append-nil (spans_in d v)))
     (subst (λ o. IsPermutation (spans_in d v) (kept o) × IsClear (kept o)) (sym (now v)) (had v))
-
--- what the code filled, in the words of the element
-pub filled_from : (x : ElementValue) (key : Option IdValue) → key ≡ contains_source x → (found targets : List SpanValue) → found ≡ targets → (old new : IdValue → Option (Vec SpanValue Global))
-    → ((v : IdValue) → IsFilled (is_id v key) found (old v) (new v)) → (v : IdValue) → IsFilled (is_id v (contains_source x)) targets (old v) (new v)
-filled_from x key e found targets f old new h v = subst (λ ss. IsFilled (is_id v (contains_source x)) ss (old v) (new v)) f (subst (λ k. IsFilled (is_id v k) found (old v) (new v)) e (h v))
 
 pub fills : (d : List ElementValue) (x : ElementValue) → HasNoCode d x → AreEndsKnown d → (old new : IdValue → Option (Vec SpanValue Global))
     → ((v : IdValue) → IsPermutation (spans_in d v) (kept (old v)) × IsClear (kept (old v)))

@@ -1,7 +1,7 @@
 -- What is known of the elements of a sound dump: the ends of each are vertices, one `contains` edge out of a document at most
 -- names a range, and what has ended is a document.
-use Rattle.std.proofs.Common.{◌≡◌, ⊎_elim, inl, inr, ◌∙◌, ◌&&◌, ◌||◌, ◌++◌, ◌∷◌, [], Bool, true, false, not, cond, List, refl, sym, ap, subst, append_assoc, append-nil, find, Option, Some, None, option_and_then, is_some}
-use Rattle.std.specs.Prelude.{Contains}
+use Rattle.std.proofs.Common.{◌≡◌, ⊎_elim, inl, inr, ◌∙◌, ◌&&◌, ◌||◌, ◌++◌, ◌∷◌, [], Bool, true, false, not, cond, List, refl, sym, ap, subst, find, Option, Some, None, option_and_then, is_some}
+use Rattle.std.specs.Prelude.{Contains, ◌↔◌}
 use Rattle.std.specs.List.{list_any}
 use Rattle.std.proofs.lemmas.List.Elements.{Contains-push_cases}
 use Rattle.std.proofs.lemmas.List.Folds.{list_any-append}
@@ -10,24 +10,15 @@ use Rattle.dump.specs.Graph.{vertex_at, is_document, is_among, ends}
 use Rattle.dump.specs.Contained.{contains_range, is_contained, places_range, is_in}
 use Rattle.dump.specs.Conditions.{are_vertices}
 use Rattle.dump.specs.Ended.{finishes, has_begun, has_ended, closes_range, is_closed}
-use Rattle.dump.specs.Index.{contains_source, container, is_id, passes}
+use Rattle.dump.specs.Index.{is_id, passes}
+use Rattle.dump.specs.Contained.{contains_source, container}
 use Rattle.dump.specs.Steps.{IsSound}
 use Rattle.dump.proofs.Bools.{or_none, or_some, and_both, and_rest, not_false, and_of, same_bool, absurd_true}
-use Rattle.dump.proofs.SameIds.{same_id_eq}
+use Rattle.dump.proofs.SameIds.{same_id_eq, same_id_self}
 use Rattle.dump.proofs.Members.{contains_head, contains_tail, contains_cases, not_in_nil}
 use Rattle.dump.proofs.Nests.{kept_vertex, vertex_there}
 use Rattle.dump.proofs.Uniques.{any_from, found_member}
-use Rattle.dump.proofs.Ends.{HasNoCode, no_code, SoundAfter, sound_after}
-
--- ---- a fact of the empty list that an element without a code keeps
-
-module _ (P : List ElementValue → Type 0) (none : P []) (more : (d : List ElementValue) (x : ElementValue) → HasNoCode d x → P d → P (d ++ x ∷ [])) where
-  holds_after : (rest before : List ElementValue) → SoundAfter before rest → P before → P (before ++ rest)
-  holds_after [] before h p = subst P (sym (append-nil before)) p
-  holds_after (x ∷ rest) before h p = subst P (append_assoc before (x ∷ []) rest) (holds_after rest (before ++ x ∷ []) h.1 (more before x (no_code before x h.0) p))
-
-  pub holds : (elements : List ElementValue) → IsSound elements → P elements
-  holds elements h = holds_after elements [] (sound_after elements h) none
+use Rattle.dump.proofs.Ends.{HasNoCode, holds}
 
 -- ---- ends are vertices
 
@@ -288,6 +279,17 @@ in_container d sound v r = by (is_document (vertex_at d v)) refl
     by : (b : Bool) → is_document (vertex_at d v) ≡ b → (b && list_any (places_range v r) d) ≡ is_id v (container d r)
     by true doc = placed_container d sound v r doc
     by false other = container_document d v r other
+
+id_to : (v : IdValue) (o : Option IdValue) → is_id v o ≡ true → o ≡ Some v
+id_to v None e = cc
+id_to v (Some i) e = ap Some (same_id_eq i v e)
+
+id_from : (v : IdValue) (o : Option IdValue) → o ≡ Some v → is_id v o ≡ true
+id_from v o e = ap (is_id v) e ∙ same_id_self v
+
+pub is_in_container : (d : List ElementValue) → IsSound d → (v r : IdValue) → (is_in d v r ≡ true) ↔ (container d r ≡ Some v)
+is_in_container d sound v r =
+    let is = in_container d sound v r in (λ e. id_to v (container d r) (sym is ∙ e), λ e. is ∙ id_from v (container d r) e)
 
 pub closed_container : (d : List ElementValue) → IsSound d → (r : IdValue) → is_closed d r ≡ passes (has_ended d) (container d r)
 unfolding is_closed

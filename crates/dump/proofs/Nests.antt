@@ -1,5 +1,5 @@
 -- In a sound dump two ranges of one document don't conflict.
-use Rattle.std.proofs.Common.{◌≡◌, ◌⊎◌, inl, inr, ◌∙◌, ◌&&◌, ◌||◌, ◌++◌, ◌∷◌, [], ℕ, Bool, true, false, not, if◌then◌else◌, List, refl, sym, ap, ap₂, subst, append_assoc, append-nil, arith, find, Option, Some, None, option_and_then, is_some}
+use Rattle.std.proofs.Common.{◌≡◌, ◌⊎◌, inl, inr, ◌∙◌, ◌&&◌, ◌||◌, ◌++◌, ◌∷◌, [], ℕ, Bool, true, false, not, if◌then◌else◌, List, refl, sym, ap, ap₂, subst, arith, find, Option, Some, None, option_and_then, is_some}
 use Rattle.std.specs.List.{list_any, list_all, flat_map, cons_option}
 use Rattle.std.specs.Option.{option_or}
 use Rattle.std.proofs.lemmas.List.Folds.{find-append, list_any-append}
@@ -7,12 +7,12 @@ use Rattle.positions.specs.Position.{PositionValue, is_before, later_of, earlier
 use Rattle.positions.specs.Span.{SpanValue, nests, overlaps}
 use Rattle.lsif.specs.Element.{IdValue, same_id, VertexValue, meta_data, project, document, range, result_set, definition_result, reference_result, hover_result, moniker, package_information, event, other_vertex, contains, next, definition, references, hover, moniker_edge, package_edge, attach, item, other_edge, ElementValue, vertex, edge, element_id}
 use Rattle.dump.specs.Graph.{element_at, vertex_of, vertex_at, is_document, span_of, is_among}
-use Rattle.dump.specs.Contained.{places_range, is_in, spans_of, spans_named, spans_in, conflicts, any_conflicts, has_conflict, IsNested}
+use Rattle.dump.specs.Contained.{places_range, spans_of, spans_named, spans_in, conflicts, any_conflicts, has_conflict, IsNested}
 use Rattle.dump.specs.Conditions.{are_vertices, may_contain}
 use Rattle.dump.specs.Steps.{IsSound}
 use Rattle.dump.proofs.Bools.{or_none, or_some, and_both, and_rest, not_false}
 use Rattle.dump.proofs.SameIds.{same_id_eq}
-use Rattle.dump.proofs.Ends.{HasNoCode, no_code, SoundAfter, sound_after}
+use Rattle.dump.proofs.Ends.{HasNoCode, holds}
 
 -- a `contains` edge out of this vertex names the range
 abbrev pub placed : List ElementValue → IdValue → IdValue → Bool
@@ -295,14 +295,11 @@ clear_more d x known clear free v r s e f at_r at_s has_r has_s apart =
 
 -- ---- a whole dump
 
-clear_after : (rest before : List ElementValue) → SoundAfter before rest → Known before → Clear before → Clear (before ++ rest)
-clear_after [] before h known clear = subst Clear (sym (append-nil before)) clear
-clear_after (x ∷ rest) before h known clear =
-    let free = no_code before x h.0 in
-    subst Clear (append_assoc before (x ∷ []) rest) (clear_after rest (before ++ x ∷ []) h.1 (known_more before x known free) (clear_more before x known clear free))
+both_more : (d : List ElementValue) (x : ElementValue) → HasNoCode d x → Known d × Clear d → Known (d ++ x ∷ []) × Clear (d ++ x ∷ [])
+both_more d x free both = (known_more d x both.0 free, clear_more d x both.0 both.1 free)
 
 pub each_clear : (elements : List ElementValue) → IsSound elements → Clear elements
-each_clear elements h = clear_after elements [] (sound_after elements h) (λ v r at. cc) (λ v r s e f at. cc)
+each_clear elements h = (holds (λ d. Known d × Clear d) (λ v r at. cc, λ v r s e f at. cc) both_more elements h).1
 
 pub nested : (elements : List ElementValue) → IsSound elements → IsNested elements
 nested elements h d r s e f at_r at_s has_r has_s apart =

@@ -1,8 +1,8 @@
 -- Repeated ids of a list that grows at its end.
-use Rattle.std.proofs.Common.{◌≡◌, ◌∙◌, ◌||◌, ℕ, ◌+◌, ◌<◌, ◌≤◌, Bool, true, false, List, [], ◌∷◌, ◌++◌, length, take, drop, get_or, Option, Some, None, if◌then◌else◌, refl, ap, sym}
+use Rattle.std.proofs.Common.{◌≡◌, ◌∙◌, ◌||◌, ℕ, ◌+◌, ◌<◌, Bool, true, false, List, [], ◌∷◌, ◌++◌, length, take, drop, get_or, Option, Some, None, if◌then◌else◌, refl, ap, sym}
 use Rattle.std.specs.Prelude.{is_some}
 use Rattle.std.proofs.lemmas.Bool.{or_parts}
-use Rattle.std.proofs.lemmas.List.{take_all, take_more, take-append-drop, map-append}
+use Rattle.std.proofs.lemmas.List.{take_more, take-append-drop, map-append}
 use Rattle.std.proofs.lemmas.List.Folds.{list_any-append}
 use Rattle.lsif.specs.declared.id.Id.{Id}
 use Rattle.lsif.specs.Element.{IdValue, id_value, id_values, same_id}
@@ -56,9 +56,6 @@ again-hit xs k x lt e h = sym (ap has_repeated (ids_split xs k x lt e) ∙ repea
 
 pub again-miss : (xs : List Id) (k : ℕ) (x : Id) → k < length xs → x ≡ get_or xs k x → is_among (id_value x) (id_values (take k xs)) ≡ false → has_repeated (id_values (take k xs)) ≡ false → has_repeated (id_values (take (k + 1) xs)) ≡ false
 again-miss xs k x lt e h none = ap has_repeated (ids_more xs k x lt e) ∙ repeated_push _ (id_value x) none h
-
-pub again-end : (xs : List Id) (k : ℕ) → length xs ≤ k → has_repeated (id_values (take k xs)) ≡ false → false ≡ has_repeated (id_values xs)
-again-end xs k le none = sym (rw (take_all k xs le) at none)
 
 -- a table of the ids up to an index, and what one more makes of it
 pub seen_more : {V : Type 0} (xs : List Id) (k : ℕ) (x : Id) (v : V) (old new : IdValue → Option V) → k < length xs → x ≡ get_or xs k x

@@ -1,17 +1,16 @@
 -- Shortcuts along chains lead to their ends, and an edge more keeps them.
-use Rattle.std.proofs.Common.{◌≡◌, ⊎_elim, inl, inr, ◌⊎◌, ◌∙◌, ◌&&◌, ◌++◌, ◌∷◌, [], ◌+◌, ◌<◌, ◌≤◌, ℕ, Bool, true, false, cond, nat_eq, List, length, length-append, get_or, set, map, find, append-nil, refl, sym, ap, subst, arith, Option, Some, None, option_and_then, is_some}
-use Rattle.std.specs.Prelude.{Contains, slice_get}
-use Rattle.std.specs.List.{position}
+use Rattle.std.proofs.Common.{◌≡◌, ⊎_elim, inl, inr, ◌⊎◌, ◌∙◌, ◌++◌, ◌∷◌, [], ◌+◌, ◌<◌, ◌≤◌, ℕ, Bool, true, false, cond, nat_eq, List, length, length-append, get_or, set, map, find, refl, sym, ap, subst, arith, Option, Some, None, option_and_then, is_some}
+use Rattle.std.specs.Prelude.{Contains}
 use Rattle.std.proofs.lemmas.List.{get_or-set_other, get_or_append_left, length-set, length-map, get_or-map}
 use Rattle.std.proofs.lemmas.List.Elements.{Contains-append_left, Contains-push_cases}
 use Rattle.std.proofs.Math.Seq.{get_or-append_seam}
 use Rattle.std.proofs.lemmas.Grind.{get_or-set_at}
 use Rattle.std.proofs.lemmas.Option.{slice_get_within, slice_get-get_or, get_or_from_slice_get}
 use Rattle.lsif.specs.declared.element.Element.{Element}
-use Rattle.lsif.specs.Element.{IdValue, same_id, VertexValue, element_value, contains, next, definition, references, hover, moniker_edge, package_edge, attach, item, other_edge, ElementValue, vertex, edge, element_id}
+use Rattle.lsif.specs.Element.{IdValue, same_id, element_value, contains, next, definition, references, hover, moniker_edge, package_edge, attach, item, other_edge, ElementValue, vertex, edge, element_id}
 use Rattle.dump.specs.declared.single.SingleLabel.{SingleLabel}
 use Rattle.dump.specs.declared.single.SingleLabel.TheVariants.{Next}
-use Rattle.dump.specs.Chains.{place_in, Shortens, HasShortcuts, IsPlace, IsEnd, CanJoin, JoinsPlaces}
+use Rattle.dump.specs.Chains.{place_in, Shortens, HasShortcuts, IsPlace, IsEnd, CanJoin}
 use Rattle.dump.specs.Conditions.{are_vertices}
 use Rattle.dump.specs.Graph.{element_at, vertex_of, vertex_at, ends}
 use Rattle.dump.specs.Index.{has_id}
@@ -22,10 +21,9 @@ use Rattle.dump.proofs.Adds.{found_place, vertex_place, find_any}
 use Rattle.dump.proofs.Bools.{and_both, not_false, same_bool, absurd_true}
 use Rattle.dump.proofs.Cells.{nothing}
 use Rattle.dump.proofs.Chains.{suffix, short, no_chain}
-use Rattle.dump.proofs.Ends.{Single, HasNoCode, no_code, each_single, each_ends, first_none, first_more, pairs_more, pair_of_first}
+use Rattle.dump.proofs.Ends.{Single, HasNoCode, each_ends, first_none, first_more, pairs_more, pair_of_first}
 use Rattle.dump.proofs.Known.{AreEndsKnown}
-use Rattle.dump.proofs.Leads.{on_chain, few_pairs}
-use Rattle.dump.proofs.Members.{contains_cases, contains_head}
+use Rattle.dump.proofs.Leads.{on_chain}
 use Rattle.dump.proofs.Paths.{wider, joined, path_of, reaches_of}
 use Rattle.dump.proofs.SameIds.{same_id_eq, same_id_self}
 use Rattle.dump.proofs.Tables.{position-any, position_hit, position_miss, position_kept, first_to-single}

@@ -1,5 +1,5 @@
 -- Places of numbers below a bound, which have a slot each, and of all other ids.
-use Rattle.std.proofs.Common.{◌≡◌, ◌∙◌, ◌==◌, ℕ, Bool, true, false, nat_eq, nat_lt, List, [], ◌∷◌, length, get_or, if◌then◌else◌, refl, sym, ap, arith, Option, Some, None}
+use Rattle.std.proofs.Common.{◌≡◌, ◌∙◌, ℕ, Bool, true, false, nat_eq, nat_lt, List, get_or, if◌then◌else◌, refl, sym, ap, arith, Option, Some, None}
 use Rattle.std.specs.Prelude.{Result, Ok, Err, OnOk, OnErr}
 use Rattle.dump.specs.Ids.{entered}
 

@@ -1,7 +1,7 @@
 -- Tables that lead from an id to the place of the first element that passes its test, and what a push makes of them.
 use Rattle.std.proofs.Common.{◌≡◌, ◌∙◌, ◌&&◌, ◌||◌, ℕ, ◌+◌, ◌≤◌, suc, nat_lt, not, Bool, true, false, cond, List, [], ◌∷◌, ◌++◌, length, Option, Some, None, if◌then◌else◌, find, refl, ap, sym, arith}
 use Rattle.std.specs.Prelude.{is_some, option_map, option_and_then, slice_get}
-use Rattle.std.specs.List.{list_any, flat_map, position, position_or_len}
+use Rattle.std.specs.List.{list_any, position, position_or_len}
 use Rattle.std.proofs.lemmas.Grind.{common_steps}
 use Rattle.std.proofs.lemmas.List.Folds.{find_at}
 use Rattle.std.proofs.lemmas.Option.{slice_get_past}
@@ -9,8 +9,7 @@ use Rattle.lsif.specs.Element.{IdValue, same_id, ElementValue}
 use Rattle.dump.specs.Ids.{IsTable}
 use Rattle.dump.specs.declared.single.SingleLabel.{SingleLabel}
 use Rattle.dump.specs.Links.{single_target, is_single}
-use Rattle.dump.specs.Walks.{Pair, same_label, single_of, single_in, single_pairs, first_to}
-use Rattle.dump.proofs.SameIds.{same_id_eq}
+use Rattle.dump.specs.Walks.{Pair, same_label, single_of, single_pairs, first_to}
 
 -- ---- the place of the first item that passes
 
@@ -79,34 +78,6 @@ table-item table test elements h i = ap (option_and_then (slice_get elements)) (
 
 pub table-any : {X : Type 0} (table : IdValue → Option ℕ) (test : IdValue → X → Bool) (elements : List X) → IsTable table test elements → (i : IdValue) → is_some (table i) ≡ list_any (test i) elements
 table-any table test elements h i = ap is_some (h i) ∙ position-any (test i) elements
-
-pub table_of_nothing : {X : Type 0} (table : IdValue → Option ℕ) (test : IdValue → X → Bool) → ((i : IdValue) → table i ≡ None) → IsTable table test []
-table_of_nothing table test none = none
-
--- an element that passes no test
-pub table_keeps : {X : Type 0} (table : IdValue → Option ℕ) (test : IdValue → X → Bool) (elements : List X) (x : X) → ((i : IdValue) → test i x ≡ false) → IsTable table test elements → IsTable table test (elements ++ x ∷ [])
-table_keeps table test elements x fails h = λ i. h i ∙ sym (position_miss (test i) elements x (fails i))
-
--- an element that passes the test of an id with no place
-pub table_adds : {X : Type 0} (old new : IdValue → Option ℕ) (test : IdValue → X → Bool) (elements : List X) (x : X) (key : IdValue)
-    → ((i : IdValue) → new i ≡ (if same_id key i then Some (length elements) else old i))
-    → ((i : IdValue) → test i x ≡ same_id key i) → old key ≡ None
-    → IsTable old test elements → IsTable new test (elements ++ x ∷ [])
-table_adds old new test elements x key is passes free h = λ i. is i ∙ by i (same_id key i) refl
-  where
-    by : (i : IdValue) (b : Bool) → same_id key i ≡ b → (if b then Some (length elements) else old i) ≡ position (test i) (elements ++ x ∷ [])
-    by i true e = sym (position_hit (test i) elements x (passes i ∙ e) (sym (h i) ∙ ap old (sym (same_id_eq key i e)) ∙ free))
-    by i false e = h i ∙ sym (position_miss (test i) elements x (passes i ∙ e))
-
--- an element that passes the test of an id with a place
-pub table_stays : {X : Type 0} (table : IdValue → Option ℕ) (test : IdValue → X → Bool) (elements : List X) (x : X) (key : IdValue)
-    → ((i : IdValue) → test i x ≡ same_id key i) → is_some (table key) ≡ true
-    → IsTable table test elements → IsTable table test (elements ++ x ∷ [])
-table_stays table test elements x key passes taken h = λ i. h i ∙ sym (by i (same_id key i) refl)
-  where
-    by : (i : IdValue) (b : Bool) → same_id key i ≡ b → position (test i) (elements ++ x ∷ []) ≡ position (test i) elements
-    by i true e = position_kept (test i) elements x (ap is_some (sym (h i) ∙ ap table (sym (same_id_eq key i e))) ∙ taken)
-    by i false e = position_miss (test i) elements x (passes i ∙ e)
 
 -- ---- what a vertex is joined to, by the first edge out of it
 

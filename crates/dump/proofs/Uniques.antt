@@ -1,5 +1,5 @@
 -- In a sound dump an id is that of one element, and a uri is that of one document.
-use Rattle.std.proofs.Common.{◌≡◌, inl, inr, ⊎_elim, ◌∙◌, ℕ, Bool, true, false, cond, List, [], ◌∷◌, ◌++◌, find, append_assoc, append-nil, refl, sym, ap, subst}
+use Rattle.std.proofs.Common.{◌≡◌, inl, inr, ⊎_elim, ◌∙◌, ℕ, Bool, true, false, cond, List, [], ◌∷◌, ◌++◌, find, refl, sym, ap, subst}
 use Rattle.std.specs.Prelude.{◌↔◌, Contains, Option, Some, None, is_some, option_and_then}
 use Rattle.std.specs.List.{list_any}
 use Rattle.std.proofs.lemmas.List.Elements.{Contains-push_cases}
@@ -11,7 +11,7 @@ use Rattle.dump.specs.Steps.{IsSound}
 use Rattle.dump.proofs.Bools.{or_left, or_right}
 use Rattle.dump.proofs.SameIds.{same_id_eq, same_id_self}
 use Rattle.dump.proofs.Members.{contains_head, contains_tail, contains_cases, not_in_nil}
-use Rattle.dump.proofs.Ends.{HasNoCode, no_code, SoundAfter, sound_after}
+use Rattle.dump.proofs.Ends.{HasNoCode, holds}
 
 -- ---- members that pass a test
 
@@ -80,12 +80,8 @@ unique_more d x free unique a b at_a at_b same =
       ]
     ]
 
-unique_after : (rest before : List ElementValue) → SoundAfter before rest → Unique before → Unique (before ++ rest)
-unique_after [] before h unique = subst Unique (sym (append-nil before)) unique
-unique_after (x ∷ rest) before h unique = subst Unique (append_assoc before (x ∷ []) rest) (unique_after rest (before ++ x ∷ []) h.1 (unique_more before x (no_code before x h.0) unique))
-
 each_unique : (d : List ElementValue) → IsSound d → Unique d
-each_unique d h = unique_after d [] (sound_after d h) (λ x y at. absurd (not_in_nil x at))
+each_unique = holds Unique (λ x y at. absurd (not_in_nil x at)) unique_more
 
 vertex_by : (d : List ElementValue) (i : IdValue) (v : VertexValue) (o : Option ElementValue) → element_at d i ≡ o → option_and_then vertex_of o ≡ Some v → Contains d (vertex i v)
 vertex_by d i v None is e = cc
@@ -131,9 +127,5 @@ one_more d x free one a b uri at_a at_b =
       ]
     ]
 
-one_after : (rest before : List ElementValue) → SoundAfter before rest → OneDocument before → OneDocument (before ++ rest)
-one_after [] before h one = subst OneDocument (sym (append-nil before)) one
-one_after (x ∷ rest) before h one = subst OneDocument (append_assoc before (x ∷ []) rest) (one_after rest (before ++ x ∷ []) h.1 (one_more before x (no_code before x h.0) one))
-
 pub one_document : (d : List ElementValue) → IsSound d → (a b : IdValue) (uri : List ℕ) → vertex_at d a ≡ Some (document uri) → vertex_at d b ≡ Some (document uri) → a ≡ b
-one_document d h a b uri at_a at_b = one_after d [] (sound_after d h) (λ x y u at. absurd (not_in_nil (vertex x (document u)) at)) a b uri (vertex_member d a (document uri) at_a) (vertex_member d b (document uri) at_b)
+one_document d h a b uri at_a at_b = holds OneDocument (λ x y u at. absurd (not_in_nil (vertex x (document u)) at)) one_more d h a b uri (vertex_member d a (document uri) at_a) (vertex_member d b (document uri) at_b)

@@ -1,5 +1,5 @@
 -- Which ranges the documents of a dump contain (LSIF 0.6.0, "contains").
-use Rattle.std.specs.Prelude.{◌≡◌, ◌&&◌, ◌||◌, Bool, true, false, not, Option, Some, None, List, [], ◌∷◌, if◌then◌else◌}
+use Rattle.std.specs.Prelude.{◌≡◌, ◌&&◌, ◌||◌, Bool, true, false, not, Option, Some, None, List, [], ◌∷◌, option_and_then, option_map, find, if◌then◌else◌}
 use Rattle.std.specs.List.{list_any, filter_map, flat_map}
 use Rattle.positions.specs.Span.{SpanValue, nests, overlaps}
 use Rattle.lsif.specs.Element.{IdValue, same_id, range, contains, ElementValue, vertex, edge}
@@ -26,6 +26,14 @@ places_range d r x = elim (contains_of x) as (λ _. Bool) [ Some e ↦ same_id e
 -- this document contains the range
 abbrev pub is_in : List ElementValue → IdValue → IdValue → Bool
 is_in elements d r = is_document (vertex_at elements d) && list_any (places_range d r) elements
+
+-- the source of a `contains` edge
+abbrev pub contains_source : ElementValue → Option IdValue
+contains_source x = option_map (λ e. e.0) (contains_of x)
+
+-- the document that contains the range: the source of the first `contains` edge out of a document that names it
+abbrev pub container : List ElementValue → IdValue → Option IdValue
+container elements r = option_and_then contains_source (find (contains_range elements r) elements)
 
 -- the spans of the ranges among these ids
 abbrev pub spans_of : List ElementValue → List IdValue → List SpanValue

@@ -1,5 +1,5 @@
 -- What is kept beside the elements of a dump, so that they are looked up without a search.
-use Rattle.std.specs.Prelude.{◌≡◌, ℕ, Bool, true, false, List, [], ◌∷◌, ◌++◌, Vec, IsPermutation, length, Option, Some, None, is_some, option_and_then, option_map, find}
+use Rattle.std.specs.Prelude.{◌≡◌, ℕ, Bool, true, false, List, [], ◌++◌, Vec, IsPermutation, length, Option, Some, None, is_some, option_and_then, option_map, find}
 use Rattle.std.specs.List.{list_any}
 use Rattle.std.specs.HashMap.{get_by_text}
 use Rattle.positions.specs.Span.{SpanValue}
@@ -12,14 +12,6 @@ use Rattle.dump.specs.Ids.{value_at, place_at, IsTable}
 use Rattle.dump.specs.Links.{is_link, link_at}
 use Rattle.dump.specs.Spans.{IsOrdered}
 use Rattle.dump.specs.declared.links.Link.{Link}
-
--- the source of a `contains` edge
-abbrev pub contains_source : ElementValue → Option IdValue
-contains_source x = option_map (λ e. e.0) (contains_of x)
-
--- the document that contains the range: the source of the first `contains` edge out of a document that names it
-abbrev pub container : List ElementValue → IdValue → Option IdValue
-container elements r = option_and_then contains_source (find (contains_range elements r) elements)
 
 -- there is an id, and it's this one
 abbrev pub is_id : IdValue → Option IdValue → Bool

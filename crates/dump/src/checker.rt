@@ -126,7 +126,7 @@ impl CheckedDump {
     ghost use Rattle.std.specs.Prelude.{Option, option_map};
     ghost use Rattle.lsif.specs.Element.{IdValue, id_value, vertex_value};
     ghost use Rattle.dump.specs.Graph.{vertex_at};
-    ghost use Rattle.dump.specs.Contained.{is_in};
+    ghost use Rattle.dump.specs.Contained.{container, is_in};
     ghost use Rattle.dump.specs.Fault.{IsFaultless};
     ghost use Rattle.dump.specs.Places.{FirstDefinition, FirstReferences, FirstHover};
     ghost use Rattle.dump.specs.Walks.{first_to, single_pairs};
@@ -184,6 +184,13 @@ impl CheckedDump {
         ensures { option_map (λ v. vertex_value v.now) result ≡ vertex_at self.now (id_value id.now) }
     {
         vertex_at(&self.graph, id)
+    }
+
+    /// The document that contains the range.
+    pub fn container(&self, range: &Id) -> Option<&Id>
+        ensures { option_map (λ i. id_value i.now) result ≡ container self.now (id_value range.now) }
+    {
+        self.graph.container(range)
     }
 
     /// Whether this document contains the range.

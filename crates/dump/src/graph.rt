@@ -6,7 +6,7 @@ ghost use Rattle.dump.specs.Conditions.{is_document_of, order_code};
 ghost use Rattle.dump.specs.Contained.{is_contained, is_in, spans_of, spans_in, any_conflicts, has_conflict};
 ghost use Rattle.dump.specs.Ended.{has_begun, has_ended, is_closed};
 ghost use Rattle.dump.specs.Graph.{element_at, has_repeated};
-ghost use Rattle.dump.specs.Index.{container};
+ghost use Rattle.dump.specs.Contained.{container};
 ghost use Rattle.dump.specs.Steps.{IsSound};
 ghost use Rattle.dump.specs.Walks.{Path, first_to, single_pairs, next_pairs};
 
@@ -116,7 +116,7 @@ impl Graph {
     }
 
     /// The document that contains the range.
-    fn container(&self, range: &Id) -> Option<&Id>
+    pub(crate) fn container(&self, range: &Id) -> Option<&Id>
         ensures { option_map (λ i. id_value i.now) result ≡ container self.now (id_value range.now) }
     {
         match self.index.linked(&self.elements, Link::Contained, range) {

@@ -3,7 +3,7 @@ ghost use Rattle.positions.specs.Position.{PositionValue};
 ghost use Rattle.lsif.specs.Element.{IdValue, VertexValue, document, ElementValue, vertex, Reading};
 ghost use Rattle.dump.specs.declared.fault.LineFault.{LineFault};
 ghost use Rattle.dump.specs.Conditions.{order_code, most_elements};
-ghost use Rattle.dump.specs.Contained.{IsNested};
+ghost use Rattle.dump.specs.Contained.{IsNested, container, is_in};
 ghost use Rattle.dump.specs.Fault.{IsFault, IsFaultless};
 ghost use Rattle.dump.specs.Places.{PlaceValue, DefinitionPlaces};
 ghost use Rattle.dump.specs.Steps.{progress, running, stopped, finished};
@@ -31,6 +31,11 @@ pub fn path_law()
 /// In a dump without fault the chain of `next` edges from each vertex ends.
 pub fn chain_law()
     ensures { (elements : List ElementValue) → IsFaultless (map Ok elements) → (x : IdValue) → HasChain (next_pairs elements) x }
+{}
+
+/// In a dump without fault a range is in one document at most, that which contains it.
+pub fn container_law()
+    ensures { (elements : List ElementValue) → IsFaultless (map Ok elements) → (d r : IdValue) → IsTrue (is_in elements d r) ↔ (container elements r ≡ Some d) }
 {}
 
 /// In a dump without fault two ranges that one document contains don't conflict.

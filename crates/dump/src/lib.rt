@@ -21,7 +21,9 @@ mod walks;
 
 pub use checker::{CheckedDump, Checker};
 pub use fault::{FeedFault, LineFault};
-pub use laws::{answer_law, chain_law, fault_law, nesting_law, path_law, uri_law, vertex_law};
+pub use laws::{
+    answer_law, chain_law, container_law, fault_law, nesting_law, path_law, uri_law, vertex_law,
+};
 pub use reading::{DumpFault, read_dump};
 
 #[cfg(test)]

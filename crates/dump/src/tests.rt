@@ -200,19 +200,32 @@ fn kind(dump: &CheckedDump, id: u64) -> &'static str {
     }
 }
 
-/// The kinds of a document, a range and an edge, and whether one of the first two is in the other.
-fn kinds(alloc: Global) -> Result<([&'static str; 3], [bool; 2]), Fail> {
+/// Whether this is the document that contains the range.
+fn is_container(dump: &CheckedDump, document: &Id, range: &Id) -> bool {
+    match dump.container(range) {
+        Some(container) => container.is(document),
+        None => false,
+    }
+}
+
+/// The kinds of a document, a range and an edge, whether one of the first two is in the other, and whether the document
+/// is that which contains the range.
+fn kinds(alloc: Global) -> Result<([&'static str; 3], [bool; 3]), Fail> {
     let (document, range) = (Id::Number(2), Id::Number(3));
     let dump = full_dump(alloc)?;
     Ok((
         [kind(&dump, 2), kind(&dump, 3), kind(&dump, 12)],
-        [dump.is_in(&document, &range), dump.is_in(&range, &document)],
+        [
+            dump.is_in(&document, &range),
+            dump.is_in(&range, &document),
+            is_container(&dump, &document, &range),
+        ],
     ))
 }
 
 #[test]
 fn vertices_and_ranges_of_documents(rt: HostRuntime) -> Result<(), Fail> {
     let found = kinds(rt.alloc())?;
-    assert_eq!(rt; found, (["document", "range", "none"], [true, false]));
+    assert_eq!(rt; found, (["document", "range", "none"], [true, false, true]));
     Ok(())
 }

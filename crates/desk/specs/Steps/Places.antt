@@ -1,12 +1,12 @@
 -- The places of a definition result, as the walk gathers them.
-use Rattle.std.specs.Prelude.{◌&&◌, List, [], ◌∷◌, Option, Some, None, if◌then◌else◌, string_bytes}
+use Rattle.std.specs.Prelude.{◌&&◌, List, [], ◌∷◌, Option, Some, None, if◌then◌else◌}
 use Rattle.std.specs.List.{flat_map}
 use Rattle.positions.specs.Span.{SpanValue}
 use Rattle.lsif.specs.Element.{IdValue, same_id, VertexValue, document, range, contains, item, ElementValue, vertex, edge}
-use Rattle.dump.specs.Graph.{vertex_at, is_among}
+use Rattle.dump.specs.Graph.{vertex_at}
+use Rattle.dump.specs.Contained.{container}
 use Rattle.dump.specs.Conditions.{are_definitions}
 use Rattle.dump.specs.Places.{PlaceValue}
-use Rattle.desk.specs.declared.places.Place.{Place}
 
 -- the span in the document that the vertex is
 abbrev pub places_at : Option VertexValue → SpanValue → List PlaceValue
@@ -14,18 +14,17 @@ places_at (Some (document uri)) span = record { uri = uri; span = span } ∷ []
 places_at (Some v) span = []
 places_at None span = []
 
--- the place of the range by the element, where that's a `contains` edge that names it
-abbrev pub places_contained : List ElementValue → IdValue → SpanValue → ElementValue → List PlaceValue
-places_contained elements r span (edge i (contains from to)) = if is_among r to then places_at (vertex_at elements from) span else []
-places_contained elements r span (edge i e) = []
-places_contained elements r span (vertex i v) = []
+-- the span in the document of this id, where there is one
+abbrev pub places_in : List ElementValue → SpanValue → Option IdValue → List PlaceValue
+places_in elements span (Some d) = places_at (vertex_at elements d) span
+places_in elements span None = []
 
 abbrev pub places_spanned : List ElementValue → IdValue → Option VertexValue → List PlaceValue
-places_spanned elements r (Some (range span)) = flat_map (places_contained elements r span) elements
+places_spanned elements r (Some (range span)) = places_in elements span (container elements r)
 places_spanned elements r (Some v) = []
 places_spanned elements r None = []
 
--- the places of the range
+-- the place of the range
 abbrev pub places_of_range : List ElementValue → IdValue → List PlaceValue
 places_of_range elements r = places_spanned elements r (vertex_at elements r)
 

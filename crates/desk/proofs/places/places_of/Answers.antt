@@ -16,4 +16,4 @@ returns c =
     let xs = map place_value c.loop-element.places.items in
     let empty = drop_of_length-le c.elements-element-items.result.now (omega arith) in
     let all : xs ≡ places_of d of = sym (ap (λ es. xs ++ flat_map (places_of_item d of) (map element_value es)) empty ∙ append-nil xs) ∙ c.loop-element.invariant in
-    relisted place_cmp (Contains (places_of d of)) (IsDefinitionPlace d of) _ (gathered d of) (subst (λ zs. IsListing place_cmp (Contains zs) (map place_value c.list_places.new.places.items)) all c.list_places.ensures)
+    relisted place_cmp (Contains (places_of d of)) (IsDefinitionPlace d of) _ (gathered d (c.container_law.ensures d c.elements-element-items.ensures.faultless) of) (subst (λ zs. IsListing place_cmp (Contains zs) (map place_value c.list_places.new.places.items)) all c.list_places.ensures)

@@ -1,4 +1,4 @@
-use Rattle.std.proofs.Common.{◌≡◌, get_or, None, rules, length, map, arith}
+use Rattle.std.proofs.Common.{◌≡◌, get_or, None, rules, map, arith}
 use Rattle.lsif.specs.Element.{element_value}
 use Rattle.dump.specs.Walks.{next_pairs}
 use Rattle.dump.proofs.Ends.{each_single}

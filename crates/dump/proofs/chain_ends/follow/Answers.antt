@@ -1,4 +1,4 @@
-use Rattle.std.proofs.Common.{◌≡◌, ◌∙◌, ◌<◌, ◌++◌, ◌∷◌, [], List, sym, subst, map, append-nil, arith, Option, Some, None, Vec, Global}
+use Rattle.std.proofs.Common.{◌∙◌, ◌<◌, ◌++◌, ◌∷◌, [], sym, subst, map, append-nil, arith, None}
 use Rattle.std.specs.Prelude.{vec_len, vec_capacity}
 use Rattle.lsif.specs.Element.{element_value}
 use Rattle.dump.specs.Chains.{HasShortcuts, JoinsPlaces}

@@ -1,4 +1,4 @@
-use Rattle.std.proofs.Common.{◌≡◌, ◌∙◌, refl, get_or, Some, None, length, map, arith}
+use Rattle.std.proofs.Common.{◌≡◌, ◌∙◌, refl, get_or, Some, None, map, arith}
 use Rattle.std.proofs.lemmas.List.{length-set}
 use Rattle.lsif.specs.Element.{element_value}
 use Rattle.dump.specs.Walks.{next_pairs}

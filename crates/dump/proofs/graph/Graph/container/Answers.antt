@@ -2,7 +2,7 @@ use Rattle.std.proofs.Common.{◌≡◌, ◌∙◌, ap, subst, List, map, find}
 use Rattle.std.specs.Prelude.{option_map}
 use Rattle.lsif.specs.Element.{ElementValue, id_value, element_value}
 use Rattle.dump.specs.Contained.{contains_range}
-use Rattle.dump.specs.Index.{contains_source}
+use Rattle.dump.specs.Contained.{contains_source}
 use Rattle.dump.proofs.Indexes.{led_some, led_none}
 use Rattle.dump.proofs.graph.Graph.container.Goals as goal
 

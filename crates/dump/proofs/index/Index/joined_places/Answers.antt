@@ -1,6 +1,5 @@
-use Rattle.std.proofs.Common.{◌≡◌, ◌∙◌, sym, map, Option, Some, rules}
-use Rattle.lsif.specs.Element.{IdValue, id_value, element_value}
-use Rattle.dump.specs.declared.single.SingleLabel.{SingleLabel}
+use Rattle.std.proofs.Common.{◌≡◌, ◌∙◌, map, Some, rules}
+use Rattle.lsif.specs.Element.{id_value, element_value}
 use Rattle.dump.specs.declared.single.SingleLabel.TheVariants.{Next}
 use Rattle.dump.specs.Walks.{single_of}
 use Rattle.dump.proofs.Ends.{no_code}
