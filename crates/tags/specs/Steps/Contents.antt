@@ -1,7 +1,6 @@
 -- What judging a line hands out, and what the line says.
-use Rattle.std.specs.Prelude.{◌≡◌, ◌<◌, ◌+◌, ℕ, None, Some, Result, Ok, Err, IsUtf8}
+use Rattle.std.specs.Prelude.{◌≡◌, ◌<◌, ◌+◌, ℕ, None, Some, option_map, Result, Ok, Err, IsUtf8}
 use Rattle.std.specs.Option.{ForSome}
-use Rattle.std.specs.Prelude.{option_map}
 use Rattle.tags.specs.Steps.Cutting.{each_field}
 use Rattle.tags.specs.Escapes.{decoded}
 use Rattle.tags.specs.Fault.{Reading, most_lines}
