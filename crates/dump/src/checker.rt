@@ -1,3 +1,4 @@
+//! The checker of a dump, and a checked dump.
 ghost use Rattle.std.specs.Prelude.{◌≡◌, true, map, []};
 ghost use Rattle.lsif.specs.Code.{is_shape_code};
 ghost use Rattle.lsif.specs.Element.{element_value, reading_value};

@@ -1,3 +1,4 @@
+//! Where a dump is faulty.
 ghost use Rattle.std.specs.Prelude.{◌≡◌};
 ghost use Rattle.dump.specs.declared.fault.FeedFault.TheVariants.{Memory};
 

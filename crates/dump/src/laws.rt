@@ -1,3 +1,4 @@
+//! What is true of the definitions alone.
 ghost use Rattle.std.specs.Prelude.{◌≡◌, ◌++◌, ◌<◌, ℕ, List, Contains, Option, Some, None, Ok, map, length, ◌↔◌, IsTrue};
 ghost use Rattle.positions.specs.Position.{PositionValue};
 ghost use Rattle.lsif.specs.Element.{IdValue, VertexValue, document, ElementValue, vertex, Reading};
