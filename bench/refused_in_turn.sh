@@ -40,7 +40,7 @@ for number in $(seq 1 1000000); do
     LD_PRELOAD="$room/refuse.so" REFUSED=$number "$top/crates/codenav/out/codenav" check-lsif "$file" \
         >"$room/out" 2>"$room/err" || status=$?
     if [ "$status" = "$wanted" ] && [ "$(cat "$room/out")" = "$plain" ] && [ ! -s "$room/err" ]; then
-        echo "$((number - 1)) requests refused in turn, each answered by `out of memory`; with none refused: $plain"
+        echo "$((number - 1)) requests refused in turn, each answered by 'out of memory'; with none refused: $plain"
         exit 0
     fi
     if [ "$status" != 2 ] || [ -s "$room/out" ] || [ "$(cat "$room/err")" != "codenav: out of memory" ]; then
