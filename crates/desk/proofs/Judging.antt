@@ -5,7 +5,7 @@ use Rattle.lsif.specs.Element.{ElementValue, Reading}
 use Rattle.dump.specs.declared.fault.LineFault.{LineFault}
 use Rattle.dump.specs.Fault.{IsFault}
 use Rattle.dump.specs.Lines.{dump_of}
-use Rattle.dump.specs.Steps.{Progress, running, stopped, progress, finished, end_fault}
+use Rattle.dump.specs.Progress.{Progress, running, stopped, progress, finished, end_fault}
 use Rattle.desk.specs.Machine.{judged, judged_lines, judged_end}
 
 end_err : (elements : List ElementValue) (o : Option LineFault) (f : LineFault) → judged_end elements o ≡ Err f → o ≡ Some f

@@ -3,7 +3,7 @@ use Rattle.std.specs.Prelude.{◌≡◌, ℕ, ◌&&◌, bytes_eq, List, length, 
 use Rattle.positions.specs.Position.{PositionValue}
 use Rattle.lsif.specs.Element.{ElementValue}
 use Rattle.dump.specs.declared.fault.LineFault.{LineFault}
-use Rattle.dump.specs.Steps.{Progress, running, stopped, progress, end_fault}
+use Rattle.dump.specs.Progress.{Progress, running, stopped, progress, end_fault}
 use Rattle.dump.specs.Lines.{dump_of}
 use Rattle.dump.specs.Places.{PlaceValue, HasDocument, DefinitionPlaces}
 use Rattle.desk.specs.declared.code.Code.TheVariants.{D01, D02}

@@ -11,9 +11,9 @@ use Rattle.dump.specs.declared.place_map.PlaceMap.{PlaceMap}
 use Rattle.dump.specs.Conditions.{are_vertices}
 use Rattle.dump.specs.Ended.{has_begun, has_ended}
 use Rattle.dump.specs.Graph.{element_at, vertex_of, vertex_at, is_document, ends}
-use Rattle.dump.specs.Ids.{place_at, IsTable, entered, HasRows}
-use Rattle.dump.specs.Index.{has_id}
-use Rattle.dump.specs.Links.{link_index, cell, link_at, is_link, named_by, is_named}
+use Rattle.dump.specs.Steps.Ids.{place_at, IsTable, entered, HasRows}
+use Rattle.dump.specs.Steps.Index.{has_id}
+use Rattle.dump.specs.Steps.Links.{link_index, cell, link_at, is_link, named_by, is_named}
 use Rattle.dump.proofs.Bools.{and_both, not_false, or_none}
 use Rattle.dump.proofs.Ends.{HasNoCode}
 use Rattle.dump.proofs.Indexes.{position_same, table_enters, named_test, same_link_after}

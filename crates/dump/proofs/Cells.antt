@@ -9,8 +9,8 @@ use Rattle.lsif.specs.Element.{IdValue, id_value, id_values, same_id}
 use Rattle.dump.specs.declared.links.Link.{Link}
 use Rattle.dump.specs.declared.place_map.PlaceMap.{PlaceMap}
 use Rattle.dump.specs.Graph.{is_among}
-use Rattle.dump.specs.Ids.{place_at, entered, HasRows}
-use Rattle.dump.specs.Links.{link_index, same_link, cell, link_at}
+use Rattle.dump.specs.Steps.Ids.{place_at, entered, HasRows}
+use Rattle.dump.specs.Steps.Links.{link_index, same_link, cell, link_at}
 use Rattle.dump.proofs.Bools.{and_both}
 use Rattle.dump.proofs.Repeats.{entered_more}
 use Rattle.dump.proofs.SameIds.{same_id_eq, same_id_self}

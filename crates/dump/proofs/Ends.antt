@@ -11,8 +11,8 @@ use Rattle.dump.specs.Walks.{Pair, first_to, IsChain, ends, links, HasChain, Pat
 use Rattle.dump.specs.declared.single.SingleLabel.TheVariants.{Next}
 use Rattle.dump.specs.Conditions.{order_code, order_condition, has_used_id, joins_no_vertex, may_not_join, is_contained_again, is_conflicting, leaves_again, closes_cycle, has_used_uri}
 use Rattle.dump.specs.Ended.{is_bad_event}
-use Rattle.dump.specs.Steps as steps
-use Rattle.dump.specs.Steps.{Progress, running, stopped, advance, progress, IsSound}
+use Rattle.dump.specs.Progress as steps
+use Rattle.dump.specs.Progress.{Progress, running, stopped, advance, progress, IsSound}
 use Rattle.dump.proofs.Bools.{absurd_true}
 use Rattle.dump.proofs.SameIds.{same_id_eq, same_id_self}
 use Rattle.dump.proofs.Members.{contains_head, contains_tail, not_in_nil}

@@ -5,7 +5,7 @@ use Rattle.lsif.specs.declared.code.Code.{Code}
 use Rattle.lsif.specs.Element.{ElementValue, element_value}
 use Rattle.dump.specs.declared.fault.LineFault.{LineFault}
 use Rattle.dump.specs.Conditions.{end_code}
-use Rattle.dump.specs.Steps.{end_fault_from}
+use Rattle.dump.specs.Progress.{end_fault_from}
 use Rattle.dump.proofs.Lists.{drop_next, drop_end}
 
 abbrev pub fault_from : List ElementValue → List Element → ℕ → Option LineFault

@@ -12,8 +12,8 @@ use Rattle.dump.specs.Conditions.{is_document_of, are_vertices}
 use Rattle.dump.specs.Contained.{contains_range}
 use Rattle.dump.specs.Ended.{begins, finishes}
 use Rattle.dump.specs.Graph.{ends}
-use Rattle.dump.specs.Ids.{IsTable, entered}
-use Rattle.dump.specs.Links.{is_single, is_link, named_by, is_named}
+use Rattle.dump.specs.Steps.Ids.{IsTable, entered}
+use Rattle.dump.specs.Steps.Links.{is_single, is_link, named_by, is_named}
 use Rattle.dump.specs.Walks.{label_index, same_label}
 use Rattle.dump.proofs.Fills.{ranges_test}
 use Rattle.dump.proofs.Known.{same_contained}

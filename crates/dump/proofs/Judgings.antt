@@ -13,7 +13,7 @@ use Rattle.dump.specs.declared.fault.FeedFault.{FeedFault}
 use Rattle.dump.specs.declared.fault.FeedFault.TheVariants as feeds
 use Rattle.dump.specs.Conditions.{order_code, most_elements}
 use Rattle.dump.specs.Fault.{IsFault}
-use Rattle.dump.specs.Steps.{Progress, running, stopped, next, advance, progress, finished, IsRunning, Feeds, Finishes}
+use Rattle.dump.specs.Progress.{Progress, running, stopped, next, advance, progress, finished, IsRunning, Feeds, Finishes}
 use Rattle.dump.specs.Lines.{dump_of}
 use Rattle.dump.specs.Judging.{ReadsDump, ReadsFirst, ReadsNext, HasTaken, room_of, GoesOn, IsReady, as_dump_fault}
 use Rattle.dump.specs.declared.reading.DumpFault.{DumpFault}

@@ -9,7 +9,7 @@ use Rattle.std.proofs.lemmas.List.Kept.{IsSortedBy-push}
 use Rattle.std.proofs.lemmas.List.Sorted.{IsPermutation-trans, IsPermutation-sym, IsPermutation-cons, IsPermutation-middle, IsPermutation-to_front, IsPermutation-append_left, IsPermutation-append_right}
 use Rattle.std.proofs.lemmas.Option.{slice_get-get_or}
 use Rattle.positions.specs.Span.{SpanValue}
-use Rattle.dump.specs.Spans.{span_order, IsOrdered, goes_first}
+use Rattle.dump.specs.Steps.Spans.{span_order, IsOrdered, goes_first}
 use Rattle.dump.proofs.Bools.{not_false}
 use Rattle.dump.proofs.Passes.{not_true, span_total}
 

@@ -9,7 +9,7 @@ use Rattle.lsif.specs.Element.{IdValue, same_id, VertexValue, meta_data, project
 use Rattle.dump.specs.Graph.{element_at, vertex_of, vertex_at, is_document, span_of, is_among}
 use Rattle.dump.specs.Contained.{places_range, spans_of, spans_named, spans_in, conflicts, any_conflicts, has_conflict, IsNested}
 use Rattle.dump.specs.Conditions.{are_vertices, may_contain}
-use Rattle.dump.specs.Steps.{IsSound}
+use Rattle.dump.specs.Progress.{IsSound}
 use Rattle.dump.proofs.Bools.{or_none, or_some, and_both, and_rest, not_false}
 use Rattle.dump.proofs.SameIds.{same_id_eq}
 use Rattle.dump.proofs.Ends.{HasNoCode, holds}

@@ -13,7 +13,7 @@ use Rattle.positions.specs.Position.{PositionValue, IsBefore, is_before}
 use Rattle.positions.specs.Span.{SpanValue, Nests, nests, overlaps}
 use Rattle.lsif.specs.Element.{IdValue, same_id, ElementValue}
 use Rattle.dump.specs.Contained.{is_in, conflicts}
-use Rattle.dump.specs.Steps.{IsSound}
+use Rattle.dump.specs.Progress.{IsSound}
 use Rattle.dump.specs.Walks.{first_of_list, single_pairs, next_pairs}
 use Rattle.dump.specs.declared.single.SingleLabel.TheVariants.{Definition}
 use Rattle.dump.specs.Places.{PlaceValue, FirstDefinition, IsInnermost, IsDefinitionPlace, position_cmp, place_cmp, IsListing, DefinitionPlaces, answered, unanswered}

@@ -10,7 +10,7 @@ use Rattle.positions.specs.Position.{PositionValue, is_before, earlier_of}
 use Rattle.positions.specs.Span.{SpanValue, nests, overlaps}
 use Rattle.dump.specs.Contained.{conflicts}
 use Rattle.dump.specs.Places.{position_cmp}
-use Rattle.dump.specs.Spans.{span_order, IsOrdered, is_passed}
+use Rattle.dump.specs.Steps.Spans.{span_order, IsOrdered, is_passed}
 use Rattle.dump.proofs.Bools.{and_both, not_false, absurd_true}
 use Rattle.dump.proofs.OneAnswers.{position_total}
 use Rattle.dump.proofs.Nests.{equal_places}

@@ -6,7 +6,7 @@ use Rattle.lsif.specs.declared.code.Code.TheVariants.{L06}
 use Rattle.dump.specs.declared.fault.LineFault.{LineFault}
 use Rattle.dump.specs.Conditions.{order_code, end_code}
 use Rattle.dump.specs.Fault.{before, line_code, HasCode, elements_of, IsLineFault, HasEndCode, IsSoundAtEnd, IsElementFault, AreSoundLines, IsEmptyFault, IsFaultless, IsFault}
-use Rattle.dump.specs.Steps.{Progress, running, stopped, next, advance, progress, IsSound, fault_or, end_fault_from, end_fault, finished}
+use Rattle.dump.specs.Progress.{Progress, running, stopped, next, advance, progress, IsSound, fault_or, end_fault_from, end_fault, finished}
 
 -- ---- the lines
 

@@ -7,7 +7,7 @@ use Rattle.std.proofs.lemmas.List.Folds.{list_any-append}
 use Rattle.lsif.specs.declared.id.Id.{Id}
 use Rattle.lsif.specs.Element.{IdValue, id_value, id_values, same_id}
 use Rattle.dump.specs.Graph.{is_among, has_repeated}
-use Rattle.dump.specs.Ids.{entered}
+use Rattle.dump.specs.Steps.Ids.{entered}
 use Rattle.dump.proofs.Lists.{drop_next}
 use Rattle.dump.proofs.SameIds.{same_id_swap}
 

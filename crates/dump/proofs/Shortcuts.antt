@@ -10,12 +10,12 @@ use Rattle.lsif.specs.declared.element.Element.{Element}
 use Rattle.lsif.specs.Element.{IdValue, same_id, element_value, contains, next, definition, references, hover, moniker_edge, package_edge, attach, item, other_edge, ElementValue, vertex, edge, element_id}
 use Rattle.dump.specs.declared.single.SingleLabel.{SingleLabel}
 use Rattle.dump.specs.declared.single.SingleLabel.TheVariants.{Next}
-use Rattle.dump.specs.Chains.{place_in, Shortens, HasShortcuts, IsPlace, IsEnd, CanJoin}
+use Rattle.dump.specs.Steps.Chains.{place_in, Shortens, HasShortcuts, IsPlace, IsEnd, CanJoin}
 use Rattle.dump.specs.Conditions.{are_vertices}
 use Rattle.dump.specs.Graph.{element_at, vertex_of, vertex_at, ends}
-use Rattle.dump.specs.Index.{has_id}
-use Rattle.dump.specs.Links.{is_single, single_target}
-use Rattle.dump.specs.Steps.{IsSound}
+use Rattle.dump.specs.Steps.Index.{has_id}
+use Rattle.dump.specs.Steps.Links.{is_single, single_target}
+use Rattle.dump.specs.Progress.{IsSound}
 use Rattle.dump.specs.Walks.{Pair, Path, stays, goes, first_to, reaches, IsChain, ends as chain_ends, links, same_label, next_pairs, single_of, single_in}
 use Rattle.dump.proofs.Adds.{found_place, vertex_place, find_any}
 use Rattle.dump.proofs.Bools.{and_both, not_false, same_bool, absurd_true}

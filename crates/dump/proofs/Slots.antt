@@ -1,7 +1,7 @@
 -- Places of numbers below a bound, which have a slot each, and of all other ids.
 use Rattle.std.proofs.Common.{◌≡◌, ◌∙◌, ℕ, Bool, true, false, nat_eq, nat_lt, List, get_or, if◌then◌else◌, refl, sym, ap, arith, Option, Some, None}
 use Rattle.std.specs.Prelude.{Result, Ok, Err, OnOk, OnErr}
-use Rattle.dump.specs.Ids.{entered}
+use Rattle.dump.specs.Steps.Ids.{entered}
 
 pub slot_or_none : (b : Bool) (o p : Option ℕ) → o ≡ None → p ≡ None → (if b then o else p) ≡ None
 slot_or_none true o p e f = e

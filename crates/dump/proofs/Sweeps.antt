@@ -7,7 +7,7 @@ use Rattle.std.proofs.lemmas.List.Folds.{list_any-append, list_any_at}
 use Rattle.std.proofs.lemmas.List.Quantifiers.{all_pairs_push}
 use Rattle.positions.specs.Span.{SpanValue, nests}
 use Rattle.dump.specs.Contained.{conflicts, any_conflicts, has_conflict}
-use Rattle.dump.specs.Spans.{IsOrdered, is_passed}
+use Rattle.dump.specs.Steps.Spans.{IsOrdered, is_passed}
 use Rattle.dump.proofs.Bools.{or_false}
 use Rattle.dump.proofs.Lists.{drop_next, drop_end}
 use Rattle.dump.proofs.Passes.{NotAfter, each_not_after, passed, clear_later, stays_in, nests_through, clear_around}

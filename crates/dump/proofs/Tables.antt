@@ -6,9 +6,9 @@ use Rattle.std.proofs.lemmas.Grind.{common_steps}
 use Rattle.std.proofs.lemmas.List.Folds.{find_at}
 use Rattle.std.proofs.lemmas.Option.{slice_get_past}
 use Rattle.lsif.specs.Element.{IdValue, same_id, ElementValue}
-use Rattle.dump.specs.Ids.{IsTable}
+use Rattle.dump.specs.Steps.Ids.{IsTable}
 use Rattle.dump.specs.declared.single.SingleLabel.{SingleLabel}
-use Rattle.dump.specs.Links.{single_target, is_single}
+use Rattle.dump.specs.Steps.Links.{single_target, is_single}
 use Rattle.dump.specs.Walks.{Pair, same_label, single_of, single_pairs, first_to}
 
 -- ---- the place of the first item that passes

@@ -7,7 +7,7 @@ use Rattle.std.proofs.lemmas.Slice.Eq.{bytes_eq-Decides}
 use Rattle.lsif.specs.Element.{IdValue, same_id, VertexValue, document, ElementValue, vertex, edge, element_id}
 use Rattle.dump.specs.Graph.{element_at, vertex_of, vertex_at}
 use Rattle.dump.specs.Conditions.{is_document_of, has_used_uri}
-use Rattle.dump.specs.Steps.{IsSound}
+use Rattle.dump.specs.Progress.{IsSound}
 use Rattle.dump.proofs.Bools.{or_left, or_right}
 use Rattle.dump.proofs.SameIds.{same_id_eq, same_id_self}
 use Rattle.dump.proofs.Members.{contains_head, contains_tail, contains_cases, not_in_nil}

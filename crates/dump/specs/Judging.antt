@@ -13,7 +13,7 @@ use Rattle.dump.specs.declared.reading.DumpFault.TheVariants as faults
 use Rattle.dump.specs.Conditions.{most_elements}
 use Rattle.dump.specs.Fault.{IsFault}
 use Rattle.dump.specs.Lines.{dump_of}
-use Rattle.dump.specs.Steps.{Progress, running, stopped, progress}
+use Rattle.dump.specs.Progress.{Progress, running, stopped, progress}
 
 -- what the reading of known bytes answers: the elements of a dump without fault, or the dump's fault
 abbrev pub ReadsDump : Option (List ℕ) → Result (List ElementValue) DumpFault → Type 0

@@ -1,16 +1,11 @@
-pub mod Chains
 pub mod Conditions
 pub mod Contained
 pub mod Ended
 pub mod Fault
 pub mod Graph
-pub mod Ids
-pub mod Index
 pub mod Judging
-pub mod Kinds
 pub mod Lines
-pub mod Links
 pub mod Places
-pub mod Spans
+pub mod Progress
 pub mod Steps
 pub mod Walks

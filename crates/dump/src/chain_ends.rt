@@ -1,9 +1,9 @@
 //! Where chains of `next` edges end.
 ghost use Rattle.std.specs.Prelude.{◌≡◌, ◌<◌, ◌++◌, ◌∷◌, [], None, Some, map, vec_len, vec_capacity};
 ghost use Rattle.lsif.specs.Element.{IdValue, element_value};
-ghost use Rattle.dump.specs.Chains.{place_in, HasShortcuts, IsPlace, IsEnd, CanJoin, JoinsPlaces};
+ghost use Rattle.dump.specs.Steps.Chains.{place_in, HasShortcuts, IsPlace, IsEnd, CanJoin, JoinsPlaces};
 ghost use Rattle.dump.specs.Conditions.{order_code};
-ghost use Rattle.dump.specs.Steps.{IsSound};
+ghost use Rattle.dump.specs.Progress.{IsSound};
 ghost use Rattle.dump.specs.Walks.{next_pairs};
 
 use lsif::Element;

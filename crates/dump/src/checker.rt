@@ -26,7 +26,7 @@ impl Model for Checker {
     ghost use Rattle.std.specs.Prelude.{◌≤◌, map, length};
     ghost use Rattle.lsif.specs.Element.{element_value};
     ghost use Rattle.dump.specs.Conditions.{most_elements};
-    ghost use Rattle.dump.specs.Steps.{Progress, progress_of, IsSound};
+    ghost use Rattle.dump.specs.Progress.{Progress, progress_of, IsSound};
 
     ghost Value = { Progress };
 
@@ -37,7 +37,7 @@ impl Model for Checker {
 
 impl Checker {
     ghost use Rattle.std.specs.Result.{ForErr};
-    ghost use Rattle.dump.specs.Steps.{running, stopped, next, Feeds, Finishes};
+    ghost use Rattle.dump.specs.Progress.{running, stopped, next, Feeds, Finishes};
 
     /// A checker that has seen no line.
     pub fn new(alloc: Global, _profile: Profile) -> Checker
@@ -112,7 +112,7 @@ impl Model for CheckedDump {
     ghost use Rattle.std.specs.Prelude.{◌≡◌, ◌≤◌, List, map, length, None};
     ghost use Rattle.lsif.specs.Element.{ElementValue, element_value};
     ghost use Rattle.dump.specs.Conditions.{most_elements};
-    ghost use Rattle.dump.specs.Steps.{IsSound, end_fault};
+    ghost use Rattle.dump.specs.Progress.{IsSound, end_fault};
 
     ghost Value = { List ElementValue };
 

@@ -4,7 +4,7 @@ ghost use Rattle.std.specs.List.{list_any};
 ghost use Rattle.lsif.specs.Element.{id_value, id_values};
 ghost use Rattle.dump.specs.Conditions.{are_in};
 ghost use Rattle.dump.specs.Contained.{is_contained};
-ghost use Rattle.dump.specs.Steps.{IsSound};
+ghost use Rattle.dump.specs.Progress.{IsSound};
 
 use crate::graph::Graph;
 use lsif::Id;

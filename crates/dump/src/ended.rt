@@ -3,7 +3,7 @@ ghost use Rattle.std.specs.Prelude.{◌≡◌, [], ◌∷◌};
 ghost use Rattle.std.specs.List.{list_any};
 ghost use Rattle.lsif.specs.Element.{id_value, id_values, event_value, element_value};
 ghost use Rattle.dump.specs.Ended.{may_not_happen, is_bad_event, is_closed};
-ghost use Rattle.dump.specs.Steps.{IsSound};
+ghost use Rattle.dump.specs.Progress.{IsSound};
 
 use crate::graph::Graph;
 use crate::vertices::is_document;

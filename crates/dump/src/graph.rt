@@ -7,7 +7,7 @@ ghost use Rattle.dump.specs.Contained.{is_contained, is_in, spans_of, spans_in, 
 ghost use Rattle.dump.specs.Ended.{has_begun, has_ended, is_closed};
 ghost use Rattle.dump.specs.Graph.{element_at, has_repeated};
 ghost use Rattle.dump.specs.Contained.{container};
-ghost use Rattle.dump.specs.Steps.{IsSound};
+ghost use Rattle.dump.specs.Progress.{IsSound};
 ghost use Rattle.dump.specs.Walks.{Path, first_to, single_pairs, next_pairs};
 
 use crate::chain_ends::{end_of, follow};
@@ -31,8 +31,8 @@ pub(crate) struct Graph {
 impl Model for Graph {
     ghost use Rattle.std.specs.Prelude.{List, map};
     ghost use Rattle.lsif.specs.Element.{ElementValue, element_value};
-    ghost use Rattle.dump.specs.Chains.{HasShortcuts};
-    ghost use Rattle.dump.specs.Index.{IsIndex};
+    ghost use Rattle.dump.specs.Steps.Chains.{HasShortcuts};
+    ghost use Rattle.dump.specs.Steps.Index.{IsIndex};
     ghost use Rattle.dump.specs.Walks.{next_pairs};
 
     ghost Value = { List ElementValue };

@@ -2,7 +2,7 @@
 ghost use Rattle.std.specs.Prelude.{◌≡◌, true, Some, None, IfOk, OnOk, OnErr, option_copied, if◌then◌else◌};
 ghost use Rattle.lsif.specs.Element.{IdValue, id_value, id_values, same_id};
 ghost use Rattle.dump.specs.Graph.{has_repeated};
-ghost use Rattle.dump.specs.Ids.{value_at, entered};
+ghost use Rattle.dump.specs.Steps.Ids.{value_at, entered};
 
 use lsif::Id;
 use std::alloc::{AllocError, Global};

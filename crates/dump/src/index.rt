@@ -3,16 +3,16 @@ ghost use Rattle.std.specs.Prelude.{◌≡◌, ◌++◌, ◌∷◌, ◌||◌, []
 ghost use Rattle.std.specs.HashMap.{get_by_text};
 ghost use Rattle.std.specs.List.{list_any};
 ghost use Rattle.lsif.specs.Element.{IdValue, id_value, id_values, element_value, element_id, same_id};
-ghost use Rattle.dump.specs.Chains.{place_in, JoinsPlaces};
+ghost use Rattle.dump.specs.Steps.Chains.{place_in, JoinsPlaces};
 ghost use Rattle.dump.specs.Conditions.{is_document_of, order_code};
 ghost use Rattle.dump.specs.Contained.{spans_of, spans_in, any_conflicts, has_conflict};
 ghost use Rattle.dump.specs.Graph.{element_at, vertex_at, is_document};
-ghost use Rattle.dump.specs.Ids.{value_at, place_at, entered};
-ghost use Rattle.dump.specs.Index.{IsIndex, IsFilled, kept, is_id};
+ghost use Rattle.dump.specs.Steps.Ids.{value_at, place_at, entered};
+ghost use Rattle.dump.specs.Steps.Index.{IsIndex, IsFilled, kept, is_id};
 ghost use Rattle.dump.specs.Contained.{contains_source};
-ghost use Rattle.dump.specs.Links.{is_link, link_at, named_by, ranges_in};
-ghost use Rattle.dump.specs.Spans.{IsOrdered};
-ghost use Rattle.dump.specs.Steps.{IsSound};
+ghost use Rattle.dump.specs.Steps.Links.{is_link, link_at, named_by, ranges_in};
+ghost use Rattle.dump.specs.Steps.Spans.{IsOrdered};
+ghost use Rattle.dump.specs.Progress.{IsSound};
 
 use crate::ids::IdMap;
 use crate::links::{LINKS, Link, Row, cell, enter_all};

@@ -7,7 +7,7 @@ ghost use Rattle.dump.specs.Conditions.{order_code, most_elements};
 ghost use Rattle.dump.specs.Contained.{IsNested, container, is_in};
 ghost use Rattle.dump.specs.Fault.{IsFault, IsFaultless};
 ghost use Rattle.dump.specs.Places.{PlaceValue, DefinitionPlaces};
-ghost use Rattle.dump.specs.Steps.{progress, running, stopped, finished};
+ghost use Rattle.dump.specs.Progress.{progress, running, stopped, finished};
 ghost use Rattle.dump.specs.Graph.{vertex_at};
 ghost use Rattle.dump.specs.Walks.{Pair, Path, HasChain, reaches, next_pairs};
 

@@ -3,8 +3,8 @@ ghost use Rattle.std.specs.Prelude.{◌≡◌, ◌<◌, ◌&&◌, [], ℕ, true,
 ghost use Rattle.std.specs.List.{list_all};
 ghost use Rattle.lsif.specs.Element.{IdValue, id_value, id_values, same_id};
 ghost use Rattle.dump.specs.Graph.{is_among};
-ghost use Rattle.dump.specs.Ids.{place_at, entered, HasRows};
-ghost use Rattle.dump.specs.Links.{link_index, same_link, cell, link_at};
+ghost use Rattle.dump.specs.Steps.Ids.{place_at, entered, HasRows};
+ghost use Rattle.dump.specs.Steps.Links.{link_index, same_link, cell, link_at};
 
 use crate::place_map::PlaceMap;
 use crate::single::SingleLabel;

@@ -5,7 +5,7 @@ ghost use Rattle.lsif.specs.Element.{id_value, id_values, item_value, element_va
 ghost use Rattle.dump.specs.Conditions.{is_misplaced, are_vertices, joins_no_vertex, may_contain, may_ask, is_result_set, is_definition_result, is_hover_result, is_moniker, is_package, are_definitions, may_be_of_references, may_have_item, may_not_join, is_contained_again, is_conflicting, leaves_again, closes_cycle, has_effect, is_place, has_no_place, has_ranges, is_misplaced_item, has_used_uri, order_code, is_uncontained, end_code, most_elements};
 ghost use Rattle.dump.specs.Ended.{is_bad_event, is_closed, leaves_ended, is_late};
 ghost use Rattle.dump.specs.Graph.{vertex_at, ends, is_reference_result};
-ghost use Rattle.dump.specs.Steps.{end_fault_from, IsSound};
+ghost use Rattle.dump.specs.Progress.{end_fault_from, IsSound};
 
 use crate::contained::{any_contained, are_in};
 use crate::ended::{any_closed, either_closed, is_bad_event};

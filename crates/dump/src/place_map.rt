@@ -1,7 +1,7 @@
 //! Tables from ids to places in a list.
 ghost use Rattle.std.specs.Prelude.{◌≡◌, ◌<◌, ◌^◌, ℕ, None, OnOk, OnErr, get_or, nat_eq, if◌then◌else◌};
 ghost use Rattle.lsif.specs.Element.{IdValue, id_value, same_id};
-ghost use Rattle.dump.specs.Ids.{entered, place_at};
+ghost use Rattle.dump.specs.Steps.Ids.{entered, place_at};
 
 use crate::ids::IdMap;
 use lsif::Id;

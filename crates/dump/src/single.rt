@@ -1,7 +1,7 @@
 //! The labels whose edges leave a vertex once at most.
 ghost use Rattle.std.specs.Prelude.{◌≡◌, option_map};
 ghost use Rattle.lsif.specs.Element.{id_value, element_value};
-ghost use Rattle.dump.specs.Links.{single_target};
+ghost use Rattle.dump.specs.Steps.Links.{single_target};
 ghost use Rattle.dump.specs.Walks.{label_index, single_of};
 
 use lsif::{Edge, Element, Id};

@@ -3,7 +3,7 @@ ghost use Rattle.std.specs.Prelude.{◌≡◌, ◌||◌, ◌++◌, ◌+◌, ◌�
 ghost use Rattle.std.specs.List.{slice_get, slice_index_or};
 ghost use Rattle.positions.specs.Span.{SpanValue};
 ghost use Rattle.dump.specs.Contained.{conflicts, any_conflicts, has_conflict};
-ghost use Rattle.dump.specs.Spans.{span_order, IsOrdered, is_passed, goes_first};
+ghost use Rattle.dump.specs.Steps.Spans.{span_order, IsOrdered, is_passed, goes_first};
 
 use positions::Span;
 use std::alloc::{AllocError, Global};

@@ -3,7 +3,7 @@ ghost use Rattle.std.specs.Prelude.{◌≡◌, is_some, option_map};
 ghost use Rattle.lsif.specs.Element.{id_value, id_values, vertex_value};
 ghost use Rattle.std.specs.List.{list_all};
 ghost use Rattle.dump.specs.Graph.{vertex_at, is_document, is_reference_result};
-ghost use Rattle.dump.specs.Kinds.{is_of_kind};
+ghost use Rattle.dump.specs.Steps.Kinds.{is_of_kind};
 
 use crate::graph::Graph;
 use lsif::{Element, Id, Vertex};

@@ -1,7 +1,7 @@
 //! What paths and chains of `next` edges lead to.
 ghost use Rattle.std.specs.Prelude.{◌≡◌, List, None, option_map};
 ghost use Rattle.lsif.specs.Element.{IdValue, id_value};
-ghost use Rattle.dump.specs.Steps.{IsSound};
+ghost use Rattle.dump.specs.Progress.{IsSound};
 ghost use Rattle.dump.specs.Walks.{IsChain, HasChain, first_to, first_of_list, reaches, next_pairs, single_pairs};
 
 use crate::graph::Graph;

@@ -1,7 +1,7 @@
 use Rattle.std.proofs.Common.{◌∙◌, ◌<◌, ◌++◌, ◌∷◌, [], sym, subst, map, append-nil, arith, None}
 use Rattle.std.specs.Prelude.{vec_len, vec_capacity}
 use Rattle.lsif.specs.Element.{element_value}
-use Rattle.dump.specs.Chains.{HasShortcuts, JoinsPlaces}
+use Rattle.dump.specs.Steps.Chains.{HasShortcuts, JoinsPlaces}
 use Rattle.dump.specs.Walks.{next_pairs}
 use Rattle.dump.proofs.Ends.{no_code}
 use Rattle.dump.proofs.Known.{ends_known}

@@ -3,7 +3,7 @@ use Rattle.std.specs.Prelude.{vec_len, vec_capacity}
 use Rattle.lsif.specs.Element.{element_value}
 use Rattle.dump.specs.Walks.{next_pairs}
 use Rattle.dump.proofs.Shortcuts.{Nearing}
-use Rattle.dump.specs.Chains.{HasShortcuts}
+use Rattle.dump.specs.Steps.Chains.{HasShortcuts}
 use Rattle.dump.proofs.chain_ends.shorten.Given as goal
 
 abbrev pub invariant-loop-step : goal.invariant-loop-step

@@ -1,7 +1,7 @@
 use Rattle.std.proofs.Common.{◌≡◌, ◌∙◌, true, false, ap, sym, arith}
 use Rattle.std.specs.Prelude.{is_some}
 use Rattle.lsif.specs.Element.{id_value}
-use Rattle.dump.specs.Ids.{value_at}
+use Rattle.dump.specs.Steps.Ids.{value_at}
 use Rattle.dump.proofs.Repeats.{again-hit, again-miss, seen_more}
 use Rattle.dump.proofs.ids.is_repeating.Goals as goal
 

@@ -2,7 +2,7 @@ use Rattle.std.proofs.Common.{◌∙◌, fold, [], ap}
 use Rattle.std.proofs.lemmas.List.Sums.{fold-append}
 use Rattle.std.proofs.Common.{arith}
 use Rattle.dump.specs.Conditions.{order_code}
-use Rattle.dump.specs.Steps.{progress, running, next, finished}
+use Rattle.dump.specs.Progress.{progress, running, next, finished}
 use Rattle.dump.proofs.Progresses.{holds, one, stays, kept}
 use Rattle.dump.proofs.laws.fault_law.Goals as goal
 

@@ -1,6 +1,6 @@
 use Rattle.std.proofs.Common.{◌∙◌, sym, subst, arith}
-use Rattle.dump.specs.Ids.{HasRows}
-use Rattle.dump.specs.Links.{same_link, link_at}
+use Rattle.dump.specs.Steps.Ids.{HasRows}
+use Rattle.dump.specs.Steps.Links.{same_link, link_at}
 use Rattle.dump.proofs.Cells.{links_more, known_at}
 use Rattle.dump.proofs.links.enter_all.Goals as goal
 

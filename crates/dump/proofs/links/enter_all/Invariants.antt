@@ -1,8 +1,8 @@
 use Rattle.std.proofs.Common.{◌≡◌, ◌&&◌, take, length}
 use Rattle.lsif.specs.Element.{IdValue, id_values}
 use Rattle.dump.specs.Graph.{is_among}
-use Rattle.dump.specs.Ids.{entered}
-use Rattle.dump.specs.Links.{same_link, link_at}
+use Rattle.dump.specs.Steps.Ids.{entered}
+use Rattle.dump.specs.Steps.Links.{same_link, link_at}
 use Rattle.dump.specs.declared.links.Link.{Link}
 use Rattle.dump.proofs.links.enter_all.Given as goal
 

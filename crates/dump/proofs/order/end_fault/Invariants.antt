@@ -1,6 +1,6 @@
 use Rattle.std.proofs.Common.{◌≡◌}
 use Rattle.dump.proofs.Graphs.{fault_from}
-use Rattle.dump.specs.Steps.{end_fault_from}
+use Rattle.dump.specs.Progress.{end_fault_from}
 use Rattle.dump.proofs.order.end_fault.Given as goal
 
 abbrev pub invariant-loop-k : goal.invariant-loop-k

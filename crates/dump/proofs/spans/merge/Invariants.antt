@@ -2,7 +2,7 @@ use Rattle.std.proofs.Common.{◌≡◌, ◌++◌, ◌+◌, ◌-◌, ◌≤◌, 
 use Rattle.std.specs.List.{slice_index_or}
 use Rattle.std.specs.Ordering.{is_lt}
 use Rattle.positions.specs.Span.{SpanValue}
-use Rattle.dump.specs.Spans.{span_order, IsOrdered}
+use Rattle.dump.specs.Steps.Spans.{span_order, IsOrdered}
 use Rattle.dump.proofs.spans.merge.Given as goal
 
 -- what is merged so far, and that nothing left comes before its last span

@@ -1,7 +1,7 @@
 use Rattle.std.proofs.Common.{ap, rules}
 use Rattle.std.specs.Ordering.{is_lt}
 use Rattle.std.proofs.lemmas.List.Sorted.{ranks_by, answers_always}
-use Rattle.dump.specs.Spans.{span_order}
+use Rattle.dump.specs.Steps.Spans.{span_order}
 use Rattle.dump.proofs.Passes.{span_total}
 use Rattle.dump.proofs.spans.sort.Goals as goal
 

@@ -1,5 +1,5 @@
 use Rattle.std.proofs.Common.{arith, sym}
-use Rattle.dump.specs.Spans.{is_passed}
+use Rattle.dump.specs.Steps.Spans.{is_passed}
 use Rattle.dump.proofs.Sweeps.{one_down}
 use Rattle.dump.proofs.spans.staying.Goals as goal
 

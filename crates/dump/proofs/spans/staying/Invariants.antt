@@ -1,7 +1,7 @@
 use Rattle.std.proofs.Common.{◌≡◌, ◌≤◌, ◌<◌, ℕ, true, length}
 use Rattle.std.specs.List.{slice_index_or}
 use Rattle.positions.specs.Span.{SpanValue}
-use Rattle.dump.specs.Spans.{is_passed}
+use Rattle.dump.specs.Steps.Spans.{is_passed}
 use Rattle.dump.proofs.spans.staying.Given as goal
 
 abbrev pub invariant-loop-count : goal.invariant-loop-count

@@ -1,6 +1,6 @@
 use Rattle.std.proofs.Common.{◌≡◌, ◌∙◌, ℕ, sym, ap, subst, List, map, Option, Some, None}
 use Rattle.lsif.specs.Element.{ElementValue, id_value, element_value}
-use Rattle.dump.specs.Chains.{place_in, IsEnd}
+use Rattle.dump.specs.Steps.Chains.{place_in, IsEnd}
 use Rattle.dump.specs.Walks.{next_pairs, first_to, Path, stays}
 use Rattle.dump.proofs.Known.{ends_known}
 use Rattle.dump.proofs.Shortcuts.{no_source, no_place, one_place, id_there}

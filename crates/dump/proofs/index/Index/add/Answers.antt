@@ -5,10 +5,10 @@ use Rattle.lsif.specs.Element.{IdValue, id_values, element_value, element_id}
 use Rattle.dump.specs.declared.links.Link.{Link}
 use Rattle.dump.specs.Contained.{spans_of}
 use Rattle.dump.specs.Graph.{is_among}
-use Rattle.dump.specs.Ids.{value_at, place_at, entered}
-use Rattle.dump.specs.Index.{has_id, is_id, IsFilled}
+use Rattle.dump.specs.Steps.Ids.{value_at, place_at, entered}
+use Rattle.dump.specs.Steps.Index.{has_id, is_id, IsFilled}
 use Rattle.dump.specs.Contained.{contains_source}
-use Rattle.dump.specs.Links.{link_index, same_link, link_at, named_by, is_named}
+use Rattle.dump.specs.Steps.Links.{link_index, same_link, link_at, named_by, is_named}
 use Rattle.dump.proofs.Adds.{has_rows, fresh_place, vertices_have_places, named_known, named_some, row_more, links_after, blank, blank_row, rows_length}
 use Rattle.dump.proofs.Ends.{no_code}
 use Rattle.dump.proofs.Fills.{fills}

@@ -1,8 +1,8 @@
 use Rattle.std.proofs.Common.{◌≡◌, ◌∙◌, ◌||◌, Bool, IfOk, ap, subst, map}
 use Rattle.lsif.specs.Element.{id_value, id_values, element_value}
 use Rattle.dump.specs.Contained.{spans_of, spans_in, any_conflicts, has_conflict}
-use Rattle.dump.specs.Ids.{value_at}
-use Rattle.dump.specs.Index.{kept}
+use Rattle.dump.specs.Steps.Ids.{value_at}
+use Rattle.dump.specs.Steps.Index.{kept}
 use Rattle.dump.proofs.Fills.{others_in_order}
 use Rattle.dump.proofs.index.Index.conflict.Goals as goal
 

@@ -1,8 +1,8 @@
 use Rattle.std.proofs.Common.{◌∙◌, ap, map, option_and_then}
 use Rattle.std.specs.Prelude.{slice_get}
 use Rattle.lsif.specs.Element.{id_value, element_value}
-use Rattle.dump.specs.Ids.{place_at}
-use Rattle.dump.specs.Index.{has_id}
+use Rattle.dump.specs.Steps.Ids.{place_at}
+use Rattle.dump.specs.Steps.Index.{has_id}
 use Rattle.dump.proofs.Tables.{table-item}
 use Rattle.dump.proofs.index.Index.element_at.Goals as goal
 

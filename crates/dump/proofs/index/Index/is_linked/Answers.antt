@@ -1,6 +1,6 @@
 use Rattle.std.proofs.Common.{◌∙◌, ap, map, is_some}
 use Rattle.lsif.specs.Element.{id_value, element_value}
-use Rattle.dump.specs.Links.{is_link, link_at}
+use Rattle.dump.specs.Steps.Links.{is_link, link_at}
 use Rattle.dump.proofs.Tables.{table-any}
 use Rattle.dump.proofs.index.Index.is_linked.Goals as goal
 

@@ -1,7 +1,7 @@
 use Rattle.std.proofs.Common.{◌∙◌, ap, map, option_and_then}
 use Rattle.std.specs.Prelude.{slice_get}
 use Rattle.lsif.specs.Element.{id_value, element_value}
-use Rattle.dump.specs.Links.{is_link, link_at}
+use Rattle.dump.specs.Steps.Links.{is_link, link_at}
 use Rattle.dump.proofs.Tables.{table-item}
 use Rattle.dump.proofs.index.Index.linked.Goals as goal
 

@@ -1,6 +1,6 @@
 use Rattle.std.proofs.Common.{ap, length, arith, option_and_then}
 use Rattle.std.proofs.lemmas.Map.Text.{text_keys}
-use Rattle.dump.specs.Links.{cell}
+use Rattle.dump.specs.Steps.Links.{cell}
 use Rattle.dump.proofs.Fills.{kept_nothing}
 use Rattle.dump.proofs.index.Index.new.Goals as goal
 

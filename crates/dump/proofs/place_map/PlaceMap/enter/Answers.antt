@@ -1,6 +1,6 @@
 use Rattle.std.proofs.Common.{◌≡◌, nat_lt, get_or, None, false, arith}
 use Rattle.lsif.specs.Element.{number, text}
-use Rattle.dump.specs.Ids.{value_at}
+use Rattle.dump.specs.Steps.Ids.{value_at}
 use Rattle.dump.proofs.EachId.{each_id}
 use Rattle.dump.proofs.Slots.{on_ok, on_err, slot_same, number_entered, text_entered}
 use Rattle.dump.proofs.place_map.PlaceMap.enter.Goals as goal

@@ -8,9 +8,9 @@ use Rattle.std.specs.declared.alloc.Global.{Global}
 use Rattle.dump.specs.declared.index.Index.{Index}
 use Rattle.dump.specs.Conditions.{is_document_of}
 use Rattle.dump.specs.Contained.{contains_of, contains_range, spans_in, has_conflict}
-use Rattle.dump.specs.Ids.{value_at, place_at, IsTable}
-use Rattle.dump.specs.Links.{is_link, link_at}
-use Rattle.dump.specs.Spans.{IsOrdered}
+use Rattle.dump.specs.Steps.Ids.{value_at, place_at, IsTable}
+use Rattle.dump.specs.Steps.Links.{is_link, link_at}
+use Rattle.dump.specs.Steps.Spans.{IsOrdered}
 use Rattle.dump.specs.declared.links.Link.{Link}
 
 -- there is an id, and it's this one

@@ -3,7 +3,7 @@ use Rattle.std.specs.Prelude.{◌≡◌, ℕ, List, [], ◌∷◌, Option, Some,
 use Rattle.std.specs.List.{position}
 use Rattle.lsif.specs.Element.{IdValue, ElementValue}
 use Rattle.dump.specs.declared.single.SingleLabel.TheVariants.{Next}
-use Rattle.dump.specs.Index.{has_id}
+use Rattle.dump.specs.Steps.Index.{has_id}
 use Rattle.dump.specs.Walks.{Pair, Path, first_to, single_in}
 
 -- the place of the element of an id
