@@ -1,5 +1,5 @@
 //! The escapes of a name, a file, a kind and a field's value.
-ghost use Rattle.std.specs.Prelude.{◌≡◌, ◌<◌, ◌≤◌, ◌-◌, IfOk, IfSome, IsUtf8, Some, length, option_map, is_some, slice_index, string_bytes, true};
+ghost use Rattle.std.specs.Prelude.{◌≡◌, ◌<◌, ◌≤◌, ◌-◌, IfOk, IfSome, IsUtf8, Some, length, is_some, slice_index, string_bytes, true};
 ghost use Rattle.tags.specs.Escapes.{decoded, hex_value, letter_value};
 ghost use Rattle.tags.specs.Steps.Escapes.{escape_at};
 
@@ -56,35 +56,24 @@ fn escape_at(text: &[u8]) -> Option<(u8, usize)>
     }
 }
 
-/// The text that a name, a file, a kind or a field's value stands for, or `None` where a backslash
-/// begins no escape.
-pub fn decode(alloc: Global, written: &str) -> Result<Option<String>, AllocError>
-    ensures { IfOk result (λ o. option_map (λ s. string_bytes s) o ≡ decoded written.now) }
+/// The text that a name, a file, a kind or a field's value stands for, in which each backslash begins an escape.
+pub(crate) fn decode(alloc: Global, written: &[u8]) -> Result<String, AllocError>
+    requires text { IsUtf8 written.now }
+    requires good { is_some (decoded written.now) ≡ true }
+    ensures { IfOk result (λ s. decoded written.now ≡ Some (string_bytes s)) }
 {
     let mut value = String::new(alloc);
-    let mut rest = written;
+    let mut rest = text_of(written);
     while let Some((before, escape)) = around_char(rest, '\\') {
         value.push_str(before)?;
         let Some((byte, len)) = escape_at(escape.as_bytes()) else {
-            return Ok(None);
+            unreachable!()
         };
         value.push(char::from(byte))?;
         rest = &escape[len..];
     }
     value.push_str(rest)?;
-    Ok(Some(value))
-}
-
-/// The text that something written stands for in which each backslash begins an escape.
-pub(crate) fn decode_good(alloc: Global, written: &[u8]) -> Result<String, AllocError>
-    requires text { IsUtf8 written.now }
-    requires good { is_some (decoded written.now) ≡ true }
-    ensures { IfOk result (λ s. decoded written.now ≡ Some (string_bytes s)) }
-{
-    match decode(alloc, text_of(written))? {
-        Some(value) => Ok(value),
-        None => unreachable!(),
-    }
+    Ok(value)
 }
 
 /// Whether each backslash begins an escape, so that the text has a meaning. It takes no memory.

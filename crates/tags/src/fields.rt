@@ -13,7 +13,7 @@ ghost use Rattle.tags.specs.Fields.{has_bad_escape, is_field_name, name_in, valu
 use crate::around::{around_byte, text_of};
 use crate::code::Code;
 use crate::cut::first_field;
-use crate::escape::{decode_good, is_decodable};
+use crate::escape::{decode, is_decodable};
 use crate::tag::Field;
 use std::alloc::{AllocError, Global};
 
@@ -63,7 +63,7 @@ impl Gathered {
         ensures { OnOk result (Gathers self.old self.new field.now) }
     {
         let (name, written) = name_and_value(field);
-        let value = decode_good(alloc, written)?;
+        let value = decode(alloc, written)?;
         match name {
             Some(name) => {
                 let name = String::from_str(alloc, text_of(name))?;

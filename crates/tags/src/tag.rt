@@ -6,7 +6,7 @@ ghost use Rattle.tags.specs.Views.{tag_value};
 
 use crate::around::text_of;
 use crate::cut::Cut;
-use crate::escape::decode_good;
+use crate::escape::decode;
 use crate::fields::{Gathered, gather};
 use std::alloc::{AllocError, Global};
 
@@ -40,8 +40,8 @@ pub(crate) fn tag_of(alloc: Global, cut: Cut<'_>, line: u32) -> Result<Tag, Allo
     requires { (e : EntryValue) × IsCut cut e }
     ensures { IfOk result (λ tag. (e : EntryValue) → IsCut cut.entry e → tag_value tag ≡ numbered line e) }
 {
-    let name = decode_good(alloc, cut.name)?;
-    let file = decode_good(alloc, cut.file)?;
+    let name = decode(alloc, cut.name)?;
+    let file = decode(alloc, cut.file)?;
     let address = String::from_str(alloc, text_of(cut.address))?;
     let Gathered { kind, others } = gather(alloc, cut.fields)?;
     Ok(Tag {

@@ -1,6 +1,6 @@
-//! Tags files that are read or counted, their faults and their limits; and the parts and the escapes of lines.
+//! Tags files that are read or counted, their faults and their limits; and the parts of lines.
 use crate::{
-    Code, LineFault, Part, SplitFault, Tag, TagChecker, TagReader, TagsFault, count_law, decode,
+    Code, LineFault, Part, SplitFault, Tag, TagChecker, TagReader, TagsFault, count_law,
     escape_law, grammar_law, lines_law, read_tags, reading_law, split, state_law,
 };
 use std::alloc::{AllocError, Global};
@@ -29,6 +29,7 @@ x␉f.c␊ => 1 T04
 x␉␉1␊ => 1 T04
 !_TAG_X␉␊ => 1 T04
 \q␉f.c␉1␊ => 1 T05
+\x00␉f.c␉1␊ => 1 T05
 x␉\x80␉/␊ => 1 T05
 x␉f.c␉1;"␉a:\q␉␊ => 1 T05
 x␉f.c␉1;"␉1a:\q␊ => 1 T05
@@ -201,17 +202,9 @@ fn worked_tags(rt: HostRuntime) -> Result<(), Fail> {
 
 #[test]
 fn escapes(rt: HostRuntime) -> Result<(), Fail> {
-    let escapes = decode(rt.alloc(), "\\r\\n\\\\\\a\\b\\v\\f\\x7F")?;
-    assert_eq!(rt;
-        escapes.as_deref(),
-        Some("\r\n\\\u{7}\u{8}\u{b}\u{c}\u{7f}")
-    );
-    Ok(())
-}
-
-#[test]
-fn no_escape(rt: HostRuntime) -> Result<(), Fail> {
-    assert_eq!(rt; decode(rt.alloc(), "\\x00")?, None);
+    let text = "\\r\\n\\\\\\a\\b\\v\\f\\x7F\tf.c\t1\n";
+    let wanted = "1 \r\n\\\u{7}\u{8}\u{b}\u{c}\u{7f} f.c 1 -\n";
+    assert_eq!(rt; read(rt.alloc(), text)?.as_str(), wanted);
     Ok(())
 }
 

@@ -1,15 +1,19 @@
-use Rattle.std.proofs.Common.{◌≡◌, ◌∙◌, ◌<◌, ◌+◌, ◌-◌, ◌++◌, ◌∷◌, [], Some, None, get_or, length, string_bytes, sym, ap, arith}
+use Rattle.std.proofs.Common.{◌≡◌, ◌∙◌, ◌<◌, ◌+◌, ◌-◌, ◌++◌, ◌∷◌, [], Some, None, false, get_or, is_some, length, string_bytes, sym, ap, arith}
 use Rattle.std.specs.Str.{IsUtf8}
 use Rattle.std.proofs.lemmas.Str.{IsCharBoundary-after_ascii, encode_ascii}
 use lib.Utf8.{encode}
+use Rattle.tags.specs.Escapes.{decoded}
 use Rattle.tags.specs.Steps.Escapes.{escape_at}
 use Rattle.tags.proofs.EscapeLemmas.{decoded-step, decoded-stop, decoded-end}
 use Rattle.tags.proofs.escape.decode.Goals as goal
 
-pub returns-in_default-escape_at : goal.returns-in_default-escape_at
-returns-in_default-escape_at c =
+pub unreachable-requires : goal.unreachable-requires
+unreachable-requires c =
     let none : escape_at c.in-Some.escape.now ≡ None = rw c.as_bytes.ensures.value at (sym c.in_default-escape_at.ensures.value) in
-    sym (decoded-stop (string_bytes c.loop-before.value) c.loop-before.rest.now c.in-Some.before.now c.in-Some.escape.now (sym c.in-Some.ensures.value) none) ∙ c.loop-before.invariant.value
+    let stop : decoded c.args.written.now ≡ None =
+    sym c.loop-before.invariant.value ∙ decoded-stop (string_bytes c.loop-before.value) c.loop-before.rest.now c.in-Some.before.now c.in-Some.escape.now (sym c.in-Some.ensures.value) none in
+    let no : is_some (decoded c.args.written.now) ≡ false = ap is_some stop in
+    cc
 
 pub range_from-rest-requires : goal.range_from-rest-requires
 range_from-rest-requires c = λ positive.
@@ -33,4 +37,4 @@ loop-before-preserved c =
 pub returns : goal.returns
 returns c =
     let all : string_bytes c.push_str-2.new.self ≡ string_bytes c.loop-before.value ++ c.loop-before.rest.now = c.in_ok-push_str-2.ensures.bytes in
-    rw all (sym (decoded-end (string_bytes c.loop-before.value) c.loop-before.rest.now (sym c.in_default.ensures.value)) ∙ c.loop-before.invariant.value)
+    rw all (sym c.loop-before.invariant.value ∙ decoded-end (string_bytes c.loop-before.value) c.loop-before.rest.now (sym c.in_default.ensures.value))
