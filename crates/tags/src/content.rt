@@ -1,5 +1,5 @@
 //! What a line says, judged without memory.
-ghost use Rattle.std.specs.Prelude.{◌≡◌, IsUtf8, nat_eq, codes};
+ghost use Rattle.std.specs.Prelude.{◌≡◌, IsUtf8};
 ghost use Rattle.std.specs.List.{list_any};
 ghost use Rattle.tags.specs.Faults.{result_map};
 ghost use Rattle.tags.specs.Conditions.{is_control};

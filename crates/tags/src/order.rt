@@ -1,5 +1,5 @@
 //! The order of lines.
-ghost use Rattle.std.specs.Prelude.{◌≡◌, ◌+◌, ◌<◌, IfNone, OnErr, OnOk, Some, None, false, length, option_map, vec_capacity};
+ghost use Rattle.std.specs.Prelude.{◌≡◌, ◌<◌, IfNone, OnErr, OnOk, Some, None, false, length, option_map, vec_capacity};
 ghost use Rattle.tags.specs.Fault.{descends, order_by, written_in};
 ghost use Rattle.tags.specs.Values.{ContentValue};
 

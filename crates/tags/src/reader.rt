@@ -1,5 +1,5 @@
 //! Lines whose tags are kept.
-ghost use Rattle.std.specs.Prelude.{◌≡◌, ◌++◌, ◌∷◌, ◌<◌, [], map, vec_capacity, vec_len};
+ghost use Rattle.std.specs.Prelude.{◌≡◌, ◌++◌, ◌∷◌, ◌<◌, [], vec_capacity, vec_len};
 ghost use Rattle.tags.specs.Faults.{result_map};
 ghost use Rattle.tags.specs.Fault.{Reading};
 ghost use Rattle.tags.specs.Lines.{IsHanded};
