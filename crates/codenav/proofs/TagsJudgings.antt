@@ -1,10 +1,10 @@
 -- What the lines that a checker of tags has taken say of the whole file.
-use Rattle.std.proofs.Common.{◌≡◌, ◌∙◌, ℕ, ◌+◌, ◌<◌, Bool, true, false, not, nat_lt, List, [], ◌∷◌, length, fold, map, Option, Some, None, Result, Ok, Err, refl, sym, ap, subst, arith, if◌then◌else◌}
+use Rattle.std.proofs.Common.{◌≡◌, ◌∙◌, ℕ, ◌+◌, ◌<◌, Bool, true, false, List, [], ◌∷◌, length, fold, map, Option, Some, None, Result, Ok, Err, refl, sym, ap, subst, arith, if◌then◌else◌}
 use Rattle.std.specs.Prelude.{IfOk}
-use Rattle.std.proofs.lemmas.Bool.{ltb-true}
+use Rattle.std.proofs.lemmas.Bool.{leb-false}
 use Rattle.lsif.specs.Lines.{Cutter}
 use Rattle.tags.specs.States.{Summary, State, running, stopped, add, advance, counted, next, order_in, state_after, summary_of, Finishes, IsRunning}
-use Rattle.tags.specs.Fault.{Reading, contents, is_descending, is_late, most_lines, tags_of, IsFaultless, IsFirstFault}
+use Rattle.tags.specs.Fault.{Reading, contents, is_descending, is_late, is_past_limit, most_lines, tags_of, IsFaultless, IsFirstFault}
 use Rattle.tags.specs.Lines.{AreReadings, IsHanded, IsReading, Line, lines_of}
 use Rattle.tags.specs.Steps.Readings.{handed, reading_of, readings_of}
 use Rattle.tags.specs.Values.{ContentValue, sorted, other, ordinary}
@@ -58,14 +58,14 @@ fed_code (Err e) left left' c old new lines h f = tt
 
 -- ---- a checker that goes on took fewer lines than it may
 
-none_by : (late descending few : Bool) → (if late then Some T09 else if descending then Some T10 else if not few then Some T11 else None) ≡ None → few ≡ true
-none_by true descending few e = cc
-none_by false true few e = cc
-none_by false false true e = refl
-none_by false false false e = cc
+none_by : (late descending past : Bool) → (if late then Some T09 else if descending then Some T10 else if past then Some T11 else None) ≡ None → past ≡ false
+none_by true descending past e = cc
+none_by false true past e = cc
+none_by false false true e = cc
+none_by false false false e = refl
 
 few_lines : (s : Summary ℕ) (x : ContentValue) → order_in s x ≡ None → s.count < most_lines
-few_lines s x e = ltb-true s.count most_lines (none_by (is_late s.last x) (is_descending s.last s.checked x) (nat_lt s.count most_lines) e)
+few_lines s x e = leb-false most_lines s.count (none_by (is_late s.last x) (is_descending s.last s.checked x) (is_past_limit s.count) e)
 
 one_more : (s : Summary ℕ) (x : ContentValue) → (add counted s x).count ≡ s.count + 1
 one_more s (sorted b) = refl

@@ -1,5 +1,5 @@
 -- When a tags file is faulty, and where; and the tags of one that isn't.
-use Rattle.std.specs.Prelude.{◌≡◌, ℕ, ◌+◌, ◌-◌, ◌<◌, ◌&&◌, Bool, false, not, nat_lt, List, [], ◌∷◌, length, take, Option, Some, None, is_some, unwrap_or, Result, Ok, Err, slice_get, if◌then◌else◌}
+use Rattle.std.specs.Prelude.{◌≡◌, ℕ, ◌+◌, ◌-◌, ◌<◌, ◌&&◌, Bool, false, nat_le, List, [], ◌∷◌, length, take, Option, Some, None, is_some, find, unwrap_or, Result, Ok, Err, slice_get}
 use Rattle.std.specs.List.{filter_map}
 use Rattle.std.specs.Option.{option_map_or}
 use Rattle.std.specs.Cmp.Lexicographic.{slice_cmp}
@@ -52,19 +52,30 @@ is_descending last checked (sorted b) = false
 is_descending last checked other = false
 is_descending last checked (ordinary written e) = checked && descends last written
 
--- T11: so many lines stand before
+-- how many lines a tags file may have
 abbrev pub most_lines : ℕ
 most_lines = 100000
 
--- the least code that holds, by the last name, whether the order is checked, and the number of lines before
-abbrev pub order_by : Option (List ℕ) → Bool → ℕ → ContentValue → Option Code
-order_by last checked count x =
-    if is_late last x then Some T09
-    else if is_descending last checked x then Some T10
-    else if not (nat_lt count most_lines) then Some T11
-    else None
+-- T11: as many lines stand before as a file may have; the argument is their number
+abbrev pub is_past_limit : ℕ → Bool
+is_past_limit count = nat_le most_lines count
 
--- the least code that holds of a line after those before it
+-- the condition of a code on a line, by the last name, whether the order is checked, and the number of lines before
+abbrev pub order_condition : Option (List ℕ) → Bool → ℕ → ContentValue → Code → Bool
+order_condition last checked count x T09 = is_late last x
+order_condition last checked count x T10 = is_descending last checked x
+order_condition last checked count x T11 = is_past_limit count
+order_condition last checked count x c = false
+
+-- the codes that ask something of the lines before, least first
+abbrev pub order_codes : List Code
+order_codes = T09 ∷ T10 ∷ T11 ∷ []
+
+-- the least code whose condition holds
+abbrev pub order_by : Option (List ℕ) → Bool → ℕ → ContentValue → Option Code
+order_by last checked count x = find (order_condition last checked count x) order_codes
+
+-- the same after the lines before it
 unfoldable pub order_code : List ContentValue → ContentValue → Option Code
 order_code before x = order_by (last_name before) (is_sorted before) (length before) x
 
