@@ -19,11 +19,11 @@ pub mod OneAnswers
 pub mod Passes
 pub mod Paths
 pub mod Progresses
+pub mod Reaches
 pub mod Repeats
 pub mod Rows
 pub mod SameIds
 pub mod Slots
 pub mod Shortcuts
-pub mod Sweeps
 pub mod Tables
 pub mod Uniques

@@ -8,17 +8,16 @@ ghost use Rattle.dump.specs.Conditions.{is_document_of, order_code};
 ghost use Rattle.dump.specs.Contained.{spans_of, spans_in, any_conflicts, has_conflict};
 ghost use Rattle.dump.specs.Graph.{element_at, vertex_at, is_document};
 ghost use Rattle.dump.specs.Steps.Ids.{value_at, place_at, entered};
-ghost use Rattle.dump.specs.Steps.Index.{IsIndex, IsFilled, kept, is_id};
+ghost use Rattle.dump.specs.Steps.Index.{IsIndex, IsFilled, lists, kept, is_id};
 ghost use Rattle.dump.specs.Contained.{contains_source};
 ghost use Rattle.dump.specs.Steps.Links.{is_link, link_at, named_by, ranges_in};
-ghost use Rattle.dump.specs.Steps.Spans.{IsOrdered};
 ghost use Rattle.dump.specs.Progress.{IsSound};
 
 use crate::ids::IdMap;
 use crate::links::{LINKS, Link, Row, cell, enter_all};
 use crate::place_map::PlaceMap;
 use crate::single::{SingleLabel, single_of};
-use crate::spans::{conflict_after, merged};
+use crate::sorted_spans::{SortedSpans, add, conflict_after};
 use lsif::{Edge, Element, Event, Id, Vertex};
 use positions::Span;
 use std::alloc::{AllocError, Global};
@@ -37,18 +36,18 @@ pub(crate) struct Index {
     places: PlaceMap,
     /// Of each element the elements that name it.
     rows: Vec<Row>,
-    /// The spans of a document's ranges, in order.
-    spans: IdMap<Vec<Span>>,
+    /// The spans of a document's ranges, in lists of which each is in order.
+    spans: IdMap<Vec<SortedSpans>>,
     /// The document of a serialized URL.
     documents: HashMap<String, usize>,
 }
 
-/// The spans that are kept of a document.
-fn kept<'a>(table: &'a IdMap<Vec<Span>>, document: &Id) -> &'a [Span]
-    ensures { result.now ≡ kept (value_at table.now (id_value document.now)) }
+/// The spans that are kept of a document, in lists.
+fn lists<'a>(table: &'a IdMap<Vec<SortedSpans>>, document: &Id) -> &'a [SortedSpans]
+    ensures { result.now ≡ lists (value_at table.now (id_value document.now)) }
 {
     match table.get(document) {
-        Some(spans) => spans,
+        Some(lists) => lists,
         None => &[],
     }
 }
@@ -56,17 +55,24 @@ fn kept<'a>(table: &'a IdMap<Vec<Span>>, document: &Id) -> &'a [Span]
 /// Adds the spans to those that are kept of a document. Where memory is refused they stay as they are.
 fn fill(
     alloc: Global,
-    table: &mut IdMap<Vec<Span>>,
+    table: &mut IdMap<Vec<SortedSpans>>,
     document: &Id,
     spans: Vec<Span>,
 ) -> Result<(), AllocError>
-    requires { (i : IdValue) → IsOrdered (kept (value_at table.old i)) }
     ensures ok { OnOk result ((i : IdValue) → IsFilled (is_id i (Some (id_value document.now))) spans.items (value_at table.old i) (value_at table.new i)) }
-    ensures err { OnErr result ((i : IdValue) → value_at table.new i ≡ value_at table.old i) }
+    ensures err { OnErr result ((i : IdValue) → kept (value_at table.new i) ≡ kept (value_at table.old i)) }
 {
-    let joined = merged(alloc, kept(table, document), spans)?;
-    table.insert(document, joined)?;
-    Ok(())
+    match document {
+        Id::Number(n) => {
+            let lists = table.numbers.entry(*n)?.or_insert(Vec::new(alloc));
+            add(alloc, lists, spans)
+        }
+        Id::Text(text) => {
+            let key = String::from_str(alloc, text.as_str())?;
+            let lists = table.texts.entry(key)?.or_insert(Vec::new(alloc));
+            add(alloc, lists, spans)
+        }
+    }
 }
 
 /// Enters a serialized URL.
@@ -88,16 +94,15 @@ fn enter_document(
 /// serialized URL. Where memory is refused all stays as it is.
 fn keep(
     alloc: Global,
-    spans: &mut IdMap<Vec<Span>>,
+    spans: &mut IdMap<Vec<SortedSpans>>,
     documents: &mut HashMap<String, usize>,
     element: &Element,
     targets: Vec<Span>,
     place: usize,
 ) -> Result<(), AllocError>
-    requires { (i : IdValue) → IsOrdered (kept (value_at spans.old i)) }
     ensures spans { OnOk result ((i : IdValue) → IsFilled (is_id i (contains_source (element_value element.now))) targets.items (value_at spans.old i) (value_at spans.new i)) }
     ensures documents { OnOk result ((uri : List ℕ) → is_some (get_by_text documents.new uri) ≡ (is_document_of uri (element_value element.now) || is_some (get_by_text documents.old uri))) }
-    ensures spans_stay { OnErr result ((i : IdValue) → value_at spans.new i ≡ value_at spans.old i) }
+    ensures spans_stay { OnErr result ((i : IdValue) → kept (value_at spans.new i) ≡ kept (value_at spans.old i)) }
     ensures documents_stay { OnErr result ((uri : List ℕ) → is_some (get_by_text documents.new uri) ≡ is_some (get_by_text documents.old uri)) }
 {
     match element {
@@ -253,7 +258,7 @@ impl Index {
         ensures { IfOk result (λ b. b ≡ (any_conflicts (spans_of (map element_value elements.now) (id_values ranges.now)) (spans_in (map element_value elements.now) (id_value document.now)) || has_conflict (spans_of (map element_value elements.now) (id_values ranges.now)))) }
     {
         let targets = self.spans_of(elements, ranges)?;
-        conflict_after(self.alloc, kept(&self.spans, document), targets)
+        conflict_after(self.alloc, lists(&self.spans, document), targets)
     }
 
     /// The ranges that the element names, where it's a `contains` edge out of a document.
@@ -296,14 +301,13 @@ impl Index {
         targets: Vec<Span>,
         place: usize,
     ) -> Result<(), AllocError>
-        requires ordered { (i : IdValue) → IsOrdered (kept (value_at self.old.spans i)) }
-        requires fresh { place_at self.old.places (element_id (element_value element.now)) ≡ None }
+        requires { place_at self.old.places (element_id (element_value element.now)) ≡ None }
         ensures rows { self.new.rows ≡ self.old.rows }
         ensures places { OnOk result ((i : IdValue) → place_at self.new.places i ≡ entered (same_id (element_id (element_value element.now)) i) place (place_at self.old.places i)) }
         ensures spans { OnOk result ((i : IdValue) → IsFilled (is_id i (contains_source (element_value element.now))) targets.items (value_at self.old.spans i) (value_at self.new.spans i)) }
         ensures documents { OnOk result ((uri : List ℕ) → is_some (get_by_text self.new.documents uri) ≡ (is_document_of uri (element_value element.now) || is_some (get_by_text self.old.documents uri))) }
         ensures places_stay { OnErr result ((i : IdValue) → place_at self.new.places i ≡ place_at self.old.places i) }
-        ensures spans_stay { OnErr result ((i : IdValue) → value_at self.new.spans i ≡ value_at self.old.spans i) }
+        ensures spans_stay { OnErr result ((i : IdValue) → kept (value_at self.new.spans i) ≡ kept (value_at self.old.spans i)) }
         ensures documents_stay { OnErr result ((uri : List ℕ) → is_some (get_by_text self.new.documents uri) ≡ is_some (get_by_text self.old.documents uri)) }
     {
         self.places.enter(element.id(), place)?;

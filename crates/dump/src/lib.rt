@@ -15,6 +15,7 @@ mod order;
 mod place_map;
 mod reading;
 mod single;
+mod sorted_spans;
 mod spans;
 mod vertices;
 mod walks;

@@ -10,7 +10,7 @@ use Rattle.dump.specs.Conditions.{is_document_of}
 use Rattle.dump.specs.Contained.{contains_of, contains_range, spans_in, has_conflict}
 use Rattle.dump.specs.Steps.Ids.{value_at, place_at, IsTable}
 use Rattle.dump.specs.Steps.Links.{is_link, link_at}
-use Rattle.dump.specs.Steps.Spans.{IsOrdered}
+use Rattle.dump.specs.Steps.Spans.{joined}
 use Rattle.dump.specs.declared.links.Link.{Link}
 
 -- there is an id, and it's this one
@@ -26,25 +26,25 @@ passes test None = false
 abbrev pub has_id : IdValue → ElementValue → Bool
 has_id i x = same_id (element_id x) i
 
--- spans that are kept, or none
-abbrev pub kept : Option (Vec SpanValue Global) → List SpanValue
-kept (Some spans) = spans.items
-kept None = []
+-- the lists of spans that are kept, or none
+abbrev pub lists : Option (Vec (List SpanValue) Global) → List (List SpanValue)
+lists (Some spans) = spans.items
+lists None = []
 
--- spans in order, of which no two conflict
-abbrev pub IsClear : List SpanValue → Type 0
-IsClear spans = IsOrdered spans × (has_conflict spans ≡ false)
+-- the spans that are kept
+abbrev pub kept : Option (Vec (List SpanValue) Global) → List SpanValue
+kept o = joined (lists o)
 
 -- what is kept of a document after more spans came to it, or didn't
-abbrev pub IsFilled : Bool → List SpanValue → Option (Vec SpanValue Global) → Option (Vec SpanValue Global) → Type 0
-IsFilled true targets old new = IsPermutation (kept old ++ targets) (kept new) × IsOrdered (kept new)
-IsFilled false targets old new = new ≡ old
+abbrev pub IsFilled : Bool → List SpanValue → Option (Vec (List SpanValue) Global) → Option (Vec (List SpanValue) Global) → Type 0
+IsFilled true targets old new = IsPermutation (kept old ++ targets) (kept new)
+IsFilled false targets old new = kept new ≡ kept old
 
 -- the places lead to the element of each id; each element has a row, which leads to the first elements that name it in each way;
--- the serialized URLs are those of documents; and of each document the spans of its ranges are kept in order
+-- the serialized URLs are those of documents; and of each document the spans of its ranges are kept, of which no two conflict
 pub record IsIndex (x : Index) (d : List ElementValue) : Type 0 where
   pub elements : IsTable (place_at x.places) has_id d
   pub rows : length x.rows.items ≡ length d
   pub links : (l : Link) → IsTable (link_at x.places x.rows.items l) (is_link d l) d
   pub documents : (uri : List ℕ) → is_some (get_by_text x.documents uri) ≡ list_any (is_document_of uri) d
-  pub spans : (v : IdValue) → IsPermutation (spans_in d v) (kept (value_at x.spans v)) × IsClear (kept (value_at x.spans v))
+  pub spans : (v : IdValue) → IsPermutation (spans_in d v) (kept (value_at x.spans v)) × (has_conflict (kept (value_at x.spans v)) ≡ false)

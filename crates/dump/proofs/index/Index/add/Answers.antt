@@ -17,8 +17,8 @@ use Rattle.dump.proofs.Known.{ends_known, still_vertices}
 use Rattle.dump.proofs.Slots.{entered_not}
 use Rattle.dump.proofs.index.Index.add.Goals as goal
 
-pub enter-requires-clause-fresh : goal.enter-requires-clause-fresh
-enter-requires-clause-fresh c =
+pub enter-requires : goal.enter-requires
+enter-requires c =
     let d = map element_value c.args.elements.now in
     let x = element_value c.args.element.now in
     fresh_place c.args.self.now.places d x (no_code d x c.requires.free) c.requires.index.elements
