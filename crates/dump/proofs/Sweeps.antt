@@ -130,8 +130,8 @@ module _ (spans opened : List SpanValue) (k n : ℕ) (t : SpanValue) (up : IsOrd
 
   pub sweep_hit : (x : SpanValue) → 0 < n → x ≡ get_or (take n opened) (n - 1) x → conflicts x t ≡ true → true ≡ has_conflict spans
   sweep_hit x some at hit =
-      let place : get_or opened (n - 1) x ≡ x = sym (at ∙ get_or-take n opened (n - 1) x (omega arith)) in
-      let found : list_any (conflicts (get_or opened (n - 1) x)) (drop k spans) ≡ true = rw (place, drop_next spans k t lt is, hit) refl in
+      let there : get_or opened (n - 1) x ≡ x = sym (at ∙ get_or-take n opened (n - 1) x (omega arith)) in
+      let found : list_any (conflicts (get_or opened (n - 1) x)) (drop k spans) ≡ true = rw (there, drop_next spans k t lt is, hit) refl in
       let any : any_conflicts opened (drop k spans) ≡ true = list_any_at (λ s. list_any (conflicts s) (drop k spans)) opened (n - 1) x (omega arith) found in
       sym (ap (λ b. b || has_conflict (drop k spans)) any) ∙ h.answer
 

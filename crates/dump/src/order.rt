@@ -2,7 +2,7 @@
 ghost use Rattle.std.specs.Prelude.{◌≡◌, false, ◌<◌, ◌≤◌, ◌&&◌, ◌∷◌, IfOk, IfNone, length, not};
 ghost use Rattle.std.specs.List.{list_any};
 ghost use Rattle.lsif.specs.Element.{id_value, id_values, item_value, element_value};
-ghost use Rattle.dump.specs.Conditions.{is_misplaced, are_vertices, joins_no_vertex, may_contain, may_ask, is_result_set, is_definition_result, is_hover_result, is_moniker, is_package, are_definitions, may_be_of_references, may_have_item, may_not_join, is_contained_again, is_conflicting, leaves_again, closes_cycle, has_effect, is_place, has_no_place, has_ranges, is_misplaced_item, has_used_uri, order_code, is_uncontained, end_code, most_elements};
+ghost use Rattle.dump.specs.Conditions.{is_misplaced, are_vertices, joins_no_vertex, may_contain, may_ask, is_result_set, is_definition_result, is_hover_result, is_moniker, is_package, are_definitions, may_be_of_references, may_have_item, may_not_join, is_contained_again, is_conflicting, leaves_again, closes_cycle, has_effect, may_be_shard, has_no_shard, has_ranges, is_misplaced_item, has_used_uri, order_code, is_uncontained, end_code, most_elements};
 ghost use Rattle.dump.specs.Ended.{is_bad_event, is_closed, leaves_ended, is_late};
 ghost use Rattle.dump.specs.Graph.{vertex_at, ends, is_reference_result};
 ghost use Rattle.dump.specs.Progress.{end_fault_from, IsSound};
@@ -237,8 +237,8 @@ fn has_effect(graph: &Graph, source: &Id) -> bool
 }
 
 /// Whether the id is that of a document or a project.
-fn is_place(graph: &Graph, id: &Id) -> bool
-    ensures { result ≡ is_place (vertex_at graph.now (id_value id.now)) }
+fn may_be_shard(graph: &Graph, id: &Id) -> bool
+    ensures { result ≡ may_be_shard (vertex_at graph.now (id_value id.now)) }
 {
     matches!(
         vertex_at(graph, id),
@@ -247,12 +247,12 @@ fn is_place(graph: &Graph, id: &Id) -> bool
 }
 
 /// The shard isn't an earlier document or project.
-fn has_no_place(graph: &Graph, element: &Element) -> bool
-    ensures { result ≡ has_no_place graph.now (element_value element.now) }
+fn has_no_shard(graph: &Graph, element: &Element) -> bool
+    ensures { result ≡ has_no_shard graph.now (element_value element.now) }
 {
     match element {
         Element::Edge(_, Edge::Item(item)) => {
-            !is_place(graph, &item.shard) && has_effect(graph, &item.source)
+            !may_be_shard(graph, &item.shard) && has_effect(graph, &item.source)
         }
         _ => false,
     }
@@ -337,7 +337,7 @@ pub(crate) fn order_code(graph: &Graph, element: &Element) -> Result<Option<Code
         Some(Code::L13)
     } else if closes_cycle(graph, element) {
         Some(Code::L14)
-    } else if has_no_place(graph, element) {
+    } else if has_no_shard(graph, element) {
         Some(Code::L16)
     } else if is_bad_event(graph, element) {
         Some(Code::L17)
