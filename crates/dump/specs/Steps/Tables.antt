@@ -1,5 +1,5 @@
 -- What is kept beside the elements of a dump, so that they are looked up without a search.
-use Rattle.std.specs.Prelude.{◌≡◌, ℕ, Bool, true, false, List, [], ◌++◌, Vec, IsPermutation, length, Option, Some, None, is_some, option_and_then, option_map, find}
+use Rattle.std.specs.Prelude.{◌≡◌, ℕ, Bool, true, false, List, [], ◌++◌, Vec, IsPermutation, length, Option, Some, None, is_some}
 use Rattle.std.specs.List.{list_any}
 use Rattle.std.specs.HashMap.{get_by_text}
 use Rattle.positions.specs.Span.{SpanValue}
@@ -7,7 +7,7 @@ use Rattle.lsif.specs.Element.{IdValue, same_id, ElementValue, element_id}
 use Rattle.std.specs.declared.alloc.Global.{Global}
 use Rattle.dump.specs.declared.tables.Tables.{Tables}
 use Rattle.dump.specs.Conditions.{is_document_of}
-use Rattle.dump.specs.Contained.{contains_of, contains_range, spans_in, has_conflict}
+use Rattle.dump.specs.Contained.{spans_in, has_conflict}
 use Rattle.dump.specs.Steps.Ids.{value_at, index_at, IsTable}
 use Rattle.dump.specs.Steps.Links.{is_link, link_at}
 use Rattle.dump.specs.Steps.Spans.{IsOrdered}
