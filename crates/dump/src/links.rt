@@ -38,7 +38,7 @@ impl Link {
             Link::Contained => 0,
             Link::Begun => 1,
             Link::Ended => 2,
-            Link::Single(label) => 3 + label.index(),
+            Link::Single(label) => 3 + label as usize,
         }
     }
 }
