@@ -29,12 +29,12 @@ use std::slice::from_ref;
 /// nothing else.
 const SLOTS: u32 = 131072;
 
-/// What is kept beside the elements of a dump, so that they are looked up without a search: they are told by their indices
+/// What is kept beside the elements of a dump, so that they are looked up without a search: the tables have their indices
 /// in the list, counted from 0.
 #[derive(Drop)]
 pub(crate) struct Tables {
     alloc: Global,
-    /// The element of an id.
+    /// The index of the element of an id.
     indices: IndexMap,
     /// Of each element the elements that name it.
     rows: Vec<Row>,
