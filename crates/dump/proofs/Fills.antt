@@ -9,7 +9,7 @@ use Rattle.lsif.specs.Element.{IdValue, same_id, VertexValue, meta_data, project
 use Rattle.dump.specs.Graph.{vertex_at, is_document, span_of, is_among, ends}
 use Rattle.dump.specs.Conditions.{are_vertices, are_documents, may_contain}
 use Rattle.dump.specs.Contained.{contains_range, spans_of, spans_named, spans_in, conflicts, any_conflicts, has_conflict}
-use Rattle.dump.specs.Steps.Index.{is_id, kept, IsFilled}
+use Rattle.dump.specs.Steps.Tables.{is_id, kept, IsFilled}
 use Rattle.dump.specs.Contained.{contains_source}
 use Rattle.dump.specs.Steps.Links.{ranges_in}
 use Rattle.dump.proofs.Bools.{and_both, not_false}

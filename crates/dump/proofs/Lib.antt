@@ -6,8 +6,8 @@ pub mod Conflicts
 pub mod EachId
 pub mod Ends
 pub mod Fills
+pub mod FirstIndices
 pub mod Graphs
-pub mod Indexes
 pub mod Judgings
 pub mod Known
 pub mod Leads
@@ -23,7 +23,7 @@ pub mod Reaches
 pub mod Repeats
 pub mod Rows
 pub mod SameIds
-pub mod Slots
 pub mod Shortcuts
-pub mod Tables
+pub mod Slots
+pub mod TablesAfter
 pub mod Uniques

@@ -13,7 +13,7 @@ use Rattle.dump.specs.Places.{position_cmp}
 use Rattle.dump.specs.Steps.Spans.{span_order, IsOrdered}
 use Rattle.dump.proofs.Bools.{and_both, not_false, absurd_true}
 use Rattle.dump.proofs.OneAnswers.{position_total}
-use Rattle.dump.proofs.Nests.{equal_places}
+use Rattle.dump.proofs.Nests.{equal_positions}
 
 -- ---- positions
 
@@ -67,7 +67,7 @@ not_after s t e =
     record {
       start = first;
       within = λ f.
-          let same : position_cmp t.start s.start ≡ Equal = subst (λ p. position_cmp t.start p ≡ Equal) (equal_places t.start s.start first f) (same_position t.start) in
+          let same : position_cmp t.start s.start ≡ Equal = subst (λ p. position_cmp t.start p ≡ Equal) (equal_positions t.start s.start first f) (same_position t.start) in
           sym (less_before s.«end» t.«end») ∙ not_less_then (position_cmp t.start s.start) (position_cmp s.«end» t.«end») same e;
     }
 

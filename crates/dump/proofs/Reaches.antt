@@ -17,7 +17,7 @@ use Rattle.dump.specs.Steps.Spans.{span_order, IsOrdered, HasLinks, goes_by, con
 use Rattle.dump.proofs.Conflicts.{has_conflict-append, has_conflict-permutation}
 use Rattle.dump.proofs.Merges.{not_both}
 use Rattle.dump.proofs.Bools.{and_both, or_none, not_false, absurd_true, or_left, or_right}
-use Rattle.dump.proofs.Nests.{equal_places, either_conflict}
+use Rattle.dump.proofs.Nests.{equal_positions, either_conflict}
 use Rattle.dump.proofs.Passes.{not_true, at_most, less_at_most, one_way, NotAfter, not_after, each_not_after, same_position, apart_no_nests, plain_conflict, overlap_apart, first_end, reaches, true_is, span_total}
 
 -- ---- links
@@ -142,8 +142,8 @@ unfolding Equal
 not_less_equal s t h =
     let a = and_both (not (is_before s.start t.start)) (not (is_before t.«end» s.«end»)) h.0 in
     let b = and_both (not (is_before t.start s.start)) (not (is_before s.«end» t.«end»)) h.1 in
-    let starts : s.start ≡ t.start = equal_places s.start t.start (not_true (is_before s.start t.start) a.0) (not_true (is_before t.start s.start) b.0) in
-    let ends : s.«end» ≡ t.«end» = equal_places s.«end» t.«end» (not_true (is_before s.«end» t.«end») b.1) (not_true (is_before t.«end» s.«end») a.1) in
+    let starts : s.start ≡ t.start = equal_positions s.start t.start (not_true (is_before s.start t.start) a.0) (not_true (is_before t.start s.start) b.0) in
+    let ends : s.«end» ≡ t.«end» = equal_positions s.«end» t.«end» (not_true (is_before s.«end» t.«end») b.1) (not_true (is_before t.«end» s.«end») a.1) in
     rw (starts, ends, same_position t.start, same_position t.«end») refl
 
 -- ---- two of a list without conflict
@@ -288,7 +288,7 @@ pub joined_more : (lists : List (List SpanValue)) (k n : ℕ) (xs targets had no
     → IsPermutation (joined (drop n lists) ++ targets) had → IsPermutation (xs ++ had) now → IsPermutation (joined (drop k lists) ++ targets) now
 joined_more lists k n xs targets had now next lt is all more =
     let here : joined (drop k lists) ++ targets ≡ xs ++ (joined (drop n lists) ++ targets) =
-        ap (λ ls. joined ls ++ targets) (drop_next lists k xs lt is ∙ ap (λ m. xs ∷ drop m lists) (sym next)) ∙ append_assoc xs (joined (drop n lists)) targets in
+    ap (λ ls. joined ls ++ targets) (drop_next lists k xs lt is ∙ ap (λ m. xs ∷ drop m lists) (sym next)) ∙ append_assoc xs (joined (drop n lists)) targets in
     subst (λ l. IsPermutation l now) (sym here) (IsPermutation-trans _ _ _ (IsPermutation-append_right xs (joined (drop n lists) ++ targets) had all) more)
 
 -- ---- loops that look for a conflict
@@ -391,15 +391,15 @@ module _ (xs : List SpanValue) (up : IsOrdered xs) (k : ℕ) (t : SpanValue) (lt
     with_last : (i : ℕ) → i < k → (b : Bool) → conflicts t (get_or xs i t) ≡ b → conflicts t (get_or xs i t) ≡ false
     with_last i less false e = e
     with_last i less true e = elim (hit_before xs t up k p (omega arith) pairs goes_before p_le p_over p_reaches i less e) [
-        | inl at_k ↦ absurd (absurd_true (sym at_k ∙ no_k))
-        | inr at_p ↦ absurd (absurd_true (sym at_p ∙ no_p))
-      ]
+      | inl at_k ↦ absurd (absurd_true (sym at_k ∙ no_k))
+      | inr at_p ↦ absurd (absurd_true (sym at_p ∙ no_p))
+    ]
 
     pub pairs_more : (i j : ℕ) (d : SpanValue) → i < j → j < k + 1 → conflicts (get_or xs i d) (get_or xs j d) ≡ false
     pairs_more i j d less below = elim (cases_eq j k) [
-        | inl same ↦
-            let here : get_or xs j d ≡ t = ap (λ (m : ℕ). get_or xs m d) same ∙ get_or_default xs k d t lt ∙ sym is in
-            let there : get_or xs i d ≡ get_or xs i t = get_or_default xs i d t (omega arith) in
-            ap₂ conflicts there here ∙ either_conflict (get_or xs i t) t ∙ with_last i (omega arith) (conflicts t (get_or xs i t)) refl
-        | inr other ↦ pairs i j d less (omega arith)
-      ]
+      | inl same ↦
+          let here : get_or xs j d ≡ t = ap (λ (m : ℕ). get_or xs m d) same ∙ get_or_default xs k d t lt ∙ sym is in
+          let there : get_or xs i d ≡ get_or xs i t = get_or_default xs i d t (omega arith) in
+          ap₂ conflicts there here ∙ either_conflict (get_or xs i t) t ∙ with_last i (omega arith) (conflicts t (get_or xs i t)) refl
+      | inr other ↦ pairs i j d less (omega arith)
+    ]

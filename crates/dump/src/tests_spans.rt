@@ -1,5 +1,7 @@
-//! Spans in the order that they're kept in, and the conflicts of spans with others and with each other.
-use crate::spans::{conflict_after, conflict_in_order, merged};
+//! Lists of spans, and the conflicts of spans with others and with each other.
+ghost use Rattle.std.specs.Prelude.{◌<◌};
+
+use crate::sorted_spans::{SortedSpans, add, conflict_after};
 use positions::{Position, Span};
 use std::test::Fail;
 
@@ -20,27 +22,40 @@ fn spans(rt: &HostRuntime, all: &[Ends]) -> Result<Vec<Span>, Fail> {
     Ok(found)
 }
 
-/// Whether the targets conflict with the others or with each other. The others are put in order and don't conflict.
-fn is_conflict(rt: &HostRuntime, others: &[Ends], targets: &[Ends]) -> Result<bool, Fail> {
-    let others = merged(rt.alloc(), &[], spans(rt, others)?)?;
-    if conflict_in_order(rt.alloc(), &others)? {
-        Err("the others conflict")?
+/// The lists that the spans make where they come so many at once.
+fn lists(rt: &HostRuntime, all: &[Ends], at_once: usize) -> Result<Vec<SortedSpans>, Fail>
+    requires { 0 < at_once }
+{
+    let mut lists = Vec::new(rt.alloc());
+    for part in all.chunks(at_once) {
+        add(rt.alloc(), &mut lists, spans(rt, part)?)?;
     }
-    Ok(conflict_after(rt.alloc(), &others, spans(rt, targets)?)?)
+    Ok(lists)
+}
+
+/// Whether the targets conflict with the others or with each other. The others don't conflict.
+fn is_conflict(rt: &HostRuntime, others: &[Ends], targets: &[Ends]) -> Result<bool, Fail> {
+    let together = lists(rt, others, 100)?;
+    let found = conflict_after(rt.alloc(), &together, spans(rt, targets)?)?;
+    let apart = lists(rt, others, 1)?;
+    if conflict_after(rt.alloc(), &apart, spans(rt, targets)?)? != found {
+        Err("another answer where the others come one by one")?
+    }
+    Ok(found)
 }
 
 #[test]
-fn both_lists_in_one_order(rt: HostRuntime) -> Result<(), Fail> {
-    let others = [(0, 5, 0, 6), (0, 0, 0, 10), (0, 5, 0, 7)];
-    let others = merged(rt.alloc(), &[], spans(&rt, &others)?)?;
-    let targets = [
+fn lists_of_spans(rt: HostRuntime) -> Result<(), Fail> {
+    let all = [
+        (0, 5, 0, 6),
+        (0, 0, 0, 10),
+        (0, 5, 0, 7),
         (1, 0, 1, 3),
         (0, 5, 1, 0),
         (0, 5, 0, 5),
         (0, 0, 0, 20),
         (0, 7, 0, 7),
     ];
-    let all = merged(rt.alloc(), &others, spans(&rt, &targets)?)?;
     let expected = [
         (0, 0, 0, 20),
         (0, 0, 0, 10),
@@ -51,7 +66,16 @@ fn both_lists_in_one_order(rt: HostRuntime) -> Result<(), Fail> {
         (0, 7, 0, 7),
         (1, 0, 1, 3),
     ];
-    assert_eq!(rt; all, spans(&rt, &expected)?);
+    let expected = spans(&rt, &expected)?;
+    for at_once in [4, 8] {
+        let lists = lists(&rt, &all, at_once)?;
+        assert_eq!(rt; lists.len(), 1, "{at_once} at once");
+        assert_eq!(rt; lists[0].spans(), expected.as_slice(), "{at_once} at once");
+    }
+    let lists = lists(&rt, &all[..7], 6)?;
+    assert_eq!(rt; lists.len(), 2);
+    assert_eq!(rt; lists[0].spans().len(), 6);
+    assert_eq!(rt; lists[1].spans(), &expected[..1]);
     Ok(())
 }
 
@@ -112,6 +136,11 @@ fn conflicts(rt: HostRuntime) -> Result<(), Fail> {
         (&NESTED, &[(5, 0, 5, 4), (5, 2, 5, 6)], true),
         (&NESTED, &[(5, 0, 5, 0), (5, 0, 5, 0)], true),
         (&NESTED, &[(8, 0, 8, 4), (5, 0, 5, 4), (8, 0, 8, 4)], true),
+        (&NESTED, &[(3, 0, 3, 0)], false),
+        (&NESTED, &[(8, 9, 9, 1)], true),
+        (&NESTED, &[(0, 0, 9, 0)], true),
+        (&NESTED, &[(0, 0, 8, 0)], false),
+        (&NESTED, &[(0, 0, 9, 1)], false),
     ] {
         assert_eq!(rt; is_conflict(&rt, others, targets)?, expected, "{targets:?}");
     }

@@ -16,7 +16,7 @@ returns-else-conflicts_with_left c =
     let left = rw (same, c.start.ensures) at c.reaching-left.ensures in
     let right = rw (same, c.end-2.ensures) at c.reaching-right.ensures in
     let all = compared xs t c.spans-spans.ensures.ordered k p up_to.bound (λ i j d less lt. pair_clear xs c.requires i j d less (omega (arith, lt, up_to.bound))) up_to.before left.bound left.over left.reaches
-        c.count_started-started.result q up_to.after started.bound started.before started.after right.bound right.over right.reaches in
+    c.count_started-started.result q up_to.after started.bound started.before started.after right.bound right.over right.reaches in
     let no_last : conflicts_before xs k t ≡ false = sym (rw same at c.conflicts_before-conflicts_with_last.ensures) ∙ c.if-conflicts_with_left.false.0 in
     let no_left : conflicts_before xs p t ≡ false = sym (rw same at c.conflicts_before-conflicts_with_left.ensures) ∙ c.if-conflicts_with_left.false.1 in
     (rw same at c.conflicts_before-conflicts_with_right.ensures) ∙ sym (ap₂ (λ a b. (a || b) || conflicts_before xs q t) no_last no_left) ∙ all
