@@ -1,5 +1,5 @@
 -- The spans that are kept of each document, and what a `contains` edge more makes of them.
-use Rattle.std.proofs.Common.{◌≡◌, ◌∙◌, ◌&&◌, ◌||◌, ◌++◌, ◌∷◌, [], Bool, true, false, List, refl, sym, ap, ap₂, subst, append_assoc, append-nil, arith, Option, Some, None, is_some, if◌then◌else◌}
+use Rattle.std.proofs.Common.{◌≡◌, ◌∙◌, ◌&&◌, ◌||◌, ◌++◌, ◌∷◌, [], Bool, true, false, List, refl, sym, ap, ap₂, subst, append_assoc, append-nil, Option, Some, None, is_some, if◌then◌else◌}
 use Rattle.std.specs.Prelude.{Contains, Vec, IsPermutation}
 use Rattle.std.specs.List.{list_any, flat_map, cons_option}
 use Rattle.std.proofs.lemmas.List.Sorted.{IsPermutation-refl, IsPermutation-trans, IsPermutation-append_left, list_any-IsPermutation}

@@ -1,5 +1,5 @@
 -- The order of spans, and when two of them conflict.
-use Rattle.std.proofs.Common.{◌≡◌, ◌∙◌, ◌&&◌, ◌||◌, ℕ, ◌≤◌, ◌<◌, Bool, true, false, not, cond, nat_lt, ◌==◌, if◌then◌else◌, List, length, get_or, refl, sym, ap, subst, arith}
+use Rattle.std.proofs.Common.{◌≡◌, ◌∙◌, ◌&&◌, ◌||◌, ℕ, ◌≤◌, ◌<◌, Bool, true, false, not, cond, nat_lt, ◌==◌, List, length, get_or, refl, sym, subst, arith}
 use Rattle.std.specs.declared.cmp.Ordering.{Ordering}
 use Rattle.std.specs.declared.cmp.Ordering.TheVariants.{Less, Equal, Greater}
 use Rattle.std.specs.Ordering.{nat_cmp, ordering_then, is_lt}
@@ -11,7 +11,7 @@ use Rattle.positions.specs.Span.{SpanValue, nests, overlaps}
 use Rattle.dump.specs.Contained.{conflicts}
 use Rattle.dump.specs.Places.{position_cmp}
 use Rattle.dump.specs.Steps.Spans.{span_order, IsOrdered}
-use Rattle.dump.proofs.Bools.{and_both, not_false, absurd_true}
+use Rattle.dump.proofs.Bools.{not_false}
 use Rattle.dump.proofs.OneAnswers.{position_total}
 use Rattle.dump.proofs.Nests.{equal_positions}
 

@@ -1,8 +1,11 @@
 //! Lists of spans, and the conflicts of spans with others and with each other.
 ghost use Rattle.std.specs.Prelude.{◌<◌};
 
-use crate::sorted_spans::{SortedSpans, add, conflict_after};
+use crate::sorted_spans::add;
+use crate::{Checker, FeedFault};
+use lsif::{Code, Edge, Element, Id, Profile, Vertex};
 use positions::{Position, Span};
+use std::alloc::Global;
 use std::test::Fail;
 
 /// From a line and a character up to a line and a character.
@@ -22,26 +25,19 @@ fn spans(rt: &HostRuntime, all: &[Ends]) -> Result<Vec<Span>, Fail> {
     Ok(found)
 }
 
-/// The lists that the spans make where they come so many at once.
-fn lists(rt: &HostRuntime, all: &[Ends], at_once: usize) -> Result<Vec<SortedSpans>, Fail>
+/// How many spans each list has, where they come so many at once.
+fn lens(rt: &HostRuntime, all: &[Span], at_once: usize) -> Result<Vec<usize>, Fail>
     requires { 0 < at_once }
 {
     let mut lists = Vec::new(rt.alloc());
     for part in all.chunks(at_once) {
-        add(rt.alloc(), &mut lists, spans(rt, part)?)?;
+        add(rt.alloc(), &mut lists, Vec::from_slice(rt.alloc(), part)?)?;
     }
-    Ok(lists)
-}
-
-/// Whether the targets conflict with the others or with each other. The others don't conflict.
-fn is_conflict(rt: &HostRuntime, others: &[Ends], targets: &[Ends]) -> Result<bool, Fail> {
-    let together = lists(rt, others, 100)?;
-    let found = conflict_after(rt.alloc(), &together, spans(rt, targets)?)?;
-    let apart = lists(rt, others, 1)?;
-    if conflict_after(rt.alloc(), &apart, spans(rt, targets)?)? != found {
-        Err("another answer where the others come one by one")?
+    let mut lens = Vec::new(rt.alloc());
+    for list in &lists {
+        lens.push(list.spans().len())?;
     }
-    Ok(found)
+    Ok(lens)
 }
 
 #[test]
@@ -66,17 +62,102 @@ fn lists_of_spans(rt: HostRuntime) -> Result<(), Fail> {
         (0, 7, 0, 7),
         (1, 0, 1, 3),
     ];
+    let all = spans(&rt, &all)?;
     let expected = spans(&rt, &expected)?;
-    for at_once in [4, 8] {
-        let lists = lists(&rt, &all, at_once)?;
-        assert_eq!(rt; lists.len(), 1, "{at_once} at once");
-        assert_eq!(rt; lists[0].spans(), expected.as_slice(), "{at_once} at once");
+    let mut lists = Vec::new(rt.alloc());
+    for part in all.chunks(4) {
+        add(rt.alloc(), &mut lists, Vec::from_slice(rt.alloc(), part)?)?;
     }
-    let lists = lists(&rt, &all[..7], 6)?;
-    assert_eq!(rt; lists.len(), 2);
-    assert_eq!(rt; lists[0].spans().len(), 6);
-    assert_eq!(rt; lists[1].spans(), &expected[..1]);
+    for list in &lists {
+        assert_eq!(rt; list.spans(), expected.as_slice());
+    }
+    let table = [
+        (1, [6, 2].as_slice()),
+        (2, &[6, 2]),
+        (3, &[6, 2]),
+        (4, &[8]),
+        (5, &[8]),
+        (7, &[7, 1]),
+        (8, &[8]),
+    ];
+    for (at_once, expected) in table {
+        let lens = lens(&rt, &all, at_once)?;
+        assert_eq!(rt; lens.as_slice(), expected, "{at_once} at once");
+    }
     Ok(())
+}
+
+/// A checker of a dump with one document, whose id is 2, and the number of the last range.
+#[derive(Drop)]
+struct Made {
+    checker: Checker,
+    last: u64,
+}
+
+impl Made {
+    fn new(alloc: Global) -> Result<Made, Fail> {
+        let mut checker = Checker::new(alloc, Profile::One);
+        checker.feed(Ok(Element::Vertex(Id::Number(1), Vertex::MetaData(true))))?;
+        let uri = String::from_str(alloc, "file:///a.ts")?;
+        checker.feed(Ok(Element::Vertex(Id::Number(2), Vertex::Document(uri))))?;
+        Ok(Made { checker, last: 2 })
+    }
+
+    fn next_id(&mut self) -> u64 {
+        self.last = self.last.wrapping_add(1);
+        self.last
+    }
+
+    /// Adds ranges, and an edge by which the document contains them. The code of the edge.
+    fn contain(&mut self, alloc: Global, all: &[Ends]) -> Result<Option<Code>, Fail> {
+        let mut ranges = Vec::new(alloc);
+        for ends in all {
+            let id = self.next_id();
+            let range = Vertex::Range(span(*ends)?);
+            self.checker
+                .feed(Ok(Element::Vertex(Id::Number(id), range)))?;
+            ranges.push(Id::Number(id))?;
+        }
+        let id = Id::Number(self.next_id());
+        let edge = Element::Edge(id, Edge::Contains(Id::Number(2), ranges));
+        match self.checker.feed(Ok(edge)) {
+            Ok(()) => Ok(None),
+            Err(FeedFault::Line(fault)) => Ok(Some(fault.code)),
+            Err(FeedFault::Memory) => Err("memory was refused")?,
+        }
+    }
+}
+
+/// Whether the targets of a `contains` edge conflict with the others, which so many edges before it name at once, or
+/// with each other. The others don't conflict.
+fn conflict_where(
+    rt: &HostRuntime,
+    others: &[Ends],
+    at_once: usize,
+    targets: &[Ends],
+) -> Result<bool, Fail>
+    requires { 0 < at_once }
+{
+    let mut made = Made::new(rt.alloc())?;
+    for part in others.chunks(at_once) {
+        if made.contain(rt.alloc(), part)?.is_some() {
+            Err("the others conflict")?
+        }
+    }
+    match made.contain(rt.alloc(), targets)? {
+        None => Ok(false),
+        Some(Code::L12) => Ok(true),
+        Some(_) => Err("another fault")?,
+    }
+}
+
+/// As `conflict_where`, where the others come in one edge, and where each comes in an edge of its own.
+fn is_conflict(rt: &HostRuntime, others: &[Ends], targets: &[Ends]) -> Result<bool, Fail> {
+    let found = conflict_where(rt, others, 100, targets)?;
+    if conflict_where(rt, others, 1, targets)? != found {
+        Err("another answer where the others come one by one")?
+    }
+    Ok(found)
 }
 
 const NESTED: [Ends; 5] = [

@@ -1,10 +1,10 @@
 -- Spans in order, and which of them a later one leaves behind.
-use Rattle.std.specs.Prelude.{◌≡◌, ◌+◌, ◌-◌, ◌<◌, ◌≤◌, ◌&&◌, ℕ, nat_lt, Bool, true, false, not, List, length, get_or, Option, Some, None, IsSorted}
+use Rattle.std.specs.Prelude.{◌≡◌, ◌-◌, ◌<◌, ◌≤◌, ◌&&◌, ℕ, nat_lt, Bool, true, false, not, List, length, get_or, Option, Some, None, IsSorted}
 use Rattle.std.specs.List.{flat_map, slice_index_or}
 use Rattle.std.specs.declared.cmp.Ordering.{Ordering}
 use Rattle.std.specs.Ordering.{ordering_then, is_lt}
 use Rattle.positions.specs.Position.{is_before}
-use Rattle.positions.specs.Span.{SpanValue, nests}
+use Rattle.positions.specs.Span.{SpanValue}
 use Rattle.dump.specs.Contained.{conflicts}
 use Rattle.dump.specs.Places.{position_cmp}
 

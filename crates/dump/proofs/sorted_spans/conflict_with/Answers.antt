@@ -1,4 +1,4 @@
-use Rattle.std.proofs.Common.{◌∙◌, sym, arith}
+use Rattle.std.proofs.Common.{sym, arith}
 use Rattle.dump.proofs.Reaches.{each_clear, list_hit, list_miss, list_end}
 use Rattle.dump.proofs.sorted_spans.conflict_with.Goals as goal
 

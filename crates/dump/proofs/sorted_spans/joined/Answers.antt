@@ -1,4 +1,4 @@
-use Rattle.std.proofs.Common.{◌∙◌, ◌-◌, arith}
+use Rattle.std.proofs.Common.{◌-◌, arith}
 use Rattle.dump.proofs.Reaches.{joined_more}
 use Rattle.dump.proofs.sorted_spans.joined.Goals as goal
 

@@ -1,4 +1,4 @@
-use Rattle.std.proofs.Common.{◌++◌, ◌≤◌, length, take, drop, IsPermutation}
+use Rattle.std.proofs.Common.{◌++◌, ◌≤◌, length, drop, IsPermutation}
 use Rattle.dump.specs.Steps.Spans.{IsOrdered, joined}
 use Rattle.dump.proofs.sorted_spans.joined.Given as goal
 

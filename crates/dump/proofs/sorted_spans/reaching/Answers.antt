@@ -1,4 +1,4 @@
-use Rattle.std.proofs.Common.{◌-◌, ◌∙◌, sym, get_or, arith}
+use Rattle.std.proofs.Common.{◌-◌, ◌∙◌, sym, arith}
 use Rattle.dump.proofs.Reaches.{over_more}
 use Rattle.dump.proofs.sorted_spans.reaching.Goals as goal
 

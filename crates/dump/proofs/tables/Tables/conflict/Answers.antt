@@ -1,4 +1,4 @@
-use Rattle.std.proofs.Common.{◌≡◌, ◌∙◌, ◌||◌, Bool, IfOk, ap, sym, subst, map}
+use Rattle.std.proofs.Common.{◌≡◌, ◌∙◌, ◌||◌, Bool, IfOk, ap, subst, map}
 use Rattle.lsif.specs.Element.{id_value, id_values, element_value}
 use Rattle.dump.specs.Contained.{spans_of, spans_in, any_conflicts, has_conflict}
 use Rattle.dump.specs.Steps.Ids.{value_at}
