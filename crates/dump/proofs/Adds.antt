@@ -7,23 +7,23 @@ use Rattle.std.proofs.Math.Seq.{get_or-append_seam}
 use Rattle.std.proofs.lemmas.Option.{slice_get_within}
 use Rattle.lsif.specs.Element.{IdValue, same_id, VertexValue, meta_data, project, document, range, result_set, definition_result, reference_result, hover_result, moniker, package_information, event, other_vertex, begin_event, end_event, other_event, contains, next, definition, references, hover, moniker_edge, package_edge, attach, item, other_edge, ElementValue, vertex, edge, element_id}
 use Rattle.dump.specs.declared.links.Link.{Link}
-use Rattle.dump.specs.declared.place_map.PlaceMap.{PlaceMap}
+use Rattle.dump.specs.declared.index_map.IndexMap.{IndexMap}
 use Rattle.dump.specs.Conditions.{are_vertices}
 use Rattle.dump.specs.Ended.{has_begun, has_ended}
 use Rattle.dump.specs.Graph.{element_at, vertex_of, vertex_at, is_document, ends}
-use Rattle.dump.specs.Steps.Ids.{place_at, IsTable, entered, HasRows}
-use Rattle.dump.specs.Steps.Index.{has_id}
+use Rattle.dump.specs.Steps.Ids.{index_at, IsTable, entered, HasRows}
+use Rattle.dump.specs.Steps.Tables.{has_id}
 use Rattle.dump.specs.Steps.Links.{link_index, cell, link_at, is_link, named_by, is_named}
 use Rattle.dump.proofs.Bools.{and_both, not_false, or_none}
 use Rattle.dump.proofs.Ends.{HasNoCode}
-use Rattle.dump.proofs.Indexes.{position_same, table_enters, named_test, same_link_after}
+use Rattle.dump.proofs.TablesAfter.{position_same, table_enters, named_test, same_link_after}
 use Rattle.dump.proofs.Known.{AreEndsKnown}
 use Rattle.dump.proofs.Cells.{nothing}
 use Rattle.dump.proofs.SameIds.{same_id_eq}
-use Rattle.dump.proofs.Tables.{position-item, position-any}
+use Rattle.dump.proofs.FirstIndices.{position-item, position-any}
 use Rattle.dump.proofs.Uniques.{found_member}
 
--- ---- the places of ids
+-- ---- the indices of ids
 
 pub find_any : {X : Type 0} (p : X → Bool) (xs : List X) → is_some (find p xs) ≡ list_any p xs
 find_any p [] = refl
@@ -33,8 +33,8 @@ find_any p (x ∷ xs) = by (find_any p xs) (p x)
     by rest true = refl
     by rest false = rest
 
-pub found_place : (d : List ElementValue) (i : IdValue) (k : ℕ) → position (has_id i) d ≡ Some k → (y : ElementValue) × (slice_get d k ≡ Some y) × (element_id y ≡ i)
-found_place d i k is = by (find (has_id i) d) refl (sym (ap (option_and_then (slice_get d)) is) ∙ position-item (has_id i) d)
+pub found_index : (d : List ElementValue) (i : IdValue) (k : ℕ) → position (has_id i) d ≡ Some k → (y : ElementValue) × (slice_get d k ≡ Some y) × (element_id y ≡ i)
+found_index d i k is = by (find (has_id i) d) refl (sym (ap (option_and_then (slice_get d)) is) ∙ position-item (has_id i) d)
   where
     there : is_some (find (has_id i) d) ≡ true
     there = find_any (has_id i) d ∙ sym (position-any (has_id i) d) ∙ ap is_some is
@@ -43,38 +43,38 @@ found_place d i k is = by (find (has_id i) d) refl (sym (ap (option_and_then (sl
     by None e at = let h : false ≡ true = sym (ap is_some e) ∙ there in cc
     by (Some y) e at = (y, at, same_id_eq (element_id y) i (found_member (has_id i) d y e).1)
 
--- each id's place is that of its element
-pub has_rows : (table : PlaceMap) (d : List ElementValue) (n : ℕ) → length d ≡ n → IsTable (place_at table) has_id d → HasRows table n
+-- each id's index is that of its element
+pub has_rows : (table : IndexMap) (d : List ElementValue) (n : ℕ) → length d ≡ n → IsTable (index_at table) has_id d → HasRows table n
 has_rows table d n long is = record {
-  below = λ i k e. let f = found_place d i k (sym (is i) ∙ e) in omega (arith, slice_get_within d k f.0 f.1, long);
+  below = λ i k e. let f = found_index d i k (sym (is i) ∙ e) in omega (arith, slice_get_within d k f.0 f.1, long);
   apart = λ i j k e g.
-      let f = found_place d i k (sym (is i) ∙ e) in
-      let h = found_place d j k (sym (is j) ∙ g) in
+      let f = found_index d i k (sym (is i) ∙ e) in
+      let h = found_index d j k (sym (is j) ∙ g) in
       let same : ◌≡◌ {A = Option ElementValue} (Some f.0) (Some h.0) = sym f.1 ∙ h.1 in
       let one : f.0 ≡ h.0 = cc in
       sym f.2 ∙ ap element_id one ∙ h.2;
 }
 
-pub fresh_place : (table : PlaceMap) (d : List ElementValue) (x : ElementValue) → HasNoCode d x → IsTable (place_at table) has_id d → place_at table (element_id x) ≡ None
+pub fresh_index : (table : IndexMap) (d : List ElementValue) (x : ElementValue) → HasNoCode d x → IsTable (index_at table) has_id d → index_at table (element_id x) ≡ None
 unfolding element_at
-fresh_place table d x free is =
-    nothing (place_at table (element_id x)) (ap is_some (is (element_id x)) ∙ position-any (has_id (element_id x)) d ∙ sym (find_any (has_id (element_id x)) d) ∙ free.fresh)
+fresh_index table d x free is =
+    nothing (index_at table (element_id x)) (ap is_some (is (element_id x)) ∙ position-any (has_id (element_id x)) d ∙ sym (find_any (has_id (element_id x)) d) ∙ free.fresh)
 
--- a vertex has a place
-pub vertex_place : (d : List ElementValue) (i : IdValue) → is_some (vertex_at d i) ≡ true → is_some (position (has_id i) d) ≡ true
+-- a vertex has an index
+pub vertex_index : (d : List ElementValue) (i : IdValue) → is_some (vertex_at d i) ≡ true → is_some (position (has_id i) d) ≡ true
 unfolding element_at
-vertex_place d i e = position-any (has_id i) d ∙ sym (find_any (has_id i) d) ∙ by (element_at d i) refl
+vertex_index d i e = position-any (has_id i) d ∙ sym (find_any (has_id i) d) ∙ by (element_at d i) refl
   where
     by : (o : Option ElementValue) → element_at d i ≡ o → is_some (element_at d i) ≡ true
     by None none = let h : false ≡ true = sym (ap (λ o. is_some (option_and_then vertex_of o)) none) ∙ e in cc
     by (Some y) is = ap is_some is
 
-pub vertices_have_places : (table : PlaceMap) (d : List ElementValue) → IsTable (place_at table) has_id d → (is : List IdValue) → are_vertices d is ≡ true → list_all (λ i. is_some (place_at table i)) is ≡ true
-vertices_have_places table d at [] e = refl
-vertices_have_places table d at (i ∷ is) e =
+pub vertices_have_indices : (table : IndexMap) (d : List ElementValue) → IsTable (index_at table) has_id d → (is : List IdValue) → are_vertices d is ≡ true → list_all (λ i. is_some (index_at table i)) is ≡ true
+vertices_have_indices table d at [] e = refl
+vertices_have_indices table d at (i ∷ is) e =
     let both = and_both (is_some (vertex_at d i)) (are_vertices d is) e in
-    let here : is_some (place_at table i) ≡ true = ap is_some (at i) ∙ vertex_place d i both.0 in
-    ap (λ b. b && list_all (λ j. is_some (place_at table j)) is) here ∙ vertices_have_places table d at is both.1
+    let here : is_some (index_at table i) ≡ true = ap is_some (at i) ∙ vertex_index d i both.0 in
+    ap (λ b. b && list_all (λ j. is_some (index_at table j)) is) here ∙ vertices_have_indices table d at is both.1
 
 -- ---- the vertices that an element names
 
@@ -129,13 +129,13 @@ named_some d o n h e = subst (NamesVertices d) e h
 
 -- ---- rows
 
--- a row more, that has no place, for an id that had none
-module _ (old new : PlaceMap) (rows : List (List (Option ℕ))) (blank : List (Option ℕ)) (x : IdValue) (n : ℕ) (long : length rows ≡ n) (no : (l : Link) → get_or blank (link_index l) None ≡ None)
-    (has : HasRows old n) (entered_there : (i : IdValue) → place_at new i ≡ entered (same_id x i) n (place_at old i)) where
+-- a row more, that has no index, for an id that had none
+module _ (old new : IndexMap) (rows : List (List (Option ℕ))) (blank : List (Option ℕ)) (x : IdValue) (n : ℕ) (long : length rows ≡ n) (no : (l : Link) → get_or blank (link_index l) None ≡ None)
+    (has : HasRows old n) (entered_there : (i : IdValue) → index_at new i ≡ entered (same_id x i) n (index_at old i)) where
   pub row_more : (l : Link) (i : IdValue) → link_at new (rows ++ blank ∷ []) l i ≡ link_at old rows l i
-  row_more l i = ap (option_and_then (λ k. cell (rows ++ blank ∷ []) k l)) (entered_there i) ∙ by (same_id x i) (place_at old i) refl
+  row_more l i = ap (option_and_then (λ k. cell (rows ++ blank ∷ []) k l)) (entered_there i) ∙ by (same_id x i) (index_at old i) refl
     where
-      by : (b : Bool) (o : Option ℕ) → place_at old i ≡ o → option_and_then (λ k. cell (rows ++ blank ∷ []) k l) (entered b n o) ≡ option_and_then (λ k. cell rows k l) o
+      by : (b : Bool) (o : Option ℕ) → index_at old i ≡ o → option_and_then (λ k. cell (rows ++ blank ∷ []) k l) (entered b n o) ≡ option_and_then (λ k. cell rows k l) o
       by true None none =
           ap (λ (k : ℕ). get_or (get_or (rows ++ blank ∷ []) k []) (link_index l) None) (sym long)
           ∙ ap (λ (row : List (Option ℕ)). get_or row (link_index l) None) (get_or-append_seam rows blank [] []) ∙ no l
@@ -150,7 +150,7 @@ links_after d x free known l n long old new enters is =
     (λ i. same_link_after d x x (not_false (are_vertices d (ends x)) free.ends) l i ∙ named_test d x l i)
     (λ i. position_same (is_link (d ++ x ∷ []) l i) (is_link d l i) d (λ y at. same_link_after d x y (known y at) l i)) is
 
--- a row of no place
+-- a row of no index
 abbrev pub blank : List (Option ℕ)
 blank = None ∷ None ∷ None ∷ None ∷ None ∷ None ∷ None ∷ None ∷ []
 

@@ -1,4 +1,4 @@
--- Places that are entered in the rows of ids.
+-- Indices that are entered in the rows of ids.
 use Rattle.std.proofs.Common.{◌≡◌, ◌≢◌, ◌∙◌, ◌&&◌, ◌<◌, ◌+◌, ℕ, zero, suc, Bool, true, false, nat_eq, List, [], ◌∷◌, length, take, get_or, set, Option, Some, None, refl, sym, ap, arith, option_and_then}
 use Rattle.std.specs.Prelude.{is_some}
 use Rattle.std.specs.List.{list_all}
@@ -7,9 +7,9 @@ use Rattle.std.proofs.lemmas.Grind.{get_or-set_at}
 use Rattle.lsif.specs.declared.id.Id.{Id}
 use Rattle.lsif.specs.Element.{IdValue, id_value, id_values, same_id}
 use Rattle.dump.specs.declared.links.Link.{Link}
-use Rattle.dump.specs.declared.place_map.PlaceMap.{PlaceMap}
+use Rattle.dump.specs.declared.index_map.IndexMap.{IndexMap}
 use Rattle.dump.specs.Graph.{is_among}
-use Rattle.dump.specs.Steps.Ids.{place_at, entered, HasRows}
+use Rattle.dump.specs.Steps.Ids.{index_at, entered, HasRows}
 use Rattle.dump.specs.Steps.Links.{link_index, same_link, cell, link_at}
 use Rattle.dump.proofs.Bools.{and_both}
 use Rattle.dump.proofs.Repeats.{entered_more}
@@ -30,51 +30,51 @@ entered_some : {V : Type 0} (here : Bool) (new : V) (o : Option V) → is_some o
 entered_some here new None e = cc
 entered_some here new (Some old) e = refl
 
--- a place is entered in a row that has none there
+-- an index is entered in a row that has none there
 module _ (rows : List (List (Option ℕ))) (r : ℕ) (l : Link) (row : List (Option ℕ)) (here_is : get_or rows r [] ≡ row) (within : r < length rows) where
-  pub cell_enters : (ix place : ℕ) → ix ≡ link_index l → ix < length row → get_or row ix None ≡ None → (n : ℕ) (other : Link)
-      → cell (set rows r (set row ix (Some place))) n other ≡ entered (nat_eq r n && same_link l other) place (cell rows n other)
-  cell_enters ix place is lt none n other = by (nat_eq r n) refl
+  pub cell_enters : (ix index : ℕ) → ix ≡ link_index l → ix < length row → get_or row ix None ≡ None → (n : ℕ) (other : Link)
+      → cell (set rows r (set row ix (Some index))) n other ≡ entered (nat_eq r n && same_link l other) index (cell rows n other)
+  cell_enters ix index is lt none n other = by (nat_eq r n) refl
     where
-      column : (b : Bool) → nat_eq (link_index l) (link_index other) ≡ b → get_or (set row ix (Some place)) (link_index other) None ≡ entered b place (get_or row (link_index other) None)
+      column : (b : Bool) → nat_eq (link_index l) (link_index other) ≡ b → get_or (set row ix (Some index)) (link_index other) None ≡ entered b index (get_or row (link_index other) None)
       column true same =
           let here : link_index other ≡ ix = sym (same_number (link_index l) (link_index other) same) ∙ sym is in
-          get_or-set_at row ix (link_index other) (Some place) None here lt ∙ ap (entered true place) (sym (ap (λ j. get_or row j None) here ∙ none))
+          get_or-set_at row ix (link_index other) (Some index) None here lt ∙ ap (entered true index) (sym (ap (λ j. get_or row j None) here ∙ none))
       column false apart =
-          get_or-set_other row ix (link_index other) (Some place) None (λ e. other_number (link_index l) (link_index other) apart (e ∙ is))
-          ∙ sym (entered_not place (get_or row (link_index other) None))
+          get_or-set_other row ix (link_index other) (Some index) None (λ e. other_number (link_index l) (link_index other) apart (e ∙ is))
+          ∙ sym (entered_not index (get_or row (link_index other) None))
 
-      by : (b : Bool) → nat_eq r n ≡ b → cell (set rows r (set row ix (Some place))) n other ≡ entered (b && same_link l other) place (cell rows n other)
+      by : (b : Bool) → nat_eq r n ≡ b → cell (set rows r (set row ix (Some index))) n other ≡ entered (b && same_link l other) index (cell rows n other)
       by true same =
           let here : n ≡ r = sym (same_number r n same) in
-          ap (λ (cells : List (Option ℕ)). get_or cells (link_index other) None) (get_or-set_at rows r n (set row ix (Some place)) [] here within)
+          ap (λ (cells : List (Option ℕ)). get_or cells (link_index other) None) (get_or-set_at rows r n (set row ix (Some index)) [] here within)
           ∙ column (same_link l other) refl
-          ∙ ap (λ (cells : List (Option ℕ)). entered (same_link l other) place (get_or cells (link_index other) None)) (sym (ap (λ j. get_or rows j []) here ∙ here_is))
+          ∙ ap (λ (cells : List (Option ℕ)). entered (same_link l other) index (get_or cells (link_index other) None)) (sym (ap (λ j. get_or rows j []) here ∙ here_is))
       by false apart =
-          ap (λ (cells : List (Option ℕ)). get_or cells (link_index other) None) (get_or-set_other rows r n (set row ix (Some place)) [] (other_number r n apart))
-          ∙ sym (entered_not place (cell rows n other))
+          ap (λ (cells : List (Option ℕ)). get_or cells (link_index other) None) (get_or-set_other rows r n (set row ix (Some index)) [] (other_number r n apart))
+          ∙ sym (entered_not index (cell rows n other))
 
-  pub cell_stays : (ix place : ℕ) → ix ≡ link_index l → is_some (get_or row ix None) ≡ true → (n : ℕ) (other : Link)
-      → cell rows n other ≡ entered (nat_eq r n && same_link l other) place (cell rows n other)
-  cell_stays ix place is has n other = by (nat_eq r n) (same_link l other) refl refl
+  pub cell_stays : (ix index : ℕ) → ix ≡ link_index l → is_some (get_or row ix None) ≡ true → (n : ℕ) (other : Link)
+      → cell rows n other ≡ entered (nat_eq r n && same_link l other) index (cell rows n other)
+  cell_stays ix index is has n other = by (nat_eq r n) (same_link l other) refl refl
     where
-      by : (b c : Bool) → nat_eq r n ≡ b → same_link l other ≡ c → cell rows n other ≡ entered (b && c) place (cell rows n other)
+      by : (b c : Bool) → nat_eq r n ≡ b → same_link l other ≡ c → cell rows n other ≡ entered (b && c) index (cell rows n other)
       by true true row_same link_same =
           let same : cell rows n other ≡ get_or row ix None =
           ap (λ j. get_or (get_or rows j []) (link_index other) None) (sym (same_number r n row_same))
           ∙ ap (λ (cells : List (Option ℕ)). get_or cells (link_index other) None) here_is
           ∙ ap (λ j. get_or row j None) (sym (same_number (link_index l) (link_index other) link_same) ∙ sym is) in
-          entered_some true place (cell rows n other) (ap is_some same ∙ has)
-      by true false row_same apart = sym (entered_not place (cell rows n other))
-      by false c apart link = sym (entered_not place (cell rows n other))
+          entered_some true index (cell rows n other) (ap is_some same ∙ has)
+      by true false row_same apart = sym (entered_not index (cell rows n other))
+      by false c apart link = sym (entered_not index (cell rows n other))
 
 -- ---- rows of ids
 
-module _ (table : PlaceMap) (bound : ℕ) (has : HasRows table bound) (old new : List (List (Option ℕ))) (l : Link) (place : ℕ) where
-  pub link_enters : (x : IdValue) (r : ℕ) → place_at table x ≡ Some r
-      → ((n : ℕ) (m : Link) → cell new n m ≡ entered (nat_eq r n && same_link l m) place (cell old n m))
-      → (m : Link) (i : IdValue) → link_at table new m i ≡ entered (same_link l m && same_id x i) place (link_at table old m i)
-  link_enters x r at cells m i = by (place_at table i) refl
+module _ (table : IndexMap) (bound : ℕ) (has : HasRows table bound) (old new : List (List (Option ℕ))) (l : Link) (index : ℕ) where
+  pub link_enters : (x : IdValue) (r : ℕ) → index_at table x ≡ Some r
+      → ((n : ℕ) (m : Link) → cell new n m ≡ entered (nat_eq r n && same_link l m) index (cell old n m))
+      → (m : Link) (i : IdValue) → link_at table new m i ≡ entered (same_link l m && same_id x i) index (link_at table old m i)
+  link_enters x r at cells m i = by (index_at table i) refl
     where
       swap : (a b : Bool) → (a && b) ≡ (b && a)
       swap true true = refl
@@ -82,13 +82,13 @@ module _ (table : PlaceMap) (bound : ℕ) (has : HasRows table bound) (old new :
       swap false true = refl
       swap false false = refl
 
-      no_row : (b : Bool) → same_id x i ≡ b → place_at table i ≡ None → ◌≡◌ {A = Option ℕ} None (entered (same_link l m && b) place None)
-      no_row true same none = let k : ◌≡◌ {A = Option ℕ} (Some r) None = sym at ∙ ap (place_at table) (same_id_eq x i same) ∙ none in cc
-      no_row false other none = ap (λ b. entered b place None) (swap false (same_link l m))
+      no_row : (b : Bool) → same_id x i ≡ b → index_at table i ≡ None → ◌≡◌ {A = Option ℕ} None (entered (same_link l m && b) index None)
+      no_row true same none = let k : ◌≡◌ {A = Option ℕ} (Some r) None = sym at ∙ ap (index_at table) (same_id_eq x i same) ∙ none in cc
+      no_row false other none = ap (λ b. entered b index None) (swap false (same_link l m))
 
-      same_row : (n : ℕ) → place_at table i ≡ Some n → (b : Bool) → same_id x i ≡ b → nat_eq r n ≡ b
+      same_row : (n : ℕ) → index_at table i ≡ Some n → (b : Bool) → same_id x i ≡ b → nat_eq r n ≡ b
       same_row n is true same =
-          let k : Some r ≡ Some n = sym at ∙ ap (place_at table) (same_id_eq x i same) ∙ is in
+          let k : Some r ≡ Some n = sym at ∙ ap (index_at table) (same_id_eq x i same) ∙ is in
           let e : r ≡ n = cc in grind (arith, e)
       same_row n is false other = by_row (nat_eq r n) refl
         where
@@ -99,27 +99,27 @@ module _ (table : PlaceMap) (bound : ℕ) (has : HasRows table bound) (old new :
               sym self ∙ other
           by_row false e = refl
 
-      by : (o : Option ℕ) → place_at table i ≡ o → option_and_then (λ n. cell new n m) o ≡ entered (same_link l m && same_id x i) place (option_and_then (λ n. cell old n m) o)
+      by : (o : Option ℕ) → index_at table i ≡ o → option_and_then (λ n. cell new n m) o ≡ entered (same_link l m && same_id x i) index (option_and_then (λ n. cell old n m) o)
       by None none = no_row (same_id x i) refl none
-      by (Some n) is = cells n m ∙ ap (λ b. entered b place (cell old n m)) (ap (λ b. b && same_link l m) (same_row n is (same_id x i) refl) ∙ swap (same_id x i) (same_link l m))
+      by (Some n) is = cells n m ∙ ap (λ b. entered b index (cell old n m)) (ap (λ b. b && same_link l m) (same_row n is (same_id x i) refl) ∙ swap (same_id x i) (same_link l m))
 
 -- the same at the ids up to an index, and at one more
-pub links_more : (xs : List Id) (k : ℕ) (x : Id) (place : ℕ) (b : Bool) (first old new : IdValue → Option ℕ) → k < length xs → x ≡ get_or xs k x
-    → ((i : IdValue) → old i ≡ entered (b && is_among i (id_values (take k xs))) place (first i))
-    → ((i : IdValue) → new i ≡ entered (b && same_id (id_value x) i) place (old i))
-    → (i : IdValue) → new i ≡ entered (b && is_among i (id_values (take (k + 1) xs))) place (first i)
-links_more xs k x place true first old new lt e before is i = entered_more xs k x place first old new lt e before is i
-links_more xs k x place false first old new lt e before is i = is i ∙ entered_not place (old i) ∙ before i
+pub links_more : (xs : List Id) (k : ℕ) (x : Id) (index : ℕ) (b : Bool) (first old new : IdValue → Option ℕ) → k < length xs → x ≡ get_or xs k x
+    → ((i : IdValue) → old i ≡ entered (b && is_among i (id_values (take k xs))) index (first i))
+    → ((i : IdValue) → new i ≡ entered (b && same_id (id_value x) i) index (old i))
+    → (i : IdValue) → new i ≡ entered (b && is_among i (id_values (take (k + 1) xs))) index (first i)
+links_more xs k x index true first old new lt e before is i = entered_more xs k x index first old new lt e before is i
+links_more xs k x index false first old new lt e before is i = is i ∙ entered_not index (old i) ∙ before i
 
--- each of some ids has a place
-pub known_at : (table : PlaceMap) (xs : List Id) (k : ℕ) (x : Id) → k < length xs → x ≡ get_or xs k x → list_all (λ i. is_some (place_at table i)) (id_values xs) ≡ true → is_some (place_at table (id_value x)) ≡ true
+-- each of some ids has an index
+pub known_at : (table : IndexMap) (xs : List Id) (k : ℕ) (x : Id) → k < length xs → x ≡ get_or xs k x → list_all (λ i. is_some (index_at table i)) (id_values xs) ≡ true → is_some (index_at table (id_value x)) ≡ true
 known_at table [] k x lt e h = absurd (omega (arith, lt))
 known_at table (y ∷ ys) k x lt e h = at k (known_at table ys) lt e
   where
-    both : (is_some (place_at table (id_value y)) ≡ true) × (list_all (λ i. is_some (place_at table i)) (id_values ys) ≡ true)
-    both = and_both (is_some (place_at table (id_value y))) (list_all (λ i. is_some (place_at table i)) (id_values ys)) h
+    both : (is_some (index_at table (id_value y)) ≡ true) × (list_all (λ i. is_some (index_at table i)) (id_values ys) ≡ true)
+    both = and_both (is_some (index_at table (id_value y))) (list_all (λ i. is_some (index_at table i)) (id_values ys)) h
 
-    at : (j : ℕ) → ((i : ℕ) (z : Id) → i < length ys → z ≡ get_or ys i z → list_all (λ i. is_some (place_at table i)) (id_values ys) ≡ true → is_some (place_at table (id_value z)) ≡ true)
-        → j < length (y ∷ ys) → x ≡ get_or (y ∷ ys) j x → is_some (place_at table (id_value x)) ≡ true
-    at zero rest less same = ap (λ (z : Id). is_some (place_at table (id_value z))) same ∙ both.0
+    at : (j : ℕ) → ((i : ℕ) (z : Id) → i < length ys → z ≡ get_or ys i z → list_all (λ i. is_some (index_at table i)) (id_values ys) ≡ true → is_some (index_at table (id_value z)) ≡ true)
+        → j < length (y ∷ ys) → x ≡ get_or (y ∷ ys) j x → is_some (index_at table (id_value x)) ≡ true
+    at zero rest less same = ap (λ (z : Id). is_some (index_at table (id_value z))) same ∙ both.0
     at (suc j) rest less same = rest j x (omega (arith, less)) same both.1

@@ -1,5 +1,5 @@
 -- The spans that are kept of each document, and what a `contains` edge more makes of them.
-use Rattle.std.proofs.Common.{◌≡◌, ◌∙◌, ◌&&◌, ◌||◌, ◌++◌, ◌∷◌, [], Bool, true, false, List, refl, sym, ap, ap₂, subst, append_assoc, append-nil, arith, Option, Some, None, is_some, if◌then◌else◌}
+use Rattle.std.proofs.Common.{◌≡◌, ◌∙◌, ◌&&◌, ◌||◌, ◌++◌, ◌∷◌, [], Bool, true, false, List, refl, sym, ap, ap₂, subst, append_assoc, append-nil, Option, Some, None, is_some, if◌then◌else◌}
 use Rattle.std.specs.Prelude.{Contains, Vec, IsPermutation}
 use Rattle.std.specs.List.{list_any, flat_map, cons_option}
 use Rattle.std.proofs.lemmas.List.Sorted.{IsPermutation-refl, IsPermutation-trans, IsPermutation-append_left, list_any-IsPermutation}
@@ -9,7 +9,7 @@ use Rattle.lsif.specs.Element.{IdValue, same_id, VertexValue, meta_data, project
 use Rattle.dump.specs.Graph.{vertex_at, is_document, span_of, is_among, ends}
 use Rattle.dump.specs.Conditions.{are_vertices, are_documents, may_contain}
 use Rattle.dump.specs.Contained.{contains_range, spans_of, spans_named, spans_in, conflicts, any_conflicts, has_conflict}
-use Rattle.dump.specs.Steps.Index.{is_id, kept, IsClear, IsFilled}
+use Rattle.dump.specs.Steps.Tables.{is_id, kept, IsFilled}
 use Rattle.dump.specs.Contained.{contains_source}
 use Rattle.dump.specs.Steps.Links.{ranges_in}
 use Rattle.dump.proofs.Bools.{and_both, not_false}
@@ -41,8 +41,8 @@ ranges_test d (vertex j v) i = refl
 
 -- ---- no document
 
-pub kept_nothing : (o : Option (Vec SpanValue Global)) → o ≡ None → IsPermutation [] (kept o) × IsClear (kept o)
-kept_nothing o e = subst (λ p. IsPermutation [] (kept p) × IsClear (kept p)) (sym e) (IsPermutation-refl [], (λ k e low high. absurd (omega (arith, high)), refl))
+pub kept_nothing : (o : Option (Vec (List SpanValue) Global)) → o ≡ None → IsPermutation [] (kept o) × (has_conflict (kept o) ≡ false)
+kept_nothing o e = subst (λ p. IsPermutation [] (kept p) × (has_conflict (kept p) ≡ false)) (sym e) (IsPermutation-refl [], refl)
 
 -- ---- what is asked of spans doesn't ask for their order
 
@@ -133,40 +133,40 @@ no_conflict_by : (d : List ElementValue) (from : IdValue) (to : List IdValue) (b
 no_conflict_by d from to true e = e
 no_conflict_by d from to false e = refl
 
-module _ (d : List ElementValue) (i from : IdValue) (to : List IdValue) (free : HasNoCode d (edge i (contains from to))) (known : AreEndsKnown d) (old new : IdValue → Option (Vec SpanValue Global))
-    (had : (v : IdValue) → IsPermutation (spans_in d v) (kept (old v)) × IsClear (kept (old v)))
+module _ (d : List ElementValue) (i from : IdValue) (to : List IdValue) (free : HasNoCode d (edge i (contains from to))) (known : AreEndsKnown d) (old new : IdValue → Option (Vec (List SpanValue) Global))
+    (had : (v : IdValue) → IsPermutation (spans_in d v) (kept (old v)) × (has_conflict (kept (old v)) ≡ false))
     (now : (v : IdValue) → IsFilled (is_id v (Some from)) (spans_of d (ranges_in d (edge i (contains from to)))) (old v) (new v)) where
   filled_at : (v : IdValue) (b : Bool) → same_id from v ≡ b → IsFilled b (spans_of d (ranges_in d (edge i (contains from to)))) (old v) (new v)
-      → IsPermutation (spans_in d v ++ (if b then spans_of d to else [])) (kept (new v)) × IsClear (kept (new v))
+      → IsPermutation (spans_in d v ++ (if b then spans_of d to else [])) (kept (new v)) × (has_conflict (kept (new v)) ≡ false)
   filled_at v true same h =
       let targets = spans_of d (ranges_in d (edge i (contains from to))) in
       let all : spans_of d to ≡ targets = target_spans d (vertex_at d from) to (not_false (may_contain d (vertex_at d from) to) free.joins) in
       let before = had v in
-      let joined : IsPermutation (spans_in d v ++ targets) (kept (new v)) = IsPermutation-trans _ _ _ (IsPermutation-append_left targets (spans_in d v) (kept (old v)) before.0) h.0 in
+      let joined : IsPermutation (spans_in d v ++ targets) (kept (new v)) = IsPermutation-trans _ _ _ (IsPermutation-append_left targets (spans_in d v) (kept (old v)) before.0) h in
       let apart : (any_conflicts targets (spans_in d from) || has_conflict targets) ≡ false = no_conflict_by d from to (is_document (vertex_at d from)) free.conflict in
       let at_v : (any_conflicts targets (spans_in d v) || has_conflict targets) ≡ false = subst (λ w. (any_conflicts targets (spans_in d w) || has_conflict targets) ≡ false) (same_id_eq from v same) apart in
-      let clear : has_conflict (spans_in d v) ≡ false = sym (has_conflict-permutation (spans_in d v) (kept (old v)) before.0) ∙ before.1.1 in
-      (subst (λ ss. IsPermutation (spans_in d v ++ ss) (kept (new v))) (sym all) joined, (h.1, conflict_of_both (spans_in d v) targets (kept (new v)) clear joined ∙ at_v))
+      let clear : has_conflict (spans_in d v) ≡ false = sym (has_conflict-permutation (spans_in d v) (kept (old v)) before.0) ∙ before.1 in
+      (subst (λ ss. IsPermutation (spans_in d v ++ ss) (kept (new v))) (sym all) joined, conflict_of_both (spans_in d v) targets (kept (new v)) clear joined ∙ at_v)
   filled_at v false same h =
-      subst (λ ss. IsPermutation ss (kept (new v)) × IsClear (kept (new v))) (sym (append-nil (spans_in d v)))
-      (subst (λ o. IsPermutation (spans_in d v) (kept o) × IsClear (kept o)) (sym h) (had v))
+      subst (λ ss. IsPermutation ss (kept (new v)) × (has_conflict (kept (new v)) ≡ false)) (sym (append-nil (spans_in d v)))
+      (subst (λ ss. IsPermutation (spans_in d v) ss × (has_conflict ss ≡ false)) (sym h) (had v))
 
-  edge_fills : (v : IdValue) → IsPermutation (spans_in (d ++ edge i (contains from to) ∷ []) v) (kept (new v)) × IsClear (kept (new v))
+  edge_fills : (v : IdValue) → IsPermutation (spans_in (d ++ edge i (contains from to) ∷ []) v) (kept (new v)) × (has_conflict (kept (new v)) ≡ false)
   edge_fills v =
-      subst (λ ss. IsPermutation ss (kept (new v)) × IsClear (kept (new v))) (sym (spans_more d (edge i (contains from to)) known (not_false (are_vertices d (ends (edge i (contains from to)))) free.ends) v))
+      subst (λ ss. IsPermutation ss (kept (new v)) × (has_conflict (kept (new v)) ≡ false)) (sym (spans_more d (edge i (contains from to)) known (not_false (are_vertices d (ends (edge i (contains from to)))) free.ends) v))
       (filled_at v (same_id from v) refl (now v))
 
-other_fills : (d : List ElementValue) (x : ElementValue) → are_vertices d (ends x) ≡ true → AreEndsKnown d → (old new : IdValue → Option (Vec SpanValue Global)) → ((v : IdValue) → spans_named d v x ≡ [])
-    → ((v : IdValue) → IsPermutation (spans_in d v) (kept (old v)) × IsClear (kept (old v))) → ((v : IdValue) → new v ≡ old v)
-    → (v : IdValue) → IsPermutation (spans_in (d ++ x ∷ []) v) (kept (new v)) × IsClear (kept (new v))
+other_fills : (d : List ElementValue) (x : ElementValue) → are_vertices d (ends x) ≡ true → AreEndsKnown d → (old new : IdValue → Option (Vec (List SpanValue) Global)) → ((v : IdValue) → spans_named d v x ≡ [])
+    → ((v : IdValue) → IsPermutation (spans_in d v) (kept (old v)) × (has_conflict (kept (old v)) ≡ false)) → ((v : IdValue) → kept (new v) ≡ kept (old v))
+    → (v : IdValue) → IsPermutation (spans_in (d ++ x ∷ []) v) (kept (new v)) × (has_conflict (kept (new v)) ≡ false)
 other_fills d x e known old new none had now v =
-    subst (λ ss. IsPermutation ss (kept (new v)) × IsClear (kept (new v))) (sym (spans_more d x known e v ∙ ap (λ ss. spans_in d v ++ ss) (none v) ∙ append-nil (spans_in d v)))
-    (subst (λ o. IsPermutation (spans_in d v) (kept o) × IsClear (kept o)) (sym (now v)) (had v))
+    subst (λ ss. IsPermutation ss (kept (new v)) × (has_conflict (kept (new v)) ≡ false)) (sym (spans_more d x known e v ∙ ap (λ ss. spans_in d v ++ ss) (none v) ∙ append-nil (spans_in d v)))
+    (subst (λ ss. IsPermutation (spans_in d v) ss × (has_conflict ss ≡ false)) (sym (now v)) (had v))
 
-pub fills : (d : List ElementValue) (x : ElementValue) → HasNoCode d x → AreEndsKnown d → (old new : IdValue → Option (Vec SpanValue Global))
-    → ((v : IdValue) → IsPermutation (spans_in d v) (kept (old v)) × IsClear (kept (old v)))
+pub fills : (d : List ElementValue) (x : ElementValue) → HasNoCode d x → AreEndsKnown d → (old new : IdValue → Option (Vec (List SpanValue) Global))
+    → ((v : IdValue) → IsPermutation (spans_in d v) (kept (old v)) × (has_conflict (kept (old v)) ≡ false))
     → ((v : IdValue) → IsFilled (is_id v (contains_source x)) (spans_of d (ranges_in d x)) (old v) (new v))
-    → (v : IdValue) → IsPermutation (spans_in (d ++ x ∷ []) v) (kept (new v)) × IsClear (kept (new v))
+    → (v : IdValue) → IsPermutation (spans_in (d ++ x ∷ []) v) (kept (new v)) × (has_conflict (kept (new v)) ≡ false)
 fills d (edge i (contains from to)) free known old new had now v = edge_fills d i from to free known old new had now v
 fills d (edge i (next a b)) free known old new had now v = other_fills d (edge i (next a b)) (not_false (are_vertices d (ends (edge i (next a b)))) free.ends) known old new (λ u. refl) had now v
 fills d (edge i (definition a b)) free known old new had now v = other_fills d (edge i (definition a b)) (not_false (are_vertices d (ends (edge i (definition a b)))) free.ends) known old new (λ u. refl) had now v

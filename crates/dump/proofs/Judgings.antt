@@ -15,7 +15,8 @@ use Rattle.dump.specs.Conditions.{order_code, most_elements}
 use Rattle.dump.specs.Fault.{IsFault}
 use Rattle.dump.specs.Progress.{Progress, running, stopped, next, advance, progress, finished, IsRunning, Feeds, Finishes}
 use Rattle.dump.specs.Lines.{dump_of}
-use Rattle.dump.specs.Judging.{ReadsDump, ReadsFirst, ReadsNext, HasTaken, room_of, GoesOn, IsReady, as_dump_fault}
+use Rattle.dump.specs.Judging.{ReadsDump, as_dump_fault}
+use Rattle.dump.specs.Steps.Judging.{ReadsFirst, ReadsNext, HasTaken, room_of, GoesOn, IsReady}
 use Rattle.dump.specs.declared.reading.DumpFault.{DumpFault}
 use Rattle.dump.specs.declared.reading.DumpFault.TheVariants as dumps
 

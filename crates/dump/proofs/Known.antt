@@ -10,7 +10,7 @@ use Rattle.dump.specs.Graph.{vertex_at, is_document, is_among, ends}
 use Rattle.dump.specs.Contained.{contains_range, is_contained, places_range, is_in}
 use Rattle.dump.specs.Conditions.{are_vertices}
 use Rattle.dump.specs.Ended.{finishes, has_begun, has_ended, closes_range, is_closed}
-use Rattle.dump.specs.Steps.Index.{is_id, passes}
+use Rattle.dump.specs.Steps.Tables.{is_id, passes}
 use Rattle.dump.specs.Contained.{contains_source, container}
 use Rattle.dump.specs.Progress.{IsSound}
 use Rattle.dump.proofs.Bools.{or_none, or_some, and_both, and_rest, not_false, and_of, same_bool, absurd_true}

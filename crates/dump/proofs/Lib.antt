@@ -6,8 +6,8 @@ pub mod Conflicts
 pub mod EachId
 pub mod Ends
 pub mod Fills
+pub mod FirstIndices
 pub mod Graphs
-pub mod Indexes
 pub mod Judgings
 pub mod Known
 pub mod Leads
@@ -19,11 +19,11 @@ pub mod OneAnswers
 pub mod Passes
 pub mod Paths
 pub mod Progresses
+pub mod Reaches
 pub mod Repeats
 pub mod Rows
 pub mod SameIds
-pub mod Slots
 pub mod Shortcuts
-pub mod Sweeps
-pub mod Tables
+pub mod Slots
+pub mod TablesAfter
 pub mod Uniques

@@ -55,7 +55,7 @@ moved_second : (xs ys spans : List SpanValue) (x : SpanValue) → IsPermutation 
 moved_second xs ys spans x h =
     subst (λ l. IsPermutation l (spans ++ x ∷ [])) (append_assoc xs ys (x ∷ [])) (IsPermutation-append_left (x ∷ []) (xs ++ ys) spans h)
 
-not_both : (a b : Ordering) → a ≡ ordering_reverse b → is_lt b ≡ true → is_lt a ≡ false
+pub not_both : (a b : Ordering) → a ≡ ordering_reverse b → is_lt b ≡ true → is_lt a ≡ false
 not_both Less Less e h = cc
 not_both Less Equal e h = cc
 not_both Less Greater e h = cc

@@ -26,8 +26,8 @@ true_not_false false t f = cc
 
 -- ---- conflicts don't know which span comes first
 
-pub equal_places : (a b : PositionValue) → is_before a b ≡ false → is_before b a ≡ false → a ≡ b
-equal_places a b e f =
+pub equal_positions : (a b : PositionValue) → is_before a b ≡ false → is_before b a ≡ false → a ≡ b
+equal_positions a b e f =
     let line : a.line ≡ b.line = grind (arith, e, f) in
     let character : a.character ≡ b.character = grind (arith, e, f) in
     let make : ℕ → ℕ → PositionValue = λ l c. record { line = l; character = c } in
@@ -37,7 +37,7 @@ later_by : (a b : PositionValue) (s t : Bool) → is_before a b ≡ s → is_bef
 later_by a b true true e f = grind (arith, e, f)
 later_by a b true false e f = refl
 later_by a b false true e f = refl
-later_by a b false false e f = equal_places a b e f
+later_by a b false false e f = equal_positions a b e f
 
 later_either : (a b : PositionValue) → later_of a b ≡ later_of b a
 later_either a b = later_by a b (is_before a b) (is_before b a) refl refl
@@ -46,7 +46,7 @@ earlier_by : (a b : PositionValue) (s t : Bool) → is_before b a ≡ s → is_b
 earlier_by a b true true e f = grind (arith, e, f)
 earlier_by a b true false e f = refl
 earlier_by a b false true e f = refl
-earlier_by a b false false e f = equal_places a b f e
+earlier_by a b false false e f = equal_positions a b f e
 
 earlier_either : (a b : PositionValue) → earlier_of a b ≡ earlier_of b a
 earlier_either a b = earlier_by a b (is_before b a) (is_before a b) refl refl

@@ -220,9 +220,9 @@ faultless elements sound h = at_end elements None (sound_lines (map Ok elements)
 
 -- ---- there is only one
 
--- of two places with a code, each of them the first, both are one
-pub one_place : (P : ℕ → Code → Type 0) (i k : ℕ) (a b : Code) → P i a → ((j : ℕ) → j < i → (c : Code) → P j c → ⊥) → P k b → ((j : ℕ) → j < k → (c : Code) → P j c → ⊥) → i ≡ k
-one_place P i k a b here least there lesser =
+-- of two indices with a code, each of them the first, both are one
+pub one_index : (P : ℕ → Code → Type 0) (i k : ℕ) (a b : Code) → P i a → ((j : ℕ) → j < i → (c : Code) → P j c → ⊥) → P k b → ((j : ℕ) → j < k → (c : Code) → P j c → ⊥) → i ≡ k
+one_index P i k a b here least there lesser =
     let above : i < k → ⊥ = λ lt. lesser i lt a here in
     let below : k < i → ⊥ = λ lt. least k lt b there in
     omega (arith, above, below)
@@ -244,15 +244,15 @@ same_fault f g line code = let make : ℕ → Code → LineFault = λ l c. recor
 
 one_line_fault : (dump : List Reading) (f g : LineFault) → IsLineFault dump f → IsLineFault dump g → f ≡ g
 one_line_fault dump f g a b =
-    let place = one_place (HasCode dump) a.index b.index f.code g.code a.code a.least b.code b.least in
+    let same = one_index (HasCode dump) a.index b.index f.code g.code a.code a.least b.code b.least in
     let P : ℕ → Type 0 = λ k. HasCode dump k f.code in
-    same_fault f g (a.line ∙ ap (λ k. k + 1) place ∙ sym b.line) (same_line_code dump b.index f.code g.code (subst P place a.code) b.code)
+    same_fault f g (a.line ∙ ap (λ k. k + 1) same ∙ sym b.line) (same_line_code dump b.index f.code g.code (subst P same a.code) b.code)
 
 one_element_fault : (elements : List ElementValue) (f g : LineFault) → IsElementFault elements f → IsElementFault elements g → f ≡ g
 one_element_fault elements f g a b =
-    let place = one_place (HasEndCode elements) a.index b.index f.code g.code a.code a.least b.code b.least in
+    let same = one_index (HasEndCode elements) a.index b.index f.code g.code a.code a.least b.code b.least in
     let P : ℕ → Type 0 = λ k. HasEndCode elements k f.code in
-    same_fault f g (a.line ∙ ap (λ k. k + 1) place ∙ sym b.line) (same_end_code elements b.index f.code g.code (subst P place a.code) b.code)
+    same_fault f g (a.line ∙ ap (λ k. k + 1) same ∙ sym b.line) (same_end_code elements b.index f.code g.code (subst P same a.code) b.code)
 
 sound_no_line : (dump : List Reading) (f : LineFault) → AreSoundLines dump → IsLineFault dump f → ⊥
 sound_no_line dump f sound a = sound a.index f.code a.code

@@ -72,19 +72,19 @@ seen_more xs k x v old new lt e before is i = ap is_some (is i) ∙ by (same_id 
         plain true = refl
         plain false = refl
 
-entered_twice : (here there : Bool) (place : ℕ) (o : Option ℕ) → entered there place (entered here place o) ≡ entered (here || (there || false)) place o
-entered_twice here there place (Some old) = refl
-entered_twice true there place None = refl
-entered_twice false true place None = refl
-entered_twice false false place None = refl
+entered_twice : (here there : Bool) (index : ℕ) (o : Option ℕ) → entered there index (entered here index o) ≡ entered (here || (there || false)) index o
+entered_twice here there index (Some old) = refl
+entered_twice true there index None = refl
+entered_twice false true index None = refl
+entered_twice false false index None = refl
 
--- a place entered at the ids up to an index, and at one more
-pub entered_more : (xs : List Id) (k : ℕ) (x : Id) (place : ℕ) (first old new : IdValue → Option ℕ) → k < length xs → x ≡ get_or xs k x
-    → ((i : IdValue) → old i ≡ entered (is_among i (id_values (take k xs))) place (first i))
-    → ((i : IdValue) → new i ≡ entered (same_id (id_value x) i) place (old i))
-    → (i : IdValue) → new i ≡ entered (is_among i (id_values (take (k + 1) xs))) place (first i)
-entered_more xs k x place first old new lt e before is i =
+-- an index entered at the first ids of a list, and at one more
+pub entered_more : (xs : List Id) (k : ℕ) (x : Id) (index : ℕ) (first old new : IdValue → Option ℕ) → k < length xs → x ≡ get_or xs k x
+    → ((i : IdValue) → old i ≡ entered (is_among i (id_values (take k xs))) index (first i))
+    → ((i : IdValue) → new i ≡ entered (same_id (id_value x) i) index (old i))
+    → (i : IdValue) → new i ≡ entered (is_among i (id_values (take (k + 1) xs))) index (first i)
+entered_more xs k x index first old new lt e before is i =
     is i
-    ∙ ap (entered (same_id (id_value x) i) place) (before i)
-    ∙ entered_twice (is_among i (id_values (take k xs))) (same_id (id_value x) i) place (first i)
-    ∙ sym (ap (λ here. entered here place (first i)) (ap (is_among i) (ids_more xs k x lt e) ∙ among_push _ (id_value x) i))
+    ∙ ap (entered (same_id (id_value x) i) index) (before i)
+    ∙ entered_twice (is_among i (id_values (take k xs))) (same_id (id_value x) i) index (first i)
+    ∙ sym (ap (λ here. entered here index (first i)) (ap (is_among i) (ids_more xs k x lt e) ∙ among_push _ (id_value x) i))

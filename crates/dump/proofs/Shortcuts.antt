@@ -10,14 +10,14 @@ use Rattle.lsif.specs.declared.element.Element.{Element}
 use Rattle.lsif.specs.Element.{IdValue, same_id, element_value, contains, next, definition, references, hover, moniker_edge, package_edge, attach, item, other_edge, ElementValue, vertex, edge, element_id}
 use Rattle.dump.specs.declared.single.SingleLabel.{SingleLabel}
 use Rattle.dump.specs.declared.single.SingleLabel.TheVariants.{Next}
-use Rattle.dump.specs.Steps.Chains.{place_in, Shortens, HasShortcuts, IsPlace, IsEnd, CanJoin}
+use Rattle.dump.specs.Steps.Chains.{index_in, Shortens, HasShortcuts, IsIndexIn, IsEnd, CanJoin}
 use Rattle.dump.specs.Conditions.{are_vertices}
 use Rattle.dump.specs.Graph.{element_at, vertex_of, vertex_at, ends}
-use Rattle.dump.specs.Steps.Index.{has_id}
+use Rattle.dump.specs.Steps.Tables.{has_id}
 use Rattle.dump.specs.Steps.Links.{is_single, single_target}
 use Rattle.dump.specs.Progress.{IsSound}
 use Rattle.dump.specs.Walks.{Pair, Path, stays, goes, first_to, reaches, IsChain, ends as chain_ends, links, same_label, next_pairs, single_of, single_in}
-use Rattle.dump.proofs.Adds.{found_place, vertex_place, find_any}
+use Rattle.dump.proofs.Adds.{found_index, vertex_index, find_any}
 use Rattle.dump.proofs.Bools.{and_both, not_false, same_bool, absurd_true}
 use Rattle.dump.proofs.Cells.{nothing}
 use Rattle.dump.proofs.Chains.{suffix, short, no_chain}
@@ -26,7 +26,7 @@ use Rattle.dump.proofs.Known.{AreEndsKnown}
 use Rattle.dump.proofs.Leads.{on_chain}
 use Rattle.dump.proofs.Paths.{wider, joined, path_of, reaches_of}
 use Rattle.dump.proofs.SameIds.{same_id_eq, same_id_self}
-use Rattle.dump.proofs.Tables.{position-any, position_hit, position_miss, position_kept, first_to-single}
+use Rattle.dump.proofs.FirstIndices.{position-any, position_hit, position_miss, position_kept, first_to-single}
 use Rattle.dump.proofs.Uniques.{found_member}
 
 none_some : {P : Type 0} (o : Option IdValue) (y : IdValue) → o ≡ None → o ≡ Some y → P
@@ -83,21 +83,21 @@ module _ (ps : List Pair) (one : Single ps) where
 
 -- ---- a walk along shortcuts
 
--- what is asked of a walk that has come from one place to another, in some steps
+-- what is asked of a walk that has come from one index to another, in some steps
 pub record Nearing (ps : List Pair) (d : List ElementValue) (from at steps : ℕ) : Type 0 where
   pub start : IdValue
   pub here : IdValue
-  pub is_start : place_in d start ≡ Some from
-  pub is_here : place_in d here ≡ Some at
+  pub is_start : index_in d start ≡ Some from
+  pub is_here : index_in d here ≡ Some at
   pub path : Path ps start here
   pub rest : List IdValue
   pub chain : IsChain ps here rest
   pub room : length rest + steps ≤ length ps + 1
 
-pub nearing : (d : List ElementValue) (k : ℕ) → IsSound d → IsPlace d k → Nearing (next_pairs d) d k k 0
-nearing d k sound place =
-    let c = each_ends d sound place.0 in
-    record { start = place.0; here = place.0; is_start = place.1; is_here = place.1; path = stays; rest = c.0; chain = c.1; room = omega (arith, short c.0 (next_pairs d) place.0 c.1) }
+pub nearing : (d : List ElementValue) (k : ℕ) → IsSound d → IsIndexIn d k → Nearing (next_pairs d) d k k 0
+nearing d k sound index =
+    let c = each_ends d sound index.0 in
+    record { start = index.0; here = index.0; is_start = index.1; is_here = index.1; path = stays; rest = c.0; chain = c.1; room = omega (arith, short c.0 (next_pairs d) index.0 c.1) }
 
 module _ (ps : List Pair) (one : Single ps) (d : List ElementValue) (shortcuts : List (Option ℕ)) (has : HasShortcuts ps d shortcuts) (from at steps : ℕ) (i : Nearing ps d from at steps) where
   pub nearing_end : get_or shortcuts at None ≡ None → IsEnd ps d from at
@@ -142,14 +142,14 @@ module _ (ps : List Pair) (one : Single ps) (d : List ElementValue) (shortcuts :
       by rest (links {ys = []} f c) room = absurd (no_chain ps _ c)
       by rest (links {ys = y ∷ ys} f c) room = absurd (omega (arith, room))
 
--- an element's place is within the list
-pub place_within : (d : List ElementValue) (i : IdValue) (k : ℕ) → place_in d i ≡ Some k → k < length d
-place_within d i k e = let f = found_place d i k e in slice_get_within d k f.0 f.1
+-- an element's index is within the list
+pub index_within : (d : List ElementValue) (i : IdValue) (k : ℕ) → index_in d i ≡ Some k → k < length d
+index_within d i k e = let f = found_index d i k e in slice_get_within d k f.0 f.1
 
-pub one_place : (d : List ElementValue) (i j : IdValue) (k : ℕ) → place_in d i ≡ Some k → place_in d j ≡ Some k → i ≡ j
-one_place d i j k e g =
-    let f = found_place d i k e in
-    let h = found_place d j k g in
+pub one_index : (d : List ElementValue) (i j : IdValue) (k : ℕ) → index_in d i ≡ Some k → index_in d j ≡ Some k → i ≡ j
+one_index d i j k e g =
+    let f = found_index d i k e in
+    let h = found_index d j k g in
     let same : ◌≡◌ {A = Option ElementValue} (Some f.0) (Some h.0) = sym f.1 ∙ h.1 in
     let one : f.0 ≡ h.0 = cc in
     sym f.2 ∙ ap element_id one ∙ h.2
@@ -162,42 +162,42 @@ apart_number k j e same = let h : nat_eq k j ≡ true = grind (arith, same) in l
 same_number : (k j : ℕ) → nat_eq k j ≡ true → k ≡ j
 same_number k j e = grind (arith, e)
 
--- the shortcut at a place is set, where it shortens; the others shorten too after pairs more
-pub shortcut_set : (ps qs : List Pair) (d : List ElementValue) (shortcuts : List (Option ℕ)) (k : ℕ) (o : Option ℕ) (x : IdValue) → HasShortcuts ps d shortcuts → place_in d x ≡ Some k
+-- the shortcut at an index is set, where it shortens; the others shorten too after pairs more
+pub shortcut_set : (ps qs : List Pair) (d : List ElementValue) (shortcuts : List (Option ℕ)) (k : ℕ) (o : Option ℕ) (x : IdValue) → HasShortcuts ps d shortcuts → index_in d x ≡ Some k
     → Shortens qs d x o → ((i : IdValue) (p : Option ℕ) → (i ≡ x → ⊥) → Shortens ps d i p → Shortens qs d i p) → HasShortcuts qs d (set shortcuts k o)
 shortcut_set ps qs d shortcuts k o x has at here others = record {
   length = length-set shortcuts k o ∙ has.length;
-  each = λ i j place. by i j place (nat_eq k j) refl;
+  each = λ i j index. by i j index (nat_eq k j) refl;
 }
   where
-    by : (i : IdValue) (j : ℕ) → place_in d i ≡ Some j → (b : Bool) → nat_eq k j ≡ b → Shortens qs d i (get_or (set shortcuts k o) j None)
-    by i j place true same =
+    by : (i : IdValue) (j : ℕ) → index_in d i ≡ Some j → (b : Bool) → nat_eq k j ≡ b → Shortens qs d i (get_or (set shortcuts k o) j None)
+    by i j index true same =
         let e : k ≡ j = same_number k j same in
-        let inside : k < length shortcuts = omega (arith, has.length, place_within d x k at) in
-        let me : x ≡ i = one_place d x i j (at ∙ ap Some e) place in
+        let inside : k < length shortcuts = omega (arith, has.length, index_within d x k at) in
+        let me : x ≡ i = one_index d x i j (at ∙ ap Some e) index in
         subst (λ v. Shortens qs d v (get_or (set shortcuts k o) j None)) me
         (subst (Shortens qs d x) (sym (get_or-set_at shortcuts k j o None (sym e) inside)) here)
-    by i j place false other =
+    by i j index false other =
         let apart : i ≡ x → ⊥ = λ me.
-        let k' : Some j ≡ Some k = sym place ∙ ap (place_in d) me ∙ at in
+        let k' : Some j ≡ Some k = sym index ∙ ap (index_in d) me ∙ at in
         let e : j ≡ k = cc in
         apart_number k j other e in
         subst (Shortens qs d i) (sym (get_or-set_other shortcuts k j o None (λ e. apart_number k j other e)))
-        (others i (get_or shortcuts j None) apart (has.each i j place))
+        (others i (get_or shortcuts j None) apart (has.each i j index))
 
-module _ (ps : List Pair) (one : Single ps) (d : List ElementValue) (shortcuts : List (Option ℕ)) (has : HasShortcuts ps d shortcuts) (from at steps end_place further : ℕ) (i : Nearing ps d from at steps)
-    (last : IsEnd ps d from end_place) (is : get_or shortcuts at None ≡ Some further) where
+module _ (ps : List Pair) (one : Single ps) (d : List ElementValue) (shortcuts : List (Option ℕ)) (has : HasShortcuts ps d shortcuts) (from at steps end_index further : ℕ) (i : Nearing ps d from at steps)
+    (last : IsEnd ps d from end_index) (is : get_or shortcuts at None ≡ Some further) where
   -- the shortcut of a vertex on the way leads to the end
-  pub shortened : HasShortcuts ps d (set shortcuts at (Some end_place))
+  pub shortened : HasShortcuts ps d (set shortcuts at (Some end_index))
   shortened =
       let short_of = subst (Shortens ps d i.here) is (has.each i.here at i.is_here) in
-      let same : i.start ≡ last.start = one_place d i.start last.start from i.is_start last.is_start in
+      let same : i.start ≡ last.start = one_index d i.start last.start from i.is_start last.is_start in
       let path : Path ps i.start last.last = subst (λ v. Path ps v last.last) (sym same) last.path in
       let on : Path ps i.here last.last = ⊎_elim
       (λ (forth : Path ps i.here last.last). forth)
       (λ (back : Path ps last.last i.here). subst (λ v. Path ps v last.last) (no_leave ps one last.last i.here last.none back) stays)
       (either ps one i.start i.here last.last i.path path) in
-      shortcut_set ps ps d shortcuts at (Some end_place) i.here has i.is_here
+      shortcut_set ps ps d shortcuts at (Some end_index) i.here has i.is_here
       (short_of.0, last.last, short_of.2, after_first ps one i.here short_of.0 last.last short_of.2 last.none on, last.is_last)
       (λ j p apart h. h)
 
@@ -218,15 +218,15 @@ still_shortens ps d a b i (Some s) apart h =
     more : (q : Pair) → Contains ps q → Contains (ps ++ (a, b) ∷ []) q
     more q at = Contains-append_left ps ((a, b) ∷ []) q at
 
--- an edge from the vertex at a place to that at another
-pub edge_shortcuts : (ps : List Pair) (d : List ElementValue) (shortcuts : List (Option ℕ)) (from to end_place : ℕ) → HasShortcuts ps d shortcuts → CanJoin ps d from to → IsEnd ps d to end_place
-    → (a b : IdValue) → place_in d a ≡ Some from → place_in d b ≡ Some to → HasShortcuts (ps ++ (a, b) ∷ []) d (set shortcuts from (Some end_place))
-edge_shortcuts ps d shortcuts from to end_place has can last a b at_a at_b =
-    let source : can.source ≡ a = one_place d can.source a from can.is_source at_a in
-    let target : last.start ≡ b = one_place d last.start b to last.is_start at_b in
+-- an edge from the vertex at an index to that at another
+pub edge_shortcuts : (ps : List Pair) (d : List ElementValue) (shortcuts : List (Option ℕ)) (from to end_index : ℕ) → HasShortcuts ps d shortcuts → CanJoin ps d from to → IsEnd ps d to end_index
+    → (a b : IdValue) → index_in d a ≡ Some from → index_in d b ≡ Some to → HasShortcuts (ps ++ (a, b) ∷ []) d (set shortcuts from (Some end_index))
+edge_shortcuts ps d shortcuts from to end_index has can last a b at_a at_b =
+    let source : can.source ≡ a = one_index d can.source a from can.is_source at_a in
+    let target : last.start ≡ b = one_index d last.start b to last.is_start at_b in
     let none : first_to ps a ≡ None = subst (λ v. first_to ps v ≡ None) source can.none in
     let joins : first_to (ps ++ (a, b) ∷ []) a ≡ Some b = first_none ps a b a none ∙ ap (λ c. cond c (Some b) None) (same_id_self a) in
-    shortcut_set ps (ps ++ (a, b) ∷ []) d shortcuts from (Some end_place) a has at_a
+    shortcut_set ps (ps ++ (a, b) ∷ []) d shortcuts from (Some end_index) a has at_a
     (b, last.last, joins, wider ps (ps ++ (a, b) ∷ []) (λ q at. Contains-append_left ps ((a, b) ∷ []) q at) b last.last (subst (λ v. Path ps v last.last) target last.path), last.is_last)
     (λ i p apart h. still_shortens ps d a b i p apart h)
 
@@ -260,9 +260,9 @@ no_source d e known i fresh = first_to-single Next e i ∙ by (find (is_single N
         let f = found_member (is_single Next i) e y is in
         absurd (no_vertex vertex_of (element_at d i) fresh (source_known d y i f.1 (known y f.0)))
 
-pub no_place : (d : List ElementValue) (i : IdValue) → place_in d i ≡ None → is_some (element_at d i) ≡ false
+pub no_index : (d : List ElementValue) (i : IdValue) → index_in d i ≡ None → is_some (element_at d i) ≡ false
 unfolding element_at
-no_place d i e = find_any (has_id i) d ∙ sym (position-any (has_id i) d) ∙ ap is_some e
+no_index d i e = find_any (has_id i) d ∙ sym (position-any (has_id i) d) ∙ ap is_some e
 
 ends_known_more : (d : List ElementValue) (x : ElementValue) → HasNoCode d x → AreEndsKnown d → (y : ElementValue) → Contains (d ++ x ∷ []) y → are_vertices d (ends y) ≡ true
 ends_known_more d x free known y at = ⊎_elim
@@ -278,26 +278,26 @@ pub shortcuts_more : (ps : List Pair) (d : List ElementValue) (x : ElementValue)
     → HasShortcuts ps d shortcuts → HasShortcuts (next_pairs (d ++ x ∷ [])) (d ++ x ∷ []) (shortcuts ++ None ∷ [])
 shortcuts_more ps d x shortcuts free known same has = subst (λ qs. HasShortcuts qs (d ++ x ∷ []) (shortcuts ++ None ∷ [])) same (record {
   length = length-append shortcuts (None ∷ []) ∙ ap (λ k. k + 1) has.length ∙ sym (length-append d (x ∷ []));
-  each = λ i k place. by i k place (place_in d i) refl (same_id (element_id x) i) refl;
+  each = λ i k index. by i k index (index_in d i) refl (same_id (element_id x) i) refl;
 })
   where
     none : first_to ps (element_id x) ≡ None
     none = ap (λ qs. first_to qs (element_id x)) same ∙ no_source d (d ++ x ∷ []) (ends_known_more d x free known) (element_id x) free.fresh
 
-    by : (i : IdValue) (k : ℕ) → place_in (d ++ x ∷ []) i ≡ Some k → (o : Option ℕ) → place_in d i ≡ o → (b : Bool) → same_id (element_id x) i ≡ b → Shortens ps (d ++ x ∷ []) i (get_or (shortcuts ++ None ∷ []) k None)
-    by i k place (Some j) old b is =
-        let stays_at : Some j ≡ Some k = sym old ∙ sym (position_kept (has_id i) d x (ap is_some old)) ∙ place in
+    by : (i : IdValue) (k : ℕ) → index_in (d ++ x ∷ []) i ≡ Some k → (o : Option ℕ) → index_in d i ≡ o → (b : Bool) → same_id (element_id x) i ≡ b → Shortens ps (d ++ x ∷ []) i (get_or (shortcuts ++ None ∷ []) k None)
+    by i k index (Some j) old b is =
+        let stays_at : Some j ≡ Some k = sym old ∙ sym (position_kept (has_id i) d x (ap is_some old)) ∙ index in
         let e : j ≡ k = cc in
-        let inside : k < length shortcuts = omega (arith, e, has.length, place_within d i j old) in
+        let inside : k < length shortcuts = omega (arith, e, has.length, index_within d i j old) in
         subst (Shortens ps (d ++ x ∷ []) i) (sym (get_or_append_left shortcuts (None ∷ []) None k inside))
         (shortens_more ps d x i (get_or shortcuts k None) (has.each i k (old ∙ ap Some e)))
-    by i k place None old true is =
-        let there : Some (length d) ≡ Some k = sym (position_hit (has_id i) d x is old) ∙ place in
+    by i k index None old true is =
+        let there : Some (length d) ≡ Some k = sym (position_hit (has_id i) d x is old) ∙ index in
         let e : length d ≡ k = cc in
         let blank : ◌≡◌ {A = Option ℕ} (get_or (shortcuts ++ None ∷ []) k None) None = ap (λ n. get_or (shortcuts ++ None ∷ []) n None) (sym (has.length ∙ e)) ∙ get_or-append_seam shortcuts None [] None in
         subst (Shortens ps (d ++ x ∷ []) i) (sym blank) (subst (λ v. first_to ps v ≡ None) (same_id_eq (element_id x) i is) none)
-    by i k place None old false is =
-        let never : ◌≡◌ {A = Option ℕ} None (Some k) = sym (position_miss (has_id i) d x is ∙ old) ∙ place in cc
+    by i k index None old false is =
+        let never : ◌≡◌ {A = Option ℕ} None (Some k) = sym (position_miss (has_id i) d x is ∙ old) ∙ index in cc
 
 pub same_pairs : (d : List ElementValue) (x : ElementValue) (ps : List Pair) → single_in Next x ≡ ps → next_pairs d ++ ps ≡ next_pairs (d ++ x ∷ [])
 same_pairs d x ps e = sym (pairs_more (single_in Next) d x ∙ ap (λ qs. next_pairs d ++ qs) e)
@@ -357,14 +357,14 @@ next_ends d (edge j (item p)) a b free e = absurd (cc)
 next_ends d (edge j (other_edge p qs)) a b free e = absurd (cc)
 next_ends d (vertex j v) a b free e = absurd (cc)
 
--- where a vertex is known it has a place
-pub placed : (d : List ElementValue) (i : IdValue) (o : Option ℕ) → o ≡ place_in d i → is_some (vertex_at d i) ≡ true → o ≡ None → ⊥
-placed d i o is known none = let h : true ≡ false = sym (vertex_place d i known) ∙ ap is_some (sym is ∙ none) in cc
+-- where a vertex is known it has an index
+pub has_index : (d : List ElementValue) (i : IdValue) (o : Option ℕ) → o ≡ index_in d i → is_some (vertex_at d i) ≡ true → o ≡ None → ⊥
+has_index d i o is known none = let h : true ≡ false = sym (vertex_index d i known) ∙ ap is_some (sym is ∙ none) in cc
 
--- the element at a vertex's place has its id
-pub id_there : (xs : List Element) (k : ℕ) (r : Element) (z : IdValue) → r ≡ get_or xs k r → place_in (map element_value xs) z ≡ Some k → element_id (element_value r) ≡ z
+-- the element at a vertex's index has its id
+pub id_there : (xs : List Element) (k : ℕ) (r : Element) (z : IdValue) → r ≡ get_or xs k r → index_in (map element_value xs) z ≡ Some k → element_id (element_value r) ≡ z
 id_there xs k r z e at =
-    let f = found_place (map element_value xs) z k at in
+    let f = found_index (map element_value xs) z k at in
     let inside : k < length xs = omega (arith, slice_get_within (map element_value xs) k f.0 f.1, length-map xs element_value) in
     let read : get_or (map element_value xs) k (element_value r) ≡ f.0 = get_or_from_slice_get (map element_value xs) k f.0 (element_value r) f.1 in
     ap element_id (ap element_value e ∙ sym (get_or-map element_value xs k r (element_value r) inside) ∙ read) ∙ f.2

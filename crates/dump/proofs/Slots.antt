@@ -1,4 +1,4 @@
--- Places of numbers below a bound, which have a slot each, and of all other ids.
+-- Indices of numbers below a bound, which have a slot each, and of all other ids.
 use Rattle.std.proofs.Common.{◌≡◌, ◌∙◌, ℕ, Bool, true, false, nat_eq, nat_lt, List, get_or, if◌then◌else◌, refl, sym, ap, arith, Option, Some, None}
 use Rattle.std.specs.Prelude.{Result, Ok, Err, OnOk, OnErr}
 use Rattle.dump.specs.Steps.Ids.{entered}
@@ -15,21 +15,21 @@ apart : (n m b : ℕ) → nat_lt n b ≡ false → nat_lt m b ≡ true → nat_e
 apart n m b e f = grind (arith, e, f)
 
 -- a number that has no slot is entered
-pub number_entered : (b n m place : ℕ) (slots : List (Option ℕ)) (old new : Option ℕ) → nat_lt n b ≡ false → new ≡ entered (nat_eq n m) place old
-    → (if nat_lt m b then get_or slots m None else new) ≡ entered (nat_eq n m) place (if nat_lt m b then get_or slots m None else old)
-number_entered b n m place slots old new past e = by (nat_lt m b) refl
+pub number_entered : (b n m index : ℕ) (slots : List (Option ℕ)) (old new : Option ℕ) → nat_lt n b ≡ false → new ≡ entered (nat_eq n m) index old
+    → (if nat_lt m b then get_or slots m None else new) ≡ entered (nat_eq n m) index (if nat_lt m b then get_or slots m None else old)
+number_entered b n m index slots old new past e = by (nat_lt m b) refl
   where
-    by : (c : Bool) → nat_lt m b ≡ c → (if c then get_or slots m None else new) ≡ entered (nat_eq n m) place (if c then get_or slots m None else old)
-    by true below = sym (ap (λ here. entered here place (get_or slots m None)) (apart n m b past below) ∙ entered_not place (get_or slots m None))
+    by : (c : Bool) → nat_lt m b ≡ c → (if c then get_or slots m None else new) ≡ entered (nat_eq n m) index (if c then get_or slots m None else old)
+    by true below = sym (ap (λ here. entered here index (get_or slots m None)) (apart n m b past below) ∙ entered_not index (get_or slots m None))
     by false past_too = e
 
 -- a text is entered
-pub text_entered : (b m place : ℕ) (slots : List (Option ℕ)) (old new : Option ℕ) → new ≡ entered false place old
-    → (if nat_lt m b then get_or slots m None else new) ≡ entered false place (if nat_lt m b then get_or slots m None else old)
-text_entered b m place slots old new e = by (nat_lt m b)
+pub text_entered : (b m index : ℕ) (slots : List (Option ℕ)) (old new : Option ℕ) → new ≡ entered false index old
+    → (if nat_lt m b then get_or slots m None else new) ≡ entered false index (if nat_lt m b then get_or slots m None else old)
+text_entered b m index slots old new e = by (nat_lt m b)
   where
-    by : (c : Bool) → (if c then get_or slots m None else new) ≡ entered false place (if c then get_or slots m None else old)
-    by true = sym (entered_not place (get_or slots m None))
+    by : (c : Bool) → (if c then get_or slots m None else new) ≡ entered false index (if c then get_or slots m None else old)
+    by true = sym (entered_not index (get_or slots m None))
     by false = e
 
 pub on_ok : {X E P Q : Type 0} (r : Result X E) → (P → Q) → OnOk r P → OnOk r Q

@@ -152,17 +152,17 @@ has_effect (Some other_vertex) = false
 has_effect (Some v) = true
 has_effect None = true
 
-abbrev pub is_place : Option VertexValue → Bool
-is_place (Some project) = true
-is_place (Some (document s)) = true
-is_place (Some v) = false
-is_place None = false
+abbrev pub may_be_shard : Option VertexValue → Bool
+may_be_shard (Some project) = true
+may_be_shard (Some (document s)) = true
+may_be_shard (Some v) = false
+may_be_shard None = false
 
 -- L16: the shard isn't an earlier document or project
-abbrev pub has_no_place : List ElementValue → ElementValue → Bool
-has_no_place before (edge i (item e)) = has_effect (vertex_at before e.source) && not (is_place (vertex_at before e.shard))
-has_no_place before (edge i e) = false
-has_no_place before (vertex i v) = false
+abbrev pub has_no_shard : List ElementValue → ElementValue → Bool
+has_no_shard before (edge i (item e)) = has_effect (vertex_at before e.source) && not (may_be_shard (vertex_at before e.shard))
+has_no_shard before (edge i e) = false
+has_no_shard before (vertex i v) = false
 
 abbrev pub is_document_of : List ℕ → ElementValue → Bool
 is_document_of uri (vertex i (document s)) = bytes_eq s uri
@@ -193,7 +193,7 @@ order_condition before x L11 = is_contained_again before x
 order_condition before x L12 = is_conflicting before x
 order_condition before x L13 = leaves_again before x
 order_condition before x L14 = closes_cycle before x
-order_condition before x L16 = has_no_place before x
+order_condition before x L16 = has_no_shard before x
 order_condition before x L17 = is_bad_event before x
 order_condition before x L18 = is_late before x
 order_condition before x L19 = has_used_uri before x

@@ -1,7 +1,8 @@
 -- What only private contracts and proofs name: steps of loops, and values of the program's own types.
 pub mod Chains
 pub mod Ids
-pub mod Index
+pub mod Judging
 pub mod Kinds
 pub mod Links
 pub mod Spans
+pub mod Tables

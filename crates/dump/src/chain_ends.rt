@@ -1,22 +1,22 @@
 //! Where chains of `next` edges end.
 ghost use Rattle.std.specs.Prelude.{◌≡◌, ◌<◌, ◌++◌, ◌∷◌, [], None, Some, map, vec_len, vec_capacity};
 ghost use Rattle.lsif.specs.Element.{IdValue, element_value};
-ghost use Rattle.dump.specs.Steps.Chains.{place_in, HasShortcuts, IsPlace, IsEnd, CanJoin, JoinsPlaces};
+ghost use Rattle.dump.specs.Steps.Chains.{index_in, HasShortcuts, IsIndexIn, IsEnd, CanJoin, JoinsIndices};
 ghost use Rattle.dump.specs.Conditions.{order_code};
 ghost use Rattle.dump.specs.Progress.{IsSound};
 ghost use Rattle.dump.specs.Walks.{next_pairs};
 
 use lsif::Element;
 
-/// The place of the last vertex of the chain from the vertex at this place. Of each vertex that a `next` edge leaves,
-/// `shortcuts` has the place of one further on.
-pub(crate) fn end_of(shortcuts: &[Option<usize>], elements: &[Element], place: usize) -> usize
+/// The index of the last vertex of the chain from the vertex at this index. Of each vertex that a `next` edge leaves,
+/// `shortcuts` has the index of one further on.
+pub(crate) fn end_of(shortcuts: &[Option<usize>], elements: &[Element], index: usize) -> usize
     requires shortcuts { HasShortcuts (next_pairs (map element_value elements.now)) (map element_value elements.now) shortcuts.now }
     requires sound { IsSound (map element_value elements.now) }
-    requires place { IsPlace (map element_value elements.now) place }
-    ensures { IsEnd (next_pairs (map element_value elements.now)) (map element_value elements.now) place result }
+    requires index { IsIndexIn (map element_value elements.now) index }
+    ensures { IsEnd (next_pairs (map element_value elements.now)) (map element_value elements.now) index result }
 {
-    let mut at = place;
+    let mut at = index;
     for _step in 0..shortcuts.len() {
         match shortcuts[at] {
             Some(further) => at = further,
@@ -26,16 +26,16 @@ pub(crate) fn end_of(shortcuts: &[Option<usize>], elements: &[Element], place: u
     at
 }
 
-/// Lets the shortcuts from this place on lead to the end of the chain, so that the next walk along them is short.
-fn shorten(shortcuts: &mut Vec<Option<usize>>, elements: &[Element], place: usize, end: usize)
+/// Lets the shortcuts from this index on lead to the end of the chain, so that the next walk along them is short.
+fn shorten(shortcuts: &mut Vec<Option<usize>>, elements: &[Element], index: usize, end: usize)
     requires shortcuts { HasShortcuts (next_pairs (map element_value elements.now)) (map element_value elements.now) shortcuts.old.items }
     requires sound { IsSound (map element_value elements.now) }
-    requires last { IsEnd (next_pairs (map element_value elements.now)) (map element_value elements.now) place end }
+    requires last { IsEnd (next_pairs (map element_value elements.now)) (map element_value elements.now) index end }
     ensures shortcuts { HasShortcuts (next_pairs (map element_value elements.now)) (map element_value elements.now) shortcuts.new.items }
     ensures len { vec_len shortcuts.new ≡ vec_len shortcuts.old }
     ensures capacity { vec_capacity shortcuts.new ≡ vec_capacity shortcuts.old }
 {
-    let mut at = place;
+    let mut at = index;
     for _step in 0..shortcuts.len() {
         match shortcuts[at] {
             Some(further) => {
@@ -47,12 +47,12 @@ fn shorten(shortcuts: &mut Vec<Option<usize>>, elements: &[Element], place: usiz
     }
 }
 
-/// Enters a `next` edge from the vertex at a place to that at another.
+/// Enters a `next` edge from the vertex at an index to that at another.
 fn join(shortcuts: &mut Vec<Option<usize>>, elements: &[Element], from: usize, to: usize)
     requires shortcuts { HasShortcuts (next_pairs (map element_value elements.now)) (map element_value elements.now) shortcuts.old.items }
     requires sound { IsSound (map element_value elements.now) }
     requires joins { CanJoin (next_pairs (map element_value elements.now)) (map element_value elements.now) from to }
-    ensures shortcuts { (a b : IdValue) → place_in (map element_value elements.now) a ≡ Some from → place_in (map element_value elements.now) b ≡ Some to
+    ensures shortcuts { (a b : IdValue) → index_in (map element_value elements.now) a ≡ Some from → index_in (map element_value elements.now) b ≡ Some to
         → HasShortcuts (next_pairs (map element_value elements.now) ++ (a, b) ∷ []) (map element_value elements.now) shortcuts.new.items }
     ensures len { vec_len shortcuts.new ≡ vec_len shortcuts.old }
     ensures capacity { vec_capacity shortcuts.new ≡ vec_capacity shortcuts.old }
@@ -62,7 +62,7 @@ fn join(shortcuts: &mut Vec<Option<usize>>, elements: &[Element], from: usize, t
     shortcuts[from] = Some(end);
 }
 
-/// Enters the element that follows these; it joins the vertices at these places, where it's a `next` edge.
+/// Enters the element that follows these; it joins the vertices at these indices, where it's a `next` edge.
 pub(crate) fn follow(
     shortcuts: &mut Vec<Option<usize>>,
     elements: &[Element],
@@ -73,7 +73,7 @@ pub(crate) fn follow(
     requires shortcuts { HasShortcuts (next_pairs (map element_value elements.now)) (map element_value elements.now) shortcuts.old.items }
     requires sound { IsSound (map element_value elements.now) }
     requires free { order_code (map element_value elements.now) (element_value element.now) ≡ None }
-    requires joined { JoinsPlaces (map element_value elements.now) (element_value element.now) joined }
+    requires joined { JoinsIndices (map element_value elements.now) (element_value element.now) joined }
     ensures { HasShortcuts (next_pairs (map element_value elements.now ++ element_value element.now ∷ [])) (map element_value elements.now ++ element_value element.now ∷ []) shortcuts.new.items }
 {
     if let Some((from, to)) = joined {

@@ -12,9 +12,9 @@ ghost use Rattle.dump.specs.Walks.{Path, first_to, single_pairs, next_pairs};
 
 use crate::chain_ends::{end_of, follow};
 use crate::ids::is_repeating;
-use crate::index::{Index, contains_source};
 use crate::links::Link;
 use crate::single::{SingleLabel, target};
+use crate::tables::{Tables, contains_source};
 use lsif::{Element, Id};
 use std::alloc::{AllocError, Global};
 use std::marker::Model;
@@ -23,7 +23,7 @@ use std::marker::Model;
 #[derive(Drop)]
 pub(crate) struct Graph {
     elements: Vec<Element>,
-    index: Index,
+    tables: Tables,
     /// Of each element a vertex further on in its chain of `next` edges.
     shortcuts: Vec<Option<usize>>,
 }
@@ -32,14 +32,14 @@ impl Model for Graph {
     ghost use Rattle.std.specs.Prelude.{List, map};
     ghost use Rattle.lsif.specs.Element.{ElementValue, element_value};
     ghost use Rattle.dump.specs.Steps.Chains.{HasShortcuts};
-    ghost use Rattle.dump.specs.Steps.Index.{IsIndex};
+    ghost use Rattle.dump.specs.Steps.Tables.{AreTables};
     ghost use Rattle.dump.specs.Walks.{next_pairs};
 
     ghost Value = { List ElementValue };
 
     ghost view = { λ g. map element_value g.elements.items };
 
-    ghost invariant = { λ g. IsIndex g.index (map element_value g.elements.items)
+    ghost invariant = { λ g. AreTables g.tables (map element_value g.elements.items)
         × HasShortcuts (next_pairs (map element_value g.elements.items)) (map element_value g.elements.items) g.shortcuts.items };
 }
 
@@ -50,7 +50,7 @@ impl Graph {
     {
         Graph {
             elements: Vec::new(alloc),
-            index: Index::new(alloc),
+            tables: Tables::new(alloc),
             shortcuts: Vec::new(alloc),
         }
     }
@@ -82,8 +82,8 @@ impl Graph {
     {
         self.elements.reserve(1)?;
         self.shortcuts.reserve(1)?;
-        let joined = self.index.joined_places(&self.elements, &element);
-        self.index.add(&self.elements, &element)?;
+        let joined = self.tables.joined_indices(&self.elements, &element);
+        self.tables.add(&self.elements, &element)?;
         follow(&mut self.shortcuts, &self.elements, &element, joined);
         self.elements.push_reserved(element);
         Ok(())
@@ -95,8 +95,8 @@ impl Graph {
         ensures path { Path (next_pairs self.now) (id_value id.now) (id_value result.now) }
         ensures last { first_to (next_pairs self.now) (id_value result.now) ≡ None }
     {
-        match self.index.place_of_id(&self.elements, id) {
-            Some(place) => self.elements[end_of(&self.shortcuts, &self.elements, place)].id(),
+        match self.tables.index_of_id(&self.elements, id) {
+            Some(index) => self.elements[end_of(&self.shortcuts, &self.elements, index)].id(),
             None => id,
         }
     }
@@ -105,21 +105,22 @@ impl Graph {
     pub(crate) fn element_at(&self, id: &Id) -> Option<&Element>
         ensures { option_map (λ e. element_value e.now) result ≡ element_at self.now (id_value id.now) }
     {
-        self.index.element_at(&self.elements, id)
+        self.tables.element_at(&self.elements, id)
     }
 
     /// Whether a document contains the range.
     pub(crate) fn is_contained(&self, range: &Id) -> bool
         ensures { result ≡ is_contained self.now (id_value range.now) }
     {
-        self.index.is_linked(&self.elements, Link::Contained, range)
+        self.tables
+            .is_linked(&self.elements, Link::Contained, range)
     }
 
     /// The document that contains the range.
     pub(crate) fn container(&self, range: &Id) -> Option<&Id>
         ensures { option_map (λ i. id_value i.now) result ≡ container self.now (id_value range.now) }
     {
-        match self.index.linked(&self.elements, Link::Contained, range) {
+        match self.tables.linked(&self.elements, Link::Contained, range) {
             Some(edge) => contains_source(edge),
             None => None,
         }
@@ -148,21 +149,21 @@ impl Graph {
     pub(crate) fn conflict(&self, document: &Id, ranges: &[Id]) -> Result<bool, AllocError>
         ensures { IfOk result (λ b. b ≡ (any_conflicts (spans_of self.now (id_values ranges.now)) (spans_in self.now (id_value document.now)) || has_conflict (spans_of self.now (id_values ranges.now)))) }
     {
-        self.index.conflict(&self.elements, document, ranges)
+        self.tables.conflict(&self.elements, document, ranges)
     }
 
     /// Whether this document has begun.
     pub(crate) fn has_begun(&self, document: &Id) -> bool
         ensures { result ≡ has_begun self.now (id_value document.now) }
     {
-        self.index.is_linked(&self.elements, Link::Begun, document)
+        self.tables.is_linked(&self.elements, Link::Begun, document)
     }
 
     /// Whether this document has ended.
     pub(crate) fn has_ended(&self, document: &Id) -> bool
         ensures { result ≡ has_ended self.now (id_value document.now) }
     {
-        self.index.is_linked(&self.elements, Link::Ended, document)
+        self.tables.is_linked(&self.elements, Link::Ended, document)
     }
 
     /// Whether a document that has ended contains the range.
@@ -180,14 +181,14 @@ impl Graph {
     pub(crate) fn has_document_of(&self, uri: &str) -> bool
         ensures { result ≡ list_any (is_document_of uri.now) self.now }
     {
-        self.index.has_document_of(&self.elements, uri)
+        self.tables.has_document_of(&self.elements, uri)
     }
 
     /// The target of the edge of this label out of the vertex.
     pub(crate) fn target_of(&self, label: SingleLabel, id: &Id) -> Option<&Id>
         ensures { option_map (λ i. id_value i.now) result ≡ first_to (single_pairs label self.now) (id_value id.now) }
     {
-        match self.index.linked(&self.elements, Link::Single(label), id) {
+        match self.tables.linked(&self.elements, Link::Single(label), id) {
             Some(edge) => target(edge),
             None => None,
         }

@@ -12,8 +12,8 @@ use std::collections::HashMap;
 #[derive(Drop)]
 pub(crate) struct IdMap<V> {
     alloc: Global,
-    numbers: HashMap<u64, V>,
-    texts: HashMap<String, V>,
+    pub(crate) numbers: HashMap<u64, V>,
+    pub(crate) texts: HashMap<String, V>,
 }
 
 impl<V> IdMap<V> {

@@ -8,14 +8,15 @@ mod ended;
 mod fault;
 mod graph;
 mod ids;
-mod index;
+mod index_map;
 mod laws;
 mod links;
 mod order;
-mod place_map;
 mod reading;
 mod single;
+mod sorted_spans;
 mod spans;
+mod tables;
 mod vertices;
 mod walks;
 
@@ -31,6 +32,6 @@ mod tests;
 #[cfg(test)]
 mod tests_ids;
 #[cfg(test)]
-mod tests_place_map;
+mod tests_index_map;
 #[cfg(test)]
 mod tests_spans;

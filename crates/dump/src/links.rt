@@ -1,12 +1,12 @@
-//! The places of the elements that name a vertex, way by way.
+//! The indices of the elements that name a vertex, way by way.
 ghost use Rattle.std.specs.Prelude.{◌≡◌, ◌<◌, ◌&&◌, [], ℕ, true, get_or, is_some, length, nat_eq};
 ghost use Rattle.std.specs.List.{list_all};
 ghost use Rattle.lsif.specs.Element.{IdValue, id_value, id_values, same_id};
 ghost use Rattle.dump.specs.Graph.{is_among};
-ghost use Rattle.dump.specs.Steps.Ids.{place_at, entered, HasRows};
+ghost use Rattle.dump.specs.Steps.Ids.{index_at, entered, HasRows};
 ghost use Rattle.dump.specs.Steps.Links.{link_index, same_link, cell, link_at};
 
-use crate::place_map::PlaceMap;
+use crate::index_map::IndexMap;
 use crate::single::SingleLabel;
 use lsif::Id;
 
@@ -26,7 +26,7 @@ pub(crate) enum Link {
 /// How many ways there are.
 pub(crate) const LINKS: usize = 8;
 
-/// The place of the first element that names a vertex in each way.
+/// The index of the first element that names a vertex in each way.
 pub(crate) type Row = [Option<usize>; LINKS];
 
 impl Link {
@@ -38,17 +38,17 @@ impl Link {
             Link::Contained => 0,
             Link::Begun => 1,
             Link::Ended => 2,
-            Link::Single(label) => 3 + label.index(),
+            Link::Single(label) => 3 + label as usize,
         }
     }
 }
 
-/// The place in a row.
+/// What a row holds of this way.
 pub(crate) fn cell(rows: &[Row], row: usize, link: Link) -> Option<usize>
     ensures { result ≡ cell rows.now row link }
 {
     match rows.get(row) {
-        Some(places) => places[link.index()],
+        Some(cells) => cells[link.index()],
         None => None,
     }
 }
@@ -61,48 +61,48 @@ fn row_at(rows: &[Row], row: usize) -> Row
     rows[row]
 }
 
-/// Enters the place in a row, where it has none yet.
-fn enter(rows: &mut Vec<Row>, row: usize, link: Link, place: usize)
+/// Enters the index in a row, where the row has none of this way yet.
+fn enter(rows: &mut Vec<Row>, row: usize, link: Link, index: usize)
     requires { row < length rows.old.items }
     ensures length { length rows.new.items ≡ length rows.old.items }
-    ensures cells { (n : ℕ) (other : Link) → cell rows.new.items n other ≡ entered (nat_eq row n && same_link link other) place (cell rows.old.items n other) }
+    ensures cells { (n : ℕ) (other : Link) → cell rows.new.items n other ≡ entered (nat_eq row n && same_link link other) index (cell rows.old.items n other) }
 {
-    let index = link.index();
-    let mut places = row_at(rows, row);
-    if places[index].is_none() {
-        places[index] = Some(place);
-        rows[row] = places;
+    let column = link.index();
+    let mut cells = row_at(rows, row);
+    if cells[column].is_none() {
+        cells[column] = Some(index);
+        rows[row] = cells;
     }
 }
 
-/// Enters the place in the row of this id, where it has none yet.
-fn enter_at(rows: &mut Vec<Row>, places: &PlaceMap, link: Link, id: &Id, place: usize)
-    requires rows { HasRows places.now (length rows.old.items) }
-    requires known { is_some (place_at places.now (id_value id.now)) ≡ true }
+/// Enters the index in the row of this id, where it has none yet.
+fn enter_at(rows: &mut Vec<Row>, indices: &IndexMap, link: Link, id: &Id, index: usize)
+    requires rows { HasRows indices.now (length rows.old.items) }
+    requires known { is_some (index_at indices.now (id_value id.now)) ≡ true }
     ensures length { length rows.new.items ≡ length rows.old.items }
-    ensures links { (other : Link) (i : IdValue) → link_at places.now rows.new.items other i
-        ≡ entered (same_link link other && same_id (id_value id.now) i) place (link_at places.now rows.old.items other i) }
+    ensures links { (other : Link) (i : IdValue) → link_at indices.now rows.new.items other i
+        ≡ entered (same_link link other && same_id (id_value id.now) i) index (link_at indices.now rows.old.items other i) }
 {
-    if let Some(row) = places.get(id) {
-        enter(rows, row, link, place);
+    if let Some(row) = indices.get(id) {
+        enter(rows, row, link, index);
     }
 }
 
-/// Enters the place in the rows of these ids, where they have none yet.
+/// Enters the index in the rows of these ids, where they have none yet.
 pub(crate) fn enter_all(
     rows: &mut Vec<Row>,
-    places: &PlaceMap,
+    indices: &IndexMap,
     link: Link,
     ids: &[Id],
-    place: usize,
+    index: usize,
 )
-    requires rows { HasRows places.now (length rows.old.items) }
-    requires known { list_all (λ i. is_some (place_at places.now i)) (id_values ids.now) ≡ true }
+    requires rows { HasRows indices.now (length rows.old.items) }
+    requires known { list_all (λ i. is_some (index_at indices.now i)) (id_values ids.now) ≡ true }
     ensures length { length rows.new.items ≡ length rows.old.items }
-    ensures links { (other : Link) (i : IdValue) → link_at places.now rows.new.items other i
-        ≡ entered (same_link link other && is_among i (id_values ids.now)) place (link_at places.now rows.old.items other i) }
+    ensures links { (other : Link) (i : IdValue) → link_at indices.now rows.new.items other i
+        ≡ entered (same_link link other && is_among i (id_values ids.now)) index (link_at indices.now rows.old.items other i) }
 {
     for id in ids {
-        enter_at(rows, places, link, id, place);
+        enter_at(rows, indices, link, id, index);
     }
 }

@@ -2,17 +2,17 @@
 ghost use Rattle.std.specs.Prelude.{◌≡◌, false, ◌<◌, ◌≤◌, ◌&&◌, ◌∷◌, IfOk, IfNone, length, not};
 ghost use Rattle.std.specs.List.{list_any};
 ghost use Rattle.lsif.specs.Element.{id_value, id_values, item_value, element_value};
-ghost use Rattle.dump.specs.Conditions.{is_misplaced, are_vertices, joins_no_vertex, may_contain, may_ask, is_result_set, is_definition_result, is_hover_result, is_moniker, is_package, are_definitions, may_be_of_references, may_have_item, may_not_join, is_contained_again, is_conflicting, leaves_again, closes_cycle, has_effect, is_place, has_no_place, has_ranges, is_misplaced_item, has_used_uri, order_code, is_uncontained, end_code, most_elements};
+ghost use Rattle.dump.specs.Conditions.{is_misplaced, are_vertices, joins_no_vertex, may_contain, are_definitions, may_be_of_references, may_have_item, may_not_join, is_contained_again, is_conflicting, leaves_again, closes_cycle, has_effect, has_no_shard, is_misplaced_item, has_used_uri, order_code, is_uncontained, end_code, most_elements};
 ghost use Rattle.dump.specs.Ended.{is_bad_event, is_closed, leaves_ended, is_late};
-ghost use Rattle.dump.specs.Graph.{vertex_at, ends, is_reference_result};
+ghost use Rattle.dump.specs.Graph.{vertex_at, ends};
 ghost use Rattle.dump.specs.Progress.{end_fault_from, IsSound};
 
 use crate::contained::{any_contained, are_in};
-use crate::ended::{any_closed, either_closed, is_bad_event};
+use crate::ended::{any_closed, is_bad_event};
 use crate::fault::LineFault;
 use crate::graph::Graph;
 use crate::single::single_of;
-use crate::vertices::{Kind, are_of_kind, is_document, is_reference_result, is_vertex, vertex_at};
+use crate::vertices::{Kind, are_of_kind, is_of_kind, vertex_at};
 use crate::walks::leads;
 use lsif::{Code, Edge, Element, Id, Item, Property, Vertex};
 use std::alloc::AllocError;
@@ -38,7 +38,7 @@ fn joins_no_vertex(graph: &Graph, element: &Element) -> bool
     match element {
         Element::Vertex(_, _) => false,
         Element::Edge(_, Edge::Contains(from, to) | Edge::Other(from, to)) => {
-            !is_vertex(graph, from) || !are_of_kind(graph, Kind::Any, to)
+            !is_of_kind(graph, Kind::Any, from) || !are_of_kind(graph, Kind::Any, to)
         }
         Element::Edge(
             _,
@@ -49,9 +49,10 @@ fn joins_no_vertex(graph: &Graph, element: &Element) -> bool
             | Edge::Moniker(from, to)
             | Edge::Package(from, to)
             | Edge::Attach(from, to),
-        ) => { !is_vertex(graph, from) || !is_vertex(graph, to) }
+        ) => { !is_of_kind(graph, Kind::Any, from) || !is_of_kind(graph, Kind::Any, to) }
         Element::Edge(_, Edge::Item(item)) => {
-            !is_vertex(graph, &item.source) || !are_of_kind(graph, Kind::Any, &item.targets)
+            !is_of_kind(graph, Kind::Any, &item.source)
+                || !are_of_kind(graph, Kind::Any, &item.targets)
         }
     }
 }
@@ -65,46 +66,6 @@ fn contents_fit(graph: &Graph, from: &Id, to: &[Id]) -> bool
         Some(Vertex::Document(_)) => are_of_kind(graph, Kind::Range, to),
         _ => false,
     }
-}
-
-/// Requests are asked of ranges and result sets.
-fn may_ask(graph: &Graph, id: &Id) -> bool
-    ensures { result ≡ may_ask (vertex_at graph.now (id_value id.now)) }
-{
-    matches!(
-        vertex_at(graph, id),
-        Some(Vertex::Range(_) | Vertex::ResultSet)
-    )
-}
-
-fn is_result_set(graph: &Graph, id: &Id) -> bool
-    ensures { result ≡ is_result_set (vertex_at graph.now (id_value id.now)) }
-{
-    matches!(vertex_at(graph, id), Some(Vertex::ResultSet))
-}
-
-fn is_definition_result(graph: &Graph, id: &Id) -> bool
-    ensures { result ≡ is_definition_result (vertex_at graph.now (id_value id.now)) }
-{
-    matches!(vertex_at(graph, id), Some(Vertex::DefinitionResult))
-}
-
-fn is_hover_result(graph: &Graph, id: &Id) -> bool
-    ensures { result ≡ is_hover_result (vertex_at graph.now (id_value id.now)) }
-{
-    matches!(vertex_at(graph, id), Some(Vertex::HoverResult(_)))
-}
-
-fn is_moniker(graph: &Graph, id: &Id) -> bool
-    ensures { result ≡ is_moniker (vertex_at graph.now (id_value id.now)) }
-{
-    matches!(vertex_at(graph, id), Some(Vertex::Moniker(_)))
-}
-
-fn is_package(graph: &Graph, id: &Id) -> bool
-    ensures { result ≡ is_package (vertex_at graph.now (id_value id.now)) }
-{
-    matches!(vertex_at(graph, id), Some(Vertex::Package(_)))
 }
 
 /// An `item` edge without a property has definitions.
@@ -156,29 +117,29 @@ fn fits(graph: &Graph, element: &Element) -> bool
         Element::Vertex(_, _) => true,
         Element::Edge(_, Edge::Contains(from, to)) => contents_fit(graph, from, to),
         Element::Edge(_, Edge::Next(from, to)) => {
-            may_ask(graph, from) && is_result_set(graph, to)
+            is_of_kind(graph, Kind::Asked, from) && is_of_kind(graph, Kind::ResultSet, to)
         }
         Element::Edge(_, Edge::Definition(from, to)) => {
-            may_ask(graph, from) && is_definition_result(graph, to)
+            is_of_kind(graph, Kind::Asked, from) && is_of_kind(graph, Kind::DefinitionResult, to)
         }
         Element::Edge(_, Edge::References(from, to)) => {
-            may_ask(graph, from) && is_reference_result(graph, to)
+            is_of_kind(graph, Kind::Asked, from) && is_of_kind(graph, Kind::ReferenceResult, to)
         }
         Element::Edge(_, Edge::Hover(from, to)) => {
-            may_ask(graph, from) && is_hover_result(graph, to)
+            is_of_kind(graph, Kind::Asked, from) && is_of_kind(graph, Kind::HoverResult, to)
         }
         Element::Edge(_, Edge::Moniker(from, to)) => {
-            may_ask(graph, from) && is_moniker(graph, to)
+            is_of_kind(graph, Kind::Asked, from) && is_of_kind(graph, Kind::Moniker, to)
         }
         Element::Edge(_, Edge::Package(from, to)) => {
-            is_moniker(graph, from) && is_package(graph, to)
+            is_of_kind(graph, Kind::Moniker, from) && is_of_kind(graph, Kind::Package, to)
         }
         Element::Edge(_, Edge::Attach(from, to)) => {
-            is_moniker(graph, from) && is_moniker(graph, to)
+            is_of_kind(graph, Kind::Moniker, from) && is_of_kind(graph, Kind::Moniker, to)
         }
         Element::Edge(_, Edge::Item(item)) => item_fits(graph, item),
         Element::Edge(_, Edge::Other(from, to)) => {
-            is_vertex(graph, from) && are_of_kind(graph, Kind::Any, to)
+            is_of_kind(graph, Kind::Any, from) && are_of_kind(graph, Kind::Any, to)
         }
     }
 }
@@ -188,7 +149,7 @@ fn is_contained_again(graph: &Graph, element: &Element) -> Result<bool, AllocErr
     ensures { IfOk result (λ b. b ≡ is_contained_again graph.now (element_value element.now)) }
 {
     match element {
-        Element::Edge(_, Edge::Contains(from, to)) if is_document(graph, from) => {
+        Element::Edge(_, Edge::Contains(from, to)) if is_of_kind(graph, Kind::Document, from) => {
             Ok(any_contained(graph, to) || graph.is_repeating(to)?)
         }
         _ => Ok(false),
@@ -200,7 +161,7 @@ fn is_conflicting(graph: &Graph, element: &Element) -> Result<bool, AllocError>
     ensures { IfOk result (λ b. b ≡ is_conflicting graph.now (element_value element.now)) }
 {
     match element {
-        Element::Edge(_, Edge::Contains(from, to)) if is_document(graph, from) => {
+        Element::Edge(_, Edge::Contains(from, to)) if is_of_kind(graph, Kind::Document, from) => {
             graph.conflict(from, to)
         }
         _ => Ok(false),
@@ -236,23 +197,13 @@ fn has_effect(graph: &Graph, source: &Id) -> bool
     !matches!(vertex_at(graph, source), Some(Vertex::Other))
 }
 
-/// Whether the id is that of a document or a project.
-fn is_place(graph: &Graph, id: &Id) -> bool
-    ensures { result ≡ is_place (vertex_at graph.now (id_value id.now)) }
-{
-    matches!(
-        vertex_at(graph, id),
-        Some(Vertex::Project | Vertex::Document(_))
-    )
-}
-
 /// The shard isn't an earlier document or project.
-fn has_no_place(graph: &Graph, element: &Element) -> bool
-    ensures { result ≡ has_no_place graph.now (element_value element.now) }
+fn has_no_shard(graph: &Graph, element: &Element) -> bool
+    ensures { result ≡ has_no_shard graph.now (element_value element.now) }
 {
     match element {
         Element::Edge(_, Edge::Item(item)) => {
-            !is_place(graph, &item.shard) && has_effect(graph, &item.source)
+            !is_of_kind(graph, Kind::Shard, &item.shard) && has_effect(graph, &item.source)
         }
         _ => false,
     }
@@ -287,7 +238,7 @@ fn names_closed(graph: &Graph, element: &Element) -> bool
             | Edge::Moniker(from, to)
             | Edge::Package(from, to)
             | Edge::Attach(from, to),
-        ) => either_closed(graph, from, to),
+        ) => graph.is_closed(from) || graph.is_closed(to),
         Element::Edge(_, Edge::Item(item)) => {
             graph.is_closed(&item.source) || any_closed(graph, &item.targets)
         }
@@ -337,7 +288,7 @@ pub(crate) fn order_code(graph: &Graph, element: &Element) -> Result<Option<Code
         Some(Code::L13)
     } else if closes_cycle(graph, element) {
         Some(Code::L14)
-    } else if has_no_place(graph, element) {
+    } else if has_no_shard(graph, element) {
         Some(Code::L16)
     } else if is_bad_event(graph, element) {
         Some(Code::L17)
@@ -363,13 +314,6 @@ fn is_uncontained(graph: &Graph, element: &Element) -> bool
     }
 }
 
-/// Whether an `item` edge of this property has ranges, and not reference results.
-fn has_ranges(property: Option<Property>) -> bool
-    ensures { result ≡ has_ranges property }
-{
-    !matches!(property, Some(Property::ReferenceResults))
-}
-
 /// The shard of an `item` edge is a document that doesn't contain a target range.
 fn is_misplaced_item(graph: &Graph, element: &Element) -> bool
     requires { IsSound graph.now }
@@ -377,8 +321,8 @@ fn is_misplaced_item(graph: &Graph, element: &Element) -> bool
 {
     match element {
         Element::Edge(_, Edge::Item(item)) => {
-            has_ranges(item.property)
-                && is_document(graph, &item.shard)
+            !matches!(item.property, Some(Property::ReferenceResults))
+                && is_of_kind(graph, Kind::Document, &item.shard)
                 && !are_in(graph, &item.shard, &item.targets)
                 && has_effect(graph, &item.source)
         }

@@ -2,7 +2,8 @@
 ghost use Rattle.std.specs.Prelude.{◌≡◌, ◌-◌, ◌^◌, ◌<◌, IfOk, IfErr, option_map};
 ghost use Rattle.lsif.specs.Element.{reading_value};
 ghost use Rattle.lsif.specs.Buffered.{unread};
-ghost use Rattle.dump.specs.Judging.{CountsRead, GoesOn, IsOutside, IsReady, ReadsDump, ReadsNext, as_dump_fault};
+ghost use Rattle.dump.specs.Judging.{CountsRead, ReadsDump, as_dump_fault};
+ghost use Rattle.dump.specs.Steps.Judging.{GoesOn, IsOutside, IsReady, ReadsNext};
 
 use crate::checker::{CheckedDump, Checker};
 use crate::fault::{FeedFault, LineFault};

@@ -2,7 +2,7 @@
 ghost use Rattle.std.specs.Prelude.{◌≡◌, option_map};
 ghost use Rattle.lsif.specs.Element.{id_value, element_value};
 ghost use Rattle.dump.specs.Steps.Links.{single_target};
-ghost use Rattle.dump.specs.Walks.{label_index, single_of};
+ghost use Rattle.dump.specs.Walks.{single_of};
 
 use lsif::{Edge, Element, Id};
 
@@ -14,14 +14,6 @@ pub enum SingleLabel {
     References,
     Hover,
     PackageInformation,
-}
-
-impl SingleLabel {
-    pub(crate) fn index(self) -> usize
-        ensures { result ≡ label_index self }
-    {
-        self as usize
-    }
 }
 
 /// An edge of a single label: the label, the source and the target.

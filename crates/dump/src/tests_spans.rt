@@ -1,6 +1,11 @@
-//! Spans in the order that they're kept in, and the conflicts of spans with others and with each other.
-use crate::spans::{conflict_after, conflict_in_order, merged};
+//! Lists of spans, and the conflicts of spans with others and with each other.
+ghost use Rattle.std.specs.Prelude.{◌<◌};
+
+use crate::sorted_spans::add;
+use crate::{Checker, FeedFault};
+use lsif::{Code, Edge, Element, Id, Profile, Vertex};
 use positions::{Position, Span};
+use std::alloc::Global;
 use std::test::Fail;
 
 /// From a line and a character up to a line and a character.
@@ -20,27 +25,33 @@ fn spans(rt: &HostRuntime, all: &[Ends]) -> Result<Vec<Span>, Fail> {
     Ok(found)
 }
 
-/// Whether the targets conflict with the others or with each other. The others are put in order and don't conflict.
-fn is_conflict(rt: &HostRuntime, others: &[Ends], targets: &[Ends]) -> Result<bool, Fail> {
-    let others = merged(rt.alloc(), &[], spans(rt, others)?)?;
-    if conflict_in_order(rt.alloc(), &others)? {
-        Err("the others conflict")?
+/// How many spans each list has, where they come so many at once.
+fn lens(rt: &HostRuntime, all: &[Span], at_once: usize) -> Result<Vec<usize>, Fail>
+    requires { 0 < at_once }
+{
+    let mut lists = Vec::new(rt.alloc());
+    for part in all.chunks(at_once) {
+        add(rt.alloc(), &mut lists, Vec::from_slice(rt.alloc(), part)?)?;
     }
-    Ok(conflict_after(rt.alloc(), &others, spans(rt, targets)?)?)
+    let mut lens = Vec::new(rt.alloc());
+    for list in &lists {
+        lens.push(list.spans().len())?;
+    }
+    Ok(lens)
 }
 
 #[test]
-fn both_lists_in_one_order(rt: HostRuntime) -> Result<(), Fail> {
-    let others = [(0, 5, 0, 6), (0, 0, 0, 10), (0, 5, 0, 7)];
-    let others = merged(rt.alloc(), &[], spans(&rt, &others)?)?;
-    let targets = [
+fn lists_of_spans(rt: HostRuntime) -> Result<(), Fail> {
+    let all = [
+        (0, 5, 0, 6),
+        (0, 0, 0, 10),
+        (0, 5, 0, 7),
         (1, 0, 1, 3),
         (0, 5, 1, 0),
         (0, 5, 0, 5),
         (0, 0, 0, 20),
         (0, 7, 0, 7),
     ];
-    let all = merged(rt.alloc(), &others, spans(&rt, &targets)?)?;
     let expected = [
         (0, 0, 0, 20),
         (0, 0, 0, 10),
@@ -51,8 +62,102 @@ fn both_lists_in_one_order(rt: HostRuntime) -> Result<(), Fail> {
         (0, 7, 0, 7),
         (1, 0, 1, 3),
     ];
-    assert_eq!(rt; all, spans(&rt, &expected)?);
+    let all = spans(&rt, &all)?;
+    let expected = spans(&rt, &expected)?;
+    let mut lists = Vec::new(rt.alloc());
+    for part in all.chunks(4) {
+        add(rt.alloc(), &mut lists, Vec::from_slice(rt.alloc(), part)?)?;
+    }
+    for list in &lists {
+        assert_eq!(rt; list.spans(), expected.as_slice());
+    }
+    let table = [
+        (1, [6, 2].as_slice()),
+        (2, &[6, 2]),
+        (3, &[6, 2]),
+        (4, &[8]),
+        (5, &[8]),
+        (7, &[7, 1]),
+        (8, &[8]),
+    ];
+    for (at_once, expected) in table {
+        let lens = lens(&rt, &all, at_once)?;
+        assert_eq!(rt; lens.as_slice(), expected, "{at_once} at once");
+    }
     Ok(())
+}
+
+/// A checker of a dump with one document, whose id is 2, and the number of the last range.
+#[derive(Drop)]
+struct Made {
+    checker: Checker,
+    last: u64,
+}
+
+impl Made {
+    fn new(alloc: Global) -> Result<Made, Fail> {
+        let mut checker = Checker::new(alloc, Profile::One);
+        checker.feed(Ok(Element::Vertex(Id::Number(1), Vertex::MetaData(true))))?;
+        let uri = String::from_str(alloc, "file:///a.ts")?;
+        checker.feed(Ok(Element::Vertex(Id::Number(2), Vertex::Document(uri))))?;
+        Ok(Made { checker, last: 2 })
+    }
+
+    fn next_id(&mut self) -> u64 {
+        self.last = self.last.wrapping_add(1);
+        self.last
+    }
+
+    /// Adds ranges, and an edge by which the document contains them. The code of the edge.
+    fn contain(&mut self, alloc: Global, all: &[Ends]) -> Result<Option<Code>, Fail> {
+        let mut ranges = Vec::new(alloc);
+        for ends in all {
+            let id = self.next_id();
+            let range = Vertex::Range(span(*ends)?);
+            self.checker
+                .feed(Ok(Element::Vertex(Id::Number(id), range)))?;
+            ranges.push(Id::Number(id))?;
+        }
+        let id = Id::Number(self.next_id());
+        let edge = Element::Edge(id, Edge::Contains(Id::Number(2), ranges));
+        match self.checker.feed(Ok(edge)) {
+            Ok(()) => Ok(None),
+            Err(FeedFault::Line(fault)) => Ok(Some(fault.code)),
+            Err(FeedFault::Memory) => Err("memory was refused")?,
+        }
+    }
+}
+
+/// Whether the targets of a `contains` edge conflict with the others, which so many edges before it name at once, or
+/// with each other. The others don't conflict.
+fn conflict_where(
+    rt: &HostRuntime,
+    others: &[Ends],
+    at_once: usize,
+    targets: &[Ends],
+) -> Result<bool, Fail>
+    requires { 0 < at_once }
+{
+    let mut made = Made::new(rt.alloc())?;
+    for part in others.chunks(at_once) {
+        if made.contain(rt.alloc(), part)?.is_some() {
+            Err("the others conflict")?
+        }
+    }
+    match made.contain(rt.alloc(), targets)? {
+        None => Ok(false),
+        Some(Code::L12) => Ok(true),
+        Some(_) => Err("another fault")?,
+    }
+}
+
+/// As `conflict_where`, where the others come in one edge, and where each comes in an edge of its own.
+fn is_conflict(rt: &HostRuntime, others: &[Ends], targets: &[Ends]) -> Result<bool, Fail> {
+    let found = conflict_where(rt, others, 100, targets)?;
+    if conflict_where(rt, others, 1, targets)? != found {
+        Err("another answer where the others come one by one")?
+    }
+    Ok(found)
 }
 
 const NESTED: [Ends; 5] = [
@@ -112,6 +217,11 @@ fn conflicts(rt: HostRuntime) -> Result<(), Fail> {
         (&NESTED, &[(5, 0, 5, 4), (5, 2, 5, 6)], true),
         (&NESTED, &[(5, 0, 5, 0), (5, 0, 5, 0)], true),
         (&NESTED, &[(8, 0, 8, 4), (5, 0, 5, 4), (8, 0, 8, 4)], true),
+        (&NESTED, &[(3, 0, 3, 0)], false),
+        (&NESTED, &[(8, 9, 9, 1)], true),
+        (&NESTED, &[(0, 0, 9, 0)], true),
+        (&NESTED, &[(0, 0, 8, 0)], false),
+        (&NESTED, &[(0, 0, 9, 1)], false),
     ] {
         assert_eq!(rt; is_conflict(&rt, others, targets)?, expected, "{targets:?}");
     }

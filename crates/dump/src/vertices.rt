@@ -1,8 +1,8 @@
 //! What the vertices of ids are.
-ghost use Rattle.std.specs.Prelude.{◌≡◌, is_some, option_map};
+ghost use Rattle.std.specs.Prelude.{◌≡◌, option_map};
 ghost use Rattle.lsif.specs.Element.{id_value, id_values, vertex_value};
 ghost use Rattle.std.specs.List.{list_all};
-ghost use Rattle.dump.specs.Graph.{vertex_at, is_document, is_reference_result};
+ghost use Rattle.dump.specs.Graph.{vertex_at};
 ghost use Rattle.dump.specs.Steps.Kinds.{is_of_kind};
 
 use crate::graph::Graph;
@@ -18,41 +18,42 @@ pub(crate) fn vertex_at<'a>(graph: &'a Graph, id: &Id) -> Option<&'a Vertex>
     }
 }
 
-pub(crate) fn is_vertex(graph: &Graph, id: &Id) -> bool
-    ensures { result ≡ is_some (vertex_at graph.now (id_value id.now)) }
-{
-    vertex_at(graph, id).is_some()
-}
-
-pub(crate) fn is_document(graph: &Graph, id: &Id) -> bool
-    ensures { result ≡ is_document (vertex_at graph.now (id_value id.now)) }
-{
-    matches!(vertex_at(graph, id), Some(Vertex::Document(_)))
-}
-
-pub(crate) fn is_reference_result(graph: &Graph, id: &Id) -> bool
-    ensures { result ≡ is_reference_result (vertex_at graph.now (id_value id.now)) }
-{
-    matches!(vertex_at(graph, id), Some(Vertex::ReferenceResult))
-}
-
-/// What the vertices that an edge joins have to be.
+/// What an edge or an event asks of a vertex.
 #[derive(Clone, Copy)]
 pub(crate) enum Kind {
+    /// A vertex of any label.
     Any,
     Document,
     Range,
+    ResultSet,
+    DefinitionResult,
     ReferenceResult,
+    HoverResult,
+    Moniker,
+    Package,
+    /// A range or a result set: requests are asked of these.
+    Asked,
+    /// A document or a project: these may be the shard of an `item` edge.
+    Shard,
 }
 
-fn is_of_kind(graph: &Graph, kind: Kind, id: &Id) -> bool
+/// Whether the id is that of a vertex of this kind.
+pub(crate) fn is_of_kind(graph: &Graph, kind: Kind, id: &Id) -> bool
     ensures { result ≡ is_of_kind kind (vertex_at graph.now (id_value id.now)) }
 {
+    let vertex = vertex_at(graph, id);
     match kind {
-        Kind::Any => is_vertex(graph, id),
-        Kind::Document => is_document(graph, id),
-        Kind::Range => matches!(vertex_at(graph, id), Some(Vertex::Range(_))),
-        Kind::ReferenceResult => is_reference_result(graph, id),
+        Kind::Any => vertex.is_some(),
+        Kind::Document => matches!(vertex, Some(Vertex::Document(_))),
+        Kind::Range => matches!(vertex, Some(Vertex::Range(_))),
+        Kind::ResultSet => matches!(vertex, Some(Vertex::ResultSet)),
+        Kind::DefinitionResult => matches!(vertex, Some(Vertex::DefinitionResult)),
+        Kind::ReferenceResult => matches!(vertex, Some(Vertex::ReferenceResult)),
+        Kind::HoverResult => matches!(vertex, Some(Vertex::HoverResult(_))),
+        Kind::Moniker => matches!(vertex, Some(Vertex::Moniker(_))),
+        Kind::Package => matches!(vertex, Some(Vertex::Package(_))),
+        Kind::Asked => matches!(vertex, Some(Vertex::Range(_) | Vertex::ResultSet)),
+        Kind::Shard => matches!(vertex, Some(Vertex::Project | Vertex::Document(_))),
     }
 }
 

@@ -23,15 +23,15 @@ pub(crate) fn first_result<'a>(graph: &'a Graph, label: SingleLabel, from: &'a I
     requires { HasChain (next_pairs graph.now) (id_value from.now) }
     ensures { (xs : List IdValue) → IsChain (next_pairs graph.now) (id_value from.now) xs → option_map (λ i. id_value i.now) result ≡ first_of_list (single_pairs label graph.now) xs }
 {
-    let mut place = from;
+    let mut vertex = from;
     for _step in 0..graph.len() {
-        if let Some(result) = graph.target_of(label, place) {
+        if let Some(result) = graph.target_of(label, vertex) {
             return Some(result);
         }
-        match graph.target_of(SingleLabel::Next, place) {
-            Some(more) => place = more,
+        match graph.target_of(SingleLabel::Next, vertex) {
+            Some(more) => vertex = more,
             None => return None,
         }
     }
-    graph.target_of(label, place)
+    graph.target_of(label, vertex)
 }

@@ -3,12 +3,12 @@ use Rattle.std.specs.Prelude.{ℕ, ◌+◌, Bool, false, nat_eq, ◌&&◌, List,
 use Rattle.lsif.specs.Element.{IdValue, same_id, begin_event, end_event, event, contains, ElementValue, vertex, edge}
 use Rattle.dump.specs.declared.links.Link.{Link}
 use Rattle.dump.specs.declared.links.Link.TheVariants.{Contained, Begun, Ended, Single}
-use Rattle.dump.specs.declared.place_map.PlaceMap.{PlaceMap}
+use Rattle.dump.specs.declared.index_map.IndexMap.{IndexMap}
 use Rattle.dump.specs.declared.single.SingleLabel.{SingleLabel}
 use Rattle.dump.specs.Contained.{contains_of, contains_range}
 use Rattle.dump.specs.Ended.{begins, finishes}
 use Rattle.dump.specs.Graph.{vertex_at, is_document, is_among}
-use Rattle.dump.specs.Steps.Ids.{place_at}
+use Rattle.dump.specs.Steps.Ids.{index_at}
 use Rattle.dump.specs.Walks.{label_index, same_label, single_of}
 
 abbrev pub link_index : Link → ℕ
@@ -59,6 +59,6 @@ is_named None l i = false
 abbrev pub cell : List (List (Option ℕ)) → ℕ → Link → Option ℕ
 cell rows n l = get_or (get_or rows n []) (link_index l) None
 
--- the place that the tables have at an id, of the way
-abbrev pub link_at : PlaceMap → List (List (Option ℕ)) → Link → IdValue → Option ℕ
-link_at places rows l i = option_and_then (λ n. cell rows n l) (place_at places i)
+-- the index that the tables have at an id, of this way
+abbrev pub link_at : IndexMap → List (List (Option ℕ)) → Link → IdValue → Option ℕ
+link_at indices rows l i = option_and_then (λ n. cell rows n l) (index_at indices i)

@@ -6,6 +6,6 @@ use Rattle.dump.proofs.chain_ends.end_of.Given as goal
 
 abbrev pub invariant-loop-step : goal.invariant-loop-step
 invariant-loop-step l = record {
-  near : Nearing (next_pairs (map element_value l.elements)) (map element_value l.elements) l.place l.at l._step;
+  near : Nearing (next_pairs (map element_value l.elements)) (map element_value l.elements) l.index l.at l._step;
   inside : l.at < length l.shortcuts;
 }

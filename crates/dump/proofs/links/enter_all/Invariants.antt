@@ -9,5 +9,5 @@ use Rattle.dump.proofs.links.enter_all.Given as goal
 abbrev pub invariant-loop-id : goal.invariant-loop-id
 invariant-loop-id l = record {
   length : length l.rows.items ≡ length l.fn.rows.items;
-  links : (other : Link) (i : IdValue) → link_at l.places l.rows.items other i ≡ entered (same_link l.link other && is_among i (id_values (take l.id-index l.ids))) l.place (link_at l.places l.fn.rows.items other i);
+  links : (other : Link) (i : IdValue) → link_at l.indices l.rows.items other i ≡ entered (same_link l.link other && is_among i (id_values (take l.id-index l.ids))) l.index (link_at l.indices l.fn.rows.items other i);
 }

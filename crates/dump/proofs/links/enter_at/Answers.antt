@@ -8,5 +8,5 @@ enter-requires c = c.requires.rows.below (id_value c.args.id.now) c.in-Some.row 
 
 pub returns-in-Some-clause-links : goal.returns-in-Some-clause-links
 returns-in-Some-clause-links c =
-    link_enters c.args.places.now (length c.args.rows.now.items) c.requires.rows c.args.rows.now.items c.enter.new.rows.items c.args.link c.args.place (id_value c.args.id.now) c.in-Some.row
+    link_enters c.args.indices.now (length c.args.rows.now.items) c.requires.rows c.args.rows.now.items c.enter.new.rows.items c.args.link c.args.index (id_value c.args.id.now) c.in-Some.row
     (sym c.get.ensures ∙ c.in-Some.is) c.enter.ensures.cells

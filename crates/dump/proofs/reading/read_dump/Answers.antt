@@ -2,7 +2,8 @@ use Rattle.std.proofs.Common.{◌≡◌, ◌∙◌, rules, sym, subst, Some, Non
 use Rattle.lsif.specs.Element.{reading_value}
 use Rattle.lsif.specs.Buffered.{unread}
 use Rattle.dump.specs.Progress.{next}
-use Rattle.dump.specs.Judging.{ReadsDump, ReadsNext, GoesOn, as_dump_fault}
+use Rattle.dump.specs.Judging.{ReadsDump, as_dump_fault}
+use Rattle.dump.specs.Steps.Judging.{ReadsNext, GoesOn}
 use Rattle.dump.specs.declared.reading.DumpFault.{DumpFault}
 use Rattle.dump.proofs.Judgings.{took, goes_ready, still_runs, fed_fault, concluded}
 use Rattle.dump.proofs.reading.read_dump.Goals as goal

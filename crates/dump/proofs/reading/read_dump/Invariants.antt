@@ -1,7 +1,7 @@
 use Rattle.std.proofs.Common.{◌≡◌}
 use Rattle.lsif.specs.Buffered.{unread}
 use Rattle.dump.specs.Progress.{IsRunning}
-use Rattle.dump.specs.Judging.{HasTaken, IsReady, room_of}
+use Rattle.dump.specs.Steps.Judging.{HasTaken, IsReady, room_of}
 use Rattle.dump.proofs.reading.read_dump.Given as goal
 
 abbrev pub invariant-reading : goal.invariant-reading

@@ -3,7 +3,7 @@ use Rattle.std.specs.Prelude.{option_map}
 use Rattle.lsif.specs.Element.{ElementValue, id_value, element_value}
 use Rattle.dump.specs.Contained.{contains_range}
 use Rattle.dump.specs.Contained.{contains_source}
-use Rattle.dump.proofs.Indexes.{led_some, led_none}
+use Rattle.dump.proofs.TablesAfter.{led_some, led_none}
 use Rattle.dump.proofs.graph.Graph.container.Goals as goal
 
 pub returns-in-Some : goal.returns-in-Some

@@ -1,7 +1,7 @@
 use Rattle.std.proofs.Common.{◌∙◌, sym, ap}
 use Rattle.lsif.specs.Element.{id_value}
 use Rattle.dump.specs.Ended.{has_ended}
-use Rattle.dump.specs.Steps.Index.{passes}
+use Rattle.dump.specs.Steps.Tables.{passes}
 use Rattle.dump.proofs.Known.{closed_container}
 use Rattle.dump.proofs.graph.Graph.is_closed.Goals as goal
 

@@ -1,6 +1,6 @@
 use Rattle.std.proofs.Common.{◌∙◌, sym, ap}
 use Rattle.lsif.specs.Element.{id_value}
-use Rattle.dump.specs.Steps.Index.{is_id}
+use Rattle.dump.specs.Steps.Tables.{is_id}
 use Rattle.dump.proofs.Known.{in_container}
 use Rattle.dump.proofs.graph.Graph.is_in.Goals as goal
 

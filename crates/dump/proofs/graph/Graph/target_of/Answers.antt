@@ -2,8 +2,8 @@ use Rattle.std.proofs.Common.{◌≡◌, ◌∙◌, sym, ap, subst, List, map, f
 use Rattle.std.specs.Prelude.{option_map}
 use Rattle.lsif.specs.Element.{ElementValue, id_value, element_value}
 use Rattle.dump.specs.Steps.Links.{single_target, is_single}
-use Rattle.dump.proofs.Indexes.{led_some, led_none}
-use Rattle.dump.proofs.Tables.{first_to-single}
+use Rattle.dump.proofs.TablesAfter.{led_some, led_none}
+use Rattle.dump.proofs.FirstIndices.{first_to-single}
 use Rattle.dump.proofs.graph.Graph.target_of.Goals as goal
 
 pub returns-in-Some : goal.returns-in-Some

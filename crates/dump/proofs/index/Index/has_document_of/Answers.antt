@@ -1,5 +1,0 @@
-use Rattle.std.proofs.Common.{◌∙◌}
-use Rattle.dump.proofs.index.Index.has_document_of.Goals as goal
-
-pub returns : goal.returns
-returns c = c.contains_key.ensures ∙ c.requires.documents c.args.uri.now

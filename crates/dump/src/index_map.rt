@@ -1,0 +1,99 @@
+//! Tables from ids to indices in a list.
+ghost use Rattle.std.specs.Prelude.{◌≡◌, ◌<◌, ◌^◌, ℕ, None, OnOk, OnErr, get_or, nat_eq, if◌then◌else◌};
+ghost use Rattle.lsif.specs.Element.{IdValue, id_value, same_id};
+ghost use Rattle.dump.specs.Steps.Ids.{entered, index_at};
+
+use crate::ids::IdMap;
+use lsif::Id;
+use std::alloc::{AllocError, Global};
+
+/// A table from ids to indices in a list, counted from 0. Numbers below a bound have a slot each, and all other ids are
+/// hashed: in most dumps the elements are numbered in their order, so that those of one line and the next stand together.
+#[derive(Drop)]
+pub(crate) struct IndexMap {
+    bound: u32,
+    slots: Vec<Option<usize>>,
+    others: IdMap<usize>,
+}
+
+/// What the slot of a number holds.
+fn slot(slots: &[Option<usize>], number: usize) -> Option<usize>
+    ensures { result ≡ get_or slots.now number None }
+{
+    match slots.get(number) {
+        Some(index) => *index,
+        None => None,
+    }
+}
+
+/// Enters the index in the slot of a number, where it has none yet.
+fn enter_slot(slots: &mut Vec<Option<usize>>, number: usize, index: usize) -> Result<(), AllocError>
+    requires { number < 2 ^ 32 }
+    ensures ok { OnOk result ((n : ℕ) → get_or slots.new.items n None ≡ entered (nat_eq number n) index (get_or slots.old.items n None)) }
+    ensures err { OnErr result (slots.new.items ≡ slots.old.items) }
+{
+    if number >= slots.len() {
+        slots.resize(number + 1, None)?;
+    }
+    if slots[number].is_none() {
+        slots[number] = Some(index);
+    }
+    Ok(())
+}
+
+/// Empties the slot of a number.
+fn empty_slot(slots: &mut [Option<usize>], number: usize)
+    ensures { (n : ℕ) → get_or slots.new n None ≡ (if nat_eq number n then None else get_or slots.old n None) }
+{
+    if number < slots.len() {
+        slots[number] = None;
+    }
+}
+
+impl IndexMap {
+    /// A table with no index, and with slots for the numbers below the bound.
+    pub(crate) fn new(alloc: Global, bound: u32) -> IndexMap
+        ensures { (i : IdValue) → index_at result i ≡ None }
+    {
+        IndexMap {
+            bound,
+            slots: Vec::new(alloc),
+            others: IdMap::new(alloc),
+        }
+    }
+
+    /// The index at the id.
+    pub(crate) fn get(&self, id: &Id) -> Option<usize>
+        ensures { result ≡ index_at self.now (id_value id.now) }
+    {
+        match id {
+            Id::Number(n) if *n < self.bound as u64 => slot(&self.slots, *n as usize),
+            _ => self.others.get(id).copied(),
+        }
+    }
+
+    /// Enters the index at the id, where the table has none yet.
+    pub(crate) fn enter(&mut self, id: &Id, index: usize) -> Result<(), AllocError>
+        ensures ok { OnOk result ((i : IdValue) → index_at self.new i ≡ entered (same_id (id_value id.now) i) index (index_at self.old i)) }
+        ensures err { OnErr result ((i : IdValue) → index_at self.new i ≡ index_at self.old i) }
+    {
+        match id {
+            Id::Number(n) if *n < self.bound as u64 => {
+                enter_slot(&mut self.slots, *n as usize, index)
+            }
+            Id::Number(_) => self.others.enter(id, index),
+            Id::Text(_) => self.others.enter(id, index),
+        }
+    }
+
+    /// Takes the index at the id out of the table.
+    pub(crate) fn remove(&mut self, id: &Id)
+        ensures { (i : IdValue) → index_at self.new i ≡ (if same_id (id_value id.now) i then None else index_at self.old i) }
+    {
+        match id {
+            Id::Number(n) if *n < self.bound as u64 => empty_slot(&mut self.slots, *n as usize),
+            Id::Number(_) => self.others.remove(id),
+            Id::Text(_) => self.others.remove(id),
+        }
+    }
+}

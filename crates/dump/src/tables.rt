@@ -1,0 +1,348 @@
+//! Tables that lead from ids to the elements of a dump.
+ghost use Rattle.std.specs.Prelude.{◌≡◌, ◌++◌, ◌∷◌, ◌||◌, [], ℕ, List, Some, None, bytes_eq, IfOk, OnOk, OnErr, find, is_some, map, option_and_then, option_map, slice_get};
+ghost use Rattle.std.specs.HashMap.{get_by_text};
+ghost use Rattle.std.specs.List.{list_any};
+ghost use Rattle.lsif.specs.Element.{IdValue, id_value, id_values, element_value, element_id, same_id};
+ghost use Rattle.dump.specs.Steps.Chains.{index_in, JoinsIndices};
+ghost use Rattle.dump.specs.Conditions.{is_document_of, order_code};
+ghost use Rattle.dump.specs.Contained.{spans_of, spans_in, any_conflicts, has_conflict};
+ghost use Rattle.dump.specs.Graph.{element_at, vertex_at, is_document};
+ghost use Rattle.dump.specs.Steps.Ids.{value_at, index_at, entered};
+ghost use Rattle.dump.specs.Steps.Tables.{AreTables, IsFilled, lists, kept, is_id};
+ghost use Rattle.dump.specs.Contained.{contains_source};
+ghost use Rattle.dump.specs.Steps.Links.{is_link, link_at, named_by, ranges_in};
+ghost use Rattle.dump.specs.Progress.{IsSound};
+
+use crate::ids::IdMap;
+use crate::index_map::IndexMap;
+use crate::links::{LINKS, Link, Row, cell, enter_all};
+use crate::single::{SingleLabel, single_of};
+use crate::sorted_spans::{SortedSpans, add, conflict_after};
+use lsif::{Edge, Element, Event, Id, Vertex};
+use positions::Span;
+use std::alloc::{AllocError, Global};
+use std::collections::HashMap;
+use std::slice::from_ref;
+
+/// Ids below it have a slot each: more than a dump has elements, so that dumps whose elements are numbered in turn need
+/// nothing else.
+const SLOTS: u32 = 131072;
+
+/// What is kept beside the elements of a dump, so that they are looked up without a search: the tables have their indices
+/// in the list, counted from 0.
+#[derive(Drop)]
+pub(crate) struct Tables {
+    alloc: Global,
+    /// The index of the element of an id.
+    indices: IndexMap,
+    /// Of each element the elements that name it.
+    rows: Vec<Row>,
+    /// The spans of a document's ranges, in lists of which each is in order.
+    spans: IdMap<Vec<SortedSpans>>,
+    /// The document of a serialized URL.
+    documents: HashMap<String, usize>,
+}
+
+/// The spans that are kept of a document, in lists.
+fn lists<'a>(table: &'a IdMap<Vec<SortedSpans>>, document: &Id) -> &'a [SortedSpans]
+    ensures { result.now ≡ lists (value_at table.now (id_value document.now)) }
+{
+    match table.get(document) {
+        Some(lists) => lists,
+        None => &[],
+    }
+}
+
+/// Adds the spans to those that are kept of a document. Where memory is refused they stay as they are.
+fn fill(
+    alloc: Global,
+    table: &mut IdMap<Vec<SortedSpans>>,
+    document: &Id,
+    spans: Vec<Span>,
+) -> Result<(), AllocError>
+    ensures ok { OnOk result ((i : IdValue) → IsFilled (is_id i (Some (id_value document.now))) spans.items (value_at table.old i) (value_at table.new i)) }
+    ensures err { OnErr result ((i : IdValue) → kept (value_at table.new i) ≡ kept (value_at table.old i)) }
+{
+    match document {
+        Id::Number(n) => {
+            let lists = table.numbers.entry(*n)?.or_insert(Vec::new(alloc));
+            add(alloc, lists, spans)
+        }
+        Id::Text(text) => {
+            let key = String::from_str(alloc, text.as_str())?;
+            let lists = table.texts.entry(key)?.or_insert(Vec::new(alloc));
+            add(alloc, lists, spans)
+        }
+    }
+}
+
+/// Enters a serialized URL.
+fn enter_document(
+    alloc: Global,
+    documents: &mut HashMap<String, usize>,
+    uri: &str,
+    index: usize,
+) -> Result<(), AllocError>
+    ensures ok { OnOk result ((other : List ℕ) → is_some (get_by_text documents.new other) ≡ (bytes_eq uri.now other || is_some (get_by_text documents.old other))) }
+    ensures err { OnErr result ((other : List ℕ) → is_some (get_by_text documents.new other) ≡ is_some (get_by_text documents.old other)) }
+{
+    let uri = String::from_str(alloc, uri)?;
+    documents.insert(uri, index)?;
+    Ok(())
+}
+
+/// Keeps what an element says beside its own id: of a `contains` edge the spans of its targets, of a document its
+/// serialized URL. Where memory is refused all stays as it is.
+fn keep(
+    alloc: Global,
+    spans: &mut IdMap<Vec<SortedSpans>>,
+    documents: &mut HashMap<String, usize>,
+    element: &Element,
+    targets: Vec<Span>,
+    index: usize,
+) -> Result<(), AllocError>
+    ensures spans { OnOk result ((i : IdValue) → IsFilled (is_id i (contains_source (element_value element.now))) targets.items (value_at spans.old i) (value_at spans.new i)) }
+    ensures documents { OnOk result ((uri : List ℕ) → is_some (get_by_text documents.new uri) ≡ (is_document_of uri (element_value element.now) || is_some (get_by_text documents.old uri))) }
+    ensures spans_stay { OnErr result ((i : IdValue) → kept (value_at spans.new i) ≡ kept (value_at spans.old i)) }
+    ensures documents_stay { OnErr result ((uri : List ℕ) → is_some (get_by_text documents.new uri) ≡ is_some (get_by_text documents.old uri)) }
+{
+    match element {
+        Element::Edge(_, Edge::Contains(from, _)) => fill(alloc, spans, from, targets),
+        Element::Vertex(_, Vertex::Document(uri)) => {
+            enter_document(alloc, documents, uri.as_str(), index)
+        }
+        _ => Ok(()),
+    }
+}
+
+/// The source of a `contains` edge.
+pub(crate) fn contains_source(element: &Element) -> Option<&Id>
+    ensures { option_map (λ i. id_value i.now) result ≡ contains_source (element_value element.now) }
+{
+    match element {
+        Element::Edge(_, Edge::Contains(from, _)) => Some(from),
+        _ => None,
+    }
+}
+
+/// The element at an index.
+fn at(elements: &[Element], index: Option<usize>) -> Option<&Element>
+    ensures { option_map (λ e. element_value e.now) result ≡ option_and_then (slice_get (map element_value elements.now)) index }
+{
+    match index {
+        Some(index) => elements.get(index),
+        None => None,
+    }
+}
+
+impl Tables {
+    /// The tables of no element.
+    pub(crate) fn new(alloc: Global) -> Tables
+        ensures { AreTables result [] }
+    {
+        Tables {
+            alloc,
+            indices: IndexMap::new(alloc, SLOTS),
+            rows: Vec::new(alloc),
+            spans: IdMap::new(alloc),
+            documents: HashMap::new(alloc),
+        }
+    }
+
+    /// The element of this id.
+    pub(crate) fn element_at<'a>(&self, elements: &'a [Element], id: &Id) -> Option<&'a Element>
+        requires { AreTables self.now (map element_value elements.now) }
+        ensures { option_map (λ e. element_value e.now) result ≡ element_at (map element_value elements.now) (id_value id.now) }
+    {
+        at(elements, self.indices.get(id))
+    }
+
+    /// The index of the element of this id.
+    pub(crate) fn index_of_id(&self, elements: &[Element], id: &Id) -> Option<usize>
+        requires { AreTables self.now (map element_value elements.now) }
+        ensures { result ≡ index_in (map element_value elements.now) (id_value id.now) }
+    {
+        self.indices.get(id)
+    }
+
+    /// The indices of the source and the target of a `next` edge that follows these elements.
+    pub(crate) fn joined_indices(
+        &self,
+        elements: &[Element],
+        element: &Element,
+    ) -> Option<(usize, usize)>
+        requires tables { AreTables self.now (map element_value elements.now) }
+        requires free { order_code (map element_value elements.now) (element_value element.now) ≡ None }
+        ensures { JoinsIndices (map element_value elements.now) (element_value element.now) result }
+    {
+        match single_of(element) {
+            Some((SingleLabel::Next, from, to)) => {
+                Some((self.indices.get(from)?, self.indices.get(to)?))
+            }
+            _ => None,
+        }
+    }
+
+    /// The index of the first element that names the vertex in this way.
+    fn linked_index(&self, link: Link, id: &Id) -> Option<usize>
+        ensures { result ≡ link_at self.now.indices self.now.rows.items link (id_value id.now) }
+    {
+        match self.indices.get(id) {
+            Some(row) => cell(&self.rows, row, link),
+            None => None,
+        }
+    }
+
+    /// Whether an element names the vertex in this way.
+    pub(crate) fn is_linked(&self, elements: &[Element], link: Link, id: &Id) -> bool
+        requires { AreTables self.now (map element_value elements.now) }
+        ensures { result ≡ list_any (is_link (map element_value elements.now) link (id_value id.now)) (map element_value elements.now) }
+    {
+        self.linked_index(link, id).is_some()
+    }
+
+    /// The first element that names the vertex in this way.
+    pub(crate) fn linked<'a>(
+        &self,
+        elements: &'a [Element],
+        link: Link,
+        id: &Id,
+    ) -> Option<&'a Element>
+        requires { AreTables self.now (map element_value elements.now) }
+        ensures { option_map (λ e. element_value e.now) result ≡ find (is_link (map element_value elements.now) link (id_value id.now)) (map element_value elements.now) }
+    {
+        at(elements, self.linked_index(link, id))
+    }
+
+    /// Whether a document has this serialized URL.
+    pub(crate) fn has_document_of(&self, elements: &[Element], uri: &str) -> bool
+        requires { AreTables self.now (map element_value elements.now) }
+        ensures { result ≡ list_any (is_document_of uri.now) (map element_value elements.now) }
+    {
+        self.documents.contains_key(uri)
+    }
+
+    /// Whether the id is that of a document.
+    fn is_document(&self, elements: &[Element], id: &Id) -> bool
+        requires { AreTables self.now (map element_value elements.now) }
+        ensures { result ≡ is_document (vertex_at (map element_value elements.now) (id_value id.now)) }
+    {
+        matches!(
+            self.element_at(elements, id),
+            Some(Element::Vertex(_, Vertex::Document(_)))
+        )
+    }
+
+    /// The spans of the ranges among these ids.
+    fn spans_of(&self, elements: &[Element], ids: &[Id]) -> Result<Vec<Span>, AllocError>
+        requires { AreTables self.now (map element_value elements.now) }
+        ensures { IfOk result (λ found. found.items ≡ spans_of (map element_value elements.now) (id_values ids.now)) }
+    {
+        let mut found = Vec::new(self.alloc);
+        for id in ids {
+            if let Some(Element::Vertex(_, Vertex::Range(span))) = self.element_at(elements, id) {
+                found.push(*span)?;
+            }
+        }
+        Ok(found)
+    }
+
+    /// Whether the span of one of these ranges conflicts with that of a range that the document contains, or with
+    /// another's of them.
+    pub(crate) fn conflict(
+        &self,
+        elements: &[Element],
+        document: &Id,
+        ranges: &[Id],
+    ) -> Result<bool, AllocError>
+        requires { AreTables self.now (map element_value elements.now) }
+        ensures { IfOk result (λ b. b ≡ (any_conflicts (spans_of (map element_value elements.now) (id_values ranges.now)) (spans_in (map element_value elements.now) (id_value document.now)) || has_conflict (spans_of (map element_value elements.now) (id_values ranges.now)))) }
+    {
+        let targets = self.spans_of(elements, ranges)?;
+        conflict_after(self.alloc, lists(&self.spans, document), targets)
+    }
+
+    /// The ranges that the element names, where it's a `contains` edge out of a document.
+    fn ranges_of<'a>(&self, elements: &[Element], element: &'a Element) -> &'a [Id]
+        requires { AreTables self.now (map element_value elements.now) }
+        ensures { id_values result.now ≡ ranges_in (map element_value elements.now) (element_value element.now) }
+    {
+        match element {
+            Element::Edge(_, Edge::Contains(from, to)) if self.is_document(elements, from) => to,
+            _ => &[],
+        }
+    }
+
+    /// The way in which the element names vertices, and these.
+    fn named_by<'a>(&self, elements: &[Element], element: &'a Element) -> Option<(Link, &'a [Id])>
+        requires { AreTables self.now (map element_value elements.now) }
+        ensures { option_map (λ n. (n.0, id_values n.1.now)) result ≡ named_by (map element_value elements.now) (element_value element.now) }
+    {
+        if let Some((label, from, _)) = single_of(element) {
+            return Some((Link::Single(label), from_ref(from)));
+        }
+        match element {
+            Element::Vertex(_, Vertex::Event(Event::Begin(document))) => {
+                Some((Link::Begun, from_ref(document)))
+            }
+            Element::Vertex(_, Vertex::Event(Event::End(document))) => {
+                Some((Link::Ended, from_ref(document)))
+            }
+            Element::Edge(_, Edge::Contains(_, _)) => {
+                Some((Link::Contained, self.ranges_of(elements, element)))
+            }
+            _ => None,
+        }
+    }
+
+    /// Enters the id of an element and what is kept of it. Where memory is refused all stays as it is.
+    fn enter(
+        &mut self,
+        element: &Element,
+        targets: Vec<Span>,
+        index: usize,
+    ) -> Result<(), AllocError>
+        requires { index_at self.old.indices (element_id (element_value element.now)) ≡ None }
+        ensures rows { self.new.rows ≡ self.old.rows }
+        ensures indices { OnOk result ((i : IdValue) → index_at self.new.indices i ≡ entered (same_id (element_id (element_value element.now)) i) index (index_at self.old.indices i)) }
+        ensures spans { OnOk result ((i : IdValue) → IsFilled (is_id i (contains_source (element_value element.now))) targets.items (value_at self.old.spans i) (value_at self.new.spans i)) }
+        ensures documents { OnOk result ((uri : List ℕ) → is_some (get_by_text self.new.documents uri) ≡ (is_document_of uri (element_value element.now) || is_some (get_by_text self.old.documents uri))) }
+        ensures indices_stay { OnErr result ((i : IdValue) → index_at self.new.indices i ≡ index_at self.old.indices i) }
+        ensures spans_stay { OnErr result ((i : IdValue) → kept (value_at self.new.spans i) ≡ kept (value_at self.old.spans i)) }
+        ensures documents_stay { OnErr result ((uri : List ℕ) → is_some (get_by_text self.new.documents uri) ≡ is_some (get_by_text self.old.documents uri)) }
+    {
+        self.indices.enter(element.id(), index)?;
+        let kept = keep(
+            self.alloc,
+            &mut self.spans,
+            &mut self.documents,
+            element,
+            targets,
+            index,
+        );
+        if kept.is_err() {
+            self.indices.remove(element.id());
+        }
+        kept
+    }
+
+    /// Enters the element that follows these. Where memory is refused the tables stay those of these.
+    pub(crate) fn add(&mut self, elements: &[Element], element: &Element) -> Result<(), AllocError>
+        requires tables { AreTables self.old (map element_value elements.now) }
+        requires sound { IsSound (map element_value elements.now) }
+        requires free { order_code (map element_value elements.now) (element_value element.now) ≡ None }
+        ensures ok { OnOk result (AreTables self.new (map element_value elements.now ++ element_value element.now ∷ [])) }
+        ensures err { OnErr result (AreTables self.new (map element_value elements.now)) }
+    {
+        let index = elements.len();
+        let named = self.named_by(elements, element);
+        let targets = self.spans_of(elements, self.ranges_of(elements, element))?;
+        self.rows.reserve(1)?;
+        self.enter(element, targets, index)?;
+        self.rows.push_reserved([None; LINKS]);
+        if let Some((link, ids)) = named {
+            enter_all(&mut self.rows, &self.indices, link, ids, index);
+        }
+        Ok(())
+    }
+}
