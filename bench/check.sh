@@ -93,15 +93,17 @@ make_dump() {
     }'
 }
 
-# A dump of one document with so many ranges, four a line, three of them in the fourth. So many edges contain them, each
-# of them one range in so many.
+# A dump of one document with so many ranges, four a line, three of them in the fourth, from the first on or from the
+# last. So many edges contain them, each of them one range in so many.
 make_ranges() {
-    awk -v count="$1" -v edges="$2" "$print_elements"'BEGIN {
+    awk -v count="$1" -v edges="$2" -v order="$3" "$print_elements"'BEGIN {
         meta_data()
         file = document(0)
         for (n = 0; n < count; n++) {
-            line = int(n / 4)
-            id = n % 4 == 0 ? range(line, 0, line, 40) : range(line, 10 * (n % 4), line, 10 * (n % 4) + 8)
+            place = order == "rising" ? n : count - 1 - n
+            line = int(place / 4)
+            column = 10 * (place % 4)
+            id = column == 0 ? range(line, 0, line, 40) : range(line, column, line, column + 8)
             k = n % edges
             targets[k] = targets[k] (n < edges ? "" : ",") id
         }
@@ -176,10 +178,12 @@ measure_dumps() {
         measure_dump "many documents" "$folder/made.lsif"
     done
     for edges in 1 400; do
-        make_ranges 40000 "$edges" >"$folder/ranges.lsif"
+        make_ranges 40000 "$edges" rising >"$folder/ranges.lsif"
         measure_dump "contains edges: $edges" "$folder/ranges.lsif"
     done
     for order in rising falling; do
+        make_ranges 49000 49000 "$order" >"$folder/ranges.lsif"
+        measure_dump "ranges, $order" "$folder/ranges.lsif"
         make_chain 49000 "$order" >"$folder/chain.lsif"
         measure_dump "chain, $order" "$folder/chain.lsif"
     done
