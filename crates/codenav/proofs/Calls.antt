@@ -1,6 +1,7 @@
--- The faults of words that clap refuses.
-use Rattle.std.proofs.Common.{◌≡◌, true, List, sym, subst, inl, inr, refl}
-use Rattle.clap.specs.Words.{App, Text, HasKind, IsAmong, fault_of, is_simple_and_free, kind_of}
+-- What clap finds in words, and the faults of words that it refuses.
+use Rattle.std.proofs.Common.{◌≡◌, true, List, [], sym, subst, inl, inr, refl}
+use Rattle.clap.specs.Words.{App, Text, HasKind, HasMatchesOf, IsAmong, fault_of, is_simple, is_simple_and_free, kind_of, subcommand_of, subcommand_rows_of}
+use Rattle.clap.specs.declared.parser.matches.ArgMatches.{ArgMatches}
 use Rattle.clap.specs.declared.error.Error.{Error}
 use Rattle.codenav.specs.Call.{app, IsRefused}
 use Rattle.codenav.specs.Steps.Call.{ShowsError}
@@ -10,6 +11,17 @@ use Rattle.codenav.specs.declared.call.CallFault.TheVariants.{Memory, Clap}
 -- the command line has no rules that clap's meaning leaves out
 simple : is_simple_and_free app ≡ true
 simple = refl
+
+known : is_simple app ≡ true
+known = refl
+
+-- words that are taken have no fault
+pub taken : (command : App) (words : List Text) → command ≡ app → (is_simple_and_free command ≡ true → fault_of command words ≡ []) → fault_of app words ≡ []
+taken command words is passes = subst (λ (a : App). is_simple_and_free a ≡ true → fault_of a words ≡ []) is passes simple
+
+-- and the subcommand is the one that they name
+pub entered : (command : App) (words : List Text) (found : ArgMatches) → command ≡ app → HasMatchesOf command words found → subcommand_rows_of found ≡ subcommand_of app words
+entered command words found is has = (subst (λ (a : App). HasMatchesOf a words found) is has known).1
 
 pub has_kind : (command : App) (words : List Text) (error : Error) → command ≡ app
     → (is_simple_and_free command ≡ true → HasKind (fault_of command words) error) → HasKind (fault_of app words) error

@@ -1,9 +1,11 @@
 -- What the words of the command line say, by clap's meaning of them.
-use Rattle.std.specs.Prelude.{◌≡◌, ◌≢◌, ◌⊎◌, true, List, [], Option, Some, None, codes, bytes_eq, option_map, if◌then◌else◌, ⊤}
+use Rattle.std.specs.Prelude.{◌≡◌, ◌⊎◌, ℤ, pos, true, List, [], Option, Some, None, codes, bytes_eq, option_map, if◌then◌else◌, ⊤}
 use Rattle.clap.specs.Words.{App, Row, Rule, Text, fault_of, first_of, kind_of, new_app, new_rule, subcommand_of, with_rule, with_subcommand, IsAmong}
 use Rattle.clap.specs.declared.builder.action.ArgAction.TheVariants.{Set}
-use Rattle.clap.specs.declared.error.Error.{Error}
-use Rattle.clap.specs.declared.error.kind.ErrorKind.TheVariants.{OutOfMemory, ValueValidation}
+use Rattle.clap.specs.declared.builder.value_parser.ValueParser.TheVariants.{Signed}
+use Rattle.clap.specs.declared.error.kind.ErrorKind.TheVariants.{ValueValidation}
+use Rattle.lsif.specs.declared.element.Profile.{Profile}
+use Rattle.lsif.specs.declared.element.Profile.TheVariants.{One, Two}
 use Rattle.codenav.specs.declared.call.Call.{Call}
 use Rattle.codenav.specs.declared.call.Call.TheVariants.{CheckLsif, CheckTags, Replay}
 use Rattle.codenav.specs.declared.call.CallFault.{CallFault}
@@ -11,12 +13,12 @@ use Rattle.codenav.specs.declared.call.CallFault.TheVariants.{Memory, Clap}
 
 -- a call of the program
 pub data CallValue : Type 0 where
-  check_lsif : Text → CallValue
+  check_lsif : Text → Profile → CallValue
   check_tags : Text → CallValue
   replay : Text → Text → CallValue
 
 abbrev pub call_value : Call → CallValue
-call_value (CheckLsif file) = check_lsif file.now
+call_value (CheckLsif file profile) = check_lsif file.now profile
 call_value (CheckTags file) = check_tags file.now
 call_value (Replay database file) = replay database.now file.now
 
@@ -24,9 +26,13 @@ call_value (Replay database file) = replay database.now file.now
 abbrev pub word : Text → Rule
 word id = record (new_rule id) { required = true; action = Some Set; value_names = 1 }
 
--- check-lsif FILE
+-- an option whose value is a number in these bounds
+abbrev pub number_option : Text → ℤ → ℤ → Rule
+number_option id least most = record (new_rule id) { long = Some id; action = Some Set; value_names = 1; parser = Some (Signed least most) }
+
+-- check-lsif FILE --profile N
 abbrev pub check_lsif_app : App
-check_lsif_app = with_rule (new_app (codes "check-lsif")) (word (codes "file"))
+check_lsif_app = with_rule (with_rule (new_app (codes "check-lsif")) (word (codes "file"))) (number_option (codes "profile") (pos 1) (pos 2))
 
 -- check-tags FILE
 abbrev pub check_tags_app : App
@@ -45,9 +51,20 @@ top_app =
 abbrev pub app : App
 app = with_subcommand (with_subcommand (with_subcommand top_app check_lsif_app.top) check_tags_app.top) replay_app.top
 
+-- the profile of this number; profile 1 where none is given
+abbrev pub profile_named : Option Text → Option Profile
+profile_named None = Some One
+profile_named (Some number) = if bytes_eq number (codes "1") then Some One else if bytes_eq number (codes "2") then Some Two else None
+
+-- the call of check-lsif with these values, where both are there
+abbrev pub check_lsif_with : Option Text → Option Profile → Option CallValue
+check_lsif_with (Some file) (Some profile) = Some (check_lsif file profile)
+check_lsif_with (Some file) None = None
+check_lsif_with None profile = None
+
 -- the call of check-lsif with these matches
 abbrev pub check_lsif_of : List Row → Option CallValue
-check_lsif_of rows = option_map check_lsif (first_of (codes "file") rows)
+check_lsif_of rows = check_lsif_with (first_of (codes "file") rows) (profile_named (first_of (codes "profile") rows))
 
 -- the call of check-tags with these matches
 abbrev pub check_tags_of : List Row → Option CallValue

@@ -2,6 +2,8 @@
 use Rattle.std.specs.Prelude.{ℕ, List, Option, Result}
 use Rattle.desk.specs.Machine.{State, nothing}
 use Rattle.lsif.specs.Streams.{Output}
+use Rattle.http_edge.specs.Replies.{AnswerValue}
+use Rattle.http_edge.specs.Requests.{MessageValue}
 use Rattle.http_edge.specs.Serving.{Serves}
 use Rattle.http_edge.specs.declared.serve.ServeFault.{ServeFault}
 
@@ -12,4 +14,5 @@ most_requests = 1000000
 -- the bytes that were written are the replies of the abstract machine, from its empty state, to the requests of the bytes
 -- that were read; no store can refuse
 abbrev pub Replays : Option (List ℕ) → Option (List ℕ) → Output → Output → Result ℕ ServeFault → Type 0
-Replays left left' output output' result = (n : State) × Serves ⊥ most_requests nothing left left' output output' n result
+Replays left left' output output' result =
+    (messages : List MessageValue) × (answers : List AnswerValue) × (n : State) × Serves ⊥ most_requests nothing left left' output output' messages answers n result

@@ -5,6 +5,7 @@ use Rattle.lsif.specs.Code as lsif_codes
 use Rattle.lsif.specs.Element as elements
 use Rattle.lsif.specs.Sending.{Writes, CutsShort}
 use Rattle.lsif.specs.Streams.{Output}
+use Rattle.lsif.specs.declared.element.Profile.{Profile}
 use Rattle.dump.specs.Fault.{IsFault}
 use Rattle.dump.specs.Lines.{dump_of}
 use Rattle.dump.specs.declared.fault.LineFault as dump_faults
@@ -33,10 +34,10 @@ IsDumpReport dump (Elements n) = IsFault dump None × (n ≡ length dump)
 IsDumpReport dump (Tags n) = ⊥
 IsDumpReport dump (Faulty l) = (f : dump_faults.LineFault) × IsFault dump (Some f) × ShowsDumpFault f l
 
--- the report of the bytes of a reader, where they are known
-abbrev pub ReportsDump : Option (List ℕ) → Report → Type 0
-ReportsDump None report = ⊤
-ReportsDump (Some text) report = IsDumpReport (dump_of text) report
+-- the report of the bytes of a reader, where they are known, in a profile
+abbrev pub ReportsDump : Profile → Option (List ℕ) → Report → Type 0
+ReportsDump profile None report = ⊤
+ReportsDump profile (Some text) report = IsDumpReport (dump_of profile text) report
 
 -- ---- the report of a tags file
 

@@ -1,11 +1,13 @@
 //! What the program's words ask for.
 ghost use Rattle.std.specs.Prelude.{◌≡◌, ◌≢◌, List, Option, Some, None, IfOk, IfErr, MatchResult, map, option_map, false, codes};
 ghost use Rattle.clap.specs.Words.{app_of, first_of, found_of, kind_of, rows_of, rule_of, subcommand_rows_of, with_subcommand};
-ghost use Rattle.codenav.specs.Call.{IsCall, IsRefused, app, call_of, call_value, check_lsif_app, check_lsif_of, check_tags_app, check_tags_of, replay_app, replay_of, replay_with, top_app, word};
+ghost use Rattle.codenav.specs.Call.{IsCall, IsRefused, app, call_of, call_value, check_lsif_app, check_lsif_of, check_lsif_with, check_tags_app, check_tags_of, number_option, profile_named, replay_app, replay_of, replay_with, top_app, word};
 ghost use Rattle.codenav.specs.Steps.Call.{IsMissing, ShowsError};
 
+use clap::builder::ValueParser;
 use clap::error::ErrorKind;
 use clap::{Arg, ArgAction, ArgMatches, Command, Error};
+use lsif::Profile;
 use std::alloc::{AllocError, Global};
 use std::convert::AsStr;
 
@@ -15,8 +17,8 @@ const VERSION: &str = "0.1.0";
 /// What the program is to do.
 #[derive(Clone, Copy, Debug, PartialEq, Eq)]
 pub enum Call<'a> {
-    /// Check the dump in this file.
-    CheckLsif { file: &'a str },
+    /// Check the dump in this file, read by the profile.
+    CheckLsif { file: &'a str, profile: Profile },
     /// Check the tags file of this name.
     CheckTags { file: &'a str },
     /// Answer the requests in this file over this database.
@@ -68,16 +70,37 @@ fn word<'a>(alloc: Global, id: &'a str, name: &'a str, help: &'a str) -> Arg<'a>
         .help(help)
 }
 
-/// `check-lsif FILE`.
+/// An option whose value is a number in these bounds.
+fn number_option<'a>(alloc: Global, id: &'a str, least: i64, most: i64, help: &'a str) -> Arg<'a>
+    ensures rule { rule_of result ≡ number_option id.entry.now least most }
+    ensures local { result.global ≡ false }
+{
+    Arg::new(alloc, id)
+        .long(id)
+        .action(ArgAction::Set)
+        .value_parser(ValueParser::signed(least, most))
+        .value_name("N")
+        .help(help)
+}
+
+/// `check-lsif FILE --profile N`.
 fn check_lsif<'a>(alloc: Global) -> Result<Command<'a>, AllocError>
     ensures { IfOk result (λ c. app_of c ≡ check_lsif_app) }
 {
     let file = word(alloc, "file", "FILE", "The dump, one element on each line");
+    let profile = number_option(
+        alloc,
+        "profile",
+        1,
+        2,
+        "The profile that the dump is read by: 1, or 2, which has declarations and implementations too [default: 1]",
+    );
     Command::new(alloc, "check-lsif")
         .about(
             "Checks a dump in the Language Server Index Format 0.6.0, and prints how many elements it has or its first fault",
         )
-        .arg(file)
+        .arg(file)?
+        .arg(profile)
 }
 
 /// `check-tags FILE`.
@@ -155,14 +178,40 @@ fn file_of<'a>(found: &ArgMatches<'a>) -> Option<&'a str>
     found.get_str("file")
 }
 
+/// The profile of this number, or profile 1 where none is given.
+fn profile_named(number: Option<&str>) -> Option<Profile>
+    ensures { result ≡ profile_named (option_map (λ n. n.now) number.entry) }
+{
+    match number {
+        None => Some(Profile::One),
+        Some(number) if number == "1" => Some(Profile::One),
+        Some(number) if number == "2" => Some(Profile::Two),
+        Some(_) => None,
+    }
+}
+
+/// The call of `check-lsif` with these values.
+fn check_lsif_call<'a>(file: Option<&'a str>, profile: Option<Profile>) -> Option<Call<'a>>
+    ensures { option_map call_value result ≡ check_lsif_with (option_map (λ f. f.now) file.entry) profile }
+{
+    match (file, profile) {
+        (Some(file), Some(profile)) => Some(Call::CheckLsif { file, profile }),
+        _ => None,
+    }
+}
+
+/// The value of `--profile` among these matches.
+fn profile_of<'a>(found: &ArgMatches<'a>) -> Option<&'a str>
+    ensures { option_map (λ number. number.now) result ≡ first_of (codes "profile") (rows_of (found_of found.now)) }
+{
+    found.get_str("profile")
+}
+
 /// The call of `check-lsif` with these matches.
 fn read_check_lsif<'a>(found: &ArgMatches<'a>) -> Option<Call<'a>>
     ensures { option_map call_value result ≡ check_lsif_of (rows_of (found_of found.now)) }
 {
-    match file_of(found) {
-        Some(file) => Some(Call::CheckLsif { file }),
-        None => None,
-    }
+    check_lsif_call(file_of(found), profile_named(profile_of(found)))
 }
 
 /// The call of `check-tags` with these matches.

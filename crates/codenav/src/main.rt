@@ -13,7 +13,7 @@ use call::{Call, CallFault, read_call};
 use check::check_lsif;
 use check_tags::check_tags;
 use http_edge::ServeFault;
-use lsif::Counted;
+use lsif::{Counted, Profile};
 use replay::replay;
 use report::{CheckFault, Status};
 use std::alloc::Global;
@@ -37,7 +37,7 @@ fn run<R: Alloc<A = Global> + Env + Files + Print + Eprint>(rt: &R) -> u8 {
         Err(_) => return fail(rt, "cannot read the file"),
     };
     match read_call(rt.alloc(), words.as_slice()) {
-        Ok(Call::CheckLsif { file }) => check_dump(rt, file),
+        Ok(Call::CheckLsif { file, profile }) => check_dump(rt, profile, file),
         Ok(Call::CheckTags { file }) => check_tags_file(rt, file),
         Ok(Call::Replay { database, file }) => replay_file(rt, database, file),
         Err(CallFault::Memory) => fail(rt, "out of memory"),
@@ -63,15 +63,19 @@ fn open<R: Files + Eprint>(rt: &R, name: &str) -> Result<R::File, u8> {
     }
 }
 
-/// `codenav check-lsif FILE`: prints the report of the dump in that file.
-fn check_dump<R: Alloc<A = Global> + Files + Print + Eprint>(rt: &R, name: &str) -> u8 {
+/// `codenav check-lsif FILE --profile N`: prints the report of the dump in that file.
+fn check_dump<R: Alloc<A = Global> + Files + Print + Eprint>(
+    rt: &R,
+    profile: Profile,
+    name: &str,
+) -> u8 {
     let file = match open(rt, name) {
         Ok(file) => file,
         Err(status) => return status,
     };
     let mut r = Counted::new(file);
     let mut w = Counted::new(io::writer(rt));
-    end(rt, check_lsif(rt.alloc(), &mut r, &mut w))
+    end(rt, check_lsif(rt.alloc(), profile, &mut r, &mut w))
 }
 
 /// `codenav check-tags FILE`: prints the report of that tags file.

@@ -2,33 +2,38 @@
 use Rattle.std.proofs.Common.{◌≡◌, ◌∙◌, List, [], ◌∷◌, map, Option, None, Some, Ok, Err, refl, sym, ap, subst}
 use Rattle.std.specs.Prelude.{ℕ}
 use Rattle.lsif.specs.Element.{ElementValue, Reading}
+use Rattle.lsif.specs.declared.element.Profile.{Profile}
 use Rattle.dump.specs.declared.fault.LineFault.{LineFault}
 use Rattle.dump.specs.Fault.{IsFault}
 use Rattle.dump.specs.Lines.{dump_of}
-use Rattle.dump.specs.Progress.{Progress, running, stopped, progress, finished, end_fault}
-use Rattle.desk.specs.Machine.{judged, judged_lines, judged_end}
+use Rattle.dump.specs.Progress.{DumpValue, Progress, running, stopped, progress, finished, end_fault}
+use Rattle.desk.specs.Judging.{judged_dump, dump_at_end, dump_or}
 
-end_err : (elements : List ElementValue) (o : Option LineFault) (f : LineFault) → judged_end elements o ≡ Err f → o ≡ Some f
-end_err elements None f e = cc
-end_err elements (Some g) f e = cc
+end_err : (dump : DumpValue) (o : Option LineFault) (f : LineFault) → dump_or dump o ≡ Err f → o ≡ Some f
+end_err dump None f e = cc
+end_err dump (Some g) f e = cc
 
-finished_err : (p : Progress) (f : LineFault) → judged_lines p ≡ Err f → finished p ≡ Some f
-finished_err (running elements) f e = end_err elements (end_fault elements) f e
-finished_err (stopped g) f e = cc
+-- the dump of these elements
+abbrev dump_by : Profile → List ElementValue → DumpValue
+dump_by profile elements = record { profile = profile; elements = elements }
 
-err_finished : (p : Progress) (f : LineFault) → finished p ≡ Some f → judged_lines p ≡ Err f
-err_finished (running elements) f e = ap (judged_end elements) e
-err_finished (stopped g) f e = cc
+finished_err : (profile : Profile) (p : Progress) (f : LineFault) → dump_at_end profile p ≡ Err f → finished p ≡ Some f
+finished_err profile (running elements) f e = end_err (dump_by profile elements) (end_fault elements) f e
+finished_err profile (stopped g) f e = cc
 
-end_ok : (elements out : List ElementValue) (o : Option LineFault) → judged_end elements o ≡ Ok out → (elements ≡ out) × (o ≡ None)
-end_ok elements out None e = (cc, refl)
-end_ok elements out (Some g) e = cc
+err_finished : (profile : Profile) (p : Progress) (f : LineFault) → finished p ≡ Some f → dump_at_end profile p ≡ Err f
+err_finished profile (running elements) f e = ap (dump_or (dump_by profile elements)) e
+err_finished profile (stopped g) f e = cc
 
-finished_ok : (p : Progress) (out : List ElementValue) → judged_lines p ≡ Ok out → (p ≡ running out) × (finished p ≡ None)
-finished_ok (running elements) out e =
-    let both = end_ok elements out (end_fault elements) e in
-    (ap running both.0, both.1)
-finished_ok (stopped g) out e = cc
+end_ok : (dump out : DumpValue) (o : Option LineFault) → dump_or dump o ≡ Ok out → (dump ≡ out) × (o ≡ None)
+end_ok dump out None e = (cc, refl)
+end_ok dump out (Some g) e = cc
+
+finished_ok : (profile : Profile) (p : Progress) (out : DumpValue) → dump_at_end profile p ≡ Ok out → (out.profile ≡ profile) × (p ≡ running out.elements) × (finished p ≡ None)
+finished_ok profile (running elements) out e =
+    let both = end_ok (dump_by profile elements) out (end_fault elements) e in
+    (sym (ap (λ (d : DumpValue). d.profile) both.0), ap (λ (d : DumpValue). running d.elements) both.0, both.1)
+finished_ok profile (stopped g) out e = cc
 
 same_elements : (xs ys : List ElementValue) → map {B = Reading} Ok xs ≡ map Ok ys → xs ≡ ys
 same_elements [] [] e = refl
@@ -39,12 +44,13 @@ same_elements (x ∷ xs) (y ∷ ys) e =
     let rest : map {B = Reading} Ok xs ≡ map Ok ys = cc in
     ap (λ z. z ∷ xs) first ∙ ap (λ zs. y ∷ zs) (same_elements xs ys rest)
 
-ok_finished : (p : Progress) (dump : List Reading) (out : List ElementValue)
+ok_finished : (profile : Profile) (p : Progress) (dump : List Reading) (out : DumpValue)
     → ((elements : List ElementValue) → p ≡ running elements → dump ≡ map Ok elements)
-    → finished p ≡ None → dump ≡ map Ok out → judged_lines p ≡ Ok out
-ok_finished (running elements) dump out law e d =
-    ap (judged_end elements) e ∙ ap Ok (same_elements elements out (sym (law elements refl) ∙ d))
-ok_finished (stopped g) dump out law e d = cc
+    → out.profile ≡ profile → finished p ≡ None → dump ≡ map Ok out.elements → dump_at_end profile p ≡ Ok out
+ok_finished profile (running elements) dump out law same e d =
+    let all = same_elements elements out.elements (sym (law elements refl) ∙ d) in
+    ap (dump_or (dump_by profile elements)) e ∙ ap (λ es. Ok (dump_by profile es)) all ∙ ap (λ k. Ok (dump_by k out.elements)) (sym same)
+ok_finished profile (stopped g) dump out law same e d = cc
 
 -- ---- the law
 
@@ -57,22 +63,25 @@ Only = (dump : List Reading) (fault : Option LineFault) → IsFault dump fault �
 abbrev pub Elements : Type 0
 Elements = (dump : List Reading) (elements : List ElementValue) → progress dump ≡ running elements → dump ≡ map Ok elements
 
-pub has_fault : Holds → (body : List ℕ) (f : LineFault) → judged body ≡ Err f → IsFault (dump_of body) (Some f)
-has_fault holds body f e =
-    let P : Option LineFault → Type 0 = λ o. IsFault (dump_of body) o in
-    subst P (finished_err (progress (dump_of body)) f e) (holds (dump_of body))
+pub has_fault : Holds → (profile : Profile) (body : List ℕ) (f : LineFault) → judged_dump profile body ≡ Err f → IsFault (dump_of profile body) (Some f)
+has_fault holds profile body f e =
+    let lines = dump_of profile body in
+    let P : Option LineFault → Type 0 = λ o. IsFault lines o in
+    subst P (finished_err profile (progress lines) f e) (holds lines)
 
-pub from_fault : Only → (body : List ℕ) (f : LineFault) → IsFault (dump_of body) (Some f) → judged body ≡ Err f
-from_fault only body f h = err_finished (progress (dump_of body)) f (sym (only (dump_of body) (Some f) h))
+pub from_fault : Only → (profile : Profile) (body : List ℕ) (f : LineFault) → IsFault (dump_of profile body) (Some f) → judged_dump profile body ≡ Err f
+from_fault only profile body f h = let lines = dump_of profile body in err_finished profile (progress lines) f (sym (only lines (Some f) h))
 
-pub has_elements : Holds → Elements → (body : List ℕ) (out : List ElementValue) → judged body ≡ Ok out
-    → IsFault (dump_of body) None × (dump_of body ≡ map Ok out)
-has_elements holds law body out e =
-    let P : Option LineFault → Type 0 = λ o. IsFault (dump_of body) o in
-    let both = finished_ok (progress (dump_of body)) out e in
-    (subst P both.1 (holds (dump_of body)), law (dump_of body) out both.0)
+pub has_dump : Holds → Elements → (profile : Profile) (body : List ℕ) (out : DumpValue) → judged_dump profile body ≡ Ok out
+    → (out.profile ≡ profile) × IsFault (dump_of profile body) None × (dump_of profile body ≡ map Ok out.elements)
+has_dump holds law profile body out e =
+    let lines = dump_of profile body in
+    let P : Option LineFault → Type 0 = λ o. IsFault lines o in
+    let all = finished_ok profile (progress lines) out e in
+    (all.0, subst P all.2 (holds lines), law lines out.elements all.1)
 
-pub from_elements : Only → Elements → (body : List ℕ) (out : List ElementValue) → IsFault (dump_of body) None → dump_of body ≡ map Ok out
-    → judged body ≡ Ok out
-from_elements only law body out h d =
-    ok_finished (progress (dump_of body)) (dump_of body) out (law (dump_of body)) (sym (only (dump_of body) None h)) d
+pub from_dump : Only → Elements → (profile : Profile) (body : List ℕ) (out : DumpValue) → out.profile ≡ profile → IsFault (dump_of profile body) None
+    → dump_of profile body ≡ map Ok out.elements → judged_dump profile body ≡ Ok out
+from_dump only law profile body out same h d =
+    let lines = dump_of profile body in
+    ok_finished profile (progress lines) lines out (law lines) same (sym (only lines None h)) d

@@ -4,7 +4,7 @@ use Rattle.std.proofs.lemmas.List.{map-append, take_more}
 use Rattle.desk.specs.Machine.{State}
 use Rattle.desk.specs.Reply.{ReplyValue}
 use Rattle.desk.specs.Requests.{RequestValue, request_value, request_values}
-use Rattle.desk.specs.Runs.{MayReply, moved, Run}
+use Rattle.desk.specs.Runs.{MayReply, moved, Run, left, left_by}
 use Rattle.desk.specs.declared.request.Request.{Request}
 
 pub run_more : (s : Type 0) (m n : State) (qs : List RequestValue) (rs : List ReplyValue) (q : RequestValue) (r : ReplyValue)
@@ -19,3 +19,10 @@ pub requests_more : (requests : List Request) (i : ℕ) (request : Request) → 
 requests_more requests i request lt is =
     ap request_values (take_more requests i request lt) ∙ map-append request_value (take i requests) (get_or requests i request ∷ [])
     ∙ ap (λ (q : Request). request_values (take i requests) ++ request_value q ∷ []) (sym is)
+
+pub left_more : (s : Type 0) (m n : State) (states : List State) (qs : List RequestValue) (rs : List ReplyValue) (q : RequestValue) (r : ReplyValue)
+    → Run s m qs rs n → left_by m states (qs ++ q ∷ []) (rs ++ r ∷ []) ≡ left n (left_by m states qs rs) q r
+left_more s m n states [] [] q r e = ap (λ k. left k states q r) (sym e)
+left_more s m n states [] (t ∷ rs) q r e = absurd e
+left_more s m n states (p ∷ qs) [] q r e = absurd e
+left_more s m n states (p ∷ qs) (t ∷ rs) q r e = left_more s (moved m p t) n (left m states p t) qs rs q r e.1

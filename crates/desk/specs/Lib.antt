@@ -1,8 +1,12 @@
+pub mod Answers
 pub mod Bodies
+pub mod Found
+pub mod Joins
+pub mod Judging
 pub mod Machine
 pub mod Names
-pub mod Places
 pub mod Steps
 pub mod Reply
 pub mod Requests
+pub mod Retries
 pub mod Runs

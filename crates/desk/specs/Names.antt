@@ -28,6 +28,10 @@ is_project_name = is_name_of is_project_byte
 abbrev pub is_key : List ℕ → Bool
 is_key = is_name_of is_key_byte
 
+-- no byte is that of U+0000
+abbrev pub is_without_nul : List ℕ → Bool
+is_without_nul text = list_all (λ b. not (b == 0)) text
+
 -- the text, where it is of the form
 abbrev pub where_so : (List ℕ → Bool) → List ℕ → Option (List ℕ)
 where_so is_form text = if is_form text then Some text else None

@@ -1,12 +1,17 @@
 -- Replies: the status and the body of each. Bodies are compact JSON (RFC 8259) with members in the order of their bytes.
-use Rattle.std.specs.Prelude.{ℕ, List, [], ◌∷◌, ◌++◌, codes, Bool, ◌==◌}
-use Rattle.std.specs.Fmt.{decimal}
-use Rattle.serde_json.specs.Data.{string}
+use Rattle.std.specs.Prelude.{ℕ, Bool, ◌++◌, ◌==◌, List, codes, map, Option, Some, None}
+use Rattle.serde_json.specs.Data.{Data, null, boolean, number, string, array, object, unsigned, item, no_items, member, no_members}
+use Rattle.serde_json.specs.View.{items_of}
 use Rattle.serde_json.specs.Written.{compact_text}
 use Rattle.positions.specs.Position.{PositionValue}
 use Rattle.lsif.specs.Code as lines
-use Rattle.dump.specs.declared.fault.LineFault.{LineFault}
+use Rattle.lsif.specs.declared.element.Profile.{Profile}
+use Rattle.lsif.specs.declared.element.Profile.TheVariants.{One, Two}
+use Rattle.dump.specs.declared.fault.LineFault as dumps
 use Rattle.dump.specs.Places.{PlaceValue}
+use Rattle.tags.specs.Codes as tag_lines
+use Rattle.tags.specs.Values.{FieldValue, TagValue}
+use Rattle.tags.specs.declared.code.LineFault as tags
 use Rattle.desk.specs.declared.code.Code.{Code}
 use Rattle.desk.specs.declared.code.Code.TheVariants.{D01, D02, D03, S01, S02}
 
@@ -37,44 +42,8 @@ status_of D03 = 400
 status_of S01 = 503
 status_of S02 = 503
 
--- ---- bodies
-
 abbrev pub fault_text : Code → List ℕ
 fault_text c = codes "{\"fault\":\"" ++ (name_of c ++ (codes "\",\"text\":\"" ++ (text_of c ++ codes "\"}")))
-
--- the fault of a line, with the line's number, counted from 1
-abbrev pub line_fault_text : LineFault → List ℕ
-line_fault_text f =
-    codes "{\"fault\":\"" ++ (lines.name_of f.code ++ (codes "\",\"line\":" ++ (decimal f.line
-    ++ (codes ",\"text\":\"" ++ (lines.text_of f.code ++ codes "\"}")))))
-
--- a dump was accepted, of so many elements
-abbrev pub dump_accepted_text : ℕ → List ℕ
-dump_accepted_text n = codes "{\"accepted\":\"lsif\",\"count\":" ++ (decimal n ++ codes "}")
-
--- a text as JSON spells it: in quotation marks, with its escapes (RFC 8259, section 7)
-abbrev pub quoted : List ℕ → List ℕ
-quoted text = compact_text (string text)
-
-abbrev pub position_text : PositionValue → List ℕ
-position_text p = codes "{\"character\":" ++ (decimal p.character ++ (codes ",\"line\":" ++ (decimal p.line ++ codes "}")))
-
--- a place in a project
-abbrev pub place_text : List ℕ → PlaceValue → List ℕ
-place_text project place =
-    codes "{\"end\":" ++ (position_text place.span.«end» ++ (codes ",\"project\":" ++ (quoted project
-    ++ (codes ",\"start\":" ++ (position_text place.span.start ++ (codes ",\"uri\":" ++ (quoted place.uri ++ codes "}")))))))
-
--- places with commas between them
-abbrev pub place_texts : List ℕ → List PlaceValue → List ℕ
-place_texts project [] = []
-place_texts project (place ∷ []) = place_text project place
-place_texts project (place ∷ more ∷ places) = place_text project place ++ (codes "," ++ place_texts project (more ∷ places))
-
-abbrev pub places_text : List ℕ → List PlaceValue → List ℕ
-places_text project places = codes "{\"places\":[" ++ (place_texts project places ++ codes "]}")
-
--- ---- replies
 
 abbrev pub refused : Code → ReplyValue
 refused c = record { status = status_of c; body = fault_text c }
@@ -85,16 +54,131 @@ out_of_memory = refused S02
 abbrev pub store_refused : ReplyValue
 store_refused = refused S01
 
--- a body that names its first fault
-abbrev pub faulty : LineFault → ReplyValue
-faulty f = record { status = 422; body = line_fault_text f }
-
-abbrev pub dump_accepted : ℕ → ReplyValue
-dump_accepted n = record { status = 200; body = dump_accepted_text n }
-
-abbrev pub places_found : List ℕ → List PlaceValue → ReplyValue
-places_found project places = record { status = 200; body = places_text project places }
-
 -- a reply that serves nothing: only these have this status
 abbrev pub is_refusal : ReplyValue → Bool
 is_refusal r = r.status == 503
+
+-- ---- replies with a JSON value
+
+abbrev pub written : ℕ → Data → ReplyValue
+written status body = record { status = status; body = compact_text body }
+
+abbrev pub count_data : List ℕ → ℕ → Data
+count_data part n = object (member (codes "accepted") (string part) (member (codes "count") (number (unsigned n)) no_members))
+
+-- a dump of so many elements was accepted
+abbrev pub dump_accepted : ℕ → ReplyValue
+dump_accepted n = written 200 (count_data (codes "lsif") n)
+
+-- so many tags were accepted
+abbrev pub tags_accepted : ℕ → ReplyValue
+tags_accepted n = written 200 (count_data (codes "tags") n)
+
+abbrev pub removed_data : Bool → Data
+removed_data b = object (member (codes "removed") (boolean b) no_members)
+
+-- whether the project had a part
+abbrev pub removed : Bool → ReplyValue
+removed b = written 200 (removed_data b)
+
+-- the fault of a line, with the line's number, counted from 1
+abbrev pub fault_data : List ℕ → ℕ → List ℕ → Data
+fault_data name line text =
+    object (member (codes "fault") (string name) (member (codes "line") (number (unsigned line)) (member (codes "text") (string text) no_members)))
+
+-- a dump's first fault
+abbrev pub dump_refused : dumps.LineFault → ReplyValue
+dump_refused f = written 422 (fault_data (lines.name_of f.code) f.line (lines.text_of f.code))
+
+-- the first fault of a tags file
+abbrev pub tags_refused : tags.LineFault → ReplyValue
+tags_refused f = written 422 (fault_data (tag_lines.name_of f.code) f.line (tag_lines.text_of f.code))
+
+-- ---- places
+
+-- a place in a project
+pub record FoundPlace : Type 0 where
+  pub project : List ℕ
+  pub place : PlaceValue
+
+abbrev pub position_data : PositionValue → Data
+position_data p = object (member (codes "character") (number (unsigned p.character)) (member (codes "line") (number (unsigned p.line)) no_members))
+
+abbrev pub place_data : FoundPlace → Data
+place_data found =
+    object (member (codes "end") (position_data found.place.span.«end») (member (codes "project") (string found.project)
+    (member (codes "start") (position_data found.place.span.start) (member (codes "uri") (string found.place.uri) no_members))))
+
+abbrev pub list_data : {X : Type 0} → (X → Data) → List X → Data
+list_data value xs = array (items_of (map value xs))
+
+abbrev pub places_data : List FoundPlace → Data
+places_data places = object (member (codes "places") (list_data place_data places) no_members)
+
+abbrev pub places_found : List FoundPlace → ReplyValue
+places_found places = written 200 (places_data places)
+
+-- ---- hover
+
+-- the contents are compact JSON as they are
+abbrev pub contents_text : Option (List ℕ) → List ℕ
+contents_text None = codes "null"
+contents_text (Some contents) = contents
+
+abbrev pub hover_found : Option (List ℕ) → ReplyValue
+hover_found contents = record { status = 200; body = codes "{\"contents\":" ++ (contents_text contents ++ codes "}") }
+
+-- ---- tags
+
+-- a tag of a project
+pub record FoundTag : Type 0 where
+  pub project : List ℕ
+  pub tag : TagValue
+
+abbrev pub field_data : FieldValue → Data
+field_data f = array (item (string f.name) (item (string f.value) no_items))
+
+abbrev pub kind_data : Option (List ℕ) → Data
+kind_data None = null
+kind_data (Some kind) = string kind
+
+abbrev pub tag_data : FoundTag → Data
+tag_data found =
+    object (member (codes "address") (string found.tag.address) (member (codes "fields") (list_data field_data found.tag.fields)
+    (member (codes "file") (string found.tag.file) (member (codes "kind") (kind_data found.tag.kind)
+    (member (codes "line") (number (unsigned found.tag.line)) (member (codes "name") (string found.tag.name)
+    (member (codes "project") (string found.project) no_members)))))))
+
+abbrev pub tags_data : List FoundTag → Data
+tags_data found = object (member (codes "tags") (list_data tag_data found) no_members)
+
+abbrev pub tags_found : List FoundTag → ReplyValue
+tags_found found = written 200 (tags_data found)
+
+-- ---- projects and profiles
+
+-- a project's name, and whether it has a dump and tags
+pub record ProjectValue : Type 0 where
+  pub name : List ℕ
+  pub dump : Bool
+  pub tags : Bool
+
+abbrev pub project_data : ProjectValue → Data
+project_data p =
+    object (member (codes "dump") (boolean p.dump) (member (codes "name") (string p.name) (member (codes "tags") (boolean p.tags) no_members)))
+
+abbrev pub projects_data : List ProjectValue → Data
+projects_data found = object (member (codes "projects") (list_data project_data found) no_members)
+
+abbrev pub projects_found : List ProjectValue → ReplyValue
+projects_found found = written 200 (projects_data found)
+
+abbrev pub profile_number : Profile → ℕ
+profile_number One = 1
+profile_number Two = 2
+
+abbrev pub profile_data : Profile → Data
+profile_data profile = object (member (codes "profile") (number (unsigned (profile_number profile))) no_members)
+
+abbrev pub profile_found : Profile → ReplyValue
+profile_found profile = written 200 (profile_data profile)

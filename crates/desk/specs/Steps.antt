@@ -1,7 +1,13 @@
 -- What only private contracts and proofs name: steps of loops, and values of the program's own types.
-pub mod BodyData
-pub mod Candidates
-pub mod Documents
+pub mod Covering
+pub mod Elements
+pub mod Found
+pub mod Hovers
+pub mod Keys
+pub mod Lines
+pub mod Listed
 pub mod Names
 pub mod Places
 pub mod Plain
+pub mod Speaking
+pub mod Results

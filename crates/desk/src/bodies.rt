@@ -1,58 +1,95 @@
 //! The bodies of replies, as `serde_json` writes them.
-ghost use Rattle.std.specs.Prelude.{◌≡◌, ◌++◌, ◌∷◌, [], IfOk, OnOk, false, map};
-ghost use Rattle.serde_json.specs.View.{view};
-ghost use Rattle.serde_json.specs.Written.{compact_text, has_float};
-ghost use Rattle.desk.specs.Steps.BodyData.{accepted_data, fault_data, position_data, place_data, places_data};
-ghost use Rattle.desk.specs.Places.{place_value};
-ghost use Rattle.desk.specs.Reply.{dump_accepted, faulty, places_found};
+ghost use Rattle.std.specs.Prelude.{◌≡◌, ◌++◌, ◌∷◌, [], IfOk, OnOk, false, map, option_map, string_bytes};
+ghost use Rattle.serde_json.specs.Data.{array};
+ghost use Rattle.serde_json.specs.View.{view, items_of};
+ghost use Rattle.serde_json.specs.Written.{has_float};
+ghost use Rattle.tags.specs.Views.{field_value};
+ghost use Rattle.desk.specs.Found.{place_found, tag_found, project_found};
+ghost use Rattle.desk.specs.Reply.{written, count_data, removed_data, fault_data, position_data, place_data, places_data, field_data, kind_data, tag_data, tags_data, project_data, projects_data, profile_data, profile_number, dump_accepted, tags_accepted, removed, dump_refused, tags_refused, places_found, hover_found, tags_found, projects_found, profile_found};
 
-use crate::places::Place;
+use crate::found::{FoundPlace, FoundProject, FoundTag};
 use crate::reply::Reply;
-use dump::LineFault;
-use positions::{Position, Span};
+use lsif::Profile;
+use positions::Position;
 use serde_json::{Value, json};
 use std::alloc::{AllocError, Global};
+use tags::Field;
 
 /// A reply with this JSON value as its body.
 fn written(alloc: Global, status: u16, body: &Value) -> Result<Reply, AllocError>
     requires { has_float (view body.now) ≡ false }
-    ensures { IfOk result (λ r. r ≡ record { status = status; body = compact_text (view body.now) }) }
+    ensures { IfOk result (λ r. r ≡ written status (view body.now)) }
 {
     let text = body.to_string(alloc)?;
     Ok(Reply::made(status, text))
 }
 
-fn accepted_value(alloc: Global, elements: u32) -> Result<Value, AllocError>
-    ensures { IfOk result (λ v. view v ≡ accepted_data elements) }
+// ---- commands
+
+fn count_value(alloc: Global, part: &str, count: usize) -> Result<Value, AllocError>
+    ensures { IfOk result (λ v. view v ≡ count_data part.now count) }
 {
-    json!(in alloc; {"accepted": "lsif", "count": elements})
+    json!(in alloc; {"accepted": part, "count": count})
 }
 
-/// The reply that a dump of so many elements was accepted.
-pub(crate) fn dump_accepted(alloc: Global, elements: u32) -> Result<Reply, AllocError>
+/// The reply that a dump of so many elements was put.
+pub(crate) fn dump_accepted(alloc: Global, elements: usize) -> Result<Reply, AllocError>
     ensures { IfOk result (λ r. r ≡ dump_accepted elements) }
 {
-    let body = accepted_value(alloc, elements)?;
+    let body = count_value(alloc, "lsif", elements)?;
     let reply = written(alloc, 200, &body)?;
     Ok(reply)
 }
 
-fn fault_value(alloc: Global, fault: LineFault) -> Result<Value, AllocError>
-    ensures { IfOk result (λ v. view v ≡ fault_data fault) }
+/// The reply that so many tags were put.
+pub(crate) fn tags_accepted(alloc: Global, tags: usize) -> Result<Reply, AllocError>
+    ensures { IfOk result (λ r. r ≡ tags_accepted tags) }
 {
-    let name = fault.code.name();
-    let text = fault.code.text();
-    json!(in alloc; {"fault": name, "line": fault.line, "text": text})
+    let body = count_value(alloc, "tags", tags)?;
+    let reply = written(alloc, 200, &body)?;
+    Ok(reply)
 }
 
-/// The reply to a faulty body.
-pub(crate) fn faulty(alloc: Global, fault: LineFault) -> Result<Reply, AllocError>
-    ensures { IfOk result (λ r. r ≡ faulty fault) }
+fn removed_value(alloc: Global, anything: bool) -> Result<Value, AllocError>
+    ensures { IfOk result (λ v. view v ≡ removed_data anything) }
 {
-    let body = fault_value(alloc, fault)?;
+    json!(in alloc; {"removed": anything})
+}
+
+/// The reply to a removal: whether anything was there.
+pub(crate) fn removed(alloc: Global, anything: bool) -> Result<Reply, AllocError>
+    ensures { IfOk result (λ r. r ≡ removed anything) }
+{
+    let body = removed_value(alloc, anything)?;
+    let reply = written(alloc, 200, &body)?;
+    Ok(reply)
+}
+
+fn fault_value(alloc: Global, name: &str, line: u32, text: &str) -> Result<Value, AllocError>
+    ensures { IfOk result (λ v. view v ≡ fault_data name.now line text.now) }
+{
+    json!(in alloc; {"fault": name, "line": line, "text": text})
+}
+
+/// The reply to a faulty dump.
+pub(crate) fn dump_refused(alloc: Global, fault: dump::LineFault) -> Result<Reply, AllocError>
+    ensures { IfOk result (λ r. r ≡ dump_refused fault) }
+{
+    let body = fault_value(alloc, fault.code.name(), fault.line, fault.code.text())?;
     let reply = written(alloc, 422, &body)?;
     Ok(reply)
 }
+
+/// The reply to a faulty tags file.
+pub(crate) fn tags_refused(alloc: Global, fault: tags::LineFault) -> Result<Reply, AllocError>
+    ensures { IfOk result (λ r. r ≡ tags_refused fault) }
+{
+    let body = fault_value(alloc, fault.code.name(), fault.line, fault.code.text())?;
+    let reply = written(alloc, 422, &body)?;
+    Ok(reply)
+}
+
+// ---- places
 
 fn position(alloc: Global, position: Position) -> Result<Value, AllocError>
     ensures { IfOk result (λ v. view v ≡ position_data position) }
@@ -60,54 +97,211 @@ fn position(alloc: Global, position: Position) -> Result<Value, AllocError>
     json!(in alloc; {"character": position.character(), "line": position.line()})
 }
 
-/// A place in a project: the serialized URL of a document, and a span in it.
-fn place(alloc: Global, project: &str, uri: &str, span: Span) -> Result<Value, AllocError>
-    ensures { IfOk result (λ v. view v ≡ place_data project.now (record { uri = uri.now; span = span })) }
+fn place(alloc: Global, found: &FoundPlace<'_>) -> Result<Value, AllocError>
+    ensures { IfOk result (λ v. view v ≡ place_data (place_found found.now)) }
 {
-    let start = position(alloc, span.start())?;
-    let end = position(alloc, span.end())?;
-    json!(in alloc; {"end": end, "project": project, "start": start, "uri": uri})
+    let start = position(alloc, found.span.start())?;
+    let end = position(alloc, found.span.end())?;
+    json!(in alloc; {"end": end, "project": found.project, "start": start, "uri": found.uri})
 }
 
-/// Adds a place in a project to a list of JSON values.
-fn add_place(
-    alloc: Global,
-    project: &str,
-    found: &Place,
-    list: &mut Vec<Value>,
-) -> Result<(), AllocError>
-    ensures { OnOk result (map view list.new.items ≡ map view list.old.items ++ place_data project.now (place_value found.now) ∷ []) }
+fn add_place(alloc: Global, found: &FoundPlace<'_>, list: &mut Vec<Value>) -> Result<(), AllocError>
+    ensures { OnOk result (map view list.new.items ≡ map view list.old.items ++ place_data (place_found found.now) ∷ []) }
 {
-    let value = place(alloc, project, &found.uri, found.span)?;
+    let value = place(alloc, found)?;
     serde_json::push(list, value)
 }
 
-fn place_list(alloc: Global, project: &str, places: &[Place]) -> Result<Vec<Value>, AllocError>
-    ensures { IfOk result (λ list. map view list.items ≡ map (place_data project.now) (map place_value places.now)) }
+fn place_list(alloc: Global, places: &[FoundPlace<'_>]) -> Result<Vec<Value>, AllocError>
+    ensures { IfOk result (λ list. map view list.items ≡ map place_data (map place_found places.now)) }
 {
     let mut list = Vec::new(alloc);
     for found in places {
-        add_place(alloc, project, found, &mut list)?;
+        add_place(alloc, found, &mut list)?;
     }
     Ok(list)
 }
 
-fn places_value(alloc: Global, project: &str, places: &[Place]) -> Result<Value, AllocError>
-    ensures { IfOk result (λ v. view v ≡ places_data project.now (map place_value places.now)) }
+fn places_value(alloc: Global, places: &[FoundPlace<'_>]) -> Result<Value, AllocError>
+    ensures { IfOk result (λ v. view v ≡ places_data (map place_found places.now)) }
 {
-    let list = Value::Array(place_list(alloc, project, places)?);
+    let list = Value::Array(place_list(alloc, places)?);
     json!(in alloc; {"places": list})
 }
 
-/// The reply to a query that these places of a project answer.
-pub(crate) fn places_found(
-    alloc: Global,
-    project: &str,
-    places: &[Place],
-) -> Result<Reply, AllocError>
-    ensures { IfOk result (λ r. r ≡ places_found project.now (map place_value places.now)) }
+/// The reply to a query that these places answer.
+pub(crate) fn places_found(alloc: Global, places: &[FoundPlace<'_>]) -> Result<Reply, AllocError>
+    ensures { IfOk result (λ r. r ≡ places_found (map place_found places.now)) }
 {
-    let body = places_value(alloc, project, places)?;
+    let body = places_value(alloc, places)?;
+    let reply = written(alloc, 200, &body)?;
+    Ok(reply)
+}
+
+// ---- hover
+
+/// The reply to a query that these contents, compact JSON, answer.
+pub(crate) fn hover_found(alloc: Global, contents: Option<&str>) -> Result<Reply, AllocError>
+    ensures { IfOk result (λ r. r ≡ hover_found (option_map (λ text. text.now) contents.entry)) }
+{
+    let mut text = String::from_str(alloc, "{\"contents\":")?;
+    text.push_str(contents.unwrap_or("null"))?;
+    text.push_str("}")?;
+    Ok(Reply::made(200, text))
+}
+
+// ---- tags
+
+fn field(alloc: Global, field: &Field) -> Result<Value, AllocError>
+    ensures { IfOk result (λ v. view v ≡ field_data (field_value field.now)) }
+{
+    json!(in alloc; [&field.name, &field.value])
+}
+
+fn add_field(alloc: Global, of: &Field, list: &mut Vec<Value>) -> Result<(), AllocError>
+    ensures { OnOk result (map view list.new.items ≡ map view list.old.items ++ field_data (field_value of.now) ∷ []) }
+{
+    let value = field(alloc, of)?;
+    serde_json::push(list, value)
+}
+
+fn field_list(alloc: Global, fields: &[Field]) -> Result<Vec<Value>, AllocError>
+    ensures { IfOk result (λ list. map view list.items ≡ map field_data (map field_value fields.now)) }
+{
+    let mut list = Vec::new(alloc);
+    for field in fields {
+        add_field(alloc, field, &mut list)?;
+    }
+    Ok(list)
+}
+
+fn kind(alloc: Global, kind: &Option<String>) -> Result<Value, AllocError>
+    ensures { IfOk result (λ v. view v ≡ kind_data (option_map (λ s. string_bytes s) kind.now)) }
+{
+    match kind {
+        Some(kind) => Ok(Value::String(String::from_str(alloc, kind.as_str())?)),
+        None => Ok(Value::Null),
+    }
+}
+
+fn tag(alloc: Global, found: &FoundTag<'_>) -> Result<Value, AllocError>
+    ensures { IfOk result (λ v. view v ≡ tag_data (tag_found found.now)) }
+{
+    let tag = found.tag;
+    let fields = Value::Array(field_list(alloc, &tag.fields)?);
+    let kind = kind(alloc, &tag.kind)?;
+    json!(in alloc; {
+        "address": &tag.address,
+        "fields": fields,
+        "file": &tag.file,
+        "kind": kind,
+        "line": tag.line,
+        "name": &tag.name,
+        "project": found.project
+    })
+}
+
+fn add_tag(alloc: Global, found: &FoundTag<'_>, list: &mut Vec<Value>) -> Result<(), AllocError>
+    ensures { OnOk result (map view list.new.items ≡ map view list.old.items ++ tag_data (tag_found found.now) ∷ []) }
+{
+    let value = tag(alloc, found)?;
+    serde_json::push(list, value)
+}
+
+fn tag_list(alloc: Global, tags: &[FoundTag<'_>]) -> Result<Vec<Value>, AllocError>
+    ensures { IfOk result (λ list. map view list.items ≡ map tag_data (map tag_found tags.now)) }
+{
+    let mut list = Vec::new(alloc);
+    for found in tags {
+        add_tag(alloc, found, &mut list)?;
+    }
+    Ok(list)
+}
+
+fn tags_value(alloc: Global, tags: &[FoundTag<'_>]) -> Result<Value, AllocError>
+    ensures { IfOk result (λ v. view v ≡ tags_data (map tag_found tags.now)) }
+{
+    let list = Value::Array(tag_list(alloc, tags)?);
+    json!(in alloc; {"tags": list})
+}
+
+/// The reply to a query that these tags answer.
+pub(crate) fn tags_found(alloc: Global, tags: &[FoundTag<'_>]) -> Result<Reply, AllocError>
+    ensures { IfOk result (λ r. r ≡ tags_found (map tag_found tags.now)) }
+{
+    let body = tags_value(alloc, tags)?;
+    let reply = written(alloc, 200, &body)?;
+    Ok(reply)
+}
+
+// ---- projects and profiles
+
+fn project(alloc: Global, found: &FoundProject<'_>) -> Result<Value, AllocError>
+    ensures { IfOk result (λ v. view v ≡ project_data (project_found found.now)) }
+{
+    json!(in alloc; {"dump": found.dump, "name": found.name, "tags": found.tags})
+}
+
+fn add_project(
+    alloc: Global,
+    found: &FoundProject<'_>,
+    list: &mut Vec<Value>,
+) -> Result<(), AllocError>
+    ensures { OnOk result (map view list.new.items ≡ map view list.old.items ++ project_data (project_found found.now) ∷ []) }
+{
+    let value = project(alloc, found)?;
+    serde_json::push(list, value)
+}
+
+fn project_list(alloc: Global, projects: &[FoundProject<'_>]) -> Result<Vec<Value>, AllocError>
+    ensures { IfOk result (λ list. map view list.items ≡ map project_data (map project_found projects.now)) }
+{
+    let mut list = Vec::new(alloc);
+    for found in projects {
+        add_project(alloc, found, &mut list)?;
+    }
+    Ok(list)
+}
+
+fn projects_value(alloc: Global, projects: &[FoundProject<'_>]) -> Result<Value, AllocError>
+    ensures { IfOk result (λ v. view v ≡ projects_data (map project_found projects.now)) }
+{
+    let list = Value::Array(project_list(alloc, projects)?);
+    json!(in alloc; {"projects": list})
+}
+
+/// The reply to the query for the projects, which are these.
+pub(crate) fn projects_found(
+    alloc: Global,
+    projects: &[FoundProject<'_>],
+) -> Result<Reply, AllocError>
+    ensures { IfOk result (λ r. r ≡ projects_found (map project_found projects.now)) }
+{
+    let body = projects_value(alloc, projects)?;
+    let reply = written(alloc, 200, &body)?;
+    Ok(reply)
+}
+
+fn profile_number(profile: Profile) -> u32
+    ensures { result ≡ profile_number profile }
+{
+    match profile {
+        Profile::One => 1,
+        Profile::Two => 2,
+    }
+}
+
+fn profile_value(alloc: Global, profile: Profile) -> Result<Value, AllocError>
+    ensures { IfOk result (λ v. view v ≡ profile_data profile) }
+{
+    json!(in alloc; {"profile": profile_number(profile)})
+}
+
+/// The reply to the query for a dump's profile.
+pub(crate) fn profile_found(alloc: Global, profile: Profile) -> Result<Reply, AllocError>
+    ensures { IfOk result (λ r. r ≡ profile_found profile) }
+{
+    let body = profile_value(alloc, profile)?;
     let reply = written(alloc, 200, &body)?;
     Ok(reply)
 }

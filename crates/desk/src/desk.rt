@@ -5,23 +5,32 @@ use crate::request::{Command, Query};
 /// What serves requests. It stands for states of the abstract machine: a reply is the machine's, and it then stands for
 /// the machine's next state; or it is a refusal, S01 or S02, and nothing changed.
 pub trait Desk {
+    ghost use Rattle.std.specs.Prelude.{List, [], ◌∷◌, ◌++◌};
     ghost use Rattle.desk.specs.Machine.{State};
-    ghost use Rattle.desk.specs.Requests.{command_value, query_value};
-    ghost use Rattle.desk.specs.Runs.{MayReply, moved};
+    ghost use Rattle.desk.specs.Requests as requests;
+    ghost use Rattle.desk.specs.Runs.{MayReply, moved, left};
 
     /// The states that it stands for.
     ghost stands: { Self → State → Type 0 };
+
+    /// The lists of states of which a stop now leaves one.
+    ghost may_leave: { Self → List State → Type 0 };
 
     /// Whether it keeps its state in a store, which may refuse.
     ghost store_may_refuse: { Type 0 };
 
     /// Serves a command. The reply is made before the command has its effect.
     fn apply(&mut self, command: &Command<'_>) -> Reply
-        ensures reply { (m : State) → stands self.old m → MayReply store_may_refuse m (command_value command.now) result }
-        ensures state { (m : State) → stands self.old m → stands self.new (moved m (command_value command.now) result) };
+        ensures reply { (m : State) → stands self.old m → MayReply store_may_refuse m (requests.command (requests.command_value command.now)) result }
+        ensures state { (m : State) → stands self.old m → stands self.new (moved m (requests.command (requests.command_value command.now)) result) }
+        ensures left { (m : State) (states : List State) → stands self.old m → may_leave self.old states → may_leave self.new (left m states (requests.command (requests.command_value command.now)) result) };
 
     /// Answers a query.
     fn ask(&mut self, query: &Query) -> Reply
-        ensures reply { (m : State) → stands self.old m → MayReply store_may_refuse m (query_value query.now) result }
-        ensures state { (m : State) → stands self.old m → stands self.new m };
+        ensures reply { (m : State) → stands self.old m → MayReply store_may_refuse m (requests.query (requests.query_value query.now)) result }
+        ensures state { (m : State) → stands self.old m → stands self.new m }
+        ensures left { (states : List State) → may_leave self.old states → may_leave self.new states };
+
+    /// A stop leaves one of these states, so it leaves one of these and another.
+    ghost weaker: { (desk : Self) (states : List State) (n : State) → may_leave desk states → may_leave desk (states ++ n ∷ []) };
 }

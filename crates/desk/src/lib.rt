@@ -1,30 +1,29 @@
 //! What the server takes and answers: project names, keys, document URLs and numbers, commands and queries, replies,
-//! and the abstract machine that a desk, which serves them, stands for. A desk that keeps dumps in memory, and what it
-//! answers of them.
+//! and the abstract machine that a desk, which serves them, stands for. A desk that keeps dumps and tags in memory.
 #![tactic(auto)]
 
+mod answers;
 mod bodies;
 mod code;
-mod definitions;
 mod desk;
-mod documents;
+mod found;
+mod hover;
 mod in_memory;
-mod innermost;
 mod laws;
+mod listed;
 mod names;
-mod places;
 mod plain;
+mod project;
 mod reply;
 mod request;
 mod running;
+mod tags_part;
+mod walks;
 
 pub use code::Code;
-pub use definitions::definition_places;
 pub use desk::Desk;
-pub use documents::has_document;
-pub use laws::judgement_law;
+pub use laws::{answer_law, judgement_law, retry_law};
 pub use names::{DocUri, Key, ProjectName, read_number};
-pub use places::Place;
 pub use plain::PlainDesk;
 pub use reply::Reply;
 pub use request::{Command, Query, Request};

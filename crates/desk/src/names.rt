@@ -1,10 +1,10 @@
 //! The parts of requests that are of a form.
-ghost use Rattle.std.specs.Prelude.{◌≡◌, ◌<◌, None, IfOk, IfSome};
+ghost use Rattle.std.specs.Prelude.{◌≡◌, ◌<◌, None, IfOk, IfSome, option_and_then};
 ghost use Rattle.std.specs.List.{list_all};
 ghost use Rattle.url.specs.Parser.{parse_url};
 ghost use Rattle.lsif.specs.Vertices.{serialized};
 ghost use Rattle.positions.specs.Position.{number_limit};
-ghost use Rattle.desk.specs.Names.{is_name_of, is_project_name, is_key, where_so, number_in};
+ghost use Rattle.desk.specs.Names.{is_name_of, is_project_name, is_key, is_without_nul, where_so, number_in};
 ghost use Rattle.desk.specs.Steps.Names.{is_name_byte};
 
 use std::alloc::{AllocError, Global};
@@ -131,27 +131,41 @@ impl Key {
     }
 }
 
-/// The serialized URL of a document.
+fn is_without_nul(text: &str) -> bool
+    ensures { result ≡ is_without_nul text.now }
+{
+    text.as_bytes().iter().all(|byte| *byte != 0)
+}
+
+/// The serialized URL of a document. It holds no U+0000.
 #[derive(Drop)]
 pub struct DocUri {
     uri: String,
 }
 
 impl Model for DocUri {
-    ghost use Rattle.std.specs.Prelude.{ℕ, List, string_bytes};
+    ghost use Rattle.std.specs.Prelude.{◌≡◌, ℕ, List, true, string_bytes};
+    ghost use Rattle.desk.specs.Names.{is_without_nul};
 
     ghost Value = { List ℕ };
 
     ghost view = { λ d. string_bytes d.uri };
+
+    ghost invariant = { λ d. is_without_nul (string_bytes d.uri) ≡ true };
 }
 
 impl DocUri {
+    ghost use Rattle.std.specs.Prelude.{true};
+
     /// The URL that this text spells, serialized (URL Standard, "URL serializing"). None where it spells none.
     pub fn read(alloc: Global, text: &str) -> Result<Option<DocUri>, AllocError>
-        ensures { IfOk result (λ o. o ≡ serialized (parse_url None text.now)) }
+        ensures { IfOk result (λ o. o ≡ option_and_then (where_so is_without_nul) (serialized (parse_url None text.now))) }
     {
         match Url::parse(alloc, text) {
             Ok(url) => {
+                if !is_without_nul(url.as_str()) {
+                    return Ok(None);
+                }
                 let uri = String::from_str(alloc, url.as_str())?;
                 Ok(Some(DocUri { uri }))
             }
@@ -162,7 +176,8 @@ impl DocUri {
 
     /// The serialized URL.
     pub fn as_str(&self) -> &str
-        ensures { result.now ≡ self.now }
+        ensures value { result.now ≡ self.now }
+        ensures form { is_without_nul result.now ≡ true }
     {
         &self.uri
     }

@@ -1,8 +1,8 @@
 //! Requests that are served one after another.
-ghost use Rattle.std.specs.Prelude.{◌≡◌, IfOk, OnErr};
+ghost use Rattle.std.specs.Prelude.{◌≡◌, List, IfOk, OnErr};
 ghost use Rattle.desk.specs.Machine.{State};
 ghost use Rattle.desk.specs.Requests.{request_value, request_values};
-ghost use Rattle.desk.specs.Runs.{MayReply, moved, Run};
+ghost use Rattle.desk.specs.Runs.{MayReply, moved, Run, left, left_by};
 
 use crate::desk::Desk;
 use crate::reply::Reply;
@@ -30,6 +30,7 @@ impl From<AllocError> for RunFault {
 fn serve<D: Desk>(desk: &mut D, request: &Request<'_>) -> Reply
     ensures reply { (m : State) → D.stands desk.old m → MayReply D.store_may_refuse m (request_value request.now) result }
     ensures state { (m : State) → D.stands desk.old m → D.stands desk.new (moved m (request_value request.now) result) }
+    ensures left { (m : State) (states : List State) → D.stands desk.old m → D.may_leave desk.old states → D.may_leave desk.new (left m states (request_value request.now) result) }
 {
     match request {
         Request::Command(command) => desk.apply(command),
@@ -45,6 +46,7 @@ pub fn run<D: Desk>(
     requests: &[Request<'_>],
 ) -> Result<Vec<Reply>, RunFault>
     ensures run { IfOk result (λ replies. (m : State) → D.stands desk.old m → (n : State) × Run D.store_may_refuse m (request_values requests.now) replies.items n × D.stands desk.new n) }
+    ensures left { IfOk result (λ replies. (m : State) (states : List State) → D.stands desk.old m → D.may_leave desk.old states → D.may_leave desk.new (left_by m states (request_values requests.now) replies.items)) }
     ensures unserved { OnErr result (desk.new ≡ desk.old) }
 {
     let mut replies = Vec::with_capacity(alloc, requests.len())?;

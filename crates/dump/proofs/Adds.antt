@@ -5,7 +5,7 @@ use Rattle.std.specs.List.{list_any, list_all, position}
 use Rattle.std.proofs.lemmas.List.{get_or_append_left}
 use Rattle.std.proofs.Math.Seq.{get_or-append_seam}
 use Rattle.std.proofs.lemmas.Option.{slice_get_within}
-use Rattle.lsif.specs.Element.{IdValue, same_id, VertexValue, meta_data, project, document, range, result_set, definition_result, reference_result, hover_result, moniker, package_information, event, other_vertex, begin_event, end_event, other_event, contains, next, definition, references, hover, moniker_edge, package_edge, attach, item, other_edge, ElementValue, vertex, edge, element_id}
+use Rattle.lsif.specs.Element.{IdValue, same_id, VertexValue, meta_data, project, document, range, result_set, definition_result, reference_result, declaration_result, implementation_result, hover_result, moniker, package_information, event, other_vertex, begin_event, end_event, other_event, contains, next, definition, references, declaration, implementation, hover, moniker_edge, package_edge, attach, item, other_edge, ElementValue, vertex, edge, element_id}
 use Rattle.dump.specs.declared.links.Link.{Link}
 use Rattle.dump.specs.declared.index_map.IndexMap.{IndexMap}
 use Rattle.dump.specs.Conditions.{are_vertices}
@@ -101,6 +101,8 @@ named_known d (edge i (contains a bs)) free = named_targets d (is_document (vert
 named_known d (edge i (next a b)) free = only_source d a (b ∷ []) (not_false (are_vertices d (a ∷ b ∷ [])) free.ends)
 named_known d (edge i (definition a b)) free = only_source d a (b ∷ []) (not_false (are_vertices d (a ∷ b ∷ [])) free.ends)
 named_known d (edge i (references a b)) free = only_source d a (b ∷ []) (not_false (are_vertices d (a ∷ b ∷ [])) free.ends)
+named_known d (edge i (declaration a b)) free = only_source d a (b ∷ []) (not_false (are_vertices d (a ∷ b ∷ [])) free.ends)
+named_known d (edge i (implementation a b)) free = only_source d a (b ∷ []) (not_false (are_vertices d (a ∷ b ∷ [])) free.ends)
 named_known d (edge i (hover a b)) free = only_source d a (b ∷ []) (not_false (are_vertices d (a ∷ b ∷ [])) free.ends)
 named_known d (edge i (package_edge a b)) free = only_source d a (b ∷ []) (not_false (are_vertices d (a ∷ b ∷ [])) free.ends)
 named_known d (edge i (moniker_edge a b)) free = tt
@@ -119,6 +121,8 @@ named_known d (vertex i (range s)) free = tt
 named_known d (vertex i result_set) free = tt
 named_known d (vertex i definition_result) free = tt
 named_known d (vertex i reference_result) free = tt
+named_known d (vertex i declaration_result) free = tt
+named_known d (vertex i implementation_result) free = tt
 named_known d (vertex i (hover_result s)) free = tt
 named_known d (vertex i (moniker m)) free = tt
 named_known d (vertex i (package_information p)) free = tt
@@ -152,7 +156,7 @@ links_after d x free known l n long old new enters is =
 
 -- a row of no index
 abbrev pub blank : List (Option ℕ)
-blank = None ∷ None ∷ None ∷ None ∷ None ∷ None ∷ None ∷ None ∷ []
+blank = None ∷ None ∷ None ∷ None ∷ None ∷ None ∷ None ∷ None ∷ None ∷ None ∷ []
 
 none_there : (m n : ℕ) (row : List (Option ℕ)) → row ≡ replicate m None → get_or row n None ≡ None
 none_there m n row e = ap (λ (cells : List (Option ℕ)). get_or cells n None) e ∙ by m n
@@ -163,7 +167,7 @@ none_there m n row e = ap (λ (cells : List (Option ℕ)). get_or cells n None) 
     by (suc j) (suc k) = by j k
 
 pub blank_row : (n : ℕ) → ◌≡◌ {A = Option ℕ} (get_or blank n None) None
-blank_row n = none_there 8 n blank refl
+blank_row n = none_there 10 n blank refl
 
 pub rows_length : (rows now : List (List (Option ℕ))) (d : List ElementValue) (x : ElementValue) → now ≡ rows ++ blank ∷ [] → length rows ≡ length d → length now ≡ length (d ++ x ∷ [])
 rows_length rows now d x is same = ap length is ∙ length-append rows (blank ∷ []) ∙ ap (λ k. k + 1) same ∙ sym (length-append d (x ∷ []))

@@ -6,7 +6,7 @@ use Rattle.std.specs.List.{flat_map}
 use Rattle.std.proofs.lemmas.List.Elements.{Contains-push_cases}
 use Rattle.lsif.specs.declared.code.Code.{Code}
 use Rattle.lsif.specs.declared.code.Code.TheVariants.{L04, L06, L09, L10, L11, L12, L13, L14, L16, L17, L18, L19, L20}
-use Rattle.lsif.specs.Element.{IdValue, same_id, contains, next, definition, references, hover, moniker_edge, package_edge, attach, item, other_edge, ElementValue, vertex, edge}
+use Rattle.lsif.specs.Element.{IdValue, same_id, contains, next, definition, references, declaration, implementation, hover, moniker_edge, package_edge, attach, item, other_edge, ElementValue, vertex, edge}
 use Rattle.dump.specs.Walks.{Pair, first_to, IsChain, ends, links, HasChain, Path, stays, goes, single_in, next_pairs}
 use Rattle.dump.specs.declared.single.SingleLabel.TheVariants.{Next}
 use Rattle.dump.specs.Conditions.{order_code, order_condition, has_used_id, joins_no_vertex, may_not_join, is_contained_again, is_conflicting, leaves_again, closes_cycle, has_used_uri}
@@ -168,6 +168,8 @@ one_more before (edge i (next a b)) free each v =
 one_more before (edge i (contains a bs)) e each v = same_pairs before (edge i (contains a bs)) refl each v
 one_more before (edge i (definition a b)) e each v = same_pairs before (edge i (definition a b)) refl each v
 one_more before (edge i (references a b)) e each v = same_pairs before (edge i (references a b)) refl each v
+one_more before (edge i (declaration a b)) e each v = same_pairs before (edge i (declaration a b)) refl each v
+one_more before (edge i (implementation a b)) e each v = same_pairs before (edge i (implementation a b)) refl each v
 one_more before (edge i (hover a b)) e each v = same_pairs before (edge i (hover a b)) refl each v
 one_more before (edge i (moniker_edge a b)) e each v = same_pairs before (edge i (moniker_edge a b)) refl each v
 one_more before (edge i (package_edge a b)) e each v = same_pairs before (edge i (package_edge a b)) refl each v
@@ -204,6 +206,8 @@ single_one before (edge i (next a b)) free one =
 single_one before (edge i (contains a bs)) e one = same_single before (edge i (contains a bs)) refl one
 single_one before (edge i (definition a b)) e one = same_single before (edge i (definition a b)) refl one
 single_one before (edge i (references a b)) e one = same_single before (edge i (references a b)) refl one
+single_one before (edge i (declaration a b)) e one = same_single before (edge i (declaration a b)) refl one
+single_one before (edge i (implementation a b)) e one = same_single before (edge i (implementation a b)) refl one
 single_one before (edge i (hover a b)) e one = same_single before (edge i (hover a b)) refl one
 single_one before (edge i (moniker_edge a b)) e one = same_single before (edge i (moniker_edge a b)) refl one
 single_one before (edge i (package_edge a b)) e one = same_single before (edge i (package_edge a b)) refl one

@@ -5,7 +5,7 @@ use Rattle.std.specs.List.{list_any, flat_map, cons_option}
 use Rattle.std.proofs.lemmas.List.Sorted.{IsPermutation-refl, IsPermutation-trans, IsPermutation-append_left, list_any-IsPermutation}
 use Rattle.std.specs.declared.alloc.Global.{Global}
 use Rattle.positions.specs.Span.{SpanValue}
-use Rattle.lsif.specs.Element.{IdValue, same_id, VertexValue, meta_data, project, document, range, result_set, definition_result, reference_result, hover_result, moniker, package_information, event, other_vertex, contains, next, definition, references, hover, moniker_edge, package_edge, attach, item, other_edge, ElementValue, vertex, edge}
+use Rattle.lsif.specs.Element.{IdValue, same_id, VertexValue, meta_data, project, document, range, result_set, definition_result, reference_result, declaration_result, implementation_result, hover_result, moniker, package_information, event, other_vertex, contains, next, definition, references, declaration, implementation, hover, moniker_edge, package_edge, attach, item, other_edge, ElementValue, vertex, edge}
 use Rattle.dump.specs.Graph.{vertex_at, is_document, span_of, is_among, ends}
 use Rattle.dump.specs.Conditions.{are_vertices, are_documents, may_contain}
 use Rattle.dump.specs.Contained.{contains_range, spans_of, spans_named, spans_in, conflicts, any_conflicts, has_conflict}
@@ -31,6 +31,8 @@ ranges_test d (edge j (contains from to)) i = among_by (is_document (vertex_at d
 ranges_test d (edge j (next a b)) i = refl
 ranges_test d (edge j (definition a b)) i = refl
 ranges_test d (edge j (references a b)) i = refl
+ranges_test d (edge j (declaration a b)) i = refl
+ranges_test d (edge j (implementation a b)) i = refl
 ranges_test d (edge j (hover a b)) i = refl
 ranges_test d (edge j (moniker_edge a b)) i = refl
 ranges_test d (edge j (package_edge a b)) i = refl
@@ -68,6 +70,8 @@ named_stay d x (edge i (contains from to)) e v =
 named_stay d x (edge i (next a b)) e v = refl
 named_stay d x (edge i (definition a b)) e v = refl
 named_stay d x (edge i (references a b)) e v = refl
+named_stay d x (edge i (declaration a b)) e v = refl
+named_stay d x (edge i (implementation a b)) e v = refl
 named_stay d x (edge i (hover a b)) e v = refl
 named_stay d x (edge i (moniker_edge a b)) e v = refl
 named_stay d x (edge i (package_edge a b)) e v = refl
@@ -105,6 +109,8 @@ document_spans d (i ∷ is) e =
     no_span (Some result_set) h = refl
     no_span (Some definition_result) h = refl
     no_span (Some reference_result) h = refl
+    no_span (Some declaration_result) h = refl
+    no_span (Some implementation_result) h = refl
     no_span (Some (hover_result s)) h = refl
     no_span (Some (moniker m)) h = refl
     no_span (Some (package_information q)) h = refl
@@ -121,6 +127,8 @@ target_spans d (Some (range s)) to e = cc
 target_spans d (Some result_set) to e = cc
 target_spans d (Some definition_result) to e = cc
 target_spans d (Some reference_result) to e = cc
+target_spans d (Some declaration_result) to e = cc
+target_spans d (Some implementation_result) to e = cc
 target_spans d (Some (hover_result s)) to e = cc
 target_spans d (Some (moniker m)) to e = cc
 target_spans d (Some (package_information q)) to e = cc
@@ -171,6 +179,8 @@ fills d (edge i (contains from to)) free known old new had now v = edge_fills d 
 fills d (edge i (next a b)) free known old new had now v = other_fills d (edge i (next a b)) (not_false (are_vertices d (ends (edge i (next a b)))) free.ends) known old new (λ u. refl) had now v
 fills d (edge i (definition a b)) free known old new had now v = other_fills d (edge i (definition a b)) (not_false (are_vertices d (ends (edge i (definition a b)))) free.ends) known old new (λ u. refl) had now v
 fills d (edge i (references a b)) free known old new had now v = other_fills d (edge i (references a b)) (not_false (are_vertices d (ends (edge i (references a b)))) free.ends) known old new (λ u. refl) had now v
+fills d (edge i (declaration a b)) free known old new had now v = other_fills d (edge i (declaration a b)) (not_false (are_vertices d (ends (edge i (declaration a b)))) free.ends) known old new (λ u. refl) had now v
+fills d (edge i (implementation a b)) free known old new had now v = other_fills d (edge i (implementation a b)) (not_false (are_vertices d (ends (edge i (implementation a b)))) free.ends) known old new (λ u. refl) had now v
 fills d (edge i (hover a b)) free known old new had now v = other_fills d (edge i (hover a b)) (not_false (are_vertices d (ends (edge i (hover a b)))) free.ends) known old new (λ u. refl) had now v
 fills d (edge i (moniker_edge a b)) free known old new had now v = other_fills d (edge i (moniker_edge a b)) (not_false (are_vertices d (ends (edge i (moniker_edge a b)))) free.ends) known old new (λ u. refl) had now v
 fills d (edge i (package_edge a b)) free known old new had now v = other_fills d (edge i (package_edge a b)) (not_false (are_vertices d (ends (edge i (package_edge a b)))) free.ends) known old new (λ u. refl) had now v

@@ -1,6 +1,6 @@
 -- Tables that lead from an id to the index of the first element that passes its test, and what a push makes of them.
-use Rattle.std.proofs.Common.{◌≡◌, ◌∙◌, ◌&&◌, ◌||◌, ℕ, ◌+◌, ◌≤◌, suc, nat_lt, not, Bool, true, false, cond, List, [], ◌∷◌, ◌++◌, length, Option, Some, None, if◌then◌else◌, find, refl, ap, sym, arith}
-use Rattle.std.specs.Prelude.{is_some, option_map, option_and_then, slice_get}
+use Rattle.std.proofs.Common.{◌≡◌, ◌∙◌, ◌&&◌, ◌||◌, ℕ, ◌+◌, ◌≤◌, ◌<◌, suc, nat_lt, not, Bool, true, false, cond, List, [], ◌∷◌, ◌++◌, length, Option, Some, None, if◌then◌else◌, find, refl, ap, sym, arith}
+use Rattle.std.specs.Prelude.{is_some, IfSome, option_map, option_and_then, slice_get}
 use Rattle.std.specs.List.{list_any, position, position_or_len}
 use Rattle.std.proofs.lemmas.Grind.{common_steps}
 use Rattle.std.proofs.lemmas.List.Folds.{find_at}
@@ -70,6 +70,17 @@ some_by o c e false = some_more o ∙ e
 pub position-any : {X : Type 0} (p : X → Bool) (xs : List X) → is_some (position p xs) ≡ list_any p xs
 position-any p [] = refl
 position-any p (x ∷ xs) = ap is_some (position-cons p x xs) ∙ some_by (position p xs) (list_any p xs) (position-any p xs) (p x)
+
+below_by : (n l : ℕ) (o : Option ℕ) → o ≡ cond (nat_lt n l) (Some n) None → IfSome o (λ k. k < l)
+below_by n l None e = tt
+below_by n l (Some k) e = by (nat_lt n l) refl e
+  where
+    by : (b : Bool) → nat_lt n l ≡ b → Some k ≡ cond b (Some n) None → k < l
+    by true lt h = let same : k ≡ n = cc in grind (arith, lt, same)
+    by false lt h = cc
+
+pub position_below : {X : Type 0} (p : X → Bool) (xs : List X) (o : Option ℕ) → o ≡ position p xs → IfSome o (λ k. k < length xs)
+position_below p xs o e = below_by (position_or_len p xs) (length xs) o e
 
 -- ---- tables
 

@@ -4,7 +4,8 @@ use Rattle.std.proofs.lemmas.List.Sums.{fold-append}
 use Rattle.std.proofs.lemmas.Bool.{lt-ltb}
 use Rattle.lsif.specs.Element.{ElementValue, Reading, element_value, reading_value}
 use Rattle.lsif.specs.Lines.{GivesLine, HasLongLine, Cutter}
-use Rattle.lsif.specs.Reading.{reading, longest_line}
+use Rattle.lsif.specs.Reading.{reading, reading_by, longest_line}
+use Rattle.lsif.specs.declared.element.Profile.{Profile}
 use Rattle.lsif.specs.declared.element.Element.{Element}
 use Rattle.lsif.specs.declared.code.Code.{Code}
 use Rattle.lsif.specs.declared.code.Code.TheVariants.{L01}
@@ -13,7 +14,7 @@ use Rattle.dump.specs.declared.fault.FeedFault.{FeedFault}
 use Rattle.dump.specs.declared.fault.FeedFault.TheVariants as feeds
 use Rattle.dump.specs.Conditions.{order_code, most_elements}
 use Rattle.dump.specs.Fault.{IsFault}
-use Rattle.dump.specs.Progress.{Progress, running, stopped, next, advance, progress, finished, IsRunning, Feeds, Finishes}
+use Rattle.dump.specs.Progress.{DumpValue, CheckerValue, Progress, running, stopped, next, advance, progress, finished, IsRunning, Feeds, Finishes}
 use Rattle.dump.specs.Lines.{dump_of}
 use Rattle.dump.specs.Judging.{ReadsDump, as_dump_fault}
 use Rattle.dump.specs.Steps.Judging.{ReadsFirst, ReadsNext, HasTaken, room_of, GoesOn, IsReady}
@@ -22,17 +23,17 @@ use Rattle.dump.specs.declared.reading.DumpFault.TheVariants as dumps
 
 -- ---- the reading of the next line
 
-pub given_fault : (left new : Option (List ℕ)) (line : List ℕ) (has_feed : Bool) (c : Code) → GivesLine left line has_feed new → reading line ≡ Err c → ReadsNext left (Some (Err c)) new
-given_fault None new line has_feed c g h = tt
-given_fault (Some text) new line has_feed c g h = (dump_of g.0, ap (map reading) g.2 ∙ ap (λ r. r ∷ dump_of g.0) h)
+pub given_fault : (profile : Profile) (left new : Option (List ℕ)) (line : List ℕ) (has_feed : Bool) (c : Code) → GivesLine left line has_feed new → reading profile line ≡ Err c → ReadsNext profile left (Some (Err c)) new
+given_fault profile None new line has_feed c g h = tt
+given_fault profile (Some text) new line has_feed c g h = (dump_of profile g.0, ap (map (reading profile)) g.2 ∙ ap (λ r. r ∷ dump_of profile g.0) h)
 
-long_reading : (line : List ℕ) → longest_line < length line → reading line ≡ Err L01
-unfolding reading
-long_reading line lt = rw (lt-ltb longest_line (length line) lt) refl
+long_reading : (profile : Profile) (line : List ℕ) → longest_line < length line → reading profile line ≡ Err L01
+unfolding reading reading_by
+long_reading profile line lt = rw (lt-ltb longest_line (length line) lt) refl
 
-pub long_fault : (left new : Option (List ℕ)) → HasLongLine longest_line left → ReadsNext left (Some (Err L01)) new
-long_fault None new h = tt
-long_fault (Some text) new h = (map reading h.1, ap (map reading) h.2 ∙ ap (λ r. r ∷ map reading h.1) (long_reading h.0 h.3))
+pub long_fault : (profile : Profile) (left new : Option (List ℕ)) → HasLongLine longest_line left → ReadsNext profile left (Some (Err L01)) new
+long_fault profile None new h = tt
+long_fault profile (Some text) new h = (map (reading profile) h.1, ap (map (reading profile)) h.2 ∙ ap (λ r. r ∷ map (reading profile) h.1) (long_reading profile h.0 h.3))
 
 -- ---- the lines that were taken
 
@@ -50,12 +51,12 @@ less_room (running elements) new (Err c) law e h = absurd h
 less_room (stopped f) new line law e h = absurd h
 
 -- one more line was taken
-pub took_line : (left now later : Option (List ℕ)) (old new : Progress) (x : ElementValue) → HasTaken left old now → ReadsNext now (Some (Ok x)) later → new ≡ next old (Ok x) → HasTaken left new later
-took_line None now later old new x h g e = tt
-took_line (Some text) now later old new x h g e =
-    let P : Option (List ℕ) → Type 0 = λ o. ReadsNext o (Some (Ok x)) later in
+pub took_line : (profile : Profile) (left now later : Option (List ℕ)) (old new : Progress) (x : ElementValue) → HasTaken profile left old now → ReadsNext profile now (Some (Ok x)) later → new ≡ next old (Ok x) → HasTaken profile left new later
+took_line profile None now later old new x h g e = tt
+took_line profile (Some text) now later old new x h g e =
+    let P : Option (List ℕ) → Type 0 = λ o. ReadsNext profile o (Some (Ok x)) later in
     let first = subst P h.1 g in
-    let lines : dump_of text ≡ (h.2 ++ Ok x ∷ []) ++ dump_of first.0 = h.3 ∙ ap (λ l. h.2 ++ l) first.2 ∙ sym (append_assoc h.2 (Ok x ∷ []) (dump_of first.0)) in
+    let lines : dump_of profile text ≡ (h.2 ++ Ok x ∷ []) ++ dump_of profile first.0 = h.3 ∙ ap (λ l. h.2 ++ l) first.2 ∙ sym (append_assoc h.2 (Ok x ∷ []) (dump_of profile first.0)) in
     let state : new ≡ progress (h.2 ++ Ok x ∷ []) = e ∙ ap (λ p. next p (Ok x)) h.4 ∙ sym (fold-append next (running []) h.2 (Ok x ∷ [])) in
     (first.0, first.1, h.2 ++ Ok x ∷ [], lines, state)
 
@@ -71,62 +72,62 @@ whole_fault dump lines others line old f holds stays e state h =
     let P : Option LineFault → Type 0 = λ o. IsFault dump o in
     subst P (ap finished stop) (holds dump)
 
-reads_others : (text : List ℕ) (line : Reading) (left : Option (List ℕ)) → ReadsFirst text line left → (others : List Reading) × (dump_of text ≡ line ∷ others)
-reads_others text (Ok x) left g = (dump_of g.0, g.2)
-reads_others text (Err c) left g = g
+reads_others : (profile : Profile) (text : List ℕ) (line : Reading) (left : Option (List ℕ)) → ReadsFirst profile text line left → (others : List Reading) × (dump_of profile text ≡ line ∷ others)
+reads_others profile text (Ok x) left g = (dump_of profile g.0, g.2)
+reads_others profile text (Err c) left g = g
 
-found_fault : (left now later : Option (List ℕ)) (old : Progress) (line : Reading) (f : LineFault)
+found_fault : (profile : Profile) (left now later : Option (List ℕ)) (old : Progress) (line : Reading) (f : LineFault)
     → ((d : List Reading) → IsFault d (finished (progress d)))
     → ((d more : List Reading) (g : LineFault) → progress d ≡ stopped g → progress (d ++ more) ≡ stopped g)
-    → HasTaken left old now → ReadsNext now (Some line) later → next old line ≡ stopped f → ReadsDump left (Err (dumps.Line f))
-found_fault None now later old line f holds stays h g e = tt
-found_fault (Some text) now later old line f holds stays h g e =
-    let P : Option (List ℕ) → Type 0 = λ o. ReadsNext o (Some line) later in
-    let first = reads_others h.0 line later (subst P h.1 g) in
-    whole_fault (dump_of text) h.2 first.0 line old f holds stays (h.3 ∙ ap (λ l. h.2 ++ l) first.1) h.4 e
+    → HasTaken profile left old now → ReadsNext profile now (Some line) later → next old line ≡ stopped f → ReadsDump profile left (Err (dumps.Line f))
+found_fault profile None now later old line f holds stays h g e = tt
+found_fault profile (Some text) now later old line f holds stays h g e =
+    let P : Option (List ℕ) → Type 0 = λ o. ReadsNext profile o (Some line) later in
+    let first = reads_others profile h.0 line later (subst P h.1 g) in
+    whole_fault (dump_of profile text) h.2 first.0 line old f holds stays (h.3 ∙ ap (λ l. h.2 ++ l) first.1) h.4 e
 
-out_of_memory : (left : Option (List ℕ)) → ReadsDump left (Err dumps.Memory)
-out_of_memory None = tt
-out_of_memory (Some text) = tt
+out_of_memory : (profile : Profile) (left : Option (List ℕ)) → ReadsDump profile left (Err dumps.Memory)
+out_of_memory profile None = tt
+out_of_memory profile (Some text) = tt
 
 -- the checker didn't go on
-pub fed_fault : (left now later : Option (List ℕ)) (old new : Progress) (line : Reading) (e : FeedFault)
+pub fed_fault : (profile : Profile) (left now later : Option (List ℕ)) (old new : Progress) (line : Reading) (e : FeedFault)
     → ((d : List Reading) → IsFault d (finished (progress d)))
     → ((d more : List Reading) (g : LineFault) → progress d ≡ stopped g → progress (d ++ more) ≡ stopped g)
-    → HasTaken left old now → ReadsNext now (Some line) later → Feeds (Err e) old (next old line) new → ReadsDump left (Err (as_dump_fault e))
-fed_fault left now later old new line feeds.Memory holds stays h g fed = out_of_memory left
-fed_fault left now later old new line (feeds.Line f) holds stays h g fed = found_fault left now later old line f holds stays h g fed.1
+    → HasTaken profile left old now → ReadsNext profile now (Some line) later → Feeds (Err e) old (next old line) new → ReadsDump profile left (Err (as_dump_fault e))
+fed_fault profile left now later old new line feeds.Memory holds stays h g fed = out_of_memory profile left
+fed_fault profile left now later old new line (feeds.Line f) holds stays h g fed = found_fault profile left now later old line f holds stays h g fed.1
 
 -- ---- the end of the lines
 
 -- what `finish` answers, as the answer of the reading
-abbrev pub as_read : Result (List ElementValue) FeedFault → Result (List ElementValue) DumpFault
-as_read (Ok elements) = Ok elements
+abbrev pub as_read : Result DumpValue FeedFault → Result DumpValue DumpFault
+as_read (Ok dump) = Ok dump
 as_read (Err e) = Err (as_dump_fault e)
 
-concluded_at : (text : List ℕ) (state : Progress) (out : Result (List ElementValue) FeedFault)
+concluded_at : (profile : Profile) (text : List ℕ) (checker : CheckerValue) (out : Result DumpValue FeedFault)
     → ((d : List Reading) → IsFault d (finished (progress d)))
     → ((d : List Reading) (elements : List ElementValue) → progress d ≡ running elements → d ≡ map Ok elements)
-    → state ≡ progress (dump_of text) → Finishes out state → ReadsDump (Some text) (as_read out)
-concluded_at text state (Ok elements) holds kept e h =
-    let runs : progress (dump_of text) ≡ running elements = sym e ∙ h.0 in
-    let P : Option LineFault → Type 0 = λ o. IsFault (dump_of text) o in
-    (subst P (ap finished runs ∙ h.1) (holds (dump_of text)), kept (dump_of text) elements runs)
-concluded_at text state (Err feeds.Memory) holds kept e h = absurd h
-concluded_at text state (Err (feeds.Line f)) holds kept e h =
-    let P : Option LineFault → Type 0 = λ o. IsFault (dump_of text) o in
-    subst P (ap finished (sym e) ∙ h) (holds (dump_of text))
+    → checker.progress ≡ progress (dump_of profile text) → Finishes out checker → ReadsDump profile (Some text) (as_read out)
+concluded_at profile text checker (Ok dump) holds kept e h =
+    let runs : progress (dump_of profile text) ≡ running dump.elements = sym e ∙ ap (λ c. c.progress) h.0 in
+    let P : Option LineFault → Type 0 = λ o. IsFault (dump_of profile text) o in
+    (subst P (ap finished runs ∙ h.1) (holds (dump_of profile text)), kept (dump_of profile text) dump.elements runs)
+concluded_at profile text checker (Err feeds.Memory) holds kept e h = absurd h
+concluded_at profile text checker (Err (feeds.Line f)) holds kept e h =
+    let P : Option LineFault → Type 0 = λ o. IsFault (dump_of profile text) o in
+    subst P (ap finished (sym e) ∙ h) (holds (dump_of profile text))
 
-pub concluded : (left now later : Option (List ℕ)) (state : Progress) (out : Result (List ElementValue) FeedFault)
+pub concluded : (profile : Profile) (left now later : Option (List ℕ)) (checker : CheckerValue) (out : Result DumpValue FeedFault)
     → ((d : List Reading) → IsFault d (finished (progress d)))
     → ((d : List Reading) (elements : List ElementValue) → progress d ≡ running elements → d ≡ map Ok elements)
-    → HasTaken left state now → ReadsNext now None later → Finishes out state → ReadsDump left (as_read out)
-concluded None now later state out holds kept h g c = tt
-concluded (Some text) now later state out holds kept h g c =
-    let P : Option (List ℕ) → Type 0 = λ o. ReadsNext o None later in
-    let nothing : dump_of h.0 ≡ [] = subst P h.1 g in
-    let whole : dump_of text ≡ h.2 = h.3 ∙ ap (λ l. h.2 ++ l) nothing ∙ append-nil h.2 in
-    concluded_at text state out holds kept (h.4 ∙ ap progress (sym whole)) c
+    → HasTaken profile left checker.progress now → ReadsNext profile now None later → Finishes out checker → ReadsDump profile left (as_read out)
+concluded profile None now later checker out holds kept h g c = tt
+concluded profile (Some text) now later checker out holds kept h g c =
+    let P : Option (List ℕ) → Type 0 = λ o. ReadsNext profile o None later in
+    let nothing : dump_of profile h.0 ≡ [] = subst P h.1 g in
+    let whole : dump_of profile text ≡ h.2 = h.3 ∙ ap (λ l. h.2 ++ l) nothing ∙ append-nil h.2 in
+    concluded_at profile text checker out holds kept (h.4 ∙ ap progress (sym whole)) c
 
 -- ---- a reading of the program
 
@@ -139,9 +140,9 @@ pub goes_ready : (reading : Result Element Code) (lines : Cutter) (old : Progres
 goes_ready (Ok e) lines old g h = g
 goes_ready (Err c) lines old g h = absurd (runs_not old c h)
 
-pub took : (reading : Result Element Code) (left now later : Option (List ℕ)) (old new : Progress) → HasTaken left old now → ReadsNext now (Some (reading_value reading)) later → new ≡ next old (reading_value reading) → IsRunning (next old (reading_value reading)) → HasTaken left new later
-took (Ok e) left now later old new h g is runs = took_line left now later old new (element_value e) h g is
-took (Err c) left now later old new h g is runs = absurd (runs_not old c runs)
+pub took : (profile : Profile) (reading : Result Element Code) (left now later : Option (List ℕ)) (old new : Progress) → HasTaken profile left old now → ReadsNext profile now (Some (reading_value reading)) later → new ≡ next old (reading_value reading) → IsRunning (next old (reading_value reading)) → HasTaken profile left new later
+took profile (Ok e) left now later old new h g is runs = took_line profile left now later old new (element_value e) h g is
+took profile (Err c) left now later old new h g is runs = absurd (runs_not old c runs)
 
 pub still_runs : (new due : Progress) → new ≡ due → IsRunning due → IsRunning new
 still_runs new due e h = let P : Progress → Type 0 = λ p. IsRunning p in subst P (sym e) h

@@ -5,7 +5,7 @@ use Rattle.std.specs.Prelude.{Contains, ◌↔◌}
 use Rattle.std.specs.List.{list_any}
 use Rattle.std.proofs.lemmas.List.Elements.{Contains-push_cases}
 use Rattle.std.proofs.lemmas.List.Folds.{list_any-append}
-use Rattle.lsif.specs.Element.{IdValue, same_id, VertexValue, meta_data, project, document, range, result_set, definition_result, reference_result, hover_result, moniker, package_information, event, other_vertex, begin_event, end_event, other_event, contains, next, definition, references, hover, moniker_edge, package_edge, attach, item, other_edge, ElementValue, vertex, edge}
+use Rattle.lsif.specs.Element.{IdValue, same_id, VertexValue, meta_data, project, document, range, result_set, definition_result, reference_result, declaration_result, implementation_result, hover_result, moniker, package_information, event, other_vertex, begin_event, end_event, other_event, contains, next, definition, references, declaration, implementation, hover, moniker_edge, package_edge, attach, item, other_edge, ElementValue, vertex, edge}
 use Rattle.dump.specs.Graph.{vertex_at, is_document, is_among, ends}
 use Rattle.dump.specs.Contained.{contains_range, is_contained, places_range, is_in}
 use Rattle.dump.specs.Conditions.{are_vertices}
@@ -50,6 +50,8 @@ same_contained d x (edge i (contains from to)) e r =
 same_contained d x (edge i (next a b)) e r = refl
 same_contained d x (edge i (definition a b)) e r = refl
 same_contained d x (edge i (references a b)) e r = refl
+same_contained d x (edge i (declaration a b)) e r = refl
+same_contained d x (edge i (implementation a b)) e r = refl
 same_contained d x (edge i (hover a b)) e r = refl
 same_contained d x (edge i (moniker_edge a b)) e r = refl
 same_contained d x (edge i (package_edge a b)) e r = refl
@@ -85,6 +87,8 @@ ends_document d (vertex i (range s)) free v at = cc
 ends_document d (vertex i result_set) free v at = cc
 ends_document d (vertex i definition_result) free v at = cc
 ends_document d (vertex i reference_result) free v at = cc
+ends_document d (vertex i declaration_result) free v at = cc
+ends_document d (vertex i implementation_result) free v at = cc
 ends_document d (vertex i (hover_result s)) free v at = cc
 ends_document d (vertex i (moniker m)) free v at = cc
 ends_document d (vertex i (package_information p)) free v at = cc
@@ -118,6 +122,8 @@ new_contained d (edge i (contains from to)) free r e =
 new_contained d (edge i (next a b)) free r e = cc
 new_contained d (edge i (definition a b)) free r e = cc
 new_contained d (edge i (references a b)) free r e = cc
+new_contained d (edge i (declaration a b)) free r e = cc
+new_contained d (edge i (implementation a b)) free r e = cc
 new_contained d (edge i (hover a b)) free r e = cc
 new_contained d (edge i (moniker_edge a b)) free r e = cc
 new_contained d (edge i (package_edge a b)) free r e = cc
@@ -214,6 +220,8 @@ contains_it d r (edge i (contains from to)) e =
 contains_it d r (edge i (next a b)) e = cc
 contains_it d r (edge i (definition a b)) e = cc
 contains_it d r (edge i (references a b)) e = cc
+contains_it d r (edge i (declaration a b)) e = cc
+contains_it d r (edge i (implementation a b)) e = cc
 contains_it d r (edge i (hover a b)) e = cc
 contains_it d r (edge i (moniker_edge a b)) e = cc
 contains_it d r (edge i (package_edge a b)) e = cc
@@ -229,6 +237,8 @@ contained_if_placed d v r doc (edge i (contains from to)) e =
 contained_if_placed d v r doc (edge i (next a b)) e = cc
 contained_if_placed d v r doc (edge i (definition a b)) e = cc
 contained_if_placed d v r doc (edge i (references a b)) e = cc
+contained_if_placed d v r doc (edge i (declaration a b)) e = cc
+contained_if_placed d v r doc (edge i (implementation a b)) e = cc
 contained_if_placed d v r doc (edge i (hover a b)) e = cc
 contained_if_placed d v r doc (edge i (moniker_edge a b)) e = cc
 contained_if_placed d v r doc (edge i (package_edge a b)) e = cc
@@ -244,6 +254,8 @@ contained_if_closed d known r (edge i (contains from to)) e =
 contained_if_closed d known r (edge i (next a b)) e = cc
 contained_if_closed d known r (edge i (definition a b)) e = cc
 contained_if_closed d known r (edge i (references a b)) e = cc
+contained_if_closed d known r (edge i (declaration a b)) e = cc
+contained_if_closed d known r (edge i (implementation a b)) e = cc
 contained_if_closed d known r (edge i (hover a b)) e = cc
 contained_if_closed d known r (edge i (moniker_edge a b)) e = cc
 contained_if_closed d known r (edge i (package_edge a b)) e = cc

@@ -3,6 +3,7 @@ pub mod Bools
 pub mod Cells
 pub mod Chains
 pub mod Conflicts
+pub mod Documents
 pub mod EachId
 pub mod Ends
 pub mod Fills
@@ -11,11 +12,13 @@ pub mod Graphs
 pub mod Judgings
 pub mod Known
 pub mod Leads
+pub mod Lines
 pub mod Lists
 pub mod Members
 pub mod Merges
 pub mod Nests
-pub mod OneAnswers
+pub mod OnePicks
+pub mod OwnPlaces
 pub mod Passes
 pub mod Paths
 pub mod Progresses

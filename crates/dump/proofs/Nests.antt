@@ -5,7 +5,7 @@ use Rattle.std.specs.Option.{option_or}
 use Rattle.std.proofs.lemmas.List.Folds.{find-append, list_any-append}
 use Rattle.positions.specs.Position.{PositionValue, is_before, later_of, earlier_of}
 use Rattle.positions.specs.Span.{SpanValue, nests, overlaps}
-use Rattle.lsif.specs.Element.{IdValue, same_id, VertexValue, meta_data, project, document, range, result_set, definition_result, reference_result, hover_result, moniker, package_information, event, other_vertex, contains, next, definition, references, hover, moniker_edge, package_edge, attach, item, other_edge, ElementValue, vertex, edge, element_id}
+use Rattle.lsif.specs.Element.{IdValue, same_id, VertexValue, meta_data, project, document, range, result_set, definition_result, reference_result, declaration_result, implementation_result, hover_result, moniker, package_information, event, other_vertex, contains, next, definition, references, declaration, implementation, hover, moniker_edge, package_edge, attach, item, other_edge, ElementValue, vertex, edge, element_id}
 use Rattle.dump.specs.Graph.{element_at, vertex_of, vertex_at, is_document, span_of, is_among}
 use Rattle.dump.specs.Contained.{places_range, spans_of, spans_named, spans_in, conflicts, any_conflicts, has_conflict, IsNested}
 use Rattle.dump.specs.Conditions.{are_vertices, may_contain}
@@ -98,6 +98,8 @@ named_fails d p v (edge i (contains from to)) r e none at has = named_fails_by d
 named_fails d p v (edge i (next from to)) r e none at has = cc
 named_fails d p v (edge i (definition from to)) r e none at has = cc
 named_fails d p v (edge i (references from to)) r e none at has = cc
+named_fails d p v (edge i (declaration from to)) r e none at has = cc
+named_fails d p v (edge i (implementation from to)) r e none at has = cc
 named_fails d p v (edge i (hover from to)) r e none at has = cc
 named_fails d p v (edge i (moniker_edge from to)) r e none at has = cc
 named_fails d p v (edge i (package_edge from to)) r e none at has = cc
@@ -176,6 +178,8 @@ known_here d (edge i (contains from to)) free v r at =
 known_here d (edge i (next from to)) free v r at = cc
 known_here d (edge i (definition from to)) free v r at = cc
 known_here d (edge i (references from to)) free v r at = cc
+known_here d (edge i (declaration from to)) free v r at = cc
+known_here d (edge i (implementation from to)) free v r at = cc
 known_here d (edge i (hover from to)) free v r at = cc
 known_here d (edge i (moniker_edge from to)) free v r at = cc
 known_here d (edge i (package_edge from to)) free v r at = cc
@@ -203,6 +207,8 @@ range_is_no_document (Some (range s)) e h t = cc
 range_is_no_document (Some result_set) e h t = cc
 range_is_no_document (Some definition_result) e h t = cc
 range_is_no_document (Some reference_result) e h t = cc
+range_is_no_document (Some declaration_result) e h t = cc
+range_is_no_document (Some implementation_result) e h t = cc
 range_is_no_document (Some (hover_result w)) e h t = cc
 range_is_no_document (Some (moniker w)) e h t = cc
 range_is_no_document (Some (package_information w)) e h t = cc
@@ -219,6 +225,8 @@ leaves_document d (Some (range s)) to r e may at has = cc
 leaves_document d (Some result_set) to r e may at has = cc
 leaves_document d (Some definition_result) to r e may at has = cc
 leaves_document d (Some reference_result) to r e may at has = cc
+leaves_document d (Some declaration_result) to r e may at has = cc
+leaves_document d (Some implementation_result) to r e may at has = cc
 leaves_document d (Some (hover_result w)) to r e may at has = cc
 leaves_document d (Some (moniker w)) to r e may at has = cc
 leaves_document d (Some (package_information w)) to r e may at has = cc
@@ -249,6 +257,8 @@ new_and_old d (edge i (contains from to)) free v r s e f at_r at_s has_r has_s =
 new_and_old d (edge i (next from to)) free v r s e f at_r at_s has_r has_s = cc
 new_and_old d (edge i (definition from to)) free v r s e f at_r at_s has_r has_s = cc
 new_and_old d (edge i (references from to)) free v r s e f at_r at_s has_r has_s = cc
+new_and_old d (edge i (declaration from to)) free v r s e f at_r at_s has_r has_s = cc
+new_and_old d (edge i (implementation from to)) free v r s e f at_r at_s has_r has_s = cc
 new_and_old d (edge i (hover from to)) free v r s e f at_r at_s has_r has_s = cc
 new_and_old d (edge i (moniker_edge from to)) free v r s e f at_r at_s has_r has_s = cc
 new_and_old d (edge i (package_edge from to)) free v r s e f at_r at_s has_r has_s = cc
@@ -268,6 +278,8 @@ new_and_new d (edge i (contains from to)) free v r s e f at_r at_s has_r has_s a
 new_and_new d (edge i (next from to)) free v r s e f at_r at_s has_r has_s apart = cc
 new_and_new d (edge i (definition from to)) free v r s e f at_r at_s has_r has_s apart = cc
 new_and_new d (edge i (references from to)) free v r s e f at_r at_s has_r has_s apart = cc
+new_and_new d (edge i (declaration from to)) free v r s e f at_r at_s has_r has_s apart = cc
+new_and_new d (edge i (implementation from to)) free v r s e f at_r at_s has_r has_s apart = cc
 new_and_new d (edge i (hover from to)) free v r s e f at_r at_s has_r has_s apart = cc
 new_and_new d (edge i (moniker_edge from to)) free v r s e f at_r at_s has_r has_s apart = cc
 new_and_new d (edge i (package_edge from to)) free v r s e f at_r at_s has_r has_s apart = cc

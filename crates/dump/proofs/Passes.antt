@@ -3,7 +3,7 @@ use Rattle.std.proofs.Common.{◌≡◌, ◌∙◌, ◌&&◌, ◌||◌, ℕ, ◌
 use Rattle.std.specs.declared.cmp.Ordering.{Ordering}
 use Rattle.std.specs.declared.cmp.Ordering.TheVariants.{Less, Equal, Greater}
 use Rattle.std.specs.Ordering.{nat_cmp, ordering_then, is_lt}
-use Rattle.std.specs.Cmp.{IsTotalOrder, then_total, on_total}
+use Rattle.std.specs.Cmp.{IsTotalOrder, then_total, on_total, nat_cmp_total}
 use Rattle.std.proofs.lemmas.Cmp.{back_total}
 use Rattle.std.proofs.lemmas.List.Sorted.{sorted_far, ranks_by}
 use Rattle.positions.specs.Position.{PositionValue, is_before, earlier_of}
@@ -12,7 +12,6 @@ use Rattle.dump.specs.Contained.{conflicts}
 use Rattle.dump.specs.Places.{position_cmp}
 use Rattle.dump.specs.Steps.Spans.{span_order, IsOrdered}
 use Rattle.dump.proofs.Bools.{not_false}
-use Rattle.dump.proofs.OneAnswers.{position_total}
 use Rattle.dump.proofs.Nests.{equal_positions}
 
 -- ---- positions
@@ -31,6 +30,9 @@ pub one_way : (a b : PositionValue) → is_before a b ≡ true → is_before b a
 one_way a b e = grind (arith, e)
 
 -- ---- the order of spans
+
+position_total : IsTotalOrder position_cmp
+position_total = then_total (on_total (λ p. p.line) nat_cmp_total) (on_total (λ p. p.character) nat_cmp_total)
 
 less_by : (a b c d : Bool) → is_lt (ordering_then (cond a Less (cond b Equal Greater)) (cond c Less (cond d Equal Greater))) ≡ (a || (b && c))
 less_by true b c d = refl

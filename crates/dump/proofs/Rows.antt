@@ -1,11 +1,11 @@
 -- A row of the edge table asks for vertices: what it joins are earlier ones.
-use Rattle.std.proofs.Common.{◌≡◌, ◌&&◌, ◌∷◌, [], Bool, true, false, List, refl, sym, Option, Some, None, is_some}
+use Rattle.std.proofs.Common.{◌≡◌, ◌&&◌, ◌∷◌, [], Bool, true, false, List, refl, sym, Option, Some, None, is_some, not}
 use Rattle.std.specs.List.{list_all}
 use Rattle.lsif.specs.declared.element.Property.{Property}
 use Rattle.lsif.specs.declared.element.Property.TheVariants.{Definitions, References, ReferenceResults}
 use Rattle.lsif.specs.Element.{IdValue, VertexValue, ElementValue}
 use Rattle.dump.specs.Graph.{vertex_at, is_document, is_range, is_reference_result}
-use Rattle.dump.specs.Conditions.{are_vertices, are_documents, are_ranges, are_definitions, may_be_of_references}
+use Rattle.dump.specs.Conditions.{are_vertices, are_documents, are_ranges, are_definitions, may_be_of_references, may_be_unnamed}
 use Rattle.dump.proofs.Bools.{and_both, and_of}
 
 -- a condition beside one that follows from it
@@ -57,3 +57,6 @@ items_known d None to e = cc
 
 pub references_fit : (d : List ElementValue) (p : Option Property) (to : List IdValue) → may_be_of_references d p to ≡ (are_vertices d to && may_be_of_references d p to)
 references_fit d p to = beside (are_vertices d to) (may_be_of_references d p to) (items_known d p to)
+
+pub unnamed_fit : (d : List ElementValue) (p : Option Property) (to : List IdValue) → may_be_unnamed d p to ≡ (are_vertices d to && may_be_unnamed d p to)
+unnamed_fit d p to = beside (are_vertices d to) (may_be_unnamed d p to) (λ e. each_known is_range range_known d to (and_both (not (is_some p)) (are_ranges d to) e).1)

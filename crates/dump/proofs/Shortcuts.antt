@@ -7,7 +7,7 @@ use Rattle.std.proofs.Math.Seq.{get_or-append_seam}
 use Rattle.std.proofs.lemmas.Grind.{get_or-set_at}
 use Rattle.std.proofs.lemmas.Option.{slice_get_within, slice_get-get_or, get_or_from_slice_get}
 use Rattle.lsif.specs.declared.element.Element.{Element}
-use Rattle.lsif.specs.Element.{IdValue, same_id, element_value, contains, next, definition, references, hover, moniker_edge, package_edge, attach, item, other_edge, ElementValue, vertex, edge, element_id}
+use Rattle.lsif.specs.Element.{IdValue, same_id, element_value, contains, next, definition, references, declaration, implementation, hover, moniker_edge, package_edge, attach, item, other_edge, ElementValue, vertex, edge, element_id}
 use Rattle.dump.specs.declared.single.SingleLabel.{SingleLabel}
 use Rattle.dump.specs.declared.single.SingleLabel.TheVariants.{Next}
 use Rattle.dump.specs.Steps.Chains.{index_in, Shortens, HasShortcuts, IsIndexIn, IsEnd, CanJoin}
@@ -238,6 +238,8 @@ source_known d (edge j (next a b)) i e known = subst (λ v. is_some (vertex_at d
 source_known d (edge j (contains a bs)) i e known = cc
 source_known d (edge j (definition a b)) i e known = cc
 source_known d (edge j (references a b)) i e known = cc
+source_known d (edge j (declaration a b)) i e known = cc
+source_known d (edge j (implementation a b)) i e known = cc
 source_known d (edge j (hover a b)) i e known = cc
 source_known d (edge j (moniker_edge a b)) i e known = cc
 source_known d (edge j (package_edge a b)) i e known = cc
@@ -314,6 +316,8 @@ source_free d (edge j (next p q)) a b free e =
 source_free d (edge j (contains p qs)) a b free e = cc
 source_free d (edge j (definition p q)) a b free e = cc
 source_free d (edge j (references p q)) a b free e = cc
+source_free d (edge j (declaration p q)) a b free e = cc
+source_free d (edge j (implementation p q)) a b free e = cc
 source_free d (edge j (hover p q)) a b free e = cc
 source_free d (edge j (moniker_edge p q)) a b free e = cc
 source_free d (edge j (package_edge p q)) a b free e = cc
@@ -348,6 +352,8 @@ next_ends d (edge j (next p q)) a b free e =
     pair_in (Some r) = r.1
 next_ends d (edge j (definition p q)) a b free e = absurd (other_label e refl)
 next_ends d (edge j (references p q)) a b free e = absurd (other_label e refl)
+next_ends d (edge j (declaration p q)) a b free e = absurd (other_label e refl)
+next_ends d (edge j (implementation p q)) a b free e = absurd (other_label e refl)
 next_ends d (edge j (hover p q)) a b free e = absurd (other_label e refl)
 next_ends d (edge j (package_edge p q)) a b free e = absurd (other_label e refl)
 next_ends d (edge j (contains p qs)) a b free e = absurd (cc)

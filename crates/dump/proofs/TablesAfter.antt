@@ -1,14 +1,13 @@
 -- What tables say of elements, and what an element more makes of them.
-use Rattle.std.proofs.Common.{◌≡◌, ◌∙◌, ◌&&◌, ◌||◌, ◌+◌, ◌<◌, ◌++◌, ◌∷◌, [], ℕ, nat_eq, Bool, true, false, cond, List, length, refl, sym, ap, arith, Option, Some, None, option_and_then, is_some}
+use Rattle.std.proofs.Common.{◌≡◌, ◌∙◌, ◌&&◌, ◌||◌, ◌+◌, ◌<◌, ◌++◌, ◌∷◌, [], ℕ, nat_eq, Bool, true, false, cond, List, length, refl, sym, ap, arith, Option, Some, None, option_and_then, is_some, if◌then◌else◌}
 use Rattle.std.specs.Prelude.{Contains, option_map}
 use Rattle.std.specs.List.{list_any, position}
-use Rattle.std.proofs.lemmas.List.Folds.{list_any-append}
-use Rattle.lsif.specs.Element.{IdValue, same_id, meta_data, project, document, range, result_set, definition_result, reference_result, hover_result, moniker, package_information, event, other_vertex, begin_event, end_event, other_event, contains, next, definition, references, hover, moniker_edge, package_edge, attach, item, other_edge, ElementValue, vertex, edge}
+use Rattle.lsif.specs.Element.{IdValue, same_id, meta_data, project, document, range, result_set, definition_result, reference_result, declaration_result, implementation_result, hover_result, moniker, package_information, event, other_vertex, begin_event, end_event, other_event, contains, next, definition, references, declaration, implementation, hover, moniker_edge, package_edge, attach, item, other_edge, ElementValue, vertex, edge}
 use Rattle.dump.specs.declared.links.Link.{Link}
 use Rattle.dump.specs.declared.links.Link.TheVariants.{Contained, Begun, Ended, Single}
 use Rattle.dump.specs.declared.single.SingleLabel.{SingleLabel}
-use Rattle.dump.specs.declared.single.SingleLabel.TheVariants.{Next, Definition, References, Hover, PackageInformation}
-use Rattle.dump.specs.Conditions.{is_document_of, are_vertices}
+use Rattle.dump.specs.declared.single.SingleLabel.TheVariants.{Next, Definition, References, Hover, PackageInformation, Declaration, Implementation}
+use Rattle.dump.specs.Conditions.{is_document_of, has_used_uri, are_vertices}
 use Rattle.dump.specs.Contained.{contains_range}
 use Rattle.dump.specs.Ended.{begins, finishes}
 use Rattle.dump.specs.Graph.{ends}
@@ -18,7 +17,8 @@ use Rattle.dump.specs.Walks.{label_index, same_label}
 use Rattle.dump.proofs.Fills.{ranges_test}
 use Rattle.dump.proofs.Known.{same_contained}
 use Rattle.dump.proofs.Members.{contains_head, contains_tail}
-use Rattle.dump.proofs.FirstIndices.{position-cons, position_hit, position_miss, position_kept}
+use Rattle.dump.proofs.Documents.{document_is}
+use Rattle.dump.proofs.FirstIndices.{position-cons, position_hit, position_miss, position_kept, position-any}
 
 -- an element that the table leads to, and what is read off it
 pub led_some : {A B C : Type 0} (f : B → Option C) (g : A → B) (r : Option A) (o : Option B) (x : A) → r ≡ Some x → option_map g r ≡ o → f (g x) ≡ option_and_then f o
@@ -82,6 +82,8 @@ named_test d (edge j (contains a bs)) l i = each_link (λ l. is_link d l i (edge
 named_test d (edge j (next a b)) l i = each_link (λ l. is_link d l i (edge j (next a b)) ≡ is_named (named_by d (edge j (next a b))) l i) refl refl refl (λ label. one_single Next label a i) l
 named_test d (edge j (definition a b)) l i = each_link (λ l. is_link d l i (edge j (definition a b)) ≡ is_named (named_by d (edge j (definition a b))) l i) refl refl refl (λ label. one_single Definition label a i) l
 named_test d (edge j (references a b)) l i = each_link (λ l. is_link d l i (edge j (references a b)) ≡ is_named (named_by d (edge j (references a b))) l i) refl refl refl (λ label. one_single References label a i) l
+named_test d (edge j (declaration a b)) l i = each_link (λ l. is_link d l i (edge j (declaration a b)) ≡ is_named (named_by d (edge j (declaration a b))) l i) refl refl refl (λ label. one_single Declaration label a i) l
+named_test d (edge j (implementation a b)) l i = each_link (λ l. is_link d l i (edge j (implementation a b)) ≡ is_named (named_by d (edge j (implementation a b))) l i) refl refl refl (λ label. one_single Implementation label a i) l
 named_test d (edge j (hover a b)) l i = each_link (λ l. is_link d l i (edge j (hover a b)) ≡ is_named (named_by d (edge j (hover a b))) l i) refl refl refl (λ label. one_single Hover label a i) l
 named_test d (edge j (package_edge a b)) l i = each_link (λ l. is_link d l i (edge j (package_edge a b)) ≡ is_named (named_by d (edge j (package_edge a b))) l i) refl refl refl (λ label. one_single PackageInformation label a i) l
 named_test d (edge j (moniker_edge a b)) l i = named_nothing d (edge j (moniker_edge a b)) i refl refl refl (λ label. refl) l
@@ -100,6 +102,8 @@ named_test d (vertex j (range s)) l i = named_nothing d (vertex j (range s)) i r
 named_test d (vertex j result_set) l i = named_nothing d (vertex j result_set) i refl refl refl (λ label. refl) l
 named_test d (vertex j definition_result) l i = named_nothing d (vertex j definition_result) i refl refl refl (λ label. refl) l
 named_test d (vertex j reference_result) l i = named_nothing d (vertex j reference_result) i refl refl refl (λ label. refl) l
+named_test d (vertex j declaration_result) l i = named_nothing d (vertex j declaration_result) i refl refl refl (λ label. refl) l
+named_test d (vertex j implementation_result) l i = named_nothing d (vertex j implementation_result) i refl refl refl (λ label. refl) l
 named_test d (vertex j (hover_result s)) l i = named_nothing d (vertex j (hover_result s)) i refl refl refl (λ label. refl) l
 named_test d (vertex j (moniker m)) l i = named_nothing d (vertex j (moniker m)) i refl refl refl (λ label. refl) l
 named_test d (vertex j (package_information p)) l i = named_nothing d (vertex j (package_information p)) i refl refl refl (λ label. refl) l
@@ -109,12 +113,17 @@ named_test d (vertex j other_vertex) l i = named_nothing d (vertex j other_verte
 pub same_link_after : (d : List ElementValue) (x y : ElementValue) → are_vertices d (ends y) ≡ true → (l : Link) (i : IdValue) → is_link (d ++ x ∷ []) l i y ≡ is_link d l i y
 same_link_after d x y known l i = each_link (λ l. is_link (d ++ x ∷ []) l i y ≡ is_link d l i y) (same_contained d x y known i) refl refl (λ label. refl) l
 
-last_or : (a b : Bool) → (b || a) ≡ (a || (b || false))
-last_or true true = refl
-last_or true false = refl
-last_or false true = refl
-last_or false false = refl
+none_if : (o : Option ℕ) → is_some o ≡ false → o ≡ None
+none_if None e = refl
+none_if (Some k) e = cc
 
--- whether one more is the document of a serialized URL
-pub document_more : (uri : List ℕ) (d : List ElementValue) (x : ElementValue) (had has : Bool) → had ≡ list_any (is_document_of uri) d → has ≡ (is_document_of uri x || had) → has ≡ list_any (is_document_of uri) (d ++ x ∷ [])
-document_more uri d x had has e f = f ∙ ap (λ b. is_document_of uri x || b) e ∙ last_or (list_any (is_document_of uri) d) (is_document_of uri x) ∙ sym (list_any-append (is_document_of uri) d (x ∷ []))
+-- the index of the document of a serialized URL, after one element more whose serialized URL isn't another's
+pub document_more : (uri : List ℕ) (d : List ElementValue) (x : ElementValue) (n : ℕ) (had has : Option ℕ) → n ≡ length d → has_used_uri d x ≡ false → had ≡ position (is_document_of uri) d
+    → has ≡ (if is_document_of uri x then Some n else had) → has ≡ position (is_document_of uri) (d ++ x ∷ [])
+document_more uri d x n had has long free e f = f ∙ by (is_document_of uri x) refl
+  where
+    by : (b : Bool) → is_document_of uri x ≡ b → (if b then Some n else had) ≡ position (is_document_of uri) (d ++ x ∷ [])
+    by true h =
+        let unused : list_any (is_document_of uri) d ≡ false = ap (has_used_uri d) (sym (document_is uri x h)) ∙ free in
+        ap Some long ∙ sym (position_hit (is_document_of uri) d x h (none_if (position (is_document_of uri) d) (position-any (is_document_of uri) d ∙ unused)))
+    by false h = e ∙ sym (position_miss (is_document_of uri) d x h)

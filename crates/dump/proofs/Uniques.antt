@@ -37,7 +37,7 @@ later_or x o true found = (x, refl)
 later_or x o false found = found
 
 -- where a member passes, one is found
-member_found : {X : Type 0} (p : X → Bool) (xs : List X) (x : X) → Contains xs x → p x ≡ true → (y : X) × (find p xs ≡ Some y)
+pub member_found : {X : Type 0} (p : X → Bool) (xs : List X) (x : X) → Contains xs x → p x ≡ true → (y : X) × (find p xs ≡ Some y)
 member_found p [] x at e = absurd (not_in_nil x at)
 member_found p (z ∷ xs) x at e = ⊎_elim (λ (s : z ≡ x). here_or z (find p xs) (p z) (ap p s ∙ e)) (λ (t : Contains xs x). later_or z (find p xs) (p z) (member_found p xs x t e)) (contains_cases z xs x at)
 
@@ -59,7 +59,7 @@ is_found : (d : List ElementValue) (x : ElementValue) → Contains d x → (y : 
 unfolding element_at
 is_found d x at = member_found (λ y. same_id (element_id y) (element_id x)) d x at (same_id_self (element_id x))
 
-abbrev Unique : List ElementValue → Type 0
+abbrev pub Unique : List ElementValue → Type 0
 Unique d = (x y : ElementValue) → Contains d x → Contains d y → element_id x ≡ element_id y → x ≡ y
 
 unused : (d : List ElementValue) (x a : ElementValue) → HasNoCode d x → Contains d a → element_id a ≡ element_id x → ⊥
@@ -80,7 +80,7 @@ unique_more d x free unique a b at_a at_b same =
       ]
     ]
 
-each_unique : (d : List ElementValue) → IsSound d → Unique d
+pub each_unique : (d : List ElementValue) → IsSound d → Unique d
 each_unique = holds Unique (λ x y at. absurd (not_in_nil x at)) unique_more
 
 vertex_by : (d : List ElementValue) (i : IdValue) (v : VertexValue) (o : Option ElementValue) → element_at d i ≡ o → option_and_then vertex_of o ≡ Some v → Contains d (vertex i v)

@@ -2,7 +2,7 @@
 -- (LSIF 0.6.0, "Emitting constraints", "metaData", "contains").
 use Rattle.std.specs.Prelude.{ℕ, ◌==◌, ◌&&◌, ◌||◌, Bool, true, false, nat_le, not, List, [], ◌∷◌, length, bytes_eq, Option, Some, None, is_some, find, if◌then◌else◌}
 use Rattle.std.specs.List.{list_any, list_all}
-use Rattle.lsif.specs.Element.{IdValue, VertexValue, meta_data, project, document, range, result_set, definition_result, reference_result, hover_result, moniker, package_information, other_vertex, ItemValue, contains, next, definition, references, hover, moniker_edge, package_edge, attach, item, ElementValue, vertex, edge, element_id}
+use Rattle.lsif.specs.Element.{IdValue, VertexValue, meta_data, project, document, range, result_set, definition_result, reference_result, declaration_result, implementation_result, hover_result, moniker, package_information, other_vertex, ItemValue, contains, next, definition, references, declaration, implementation, hover, moniker_edge, package_edge, attach, item, ElementValue, vertex, edge, element_id}
 use Rattle.lsif.specs.declared.code.Code.{Code}
 use Rattle.lsif.specs.declared.code.Code.TheVariants.{L04, L06, L09, L10, L11, L12, L13, L14, L16, L17, L18, L19, L20, E01, E02}
 use Rattle.dump.specs.Graph.{element_at, vertex_at, is_document, is_range, is_reference_result, ends, has_repeated}
@@ -70,6 +70,16 @@ is_definition_result None = false
 abbrev pub are_reference_results : List ElementValue → List IdValue → Bool
 are_reference_results before is = list_all (λ i. is_reference_result (vertex_at before i)) is
 
+abbrev pub is_declaration_result : Option VertexValue → Bool
+is_declaration_result (Some declaration_result) = true
+is_declaration_result (Some v) = false
+is_declaration_result None = false
+
+abbrev pub is_implementation_result : Option VertexValue → Bool
+is_implementation_result (Some implementation_result) = true
+is_implementation_result (Some v) = false
+is_implementation_result None = false
+
 abbrev pub is_hover_result : Option VertexValue → Bool
 is_hover_result (Some (hover_result s)) = true
 is_hover_result (Some v) = false
@@ -99,10 +109,16 @@ may_be_of_references before (Some Definitions) to = are_ranges before to
 may_be_of_references before (Some References) to = are_ranges before to
 may_be_of_references before (Some ReferenceResults) to = are_reference_results before to
 
+-- a declaration result and an implementation result have ranges, by no property
+abbrev pub may_be_unnamed : List ElementValue → Option Property → List IdValue → Bool
+may_be_unnamed before property to = not (is_some property) && are_ranges before to
+
 -- a definition result has ranges as its definitions; out of a vertex of another label any vertices may be items
 abbrev pub may_have_item : List ElementValue → Option VertexValue → ItemValue → Bool
 may_have_item before (Some definition_result) e = are_definitions e.property && are_ranges before e.targets
 may_have_item before (Some reference_result) e = may_be_of_references before e.property e.targets
+may_have_item before (Some declaration_result) e = may_be_unnamed before e.property e.targets
+may_have_item before (Some implementation_result) e = may_be_unnamed before e.property e.targets
 may_have_item before (Some other_vertex) e = true
 may_have_item before (Some v) e = false
 may_have_item before None e = false
@@ -113,6 +129,8 @@ may_not_join before (edge i (contains from to)) = not (may_contain before (verte
 may_not_join before (edge i (next from to)) = not (may_ask (vertex_at before from) && is_result_set (vertex_at before to))
 may_not_join before (edge i (definition from to)) = not (may_ask (vertex_at before from) && is_definition_result (vertex_at before to))
 may_not_join before (edge i (references from to)) = not (may_ask (vertex_at before from) && is_reference_result (vertex_at before to))
+may_not_join before (edge i (declaration from to)) = not (may_ask (vertex_at before from) && is_declaration_result (vertex_at before to))
+may_not_join before (edge i (implementation from to)) = not (may_ask (vertex_at before from) && is_implementation_result (vertex_at before to))
 may_not_join before (edge i (hover from to)) = not (may_ask (vertex_at before from) && is_hover_result (vertex_at before to))
 may_not_join before (edge i (moniker_edge from to)) = not (may_ask (vertex_at before from) && is_moniker (vertex_at before to))
 may_not_join before (edge i (package_edge from to)) = not (is_moniker (vertex_at before from) && is_package (vertex_at before to))

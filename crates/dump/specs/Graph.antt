@@ -1,12 +1,16 @@
 -- Elements looked up by their ids, and what vertices and edges they are (LSIF 0.6.0, "Vertices", "Edges").
-use Rattle.std.specs.Prelude.{◌||◌, Bool, true, false, List, [], ◌∷◌, Option, Some, None, option_and_then, find}
-use Rattle.std.specs.List.{list_any}
+use Rattle.std.specs.Prelude.{◌||◌, ℕ, Bool, true, false, List, [], ◌∷◌, Option, Some, None, option_and_then, find}
+use Rattle.std.specs.List.{list_any, position}
 use Rattle.positions.specs.Span.{SpanValue}
-use Rattle.lsif.specs.Element.{IdValue, same_id, VertexValue, document, range, reference_result, contains, next, definition, references, hover, moniker_edge, package_edge, attach, item, other_edge, ElementValue, vertex, edge, element_id}
+use Rattle.lsif.specs.Element.{IdValue, same_id, VertexValue, document, range, reference_result, contains, next, definition, references, declaration, implementation, hover, moniker_edge, package_edge, attach, item, other_edge, ElementValue, vertex, edge, element_id}
 
 -- the element of this id: where no id is used twice there is one at most
 unfoldable pub element_at : List ElementValue → IdValue → Option ElementValue
 element_at elements i = find (λ x. same_id (element_id x) i) elements
+
+-- the line, counted from 0, of the element of this id
+abbrev pub line_of : List ElementValue → IdValue → Option ℕ
+line_of elements i = position (λ x. same_id (element_id x) i) elements
 
 abbrev pub vertex_of : ElementValue → Option VertexValue
 vertex_of (vertex i v) = Some v
@@ -43,6 +47,8 @@ ends (edge i (contains from to)) = from ∷ to
 ends (edge i (next from to)) = from ∷ to ∷ []
 ends (edge i (definition from to)) = from ∷ to ∷ []
 ends (edge i (references from to)) = from ∷ to ∷ []
+ends (edge i (declaration from to)) = from ∷ to ∷ []
+ends (edge i (implementation from to)) = from ∷ to ∷ []
 ends (edge i (hover from to)) = from ∷ to ∷ []
 ends (edge i (moniker_edge from to)) = from ∷ to ∷ []
 ends (edge i (package_edge from to)) = from ∷ to ∷ []

@@ -1,20 +1,21 @@
 -- The dump that a reader's bytes are.
 use Rattle.std.specs.Prelude.{ℕ, ◌+◌, List, map, Option, Some, None, Result, Ok, Err, ⊤, ◌≡◌}
-use Rattle.lsif.specs.Element.{ElementValue}
+use Rattle.lsif.specs.declared.element.Profile.{Profile}
 use Rattle.dump.specs.declared.fault.FeedFault.{FeedFault}
 use Rattle.dump.specs.declared.fault.FeedFault.TheVariants as feeds
 use Rattle.dump.specs.declared.reading.DumpFault.{DumpFault}
 use Rattle.dump.specs.declared.reading.DumpFault.TheVariants as faults
 use Rattle.dump.specs.Fault.{IsFault}
 use Rattle.dump.specs.Lines.{dump_of}
+use Rattle.dump.specs.Progress.{DumpValue}
 
--- what the reading of known bytes answers: the elements of a dump without fault, or the dump's fault
-abbrev pub ReadsDump : Option (List ℕ) → Result (List ElementValue) DumpFault → Type 0
-ReadsDump None result = ⊤
-ReadsDump (Some text) (Ok elements) = IsFault (dump_of text) None × (dump_of text ≡ map Ok elements)
-ReadsDump (Some text) (Err (faults.Line f)) = IsFault (dump_of text) (Some f)
-ReadsDump (Some text) (Err faults.Memory) = ⊤
-ReadsDump (Some text) (Err faults.Read) = ⊤
+-- what the reading of known bytes by a profile answers: the elements of a dump without fault, or the dump's fault
+abbrev pub ReadsDump : Profile → Option (List ℕ) → Result DumpValue DumpFault → Type 0
+ReadsDump profile None result = ⊤
+ReadsDump profile (Some text) (Ok dump) = IsFault (dump_of profile text) None × (dump_of profile text ≡ map Ok dump.elements)
+ReadsDump profile (Some text) (Err (faults.Line f)) = IsFault (dump_of profile text) (Some f)
+ReadsDump profile (Some text) (Err faults.Memory) = ⊤
+ReadsDump profile (Some text) (Err faults.Read) = ⊤
 
 -- the reader's count of failures goes up by one where it failed, and else stays
 abbrev pub CountsRead : {A : Type 0} → ℕ → ℕ → Result A DumpFault → Type 0

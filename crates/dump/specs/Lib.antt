@@ -5,7 +5,9 @@ pub mod Fault
 pub mod Graph
 pub mod Judging
 pub mod Lines
+pub mod Monikers
 pub mod Places
 pub mod Progress
+pub mod Requests
 pub mod Steps
 pub mod Walks

@@ -1,20 +1,21 @@
--- Where the ranges of a dump lie, which of them cover a position, and what a definition request is answered by
--- (LSIF 0.6.0, "contains", "item", "textDocument/definition"; Language Server Protocol 3.17, "Range": the end is exclusive).
-use Rattle.std.specs.Prelude.{◌≡◌, ◌↔◌, ◌⊎◌, ℕ, true, List, [], Option, Some, None, Contains}
+-- Where the ranges of a dump lie, which of them cover a position, and the places of a result
+-- (LSIF 0.6.0, "contains", "item"; Language Server Protocol 3.17, "Range": the end is exclusive).
+use Rattle.std.specs.Prelude.{◌≡◌, ◌↔◌, ℕ, true, List, [], map, Option, Some, None, Contains}
+use Rattle.std.specs.List.{flat_map}
 use Rattle.std.specs.declared.cmp.Ordering.{Ordering}
 use Rattle.std.specs.Ordering.{nat_cmp, ordering_then}
 use Rattle.std.specs.Cmp.Lexicographic.{slice_cmp}
 use Rattle.std.specs.List.Sorted.{IsStrictlySortedBy}
 use Rattle.positions.specs.Position.{PositionValue}
-use Rattle.positions.specs.Span.{SpanValue, Covers, Nests}
-use Rattle.lsif.specs.Element.{IdValue, document, range, ItemValue, item, ElementValue, edge}
+use Rattle.positions.specs.Span.{SpanValue, Covers}
+use Rattle.lsif.specs.Element.{IdValue, document, range, ItemValue, item, ElementValue, vertex, edge}
 use Rattle.lsif.specs.declared.element.Property.{Property}
-use Rattle.lsif.specs.declared.element.Property.TheVariants.{Definitions}
+use Rattle.lsif.specs.declared.element.Property.TheVariants as properties
 use Rattle.dump.specs.Graph.{vertex_at}
 use Rattle.dump.specs.Contained.{is_in}
-use Rattle.dump.specs.declared.single.SingleLabel.{SingleLabel}
-use Rattle.dump.specs.declared.single.SingleLabel.TheVariants.{Definition, References, Hover}
-use Rattle.dump.specs.Walks.{IsChain, first_of_list, single_pairs, next_pairs}
+use Rattle.dump.specs.declared.role.Role.{Role}
+use Rattle.dump.specs.declared.role.Role.TheVariants as roles
+use Rattle.dump.specs.Walks.{Pair, Path}
 
 -- a place in a document: the document's serialized URL, and a span of it
 pub record PlaceValue : Type 0 where
@@ -36,45 +37,47 @@ pub record IsAt (elements : List ElementValue) (r : IdValue) (place : PlaceValue
 abbrev pub IsCovering : List ElementValue → List ℕ → PositionValue → IdValue → SpanValue → Type 0
 IsCovering elements uri position r span = IsAt elements r (record { uri = uri; span = span }) × Covers span position
 
--- the result that a request at the vertex is answered by, where edges of this label name results: that of the first member of
--- the vertex's chain that has one
-abbrev pub FirstResult : SingleLabel → List ElementValue → IdValue → Option IdValue → Type 0
-FirstResult label elements x result = (xs : List IdValue) × IsChain (next_pairs elements) x xs × (result ≡ first_of_list (single_pairs label elements) xs)
+-- what the ranges that an `item` edge has as its targets are to its source: an absent property counts as "definitions"; with
+-- "referenceResults" the targets are no ranges
+abbrev pub role_of : Option Property → Option Role
+role_of None = Some roles.Definitions
+role_of (Some properties.Definitions) = Some roles.Definitions
+role_of (Some properties.References) = Some roles.References
+role_of (Some properties.ReferenceResults) = None
 
-abbrev pub FirstDefinition : List ElementValue → IdValue → Option IdValue → Type 0
-FirstDefinition elements x result = FirstResult Definition elements x result
+-- an `item` edge joins the result to the range, in one of these roles
+pub record IsItem (in_roles : List Role) (elements : List ElementValue) (result r : IdValue) : Type 0 where
+  pub id : IdValue
+  pub joining : ItemValue
+  pub role : Role
+  pub is_there : Contains elements (edge id (item joining))
+  pub source : joining.source ≡ result
+  pub has_role : role_of joining.property ≡ Some role
+  pub is_asked : Contains in_roles role
+  pub target : Contains joining.targets r
 
-abbrev pub FirstReferences : List ElementValue → IdValue → Option IdValue → Type 0
-FirstReferences elements x result = FirstResult References elements x result
+-- the source with each target of an `item` edge, where these are results
+abbrev pub joined_results : ItemValue → Option Property → List Pair
+joined_results e (Some properties.ReferenceResults) = map (λ to. (e.source, to)) e.targets
+joined_results e (Some p) = []
+joined_results e None = []
 
-abbrev pub FirstHover : List ElementValue → IdValue → Option IdValue → Type 0
-FirstHover elements x result = FirstResult Hover elements x result
+abbrev pub result_pairs_of : ElementValue → List Pair
+result_pairs_of (edge i (item e)) = joined_results e e.property
+result_pairs_of (edge i e) = []
+result_pairs_of (vertex i v) = []
 
--- the range is the innermost of those that cover the position and have a definition result: it nests in each of them
-pub record IsInnermost (elements : List ElementValue) (uri : List ℕ) (position : PositionValue) (r result : IdValue) : Type 0 where
-  pub span : SpanValue
-  pub covering : IsCovering elements uri position r span
-  pub answered : FirstDefinition elements r (Some result)
-  pub nests : (s : IdValue) (other : SpanValue) (second : IdValue) → IsCovering elements uri position s other
-      → FirstDefinition elements s (Some second) → Nests span other
+-- the results that `item` edges with "referenceResults" join
+abbrev pub result_pairs : List ElementValue → List Pair
+result_pairs elements = flat_map result_pairs_of elements
 
--- no range that covers the position has a definition result
-abbrev pub HasNoAnswer : List ElementValue → List ℕ → PositionValue → Type 0
-HasNoAnswer elements uri position = (r : IdValue) (span : SpanValue) (result : IdValue) → IsCovering elements uri position r span
-    → FirstDefinition elements r (Some result) → ⊥
+-- the place of a range that an `item` edge joins to the result, in one of these roles
+abbrev pub IsItemPlace : List Role → List ElementValue → IdValue → PlaceValue → Type 0
+IsItemPlace in_roles elements result place = (r : IdValue) × IsItem in_roles elements result r × IsAt elements r place
 
--- of an `item` edge out of a definition result: an absent property counts as "definitions"
-abbrev pub NamesDefinitions : Option Property → Type 0
-NamesDefinitions property = (property ≡ None) ⊎ (property ≡ Some Definitions)
-
--- an `item` edge joins the result to the range as a definition
-abbrev pub IsDefinition : List ElementValue → IdValue → IdValue → Type 0
-IsDefinition elements result r = (i : IdValue) × (e : ItemValue) × Contains elements (edge i (item e))
-    × (e.source ≡ result) × NamesDefinitions e.property × Contains e.targets r
-
--- a place of the result: that of a range to which it's joined
-abbrev pub IsDefinitionPlace : List ElementValue → IdValue → PlaceValue → Type 0
-IsDefinitionPlace elements result place = (r : IdValue) × IsDefinition elements result r × IsAt elements r place
+-- the places of a result, in these roles: its own, and those of the results that it leads to
+abbrev pub Places : List Role → List ElementValue → IdValue → PlaceValue → Type 0
+Places in_roles elements result place = (other : IdValue) × Path (result_pairs elements) result other × IsItemPlace in_roles elements other place
 
 abbrev pub position_cmp : PositionValue → PositionValue → Ordering
 position_cmp p q = ordering_then (nat_cmp p.line q.line) (nat_cmp p.character q.character)
@@ -89,9 +92,3 @@ place_cmp a b =
 pub record IsListing {X : Type 0} (cmp : X → X → Ordering) (P : X → Type 0) (xs : List X) : Type 0 where
   pub rises : IsStrictlySortedBy cmp xs
   pub each : (x : X) → Contains xs x ↔ P x
-
--- the places that a definition request at this position is answered by
-pub data DefinitionPlaces (elements : List ElementValue) (uri : List ℕ) (position : PositionValue) : List PlaceValue → Type 0 where
-  answered : {places : List PlaceValue} (r result : IdValue) → IsInnermost elements uri position r result
-      → IsListing place_cmp (IsDefinitionPlace elements result) places → DefinitionPlaces elements uri position places
-  unanswered : HasNoAnswer elements uri position → DefinitionPlaces elements uri position []

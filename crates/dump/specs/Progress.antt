@@ -3,16 +3,27 @@ use Rattle.std.specs.Prelude.{◌≡◌, ℕ, ◌+◌, List, [], ◌∷◌, ◌+
 use Rattle.lsif.specs.Element.{ElementValue, Reading}
 use Rattle.lsif.specs.declared.code.Code.{Code}
 use Rattle.lsif.specs.declared.code.Code.TheVariants.{L06}
+use Rattle.lsif.specs.declared.element.Profile.{Profile}
 use Rattle.dump.specs.declared.fault.LineFault.{LineFault}
 use Rattle.dump.specs.declared.fault.FeedFault.{FeedFault}
 use Rattle.dump.specs.declared.fault.FeedFault.TheVariants as faults
 use Rattle.dump.specs.Conditions.{end_code}
 use Rattle.dump.specs.Fault.{line_code}
 
+-- a dump without fault: the profile that its lines were read by, and their elements
+pub record DumpValue : Type 0 where
+  pub profile : Profile
+  pub elements : List ElementValue
+
 -- the elements of the lines so far, or the fault of the first faulty one
 pub data Progress : Type 0 where
   running : List ElementValue → Progress
   stopped : LineFault → Progress
+
+-- a checker: the profile that its lines are read by, and what it keeps of them
+pub record CheckerValue : Type 0 where
+  pub profile : Profile
+  pub progress : Progress
 
 abbrev pub progress_of : Option LineFault → List ElementValue → Progress
 progress_of None elements = running elements
@@ -66,8 +77,8 @@ Feeds (Ok u) old due new = (new ≡ due) × IsRunning due
 Feeds (Err faults.Memory) old due new = (new ≡ old) × IsRunning old
 Feeds (Err (faults.Line f)) old due new = (new ≡ due) × (due ≡ stopped f)
 
--- what `finish` answers: the elements where there is no fault, and else the fault
-abbrev pub Finishes : Result (List ElementValue) FeedFault → Progress → Type 0
-Finishes (Ok elements) state = (state ≡ running elements) × (end_fault elements ≡ None)
-Finishes (Err faults.Memory) state = ⊥
-Finishes (Err (faults.Line f)) state = finished state ≡ Some f
+-- what `finish` answers: where there is no fault the dump of the checker's profile and elements, and else the fault
+abbrev pub Finishes : Result DumpValue FeedFault → CheckerValue → Type 0
+Finishes (Ok dump) checker = (checker ≡ record { profile = dump.profile; progress = running dump.elements }) × (end_fault dump.elements ≡ None)
+Finishes (Err faults.Memory) checker = ⊥
+Finishes (Err (faults.Line f)) checker = finished checker.progress ≡ Some f

@@ -2,9 +2,9 @@
 -- range or a result set doesn't answer is forwarded along the `next` edge).
 use Rattle.std.specs.Prelude.{◌≡◌, ℕ, nat_eq, Bool, List, [], ◌∷◌, if◌then◌else◌, ◌||◌, ◌&&◌, Option, Some, None, Contains}
 use Rattle.std.specs.List.{flat_map}
-use Rattle.lsif.specs.Element.{IdValue, same_id, next, definition, references, hover, package_edge, ElementValue, vertex, edge}
+use Rattle.lsif.specs.Element.{IdValue, same_id, next, definition, references, declaration, implementation, hover, package_edge, ElementValue, vertex, edge}
 use Rattle.dump.specs.declared.single.SingleLabel.{SingleLabel}
-use Rattle.dump.specs.declared.single.SingleLabel.TheVariants.{Next, Definition, References, Hover, PackageInformation}
+use Rattle.dump.specs.declared.single.SingleLabel.TheVariants.{Next, Definition, References, Hover, PackageInformation, Declaration, Implementation}
 
 abbrev pub Pair : Type 0
 Pair = IdValue × IdValue
@@ -15,6 +15,8 @@ label_index Definition = 1
 label_index References = 2
 label_index Hover = 3
 label_index PackageInformation = 4
+label_index Declaration = 5
+label_index Implementation = 6
 
 abbrev pub same_label : SingleLabel → SingleLabel → Bool
 same_label a b = nat_eq (label_index a) (label_index b)
@@ -24,6 +26,8 @@ abbrev pub single_of : ElementValue → Option (SingleLabel × Pair)
 single_of (edge i (next from to)) = Some (Next, (from, to))
 single_of (edge i (definition from to)) = Some (Definition, (from, to))
 single_of (edge i (references from to)) = Some (References, (from, to))
+single_of (edge i (declaration from to)) = Some (Declaration, (from, to))
+single_of (edge i (implementation from to)) = Some (Implementation, (from, to))
 single_of (edge i (hover from to)) = Some (Hover, (from, to))
 single_of (edge i (package_edge from to)) = Some (PackageInformation, (from, to))
 single_of (edge i e) = None
@@ -46,9 +50,9 @@ first_to [] x = None
 first_to (p ∷ ps) x = if same_id p.0 x then Some p.1 else first_to ps x
 
 -- a path of these pairs, of no step or more
-pub data Path (pairs : List Pair) (from : IdValue) : IdValue → Type 0 where
+pub data Path {X : Type 0} (pairs : List (X × X)) (from : X) : X → Type 0 where
   stays : Path pairs from from
-  goes : {y : IdValue} (z : IdValue) → Path pairs from y → Contains pairs (y, z) → Path pairs from z
+  goes : {y : X} (z : X) → Path pairs from y → Contains pairs (y, z) → Path pairs from z
 
 -- there is a path: one without the first pair, or one up to it and one on from it
 abbrev pub reaches : List Pair → IdValue → IdValue → Bool

@@ -8,6 +8,7 @@ use crate::fault::{FeedFault, LineFault};
 use crate::graph::Graph;
 use crate::laws::chain_law;
 use crate::order::{end_fault, order_code};
+use crate::request::Request;
 use crate::single::SingleLabel;
 use crate::vertices::vertex_at;
 use crate::walks::first_result;
@@ -18,6 +19,7 @@ use std::marker::Model;
 /// Takes the readings of a dump's lines one after the other. At the first faulty line it stops for good.
 #[derive(Drop)]
 pub struct Checker {
+    profile: Profile,
     graph: Graph,
     fault: Option<LineFault>,
 }
@@ -26,11 +28,11 @@ impl Model for Checker {
     ghost use Rattle.std.specs.Prelude.{◌≤◌, map, length};
     ghost use Rattle.lsif.specs.Element.{element_value};
     ghost use Rattle.dump.specs.Conditions.{most_elements};
-    ghost use Rattle.dump.specs.Progress.{Progress, progress_of, IsSound};
+    ghost use Rattle.dump.specs.Progress.{CheckerValue, progress_of, IsSound};
 
-    ghost Value = { Progress };
+    ghost Value = { CheckerValue };
 
-    ghost view = { λ c. progress_of c.fault c.graph };
+    ghost view = { λ c. record { profile = c.profile; progress = progress_of c.fault c.graph } };
 
     ghost invariant = { λ c. (length c.graph ≤ most_elements) × IsSound c.graph };
 }
@@ -39,11 +41,12 @@ impl Checker {
     ghost use Rattle.std.specs.Result.{ForErr};
     ghost use Rattle.dump.specs.Progress.{running, stopped, next, Feeds, Finishes};
 
-    /// A checker that has seen no line.
-    pub fn new(alloc: Global, _profile: Profile) -> Checker
-        ensures { result ≡ running [] }
+    /// A checker that has seen no line. The lines are to be read by this profile.
+    pub fn new(alloc: Global, profile: Profile) -> Checker
+        ensures { result ≡ record { profile = profile; progress = running [] } }
     {
         Checker {
+            profile,
             graph: Graph::new(alloc),
             fault: None,
         }
@@ -53,7 +56,8 @@ impl Checker {
     /// from then on that fault for good. Where memory is refused the line doesn't count as taken.
     pub fn feed(&mut self, reading: Result<Element, Code>) -> Result<(), FeedFault>
         requires { ForErr reading (λ code. is_shape_code code ≡ true) }
-        ensures { Feeds result self.old (next self.old (reading_value reading)) self.new }
+        ensures line { Feeds result self.old.progress (next self.old.progress (reading_value reading)) self.new.progress }
+        ensures profile { self.new.profile ≡ self.old.profile }
     {
         if let Some(fault) = self.fault {
             return Err(FeedFault::Line(fault));
@@ -75,7 +79,7 @@ impl Checker {
     /// Keeps the fault, and answers it.
     fn stop(&mut self, fault: LineFault) -> FeedFault
         ensures fault { result ≡ Line fault }
-        ensures stopped { self.new ≡ stopped fault }
+        ensures stopped { self.new ≡ record { profile = self.old.profile; progress = stopped fault } }
     {
         self.fault = Some(fault);
         FeedFault::Line(fault)
@@ -85,7 +89,11 @@ impl Checker {
     pub fn finish(self) -> Result<CheckedDump, FeedFault>
         ensures { Finishes result self }
     {
-        let Checker { graph, fault } = self;
+        let Checker {
+            profile,
+            graph,
+            fault,
+        } = self;
         if let Some(fault) = fault {
             return Err(FeedFault::Line(fault));
         }
@@ -97,26 +105,26 @@ impl Checker {
         }
         match end_fault(&graph) {
             Some(fault) => Err(FeedFault::Line(fault)),
-            None => Ok(CheckedDump { graph }),
+            None => Ok(CheckedDump { profile, graph }),
         }
     }
 }
 
-/// The elements of a dump that has no fault, in the order of their lines.
+/// The elements of a dump that has no fault, in the order of their lines, and the profile that it was read by.
 #[derive(Drop)]
 pub struct CheckedDump {
+    profile: Profile,
     graph: Graph,
 }
 
 impl Model for CheckedDump {
-    ghost use Rattle.std.specs.Prelude.{◌≡◌, ◌≤◌, List, map, length, None};
-    ghost use Rattle.lsif.specs.Element.{ElementValue, element_value};
+    ghost use Rattle.std.specs.Prelude.{◌≡◌, ◌≤◌, length, None};
     ghost use Rattle.dump.specs.Conditions.{most_elements};
-    ghost use Rattle.dump.specs.Progress.{IsSound, end_fault};
+    ghost use Rattle.dump.specs.Progress.{DumpValue, IsSound, end_fault};
 
-    ghost Value = { List ElementValue };
+    ghost Value = { DumpValue };
 
-    ghost view = { λ d. d.graph };
+    ghost view = { λ d. record { profile = d.profile; elements = d.graph } };
 
     ghost invariant = { λ d. (length d.graph ≤ most_elements) × IsSound d.graph × (end_fault d.graph ≡ None) };
 }
@@ -124,57 +132,60 @@ impl Model for CheckedDump {
 impl CheckedDump {
     ghost use Rattle.std.specs.Prelude.{◌≤◌, Ok, length};
     ghost use Rattle.dump.specs.Conditions.{most_elements};
-    ghost use Rattle.std.specs.Prelude.{Option, option_map};
-    ghost use Rattle.lsif.specs.Element.{IdValue, id_value, vertex_value};
-    ghost use Rattle.dump.specs.Graph.{vertex_at};
+    ghost use Rattle.std.specs.Prelude.{Option, Some, IfSome, IfNone, option_map};
+    ghost use Rattle.lsif.specs.Element.{IdValue, document, id_value, vertex_value};
+    ghost use Rattle.dump.specs.Graph.{line_of, vertex_at};
+    ghost use Rattle.dump.specs.Places.{HasDocument};
     ghost use Rattle.dump.specs.Contained.{container, is_in};
     ghost use Rattle.dump.specs.Fault.{IsFaultless};
-    ghost use Rattle.dump.specs.Places.{FirstDefinition, FirstReferences, FirstHover};
-    ghost use Rattle.dump.specs.Walks.{first_to, single_pairs};
+    ghost use Rattle.dump.specs.Requests.{First, label_of};
+    ghost use Rattle.dump.specs.Walks.{first_to, next_pairs, single_pairs};
     ghost use Rattle.dump.specs.declared.single.SingleLabel.TheVariants.{PackageInformation};
+
+    /// The profile that the dump was read by.
+    pub fn profile(&self) -> Profile
+        ensures { result ≡ self.now.profile }
+    {
+        self.profile
+    }
 
     /// The elements: that of line 1 first.
     pub fn elements(&self) -> &[Element]
-        ensures value { map element_value result.now ≡ self.now }
+        ensures value { map element_value result.now ≡ self.now.elements }
         ensures few { length result.now ≤ most_elements }
-        ensures faultless { IsFaultless (map Ok self.now) }
+        ensures faultless { IsFaultless (map Ok self.now.elements) }
     {
         self.graph.elements()
     }
 
-    /// The definition result that a request at this vertex is answered by: that of the first vertex along the chain of
-    /// `next` edges from it that has one.
-    pub fn first_definition<'a>(&'a self, vertex: &'a Id) -> Option<&'a Id>
-        ensures value { FirstDefinition self.now (id_value vertex.now) (option_map (λ i. id_value i.now) result) }
-        ensures only { (other : Option IdValue) → FirstDefinition self.now (id_value vertex.now) other → other ≡ option_map (λ i. id_value i.now) result }
+    /// The result that a request at this vertex is answered by: that of the first vertex along the chain of `next` edges from
+    /// it that has one.
+    pub fn first<'a>(&'a self, request: Request, vertex: &'a Id) -> Option<&'a Id>
+        ensures value { First request self.now.elements (id_value vertex.now) (option_map (λ i. id_value i.now) result) }
+        ensures only { (other : Option IdValue) → First request self.now.elements (id_value vertex.now) other → other ≡ option_map (λ i. id_value i.now) result }
+        ensures faultless { IsFaultless (map Ok self.now.elements) }
     {
         chain_law();
-        first_result(&self.graph, SingleLabel::Definition, vertex)
+        first_result(&self.graph, request.label(), vertex)
     }
 
-    /// The reference result that a request at this vertex is answered by: that of the first vertex along the chain of
-    /// `next` edges from it that has one.
-    pub fn first_references<'a>(&'a self, vertex: &'a Id) -> Option<&'a Id>
-        ensures value { FirstReferences self.now (id_value vertex.now) (option_map (λ i. id_value i.now) result) }
-        ensures only { (other : Option IdValue) → FirstReferences self.now (id_value vertex.now) other → other ≡ option_map (λ i. id_value i.now) result }
+    /// What the `next` edge out of this vertex leads to.
+    pub fn next(&self, vertex: &Id) -> Option<&Id>
+        ensures { option_map (λ i. id_value i.now) result ≡ first_to (next_pairs self.now.elements) (id_value vertex.now) }
     {
-        chain_law();
-        first_result(&self.graph, SingleLabel::References, vertex)
+        self.graph.target_of(SingleLabel::Next, vertex)
     }
 
-    /// The hover result that a request at this vertex is answered by: that of the first vertex along the chain of `next`
-    /// edges from it that has one.
-    pub fn first_hover<'a>(&'a self, vertex: &'a Id) -> Option<&'a Id>
-        ensures value { FirstHover self.now (id_value vertex.now) (option_map (λ i. id_value i.now) result) }
-        ensures only { (other : Option IdValue) → FirstHover self.now (id_value vertex.now) other → other ≡ option_map (λ i. id_value i.now) result }
+    /// The result that the vertex itself has for a request.
+    pub fn result(&self, request: Request, vertex: &Id) -> Option<&Id>
+        ensures { option_map (λ i. id_value i.now) result ≡ first_to (single_pairs (label_of request) self.now.elements) (id_value vertex.now) }
     {
-        chain_law();
-        first_result(&self.graph, SingleLabel::Hover, vertex)
+        self.graph.target_of(request.label(), vertex)
     }
 
     /// The package that a `packageInformation` edge out of this moniker names.
     pub fn package_of(&self, moniker: &Id) -> Option<&Id>
-        ensures { option_map (λ i. id_value i.now) result ≡ first_to (single_pairs PackageInformation self.now) (id_value moniker.now) }
+        ensures { option_map (λ i. id_value i.now) result ≡ first_to (single_pairs PackageInformation self.now.elements) (id_value moniker.now) }
     {
         self.graph
             .target_of(SingleLabel::PackageInformation, moniker)
@@ -182,21 +193,40 @@ impl CheckedDump {
 
     /// What the vertex of this id says. None where the id is an edge's, or nobody's.
     pub fn vertex_at(&self, id: &Id) -> Option<&Vertex>
-        ensures { option_map (λ v. vertex_value v.now) result ≡ vertex_at self.now (id_value id.now) }
+        ensures { option_map (λ v. vertex_value v.now) result ≡ vertex_at self.now.elements (id_value id.now) }
     {
         vertex_at(&self.graph, id)
     }
 
+    /// The line, counted from 0, of the element of this id.
+    pub fn line_of(&self, id: &Id) -> Option<u32>
+        ensures { result ≡ line_of self.now.elements (id_value id.now) }
+    {
+        match self.graph.index_of(id) {
+            Some(index) => Some(index as u32),
+            None => None,
+        }
+    }
+
+    /// The one document of this serialized URL.
+    pub fn document_of(&self, uri: &str) -> Option<&Id>
+        ensures some { IfSome result (λ d. vertex_at self.now.elements (id_value d.now) ≡ Some (document uri.now)) }
+        ensures only { IfSome result (λ d. (other : IdValue) → vertex_at self.now.elements other ≡ Some (document uri.now) → other ≡ id_value d.now) }
+        ensures none { IfNone result (HasDocument self.now.elements uri.now → ⊥) }
+    {
+        self.graph.document_of(uri)
+    }
+
     /// The document that contains the range.
     pub fn container(&self, range: &Id) -> Option<&Id>
-        ensures { option_map (λ i. id_value i.now) result ≡ container self.now (id_value range.now) }
+        ensures { option_map (λ i. id_value i.now) result ≡ container self.now.elements (id_value range.now) }
     {
         self.graph.container(range)
     }
 
     /// Whether this document contains the range.
     pub fn is_in(&self, document: &Id, range: &Id) -> bool
-        ensures { result ≡ is_in self.now (id_value document.now) (id_value range.now) }
+        ensures { result ≡ is_in self.now.elements (id_value document.now) (id_value range.now) }
     {
         self.graph.is_in(document, range)
     }

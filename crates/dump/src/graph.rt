@@ -1,11 +1,12 @@
 //! The elements of a dump, and what is looked up among them.
-ghost use Rattle.std.specs.Prelude.{◌≡◌, ◌++◌, ◌||◌, ◌==◌, ◌∷◌, [], None, IfOk, OnOk, OnErr, length, map, option_map};
+ghost use Rattle.std.specs.Prelude.{◌≡◌, ◌++◌, ◌||◌, ◌==◌, ◌<◌, ◌∷◌, [], None, IfSome, IfOk, OnOk, OnErr, length, map, option_map};
 ghost use Rattle.std.specs.List.{list_any};
 ghost use Rattle.lsif.specs.Element.{id_value, id_values, element_value};
 ghost use Rattle.dump.specs.Conditions.{is_document_of, order_code};
 ghost use Rattle.dump.specs.Contained.{is_contained, is_in, spans_of, spans_in, any_conflicts, has_conflict};
 ghost use Rattle.dump.specs.Ended.{has_begun, has_ended, is_closed};
-ghost use Rattle.dump.specs.Graph.{element_at, has_repeated};
+ghost use Rattle.dump.specs.Graph.{element_at, line_of, has_repeated};
+ghost use Rattle.dump.specs.Steps.Tables.{document_id};
 ghost use Rattle.dump.specs.Contained.{container};
 ghost use Rattle.dump.specs.Progress.{IsSound};
 ghost use Rattle.dump.specs.Walks.{Path, first_to, single_pairs, next_pairs};
@@ -101,6 +102,14 @@ impl Graph {
         }
     }
 
+    /// The index of the element of this id.
+    pub(crate) fn index_of(&self, id: &Id) -> Option<usize>
+        ensures value { result ≡ line_of self.now (id_value id.now) }
+        ensures below { IfSome result (λ index. index < length self.now) }
+    {
+        self.tables.index_of_id(&self.elements, id)
+    }
+
     /// The element of this id.
     pub(crate) fn element_at(&self, id: &Id) -> Option<&Element>
         ensures { option_map (λ e. element_value e.now) result ≡ element_at self.now (id_value id.now) }
@@ -182,6 +191,16 @@ impl Graph {
         ensures { result ≡ list_any (is_document_of uri.now) self.now }
     {
         self.tables.has_document_of(&self.elements, uri)
+    }
+
+    /// The first document of this serialized URL.
+    pub(crate) fn document_of(&self, uri: &str) -> Option<&Id>
+        ensures { option_map (λ i. id_value i.now) result ≡ document_id self.now uri.now }
+    {
+        match self.tables.document_of(&self.elements, uri) {
+            Some(element) => Some(element.id()),
+            None => None,
+        }
     }
 
     /// The target of the edge of this label out of the vertex.

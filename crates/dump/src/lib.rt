@@ -13,6 +13,8 @@ mod laws;
 mod links;
 mod order;
 mod reading;
+mod request;
+mod role;
 mod single;
 mod sorted_spans;
 mod spans;
@@ -23,9 +25,12 @@ mod walks;
 pub use checker::{CheckedDump, Checker};
 pub use fault::{FeedFault, LineFault};
 pub use laws::{
-    answer_law, chain_law, container_law, fault_law, nesting_law, path_law, uri_law, vertex_law,
+    chain_law, container_law, ends_law, fault_law, hover_law, line_law, listing_law, nesting_law,
+    own_law, path_law, pick_law, uri_law, vertex_law,
 };
 pub use reading::{DumpFault, read_dump};
+pub use request::Request;
+pub use role::{Role, role_of};
 
 #[cfg(test)]
 mod tests;
@@ -33,5 +38,7 @@ mod tests;
 mod tests_ids;
 #[cfg(test)]
 mod tests_index_map;
+#[cfg(test)]
+mod tests_profiles;
 #[cfg(test)]
 mod tests_spans;

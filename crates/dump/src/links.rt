@@ -24,7 +24,7 @@ pub(crate) enum Link {
 }
 
 /// How many ways there are.
-pub(crate) const LINKS: usize = 8;
+pub(crate) const LINKS: usize = 10;
 
 /// The index of the first element that names a vertex in each way.
 pub(crate) type Row = [Option<usize>; LINKS];
@@ -32,7 +32,7 @@ pub(crate) type Row = [Option<usize>; LINKS];
 impl Link {
     fn index(self) -> usize
         ensures value { result ≡ link_index self }
-        ensures within { result < 8 }
+        ensures within { result < 10 }
     {
         match self {
             Link::Contained => 0,
@@ -56,7 +56,7 @@ pub(crate) fn cell(rows: &[Row], row: usize, link: Link) -> Option<usize>
 fn row_at(rows: &[Row], row: usize) -> Row
     requires { row < length rows.now }
     ensures value { result ≡ get_or rows.now row [] }
-    ensures length { length result ≡ 8 }
+    ensures length { length result ≡ 10 }
 {
     rows[row]
 }

@@ -2,7 +2,7 @@
 ghost use Rattle.std.specs.Prelude.{◌≡◌, false, ◌<◌, ◌≤◌, ◌&&◌, ◌∷◌, IfOk, IfNone, length, not};
 ghost use Rattle.std.specs.List.{list_any};
 ghost use Rattle.lsif.specs.Element.{id_value, id_values, item_value, element_value};
-ghost use Rattle.dump.specs.Conditions.{is_misplaced, are_vertices, joins_no_vertex, may_contain, are_definitions, may_be_of_references, may_have_item, may_not_join, is_contained_again, is_conflicting, leaves_again, closes_cycle, has_effect, has_no_shard, is_misplaced_item, has_used_uri, order_code, is_uncontained, end_code, most_elements};
+ghost use Rattle.dump.specs.Conditions.{is_misplaced, are_vertices, joins_no_vertex, may_contain, are_definitions, may_be_of_references, may_be_unnamed, may_have_item, may_not_join, is_contained_again, is_conflicting, leaves_again, closes_cycle, has_effect, has_no_shard, is_misplaced_item, has_used_uri, order_code, is_uncontained, end_code, most_elements};
 ghost use Rattle.dump.specs.Ended.{is_bad_event, is_closed, leaves_ended, is_late};
 ghost use Rattle.dump.specs.Graph.{vertex_at, ends};
 ghost use Rattle.dump.specs.Progress.{end_fault_from, IsSound};
@@ -45,6 +45,8 @@ fn joins_no_vertex(graph: &Graph, element: &Element) -> bool
             Edge::Next(from, to)
             | Edge::Definition(from, to)
             | Edge::References(from, to)
+            | Edge::Declaration(from, to)
+            | Edge::Implementation(from, to)
             | Edge::Hover(from, to)
             | Edge::Moniker(from, to)
             | Edge::Package(from, to)
@@ -94,8 +96,15 @@ fn may_be_of_references(graph: &Graph, item: &Item) -> bool
     }
 }
 
-/// Whether an `item` edge joins what it may: a definition result has ranges as its definitions; a vertex of another label
-/// any vertices.
+/// A declaration result and an implementation result have ranges, by no property.
+fn may_be_unnamed(graph: &Graph, item: &Item) -> bool
+    ensures { result ≡ may_be_unnamed graph.now item.now.property (id_values item.now.targets.items) }
+{
+    item.property.is_none() && are_of_kind(graph, Kind::Range, &item.targets)
+}
+
+/// Whether an `item` edge joins what it may: a definition result has ranges as its definitions, a declaration result and an
+/// implementation result ranges by no property; a vertex of another label any vertices.
 fn item_fits(graph: &Graph, item: &Item) -> bool
     ensures { result ≡ (are_vertices graph.now (id_value item.now.source ∷ id_values item.now.targets.items) && may_have_item graph.now (vertex_at graph.now (id_value item.now.source)) (item_value item.now)) }
 {
@@ -104,6 +113,8 @@ fn item_fits(graph: &Graph, item: &Item) -> bool
             are_definitions(item.property) && are_of_kind(graph, Kind::Range, &item.targets)
         }
         Some(Vertex::ReferenceResult) => may_be_of_references(graph, item),
+        Some(Vertex::DeclarationResult) => may_be_unnamed(graph, item),
+        Some(Vertex::ImplementationResult) => may_be_unnamed(graph, item),
         Some(Vertex::Other) => are_of_kind(graph, Kind::Any, &item.targets),
         _ => false,
     }
@@ -124,6 +135,13 @@ fn fits(graph: &Graph, element: &Element) -> bool
         }
         Element::Edge(_, Edge::References(from, to)) => {
             is_of_kind(graph, Kind::Asked, from) && is_of_kind(graph, Kind::ReferenceResult, to)
+        }
+        Element::Edge(_, Edge::Declaration(from, to)) => {
+            is_of_kind(graph, Kind::Asked, from) && is_of_kind(graph, Kind::DeclarationResult, to)
+        }
+        Element::Edge(_, Edge::Implementation(from, to)) => {
+            is_of_kind(graph, Kind::Asked, from)
+                && is_of_kind(graph, Kind::ImplementationResult, to)
         }
         Element::Edge(_, Edge::Hover(from, to)) => {
             is_of_kind(graph, Kind::Asked, from) && is_of_kind(graph, Kind::HoverResult, to)
@@ -234,6 +252,8 @@ fn names_closed(graph: &Graph, element: &Element) -> bool
             Edge::Next(from, to)
             | Edge::Definition(from, to)
             | Edge::References(from, to)
+            | Edge::Declaration(from, to)
+            | Edge::Implementation(from, to)
             | Edge::Hover(from, to)
             | Edge::Moniker(from, to)
             | Edge::Package(from, to)

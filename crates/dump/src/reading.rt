@@ -35,22 +35,23 @@ impl From<FeedFault> for DumpFault {
     }
 }
 
-/// The reading of the next line: its element, or the fault of its shape. None at the end.
+/// The reading of the next line by a profile: its element, or the fault of its shape. None at the end.
 fn next_reading<R: Source>(
     alloc: Global,
+    profile: Profile,
     lines: &mut LineBuffer,
     r: &mut R,
 ) -> Result<Option<Result<Element, Code>>, DumpFault>
     requires count { R.failed r.old < 2 ^ 64 - 1 }
     requires ready { IsReady lines.old }
-    ensures read { IfOk result (λ next. ReadsNext (unread lines.old.pending (R.left r.old)) (option_map reading_value next) (unread lines.new.pending (R.left r.new))) }
+    ensures read { IfOk result (λ next. ReadsNext profile (unread lines.old.pending (R.left r.old)) (option_map reading_value next) (unread lines.new.pending (R.left r.new))) }
     ensures goes_on { IfOk result (λ next. GoesOn next lines.new) }
     ensures unfaulty { IfErr result IsOutside }
     ensures counted { CountsRead (R.failed r.old) (R.failed r.new) result }
 {
     match lines.advance(r) {
         Ok(false) => Ok(None),
-        Ok(true) => match read_element(alloc, lines.line()) {
+        Ok(true) => match read_element(alloc, profile, lines.line()) {
             Ok(element) => Ok(Some(Ok(element))),
             Err(ReadFault::Shape(code)) => Ok(Some(Err(code))),
             Err(ReadFault::Memory) => Err(DumpFault::Memory),
@@ -61,19 +62,24 @@ fn next_reading<R: Source>(
     }
 }
 
-/// Reads a dump from a reader to its end, or up to its first faulty line: the dump where it has no fault, else its
-/// fault. Keeps the dump's elements, and of its bytes one line.
-pub fn read_dump<R: Source>(alloc: Global, r: &mut R) -> Result<CheckedDump, DumpFault>
+/// Reads a dump by a profile from a reader to its end, or up to its first faulty line: the dump where it has no fault, else
+/// its fault. Keeps the dump's elements, and of its bytes one line.
+pub fn read_dump<R: Source>(
+    alloc: Global,
+    profile: Profile,
+    r: &mut R,
+) -> Result<CheckedDump, DumpFault>
     requires { R.failed r.old < 2 ^ 64 - 1 }
-    ensures dump { ReadsDump (R.left r.old) result }
+    ensures dump { ReadsDump profile (R.left r.old) result }
+    ensures profile { IfOk result (λ dump. dump.profile ≡ profile) }
     ensures counted { CountsRead (R.failed r.old) (R.failed r.new) result }
 {
     fault_law();
     let Ok(mut lines) = LineBuffer::new(alloc, LONGEST_LINE) else {
         return Err(DumpFault::Memory);
     };
-    let mut checker = Checker::new(alloc, Profile::One);
-    'reading: while let Some(reading) = next_reading(alloc, &mut lines, r)? {
+    let mut checker = Checker::new(alloc, profile);
+    'reading: while let Some(reading) = next_reading(alloc, profile, &mut lines, r)? {
         match checker.feed(reading) {
             Ok(()) => {}
             Err(fault) => return Err(DumpFault::from(fault)),

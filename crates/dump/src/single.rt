@@ -14,6 +14,8 @@ pub enum SingleLabel {
     References,
     Hover,
     PackageInformation,
+    Declaration,
+    Implementation,
 }
 
 /// An edge of a single label: the label, the source and the target.
@@ -25,6 +27,10 @@ pub(crate) fn single_of(element: &Element) -> Option<(SingleLabel, &Id, &Id)>
         Element::Edge(_, Edge::Definition(from, to)) => Some((SingleLabel::Definition, from, to)),
         Element::Edge(_, Edge::References(from, to)) => Some((SingleLabel::References, from, to)),
         Element::Edge(_, Edge::Hover(from, to)) => Some((SingleLabel::Hover, from, to)),
+        Element::Edge(_, Edge::Declaration(from, to)) => Some((SingleLabel::Declaration, from, to)),
+        Element::Edge(_, Edge::Implementation(from, to)) => {
+            Some((SingleLabel::Implementation, from, to))
+        }
         Element::Edge(_, Edge::Package(from, to)) => {
             Some((SingleLabel::PackageInformation, from, to))
         }

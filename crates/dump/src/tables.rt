@@ -1,5 +1,5 @@
 //! Tables that lead from ids to the elements of a dump.
-ghost use Rattle.std.specs.Prelude.{◌≡◌, ◌++◌, ◌∷◌, ◌||◌, [], ℕ, List, Some, None, bytes_eq, IfOk, OnOk, OnErr, find, is_some, map, option_and_then, option_map, slice_get};
+ghost use Rattle.std.specs.Prelude.{◌≡◌, ◌++◌, ◌∷◌, ◌||◌, [], ℕ, List, Some, None, bytes_eq, IfOk, OnOk, OnErr, find, map, option_and_then, option_map, slice_get, if◌then◌else◌};
 ghost use Rattle.std.specs.HashMap.{get_by_text};
 ghost use Rattle.std.specs.List.{list_any};
 ghost use Rattle.lsif.specs.Element.{IdValue, id_value, id_values, element_value, element_id, same_id};
@@ -39,7 +39,7 @@ pub(crate) struct Tables {
     rows: Vec<Row>,
     /// The spans of a document's ranges, in lists of which each is in order.
     spans: IdMap<Vec<SortedSpans>>,
-    /// The document of a serialized URL.
+    /// The index of the document of a serialized URL.
     documents: HashMap<String, usize>,
 }
 
@@ -76,15 +76,15 @@ fn fill(
     }
 }
 
-/// Enters a serialized URL.
+/// Enters a document by its serialized URL.
 fn enter_document(
     alloc: Global,
     documents: &mut HashMap<String, usize>,
     uri: &str,
     index: usize,
 ) -> Result<(), AllocError>
-    ensures ok { OnOk result ((other : List ℕ) → is_some (get_by_text documents.new other) ≡ (bytes_eq uri.now other || is_some (get_by_text documents.old other))) }
-    ensures err { OnErr result ((other : List ℕ) → is_some (get_by_text documents.new other) ≡ is_some (get_by_text documents.old other)) }
+    ensures ok { OnOk result ((other : List ℕ) → get_by_text documents.new other ≡ (if bytes_eq uri.now other then Some index else get_by_text documents.old other)) }
+    ensures err { OnErr result ((other : List ℕ) → get_by_text documents.new other ≡ get_by_text documents.old other) }
 {
     let uri = String::from_str(alloc, uri)?;
     documents.insert(uri, index)?;
@@ -102,9 +102,9 @@ fn keep(
     index: usize,
 ) -> Result<(), AllocError>
     ensures spans { OnOk result ((i : IdValue) → IsFilled (is_id i (contains_source (element_value element.now))) targets.items (value_at spans.old i) (value_at spans.new i)) }
-    ensures documents { OnOk result ((uri : List ℕ) → is_some (get_by_text documents.new uri) ≡ (is_document_of uri (element_value element.now) || is_some (get_by_text documents.old uri))) }
+    ensures documents { OnOk result ((uri : List ℕ) → get_by_text documents.new uri ≡ (if is_document_of uri (element_value element.now) then Some index else get_by_text documents.old uri)) }
     ensures spans_stay { OnErr result ((i : IdValue) → kept (value_at spans.new i) ≡ kept (value_at spans.old i)) }
-    ensures documents_stay { OnErr result ((uri : List ℕ) → is_some (get_by_text documents.new uri) ≡ is_some (get_by_text documents.old uri)) }
+    ensures documents_stay { OnErr result ((uri : List ℕ) → get_by_text documents.new uri ≡ get_by_text documents.old uri) }
 {
     match element {
         Element::Edge(_, Edge::Contains(from, _)) => fill(alloc, spans, from, targets),
@@ -222,6 +222,14 @@ impl Tables {
         self.documents.contains_key(uri)
     }
 
+    /// The first document of this serialized URL.
+    pub(crate) fn document_of<'a>(&self, elements: &'a [Element], uri: &str) -> Option<&'a Element>
+        requires { AreTables self.now (map element_value elements.now) }
+        ensures { option_map (λ e. element_value e.now) result ≡ find (is_document_of uri.now) (map element_value elements.now) }
+    {
+        at(elements, self.documents.get(uri).copied())
+    }
+
     /// Whether the id is that of a document.
     fn is_document(&self, elements: &[Element], id: &Id) -> bool
         requires { AreTables self.now (map element_value elements.now) }
@@ -306,10 +314,10 @@ impl Tables {
         ensures rows { self.new.rows ≡ self.old.rows }
         ensures indices { OnOk result ((i : IdValue) → index_at self.new.indices i ≡ entered (same_id (element_id (element_value element.now)) i) index (index_at self.old.indices i)) }
         ensures spans { OnOk result ((i : IdValue) → IsFilled (is_id i (contains_source (element_value element.now))) targets.items (value_at self.old.spans i) (value_at self.new.spans i)) }
-        ensures documents { OnOk result ((uri : List ℕ) → is_some (get_by_text self.new.documents uri) ≡ (is_document_of uri (element_value element.now) || is_some (get_by_text self.old.documents uri))) }
+        ensures documents { OnOk result ((uri : List ℕ) → get_by_text self.new.documents uri ≡ (if is_document_of uri (element_value element.now) then Some index else get_by_text self.old.documents uri)) }
         ensures indices_stay { OnErr result ((i : IdValue) → index_at self.new.indices i ≡ index_at self.old.indices i) }
         ensures spans_stay { OnErr result ((i : IdValue) → kept (value_at self.new.spans i) ≡ kept (value_at self.old.spans i)) }
-        ensures documents_stay { OnErr result ((uri : List ℕ) → is_some (get_by_text self.new.documents uri) ≡ is_some (get_by_text self.old.documents uri)) }
+        ensures documents_stay { OnErr result ((uri : List ℕ) → get_by_text self.new.documents uri ≡ get_by_text self.old.documents uri) }
     {
         self.indices.enter(element.id(), index)?;
         let kept = keep(

@@ -1,5 +1,5 @@
 //! Dumps that are fed or read, the faults that are answered for good, and what is asked of a checked dump.
-use crate::{CheckedDump, Checker, DumpFault, FeedFault, LineFault, read_dump};
+use crate::{CheckedDump, Checker, DumpFault, FeedFault, LineFault, Request, read_dump};
 use lsif::{Code, Counted, Element, Id, Profile, ReadFault, Vertex, read_element};
 use std::alloc::Global;
 use std::test::Fail;
@@ -29,29 +29,45 @@ const RESULTS: &str = r#"{"id":20,"type":"vertex","label":"referenceResult"}
 {"id":25,"type":"vertex","label":"packageInformation","manager":"m","name":"n"}
 {"id":26,"type":"edge","label":"packageInformation","outV":24,"inV":25}"#;
 
+/// Of the chain a declaration result 30 at 6 and an implementation result 32 at 5.
+const ADDED: &str = r#"{"id":30,"type":"vertex","label":"declarationResult"}
+{"id":31,"type":"edge","label":"textDocument/declaration","outV":6,"inV":30}
+{"id":32,"type":"vertex","label":"implementationResult"}
+{"id":33,"type":"edge","label":"textDocument/implementation","outV":5,"inV":32}"#;
+
+const OTHER_DOCUMENT: &str = r#"{"id":40,"type":"vertex","label":"document","uri":"file:///b.ts"}"#;
+
 const CONTAINS: &str = r#"{"id":12,"type":"edge","label":"contains","outV":2,"inVs":[3]}"#;
 
-fn element(alloc: Global, line: &str) -> Result<Element, Fail> {
-    match read_element(alloc, line.as_bytes()) {
+/// The profiles that a dump is read by.
+const PROFILES: [Profile; 2] = [Profile::One, Profile::Two];
+
+fn element(alloc: Global, profile: Profile, line: &str) -> Result<Element, Fail> {
+    match read_element(alloc, profile, line.as_bytes()) {
         Ok(element) => Ok(element),
         Err(ReadFault::Shape(_) | ReadFault::Memory) => Err("no element")?,
     }
 }
 
 /// Feeds these lines, of which none is faulty.
-fn feed(alloc: Global, checker: &mut Checker, texts: &[&str]) -> Result<(), Fail> {
+fn feed(
+    alloc: Global,
+    profile: Profile,
+    checker: &mut Checker,
+    texts: &[&str],
+) -> Result<(), Fail> {
     for text in texts {
         for line in text.lines() {
-            checker.feed(Ok(element(alloc, line)?))?;
+            checker.feed(Ok(element(alloc, profile, line)?))?;
         }
     }
     Ok(())
 }
 
 /// The dump of these lines, which has no fault.
-fn dump_of(alloc: Global, texts: &[&str]) -> Result<CheckedDump, Fail> {
-    let mut checker = Checker::new(alloc, Profile::One);
-    feed(alloc, &mut checker, texts)?;
+fn dump_of(alloc: Global, profile: Profile, texts: &[&str]) -> Result<CheckedDump, Fail> {
+    let mut checker = Checker::new(alloc, profile);
+    feed(alloc, profile, &mut checker, texts)?;
     match checker.finish() {
         Ok(dump) => Ok(dump),
         Err(_) => Err("a fault")?,
@@ -75,19 +91,21 @@ fn answers(
 
 #[test]
 fn feeding_and_finishing(rt: HostRuntime) -> Result<(), Fail> {
-    let (first, third) = (
-        element(rt.alloc(), META_DATA)?,
-        element(rt.alloc(), DOCUMENT)?,
-    );
-    let found = answers(Checker::new(rt.alloc(), Profile::One), first, third);
     let fault = FeedFault::Line(LineFault {
         line: 2,
         code: Code::L02,
     });
-    assert_eq!(rt;
-        found,
-        ([Ok(()), Err(fault), Err(fault), Err(fault)], Some(fault))
-    );
+    for profile in PROFILES {
+        let (first, third) = (
+            element(rt.alloc(), profile, META_DATA)?,
+            element(rt.alloc(), profile, DOCUMENT)?,
+        );
+        let found = answers(Checker::new(rt.alloc(), profile), first, third);
+        assert_eq!(rt;
+            found,
+            ([Ok(()), Err(fault), Err(fault), Err(fault)], Some(fault))
+        );
+    }
     Ok(())
 }
 
@@ -97,27 +115,31 @@ fn finishing_with_no_line(rt: HostRuntime) {
         line: 1,
         code: Code::L06,
     });
-    let found = Checker::new(rt.alloc(), Profile::One).finish().err();
-    assert_eq!(rt; found, Some(fault));
+    for profile in PROFILES {
+        let found = Checker::new(rt.alloc(), profile).finish().err();
+        assert_eq!(rt; found, Some(fault));
+    }
 }
 
-/// How many elements the dump of two lines has.
-fn count_of_two(alloc: Global) -> Result<usize, Fail> {
-    let dump = dump_of(alloc, &[META_DATA, DOCUMENT])?;
-    Ok(dump.elements().len())
+/// The profile of the dump of two lines, and how many elements it has.
+fn dump_of_two(alloc: Global, profile: Profile) -> Result<(Profile, usize), Fail> {
+    let dump = dump_of(alloc, profile, &[META_DATA, DOCUMENT])?;
+    Ok((dump.profile(), dump.elements().len()))
 }
 
 #[test]
 fn finishing_a_dump(rt: HostRuntime) -> Result<(), Fail> {
-    assert_eq!(rt; count_of_two(rt.alloc())?, 2);
+    for profile in PROFILES {
+        assert_eq!(rt; dump_of_two(rt.alloc(), profile)?, (profile, 2));
+    }
     Ok(())
 }
 
-/// How many elements the dump of a text has.
-fn read(alloc: Global, text: &str) -> Result<usize, DumpFault> {
+/// The profile of the dump of a text, and how many elements it has.
+fn read(alloc: Global, profile: Profile, text: &str) -> Result<(Profile, usize), DumpFault> {
     let mut reader = Counted::new(text.as_bytes());
-    match read_dump(alloc, &mut reader) {
-        Ok(dump) => Ok(dump.elements().len()),
+    match read_dump(alloc, profile, &mut reader) {
+        Ok(dump) => Ok((dump.profile(), dump.elements().len())),
         Err(fault) => Err(fault),
     }
 }
@@ -125,13 +147,18 @@ fn read(alloc: Global, text: &str) -> Result<usize, DumpFault> {
 #[test]
 fn dump_of_a_reader(rt: HostRuntime) -> Result<(), Fail> {
     let sound = format!(in rt.alloc(); "{META_DATA}\n{DOCUMENT}")?;
-    assert_eq!(rt; read(rt.alloc(), &sound), Ok(2));
     let faulty = format!(in rt.alloc(); "{META_DATA}\n\n{DOCUMENT}\n")?;
     let fault = LineFault {
         line: 2,
         code: Code::L02,
     };
-    assert_eq!(rt; read(rt.alloc(), &faulty), Err(DumpFault::Line(fault)));
+    for profile in PROFILES {
+        assert_eq!(rt; read(rt.alloc(), profile, &sound), Ok((profile, 2)));
+        assert_eq!(rt;
+            read(rt.alloc(), profile, &faulty),
+            Err(DumpFault::Line(fault))
+        );
+    }
     Ok(())
 }
 
@@ -144,28 +171,46 @@ fn number(found: Option<&Id>) -> u64 {
     }
 }
 
-/// The definition, the references, the hover and the package of this vertex.
+/// The definition, the references, the hover, the declaration, the implementation and the package of this vertex.
 fn found_of(alloc: Global, dump: &CheckedDump, vertex: u64) -> Result<String, Fail> {
     let id = Id::Number(vertex);
-    let definition = number(dump.first_definition(&id));
-    let references = number(dump.first_references(&id));
-    let hover = number(dump.first_hover(&id));
+    let definition = number(dump.first(Request::Definition, &id));
+    let references = number(dump.first(Request::References, &id));
+    let hover = number(dump.first(Request::Hover, &id));
+    let declaration = number(dump.first(Request::Declaration, &id));
+    let implementation = number(dump.first(Request::Implementation, &id));
     let package = number(dump.package_of(&id));
-    Ok(format!(in alloc; "{vertex}: {definition} {references} {hover} {package}\n")?)
+    Ok(format!(in alloc;
+        "{vertex}: {definition} {references} {hover} {declaration} {implementation} {package}\n"
+    )?)
 }
 
-const FOUND: &str = "\
-3: 8 20 22 0
-5: 8 20 22 0
-6: 9 20 0 0
-2: 0 0 0 0
-24: 0 0 0 25
-25: 0 0 0 0
+/// In profile 1 nothing is a declaration or an implementation.
+const FOUND_IN_ONE: &str = "\
+3: 8 20 22 0 0 0
+5: 8 20 22 0 0 0
+6: 9 20 0 0 0 0
+2: 0 0 0 0 0 0
+24: 0 0 0 0 0 25
+25: 0 0 0 0 0 0
+";
+
+const FOUND_IN_TWO: &str = "\
+3: 8 20 22 30 32 0
+5: 8 20 22 30 32 0
+6: 9 20 0 30 0 0
+2: 0 0 0 0 0 0
+24: 0 0 0 0 0 25
+25: 0 0 0 0 0 0
 ";
 
 /// A dump with answers to all that is asked.
-fn full_dump(alloc: Global) -> Result<CheckedDump, Fail> {
-    dump_of(alloc, &[META_DATA, DOCUMENT, CHAIN, RESULTS, CONTAINS])
+fn full_dump(alloc: Global, profile: Profile) -> Result<CheckedDump, Fail> {
+    dump_of(
+        alloc,
+        profile,
+        &[META_DATA, DOCUMENT, CHAIN, RESULTS, ADDED, CONTAINS],
+    )
 }
 
 /// What is found of the vertices of a dump.
@@ -178,15 +223,17 @@ fn all_found(alloc: Global, dump: &CheckedDump) -> Result<String, Fail> {
 }
 
 /// What is found of the vertices of the full dump.
-fn found_of_full(alloc: Global) -> Result<String, Fail> {
-    let dump = full_dump(alloc)?;
+fn found_of_full(alloc: Global, profile: Profile) -> Result<String, Fail> {
+    let dump = full_dump(alloc, profile)?;
     all_found(alloc, &dump)
 }
 
 #[test]
 fn look_ups(rt: HostRuntime) -> Result<(), Fail> {
-    let found = found_of_full(rt.alloc())?;
-    assert_eq!(rt; found.as_str(), FOUND);
+    for (profile, wanted) in [(Profile::One, FOUND_IN_ONE), (Profile::Two, FOUND_IN_TWO)] {
+        let found = found_of_full(rt.alloc(), profile)?;
+        assert_eq!(rt; found.as_str(), wanted);
+    }
     Ok(())
 }
 
@@ -210,9 +257,9 @@ fn is_container(dump: &CheckedDump, document: &Id, range: &Id) -> bool {
 
 /// The kinds of a document, a range and an edge, whether one of the first two is in the other, and whether the document
 /// is that which contains the range.
-fn kinds(alloc: Global) -> Result<([&'static str; 3], [bool; 3]), Fail> {
+fn kinds(alloc: Global, profile: Profile) -> Result<([&'static str; 3], [bool; 3]), Fail> {
     let (document, range) = (Id::Number(2), Id::Number(3));
-    let dump = full_dump(alloc)?;
+    let dump = full_dump(alloc, profile)?;
     Ok((
         [kind(&dump, 2), kind(&dump, 3), kind(&dump, 12)],
         [
@@ -225,7 +272,50 @@ fn kinds(alloc: Global) -> Result<([&'static str; 3], [bool; 3]), Fail> {
 
 #[test]
 fn vertices_and_ranges_of_documents(rt: HostRuntime) -> Result<(), Fail> {
-    let found = kinds(rt.alloc())?;
-    assert_eq!(rt; found, (["document", "range", "none"], [true, false, true]));
+    for profile in PROFILES {
+        let found = kinds(rt.alloc(), profile)?;
+        assert_eq!(rt; found, (["document", "range", "none"], [true, false, true]));
+    }
+    Ok(())
+}
+
+/// The lines of the first element, of an edge by a number, of an edge by the text of that number, of the last element, and
+/// of an id that is nobody's.
+fn lines(alloc: Global, profile: Profile) -> Result<[Option<u32>; 5], Fail> {
+    let dump = full_dump(alloc, profile)?;
+    let text = Id::Text(String::from_str(alloc, "7")?);
+    Ok([
+        dump.line_of(&Id::Number(1)),
+        dump.line_of(&Id::Number(7)),
+        dump.line_of(&text),
+        dump.line_of(&Id::Number(12)),
+        dump.line_of(&Id::Number(13)),
+    ])
+}
+
+#[test]
+fn lines_of_ids(rt: HostRuntime) -> Result<(), Fail> {
+    for profile in PROFILES {
+        let found = lines(rt.alloc(), profile)?;
+        assert_eq!(rt; found, [Some(0), Some(5), Some(6), Some(22), None]);
+    }
+    Ok(())
+}
+
+/// The documents of two serialized URLs, and of one that no document has.
+fn documents(alloc: Global, profile: Profile) -> Result<[u64; 3], Fail> {
+    let dump = dump_of(alloc, profile, &[META_DATA, DOCUMENT, OTHER_DOCUMENT])?;
+    Ok([
+        number(dump.document_of("file:///a.ts")),
+        number(dump.document_of("file:///b.ts")),
+        number(dump.document_of("file:///c.ts")),
+    ])
+}
+
+#[test]
+fn documents_of_urls(rt: HostRuntime) -> Result<(), Fail> {
+    for profile in PROFILES {
+        assert_eq!(rt; documents(rt.alloc(), profile)?, [2, 40, 0]);
+    }
     Ok(())
 }

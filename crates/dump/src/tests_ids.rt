@@ -112,21 +112,21 @@ fn written(alloc: Global, line: &str, form: Form) -> Result<String, Fail> {
     Ok(written)
 }
 
-fn element(alloc: Global, line: &str, form: Form) -> Result<Element, Fail> {
+fn element(alloc: Global, profile: Profile, line: &str, form: Form) -> Result<Element, Fail> {
     let line = written(alloc, line, form)?;
-    match read_element(alloc, line.as_bytes()) {
+    match read_element(alloc, profile, line.as_bytes()) {
         Ok(element) => Ok(element),
         Err(ReadFault::Shape(_) | ReadFault::Memory) => Err("no element")?,
     }
 }
 
 /// The code of a line after those of the base.
-fn code(alloc: Global, line: &str, form: Form) -> Result<Option<Code>, Fail> {
-    let mut checker = Checker::new(alloc, Profile::One);
+fn code(alloc: Global, profile: Profile, line: &str, form: Form) -> Result<Option<Code>, Fail> {
+    let mut checker = Checker::new(alloc, profile);
     for base in BASE.lines() {
-        checker.feed(Ok(element(alloc, base, form)?))?;
+        checker.feed(Ok(element(alloc, profile, base, form)?))?;
     }
-    match checker.feed(Ok(element(alloc, line, form)?)) {
+    match checker.feed(Ok(element(alloc, profile, line, form)?)) {
         Ok(()) => Ok(None),
         Err(FeedFault::Line(fault)) => Ok(Some(fault.code)),
         Err(FeedFault::Memory) => Err("memory was refused")?,
@@ -137,7 +137,9 @@ fn code(alloc: Global, line: &str, form: Form) -> Result<Option<Code>, Fail> {
 fn codes_by_ids_of_each_form(rt: HostRuntime) -> Result<(), Fail> {
     for (line, wanted) in LINES {
         for form in [Form::Small, Form::Great, Form::Text] {
-            assert_eq!(rt; code(rt.alloc(), line, form)?, wanted, "{line}");
+            for profile in [Profile::One, Profile::Two] {
+                assert_eq!(rt; code(rt.alloc(), profile, line, form)?, wanted, "{line}");
+            }
         }
     }
     Ok(())

@@ -1,24 +1,51 @@
 -- Runs that go on by one message, and what surely comes first.
 use Rattle.std.proofs.Common.{◌≡◌, ℕ, ◌-◌, ◌<◌, inl, inr, List, [], ◌∷◌, ◌++◌, length, Option, None, refl, sym, ◌∙◌, ap, arith, append_assoc, append-nil, subst, suc}
-use Rattle.desk.specs.Machine.{State}
+use Rattle.desk.specs.Machine.{State, after}
+use Rattle.desk.specs.Reply.{out_of_memory}
+use Rattle.desk.specs.Requests.{command, query}
 use Rattle.http_edge.specs.Messages.{Settles, BeginsEach}
 use Rattle.http_edge.specs.Steps.Messages.{SettlesAll}
-use Rattle.http_edge.specs.Requests.{MessageValue}
-use Rattle.http_edge.specs.Serving.{Answers, Run, joined, IsBegun}
+use Rattle.http_edge.specs.Replies.{AnswerValue, replied, answer_text}
+use Rattle.http_edge.specs.Requests.{MessageValue, request, refused}
+use Rattle.http_edge.specs.Serving.{MayAnswer, answered, left_after, Run, left_by, texts, IsBegun}
 use Rattle.http_edge.specs.Steps.Serving.{Gives}
 use Rattle.http_edge.proofs.MessageLemmas.{settles-append}
 use Rattle.http_edge.proofs.Sures.{requests-split, gives_first, served_first}
 
-pub run-snoc : (s : Type 0) (m : State) (messages : List MessageValue) (texts : List (List ℕ)) (n : State) (message : MessageValue) (text : List ℕ) (k : State)
-    → Run s m messages texts n → Answers s n message text k → Run s m (messages ++ message ∷ []) (texts ++ text ∷ []) k
-run-snoc s m [] [] n message text k r a = (k, subst (λ (x : State). Answers s x message text k) r a, refl)
-run-snoc s m (i ∷ messages) (b ∷ texts) n message text k r a = (r.0, r.1, run-snoc s r.0 messages texts n message text k r.2 a)
-run-snoc s m [] (b ∷ texts) n message text k r a = absurd r
-run-snoc s m (i ∷ messages) [] n message text k r a = absurd r
+pub run-snoc : (s : Type 0) (m : State) (messages : List MessageValue) (answers : List AnswerValue) (n : State) (message : MessageValue) (answer : AnswerValue)
+    → Run s m messages answers n → MayAnswer s n message answer → Run s m (messages ++ message ∷ []) (answers ++ answer ∷ []) (answered n message answer)
+run-snoc s m [] [] n message answer r a = (subst (λ (x : State). MayAnswer s x message answer) r a, ap (λ (x : State). answered x message answer) r)
+run-snoc s m (i ∷ messages) (b ∷ answers) n message answer r a = (r.0, run-snoc s (answered m i b) messages answers n message answer r.1 a)
+run-snoc s m [] (b ∷ answers) n message answer r a = absurd r
+run-snoc s m (i ∷ messages) [] n message answer r a = absurd r
 
-pub joined-snoc : (texts : List (List ℕ)) (text : List ℕ) → joined (texts ++ text ∷ []) ≡ joined texts ++ text
-joined-snoc [] text = append-nil text
-joined-snoc (b ∷ texts) text = ap (λ l. b ++ l) (joined-snoc texts text) ∙ sym (append_assoc b (joined texts) text)
+pub left-snoc : (s : Type 0) (m : State) (states : List State) (messages : List MessageValue) (answers : List AnswerValue) (n : State) (message : MessageValue) (answer : AnswerValue)
+    → Run s m messages answers n → left_by m states (messages ++ message ∷ []) (answers ++ answer ∷ []) ≡ left_after n (left_by m states messages answers) message answer
+left-snoc s m states [] [] n message answer r = ap (λ (x : State). left_after x states message answer) (sym r)
+left-snoc s m states (i ∷ messages) (b ∷ answers) n message answer r = left-snoc s (answered m i b) (left_after m states i b) messages answers n message answer r.1
+left-snoc s m states [] (b ∷ answers) n message answer r = absurd r
+left-snoc s m states (i ∷ messages) [] n message answer r = absurd r
+
+pub texts-snoc : (answers : List AnswerValue) (answer : AnswerValue) → texts (answers ++ answer ∷ []) ≡ texts answers ++ answer_text answer
+texts-snoc [] answer = append-nil (answer_text answer)
+texts-snoc (b ∷ answers) answer = ap (λ l. answer_text b ++ l) (texts-snoc answers answer) ∙ sym (append_assoc (answer_text b) (texts answers) (answer_text answer))
+
+-- ---- where the request couldn't be read for want of memory
+
+pub out_of_memory_may : (s : Type 0) (m : State) (message : MessageValue) → MayAnswer s m message (replied out_of_memory)
+out_of_memory_may s m (request q) = inr (inl refl)
+out_of_memory_may s m (refused refusal) = refl
+
+pub out_of_memory_stays : (m : State) (message : MessageValue) → answered m message (replied out_of_memory) ≡ m
+out_of_memory_stays m (request (command c)) = refl
+out_of_memory_stays m (request (query q)) = refl
+out_of_memory_stays m (refused refusal) = refl
+
+pub out_of_memory_leaves : (leaves : List State → Type 0) → ((states : List State) (n : State) → leaves states → leaves (states ++ n ∷ []))
+    → (m : State) (states : List State) (message : MessageValue) → leaves states → leaves (left_after m states message (replied out_of_memory))
+out_of_memory_leaves leaves weaker m states (request (command c)) h = weaker states (after m c) h
+out_of_memory_leaves leaves weaker m states (request (query q)) h = h
+out_of_memory_leaves leaves weaker m states (refused refusal) h = h
 
 begins_next : (limit : ℕ) (bytes : List ℕ) (messages : List MessageValue) (rest : List ℕ) (message : MessageValue) (next : List ℕ)
     → SettlesAll bytes messages rest → length messages < limit → Settles rest message next → BeginsEach limit bytes (messages ++ message ∷ [])

@@ -40,4 +40,11 @@ reply_text reply = response_text reply.status None reply.body
 abbrev pub refusal_text : Refusal → List ℕ
 refusal_text refusal = response_text (status_of refusal) (allow_of refusal) (body_of refusal)
 
--- ---- the same of the program's values
+-- what a message is answered: a reply of the machine, or a refusal
+pub data AnswerValue : Type 0 where
+  replied : ReplyValue → AnswerValue
+  turned_away : Refusal → AnswerValue
+
+abbrev pub answer_text : AnswerValue → List ℕ
+answer_text (replied r) = reply_text r
+answer_text (turned_away refusal) = refusal_text refusal

@@ -1,11 +1,13 @@
 -- What a request asks of the desk, by its method, its target and its body.
-use Rattle.std.specs.Prelude.{ℕ, Bool, true, false, List, [], ◌∷◌, Option, Some, None, codes, if◌then◌else◌, ◌==◌}
+use Rattle.std.specs.Prelude.{ℕ, Bool, true, false, List, [], ◌∷◌, Option, Some, None, codes, option_map, option_and_then, if◌then◌else◌, ◌==◌}
 use Rattle.std.specs.Str.{is_utf8, bytes_eq}
 use Rattle.url.specs.Parser.{parse_url}
 use Rattle.positions.specs.Position.{PositionValue}
 use Rattle.lsif.specs.Vertices.{serialized}
-use Rattle.desk.specs.Names.{is_project_name, is_key, where_so, number_in}
-use Rattle.desk.specs.Requests.{RequestValue, put_dump, definition, request_value}
+use Rattle.desk.specs.Names.{is_project_name, is_key, is_without_nul, where_so, number_in}
+use Rattle.lsif.specs.declared.element.Profile.TheVariants.{One}
+use Rattle.desk.specs.Requests.{CommandValue, QueryValue, RequestValue, put_dump, definition}
+use Rattle.desk.specs.Requests as requests
 use Rattle.http_edge.specs.Values.{Values, absent, single, several}
 use Rattle.http_edge.specs.Parameters.{parameter}
 use Rattle.http_edge.specs.Routes.{route_of, method_of}
@@ -36,12 +38,12 @@ required form absent = None
 required form (single text) = form text
 required form several = None
 
--- the serialized URL that a text spells
+-- the serialized URL that a text spells, which has no U+0000
 unfoldable pub uri_in : List ℕ → Option (List ℕ)
-uri_in text = serialized (parse_url None text)
+uri_in text = option_and_then (where_so is_without_nul) (serialized (parse_url None text))
 
-abbrev pub put_of : Option (List ℕ) → Option (List ℕ) → List ℕ → Option RequestValue
-put_of (Some project) (Some key) body = Some (put_dump project key body)
+abbrev pub put_of : Option (List ℕ) → Option (List ℕ) → List ℕ → Option CommandValue
+put_of (Some project) (Some key) body = Some (record { project = project; key = key; action = put_dump One body })
 put_of (Some project) None body = None
 put_of None key body = None
 
@@ -50,8 +52,8 @@ position_of (Some line) (Some character) = Some (record { line = line; character
 position_of (Some line) None = None
 position_of None character = None
 
-abbrev pub definition_of : Option (List ℕ) → Option (List ℕ) → Option PositionValue → Option RequestValue
-definition_of (Some project) (Some uri) (Some position) = Some (definition project uri position)
+abbrev pub definition_of : Option (List ℕ) → Option (List ℕ) → Option PositionValue → Option QueryValue
+definition_of (Some project) (Some uri) (Some position) = Some (definition (record { project = project; uri = uri; position = position }))
 definition_of (Some project) (Some uri) None = None
 definition_of (Some project) None position = None
 definition_of None uri position = None
@@ -64,9 +66,9 @@ position_in query =
 -- the request of a route, with the text of its project, its query and its body
 unfoldable pub request_of : Route → List ℕ → List ℕ → List ℕ → Option RequestValue
 request_of Lsif project query body =
-    put_of (where_so is_project_name project) (required (where_so is_key) (parameter query (codes "key"))) body
+    option_map requests.command (put_of (where_so is_project_name project) (required (where_so is_key) (parameter query (codes "key"))) body)
 request_of Definition project query body =
-    definition_of (where_so is_project_name project) (required uri_in (parameter query (codes "uri"))) (position_in query)
+    option_map requests.query (definition_of (where_so is_project_name project) (required uri_in (parameter query (codes "uri"))) (position_in query))
 
 abbrev pub with_form : Option RequestValue → MessageValue
 with_form None = refused BadParameter

@@ -6,11 +6,11 @@ use Rattle.http_edge.specs.Heads.{HeadValue, rejected, SettlesHead, IsHeadUnende
 use Rattle.http_edge.specs.Requests.{MessageValue, request, refused, message_of}
 use Rattle.desk.specs.Machine.{State}
 use Rattle.desk.specs.Reply.{ReplyValue, out_of_memory}
-use Rattle.desk.specs.Runs.{MayReply, moved}
+use Rattle.desk.specs.Runs.{MayReply, moved, left}
 use Rattle.lsif.specs.Sending.{Writes, WritesTo}
 use Rattle.std.specs.List.{flat_map}
 use Rattle.http_edge.specs.Messages.{Settles, IsUnended, Requests, Sure, IsEnded, IsPrefix, BeginsEach}
-use Rattle.http_edge.specs.Replies.{reply_text, refusal_text}
+use Rattle.http_edge.specs.Replies.{AnswerValue, replied, turned_away, answer_text}
 use Rattle.http_edge.specs.declared.head.Head.{Head}
 use Rattle.http_edge.specs.declared.reading.Message.{Message}
 use Rattle.http_edge.specs.declared.reading.Message.TheVariants.{Request, Refused}
@@ -31,26 +31,44 @@ StopsWell limit bytes messages left =
     Requests limit bytes messages
     × (AtEnd left ⊎ (((length messages ≡ limit) ⊎ IsEnded messages) × Sure limit bytes messages))
 
--- ---- replies
+-- ---- answers
 
--- a message is answered by this text, and then the machine is in that state: a request by the machine, a refusal by itself, or
--- by the reply that memory ran out in its place
-abbrev pub Answers : Type 0 → State → MessageValue → List ℕ → State → Type 0
-Answers store_may_refuse m (request q) text n =
-    (reply : ReplyValue) × MayReply store_may_refuse m q reply × (text ≡ reply_text reply) × (n ≡ moved m q reply)
-Answers store_may_refuse m (refused refusal) text n = ((text ≡ refusal_text refusal) ⊎ (text ≡ reply_text out_of_memory)) × (n ≡ m)
+-- a message may have this answer: a request the machine's reply; a refusal itself, or in its place that memory ran out
+abbrev pub MayAnswer : Type 0 → State → MessageValue → AnswerValue → Type 0
+MayAnswer store_may_refuse m (request q) (replied r) = MayReply store_may_refuse m q r
+MayAnswer store_may_refuse m (request q) (turned_away refusal) = ⊥
+MayAnswer store_may_refuse m (refused refusal) (replied r) = r ≡ out_of_memory
+MayAnswer store_may_refuse m (refused refusal) (turned_away other) = other ≡ refusal
 
--- the texts that answer the messages, one after the other
-abbrev pub Run : Type 0 → State → List MessageValue → List (List ℕ) → State → Type 0
+-- the state after it
+abbrev pub answered : State → MessageValue → AnswerValue → State
+answered m (request q) (replied r) = moved m q r
+answered m (request q) (turned_away refusal) = m
+answered m (refused refusal) answer = m
+
+-- the states of which a stop leaves one after it
+abbrev pub left_after : State → List State → MessageValue → AnswerValue → List State
+left_after m states (request q) (replied r) = left m states q r
+left_after m states (request q) (turned_away refusal) = states
+left_after m states (refused refusal) answer = states
+
+-- the messages may have these answers, one after the other, and then the machine is in that state
+abbrev pub Run : Type 0 → State → List MessageValue → List AnswerValue → State → Type 0
 Run store_may_refuse m [] [] n = n ≡ m
-Run store_may_refuse m (message ∷ messages) (text ∷ texts) n =
-    (mid : State) × Answers store_may_refuse m message text mid × Run store_may_refuse mid messages texts n
-Run store_may_refuse m [] (text ∷ texts) n = ⊥
+Run store_may_refuse m (message ∷ messages) (answer ∷ answers) n =
+    MayAnswer store_may_refuse m message answer × Run store_may_refuse (answered m message answer) messages answers n
+Run store_may_refuse m [] (answer ∷ answers) n = ⊥
 Run store_may_refuse m (message ∷ messages) [] n = ⊥
 
--- the texts as they're written
-abbrev pub joined : List (List ℕ) → List ℕ
-joined texts = flat_map (λ text. text) texts
+-- the states of which a stop leaves one after all of them
+abbrev pub left_by : State → List State → List MessageValue → List AnswerValue → List State
+left_by m states (message ∷ messages) (answer ∷ answers) = left_by (answered m message answer) (left_after m states message answer) messages answers
+left_by m states [] answers = states
+left_by m states (message ∷ messages) [] = states
+
+-- the answers as they're written
+abbrev pub texts : List AnswerValue → List ℕ
+texts answers = flat_map answer_text answers
 
 -- ---- a whole call
 
@@ -59,22 +77,22 @@ abbrev pub IsBegun : ℕ → List ℕ → List MessageValue → Option (List ℕ
 IsBegun limit bytes messages left =
     BeginsEach limit bytes messages ⊎ (AtEnd left × ((all : List MessageValue) → Requests limit bytes all → IsPrefix messages all))
 
--- what a call that serves at most so many requests reads, answers and writes, from one state of the machine to another
+-- what a call that serves at most so many requests reads, answers and writes, from one state of the machine to another: the
+-- messages that it reads, and their answers; where the writer failed, the last answer was cut
 abbrev pub Serves :
-    Type 0 → ℕ → State → Option (List ℕ) → Option (List ℕ) → Output → Output → State → Result ℕ ServeFault → Type 0
-Serves store_may_refuse limit m left left' output output' n (Ok count) =
-    (bytes : List ℕ) × (messages : List MessageValue) × (texts : List (List ℕ))
-    × Moves left left' bytes × StopsWell limit bytes messages left' × (count ≡ length messages)
-    × Run store_may_refuse m messages texts n × Writes output (joined texts) output'
-Serves store_may_refuse limit m left left' output output' n (Err Memory) = (n ≡ m) × (left' ≡ left) × (output' ≡ output)
-Serves store_may_refuse limit m left left' output output' n (Err Read) =
-    (bytes : List ℕ) × (messages : List MessageValue) × (texts : List (List ℕ))
-    × MovesOrHides left left' bytes × Sure limit bytes messages
-    × Run store_may_refuse m messages texts n × Writes output (joined texts) output'
-Serves store_may_refuse limit m left left' output output' n (Err Write) =
-    (bytes : List ℕ) × (messages : List MessageValue) × (texts : List (List ℕ)) × (text : List ℕ) × (front : List ℕ) × (back : List ℕ)
-    × Moves left left' bytes × IsBegun limit bytes messages left' × (text ≡ front ++ back) × (back ≢ [])
-    × Run store_may_refuse m messages (texts ++ text ∷ []) n × WritesTo output (joined texts ++ front) output'
+    Type 0 → ℕ → State → Option (List ℕ) → Option (List ℕ) → Output → Output → List MessageValue → List AnswerValue → State → Result ℕ ServeFault → Type 0
+Serves store_may_refuse limit m left left' output output' messages answers n (Ok count) =
+    (bytes : List ℕ) × Moves left left' bytes × StopsWell limit bytes messages left' × (count ≡ length messages)
+    × Run store_may_refuse m messages answers n × Writes output (texts answers) output'
+Serves store_may_refuse limit m left left' output output' messages answers n (Err Memory) =
+    (messages ≡ []) × (answers ≡ []) × (n ≡ m) × (left' ≡ left) × (output' ≡ output)
+Serves store_may_refuse limit m left left' output output' messages answers n (Err Read) =
+    (bytes : List ℕ) × MovesOrHides left left' bytes × Sure limit bytes messages
+    × Run store_may_refuse m messages answers n × Writes output (texts answers) output'
+Serves store_may_refuse limit m left left' output output' messages answers n (Err Write) =
+    (bytes : List ℕ) × (whole : List AnswerValue) × (last : AnswerValue) × (front : List ℕ) × (back : List ℕ)
+    × Moves left left' bytes × IsBegun limit bytes messages left' × (answers ≡ whole ++ last ∷ []) × (answer_text last ≡ front ++ back) × (back ≢ [])
+    × Run store_may_refuse m messages answers n × WritesTo output (texts whole ++ front) output'
 
 -- a reader's failures are counted by one where reading failed, and else not at all
 abbrev pub CountsRead : {A : Type 0} → ℕ → ℕ → Result A ServeFault → Type 0

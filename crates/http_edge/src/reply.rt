@@ -2,8 +2,8 @@
 ghost use Rattle.std.specs.Prelude.{◌≡◌, ◌++◌, codes};
 ghost use Rattle.lsif.specs.Sending.{Sends};
 ghost use Rattle.lsif.specs.Streams.{CanCount};
-ghost use Rattle.http_edge.specs.Replies.{phrase, status_line, fields_text, body_text, response_text};
-ghost use Rattle.http_edge.specs.Steps.Replies.{answer_text};
+ghost use Rattle.http_edge.specs.Replies.{phrase, status_line, fields_text, body_text, response_text, answer_text};
+ghost use Rattle.http_edge.specs.Steps.Replies.{answer_value};
 
 use crate::refusal::Refusal;
 use crate::route::Route;
@@ -142,7 +142,7 @@ impl Answer {
     /// Writes it.
     pub(crate) fn write<W: Sink>(&self, w: &mut W) -> Result<(), Failed>
         requires { CanCount (W.output w.old) }
-        ensures { Sends (W.output w.old) (answer_text self.now) result (W.output w.new) }
+        ensures { Sends (W.output w.old) (answer_text (answer_value self.now)) result (W.output w.new) }
     {
         match self {
             Answer::Reply(reply) => push_response(w, reply.status(), None, reply.body()),

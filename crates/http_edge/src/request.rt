@@ -14,6 +14,7 @@ use crate::parameters::{ParameterValues, parameter};
 use crate::refusal::Refusal;
 use crate::route::{Route, find_route};
 use desk::{Command, DocUri, Key, ProjectName, Query, Request, read_number};
+use lsif::Profile;
 use matchit::Router;
 use positions::Position;
 use std::alloc::{AllocError, Global};
@@ -91,7 +92,12 @@ fn read_put<'b>(
     let project = ProjectName::read(alloc, project)?;
     let key = read_key(alloc, query)?;
     match (project, key) {
-        (Some(project), Some(key)) => Ok(Some(Command::PutDump { project, key, body })),
+        (Some(project), Some(key)) => Ok(Some(Command::PutDump {
+            project,
+            key,
+            profile: Profile::One,
+            body,
+        })),
         _ => Ok(None),
     }
 }

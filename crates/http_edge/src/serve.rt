@@ -6,11 +6,12 @@ ghost use Rattle.lsif.specs.Streams.{CanCount};
 ghost use Rattle.http_edge.specs.Fields.{body_limit};
 ghost use Rattle.http_edge.specs.Heads.{head_limit};
 ghost use Rattle.http_edge.specs.Messages.{ends};
-ghost use Rattle.http_edge.specs.Steps.Replies.{answer_text};
-ghost use Rattle.http_edge.specs.Requests.{message_of};
+ghost use Rattle.http_edge.specs.Replies.{AnswerValue, answer_text};
+ghost use Rattle.http_edge.specs.Steps.Replies.{answer_value};
+ghost use Rattle.http_edge.specs.Requests.{MessageValue, message_of};
 ghost use Rattle.http_edge.specs.Steps.Routes.{routes};
-ghost use Rattle.http_edge.specs.Serving.{Answers, CountsRead, CountsWrite, Serves};
-ghost use Rattle.http_edge.specs.Steps.Serving.{MessageFits, message_value};
+ghost use Rattle.http_edge.specs.Serving.{MayAnswer, answered, left_after, left_by, CountsRead, CountsWrite, Serves};
+ghost use Rattle.http_edge.specs.Steps.Serving.{MessageFits, Responds, message_value};
 ghost use Rattle.http_edge.specs.declared.serve.ServeFault.TheVariants.{Memory};
 
 use crate::fields::BODY_LIMIT;
@@ -65,8 +66,10 @@ fn answer<D: Desk>(
     body: &[u8],
 ) -> Answer
     requires { router.now ≡ routes }
-    ensures { (m : State) → D.stands desk.old m → (n : State)
-        × Answers D.store_may_refuse m (message_of method.now target.now body.now) (answer_text result) n × D.stands desk.new n }
+    ensures answer { (m : State) → D.stands desk.old m → MayAnswer D.store_may_refuse m (message_of method.now target.now body.now) (answer_value result) }
+    ensures state { (m : State) → D.stands desk.old m → D.stands desk.new (answered m (message_of method.now target.now body.now) (answer_value result)) }
+    ensures left { (m : State) (states : List State) → D.stands desk.old m → D.may_leave desk.old states
+        → D.may_leave desk.new (left_after m states (message_of method.now target.now body.now) (answer_value result)) }
 {
     match read_request(alloc, router, method, target, body) {
         Ok(Asked::Request(Request::Command(command))) => Answer::Reply(desk.apply(&command)),
@@ -87,8 +90,10 @@ fn answer_message<D: Desk>(
 ) -> Answer
     requires routes { router.now ≡ routes }
     requires fits { MessageFits (length held.now) (length body.now) message }
-    ensures { (m : State) → D.stands desk.old m → (n : State)
-        × Answers D.store_may_refuse m (message_value held.now body.now message) (answer_text result) n × D.stands desk.new n }
+    ensures answer { (m : State) → D.stands desk.old m → MayAnswer D.store_may_refuse m (message_value held.now body.now message) (answer_value result) }
+    ensures state { (m : State) → D.stands desk.old m → D.stands desk.new (answered m (message_value held.now body.now message) (answer_value result)) }
+    ensures left { (m : State) (states : List State) → D.stands desk.old m → D.may_leave desk.old states
+        → D.may_leave desk.new (left_after m states (message_value held.now body.now message) (answer_value result)) }
 {
     match message {
         Message::Request(line, len) => {
@@ -113,9 +118,8 @@ fn respond<D: Desk, W: Sink>(
     requires routes { router.now ≡ routes }
     requires fits { MessageFits (length held.now) (length body.now) message }
     requires count { CanCount (W.output w.old) }
-    ensures sent { (m : State) → D.stands desk.old m → (n : State) × (text : List ℕ)
-        × Answers D.store_may_refuse m (message_value held.now body.now message) text n × D.stands desk.new n
-        × Sends (W.output w.old) text result (W.output w.new) }
+    ensures sent { (answer : AnswerValue) × Responds D.store_may_refuse (D.stands desk.old) (D.stands desk.new) (D.may_leave desk.old) (D.may_leave desk.new) (message_value held.now body.now message) answer
+        × Sends (W.output w.old) (answer_text answer) result (W.output w.new) }
     ensures counted { CountsSending (W.output w.old) result (W.output w.new) }
 {
     let answer = answer_message(alloc, desk, router, message, held, body);
@@ -136,9 +140,8 @@ fn respond_next<D: Desk, W: Sink>(
     requires fits { MessageFits (length buffer.old.pending) (length body.now) next.message }
     requires taken { next.taken ≤ length buffer.old.pending }
     requires count { CanCount (W.output w.old) }
-    ensures sent { (m : State) → D.stands desk.old m → (n : State) × (text : List ℕ)
-        × Answers D.store_may_refuse m (message_value buffer.old.pending body.now next.message) text n × D.stands desk.new n
-        × Sends (W.output w.old) text result (W.output w.new) }
+    ensures sent { (answer : AnswerValue) × Responds D.store_may_refuse (D.stands desk.old) (D.stands desk.new) (D.may_leave desk.old) (D.may_leave desk.new) (message_value buffer.old.pending body.now next.message) answer
+        × Sends (W.output w.old) (answer_text answer) result (W.output w.new) }
     ensures pending { buffer.new.pending ≡ drop next.taken buffer.old.pending }
     ensures capacity { buffer.new.capacity ≡ buffer.old.capacity }
     ensures counted { CountsSending (W.output w.old) result (W.output w.new) }
@@ -175,8 +178,9 @@ fn serve<D: Desk, R: Source, W: Sink>(
     requires room { head_limit ≤ buffer.old.capacity }
     requires body_room { body_limit ≤ length body.old }
     requires empty { buffer.old.pending ≡ [] }
-    ensures served { (m : State) → D.stands desk.old m → (n : State)
-        × Serves D.store_may_refuse limit m (R.left r.old) (R.left r.new) (W.output w.old) (W.output w.new) n result × D.stands desk.new n }
+    ensures served { (messages : List MessageValue) × (answers : List AnswerValue) × ((m : State) → D.stands desk.old m → (n : State)
+        × Serves D.store_may_refuse limit m (R.left r.old) (R.left r.new) (W.output w.old) (W.output w.new) messages answers n result × D.stands desk.new n
+        × ((states : List State) → D.may_leave desk.old states → D.may_leave desk.new (left_by m states messages answers))) }
     ensures read { CountsRead (R.failed r.old) (R.failed r.new) result }
     ensures write { CountsWrite (W.output w.old) result (W.output w.new) }
     ensures made { result ≢ Err Memory }
@@ -230,8 +234,9 @@ pub fn serve_stream<D: Desk, R: Source, W: Sink>(
 ) -> Result<u32, ServeFault>
     requires reads { R.failed r.old < 2 ^ 64 - 1 }
     requires writes { CanCount (W.output w.old) }
-    ensures served { (m : State) → D.stands desk.old m → (n : State)
-        × Serves D.store_may_refuse limit m (R.left r.old) (R.left r.new) (W.output w.old) (W.output w.new) n result × D.stands desk.new n }
+    ensures served { (messages : List MessageValue) × (answers : List AnswerValue) × ((m : State) → D.stands desk.old m → (n : State)
+        × Serves D.store_may_refuse limit m (R.left r.old) (R.left r.new) (W.output w.old) (W.output w.new) messages answers n result × D.stands desk.new n
+        × ((states : List State) → D.may_leave desk.old states → D.may_leave desk.new (left_by m states messages answers))) }
     ensures memory { result ≡ Err Memory → (desk.new ≡ desk.old) × (r.new ≡ r.old) × (w.new ≡ w.old) }
     ensures read { CountsRead (R.failed r.old) (R.failed r.new) result }
     ensures write { CountsWrite (W.output w.old) result (W.output w.new) }

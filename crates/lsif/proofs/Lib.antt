@@ -3,6 +3,7 @@ pub mod Floats
 pub mod ItemLists
 pub mod LinesOf
 pub mod NextLines
+pub mod Profiles
 pub mod Seen
 pub mod Sendings
 pub mod Slices

@@ -1,7 +1,7 @@
 -- What was taken of the bytes, in the words of the lines of a text.
-use Rattle.std.proofs.Common.{◌≡◌, ◌∙◌, ℕ, ◌<◌, List, [], ◌∷◌, ◌++◌, Option, Some, None, Result, Ok, Err, Bool, true, false, length, refl, ap, sym, inl, inr, arith, length-append}
-use Rattle.lsif.specs.Lines.{Reader, lines_of, BeginsWith, GivesLine, GivesNone, HasLongLine, NextLine}
-use Rattle.lsif.specs.Steps.Cutting.{HasNoFeed, TakesLine, TakesKnown, EndsKnown, BeginsLong, NextTaken}
+use Rattle.std.proofs.Common.{◌≡◌, ◌∙◌, ℕ, ◌<◌, List, [], ◌∷◌, ◌++◌, Option, Some, None, Result, Ok, Err, Bool, true, false, length, refl, ap, sym, inr, arith, length-append}
+use Rattle.lsif.specs.Lines.{Reader, lines_of, IsLine, BeginsWith, GivesLine, HasLongLine, NextLine}
+use Rattle.lsif.specs.Steps.Cutting.{HasNoFeed, TakesKnown, BeginsLong, NextTaken}
 use Rattle.lsif.specs.declared.lines.LinesFault.{LinesFault}
 use Rattle.lsif.specs.declared.lines.LinesFault.TheVariants.{Memory, TooLong, Read}
 use Rattle.lsif.proofs.LinesOf.{is_line, lines_of-feed, lines_of-last, lines_of-front}
@@ -10,25 +10,17 @@ no_lines : lines_of [] ≡ []
 unfolding lines_of
 no_lines = refl
 
-lines_of-takes : (text line : List ℕ) (has_feed : Bool) (rest : List ℕ) → TakesLine text line has_feed rest → lines_of text ≡ line ∷ lines_of rest
-lines_of-takes text line has_feed rest t =
-    elim t.1 [
-      | inl e ↦ ap lines_of e.1 ∙ lines_of-feed line rest (is_line line t.0)
-      | inr f ↦ ap lines_of f.2 ∙ lines_of-last line (is_line line t.0) f.1 ∙ ap (λ ls. line ∷ ls) (sym (ap lines_of f.3 ∙ no_lines))
-    ]
-
-begins_with : (text line : List ℕ) (has_feed : Bool) (rest : List ℕ) → TakesLine text line has_feed rest → BeginsWith text line has_feed rest
-begins_with text line true rest t = elim t.1 [ inl e ↦ e.1 | inr f ↦ cc (f.0) ]
-begins_with text line false rest t = elim t.1 [ inl e ↦ cc (e.0) | inr f ↦ (f.1, f.2, f.3) ]
+lines_of-begins : (text line : List ℕ) (has_feed : Bool) (rest : List ℕ) → IsLine line → BeginsWith text line has_feed rest
+    → lines_of text ≡ line ∷ lines_of rest
+lines_of-begins text line true rest h b = ap lines_of b ∙ lines_of-feed line rest h
+lines_of-begins text line false rest h b =
+    ap lines_of b.1 ∙ lines_of-last line h b.0 ∙ ap (λ ls. line ∷ ls) (sym (ap lines_of b.2 ∙ no_lines))
 
 gives_line : (old : Option (List ℕ)) (line : List ℕ) (has_feed : Bool) (new : Option (List ℕ)) → TakesKnown old line has_feed new → GivesLine old line has_feed new
 gives_line None line has_feed new t = tt
 gives_line (Some text) line has_feed new t =
-    (t.0, t.1, lines_of-takes text line has_feed t.0 t.2, is_line line t.2.0, begins_with text line has_feed t.0 t.2)
-
-gives_none : (old new : Option (List ℕ)) → EndsKnown old new → GivesNone old new
-gives_none None new t = tt
-gives_none (Some text) new t = (ap lines_of t.0 ∙ no_lines, t.1)
+    let h = is_line line t.2 in
+    (t.0, t.1, lines_of-begins text line has_feed t.0 h t.3, h, t.3)
 
 long_line : (longest : ℕ) (text front rest : List ℕ) → text ≡ front ++ rest → HasNoFeed front → longest < length front
     → HasLongLine longest (Some text)
@@ -44,7 +36,7 @@ has_long_line longest (Some text) b = long_line longest text b.0 b.1 b.2 b.3 b.4
 pub next_line : (old : Reader) (result : Result (Option (List ℕ)) LinesFault) (new : Reader) → old.fault ≡ None
     → NextTaken old result new → NextLine old result new
 next_line old (Ok (Some line)) new none n = (none, n.0, n.1, n.2, n.3, gives_line old.left line new.has_feed new.left n.4)
-next_line old (Ok None) new none n = (none, n.0, n.1, n.2, gives_none old.left new.left n.3)
+next_line old (Ok None) new none n = (none, n.0, n.1, n.2, n.3)
 next_line old (Err Memory) new none n = absurd n.2
 next_line old (Err TooLong) new none n = (λ e. cc, n.0, inr (none, n.1, (n.2.0, has_long_line old.longest old.left n.2.1)))
 next_line old (Err Read) new none n = (λ e. cc, n.0, inr (none, n.1, n.2))

@@ -8,7 +8,7 @@ use Rattle.lsif.specs.declared.edges.EdgeLabel.{EdgeLabel}
 use Rattle.lsif.specs.declared.edges.EdgeLabel.TheVariants as labels
 use Rattle.lsif.specs.declared.element.Property.{Property}
 use Rattle.lsif.specs.declared.element.Property.TheVariants.{Definitions, References, ReferenceResults}
-use Rattle.lsif.specs.Element.{IdValue, ItemValue, EdgeValue, contains, next, definition, references, hover, moniker_edge, package_edge, attach, item, other_edge}
+use Rattle.lsif.specs.Element.{IdValue, ItemValue, EdgeValue, contains, next, definition, references, declaration, implementation, hover, moniker_edge, package_edge, attach, item, other_edge}
 use Rattle.lsif.specs.Shape.{◌>>=◌, some_or}
 use Rattle.lsif.specs.Ids.{ids_in, id_at}
 
@@ -56,7 +56,7 @@ item_in from d = do
   shard ← some_or L15 (shard_in d)
   Ok (record { source = from; targets = to; property = property; shard = shard })
 
--- which label a text is
+-- which label a text is in profile 1
 abbrev pub edge_label : List ℕ → EdgeLabel
 edge_label text =
     if bytes_eq text (codes "contains") then labels.Contains
@@ -70,12 +70,21 @@ edge_label text =
     else if bytes_eq text (codes "item") then labels.Item
     else labels.Other
 
+-- which label a text is in profile 2: one of two more, or that of profile 1
+abbrev pub wider_edge_label : List ℕ → EdgeLabel
+wider_edge_label text =
+    if bytes_eq text (codes "textDocument/declaration") then labels.Declaration
+    else if bytes_eq text (codes "textDocument/implementation") then labels.Implementation
+    else edge_label text
+
 -- what an edge of this label out of this source joins
 unfoldable pub edge_from : EdgeLabel → IdValue → Data → Result EdgeValue Code
 edge_from labels.Contains from d = some_or L08 (option_map (contains from) (targets_in d))
 edge_from labels.Next from d = some_or L08 (option_map (next from) (target_in d))
 edge_from labels.Definition from d = some_or L08 (option_map (definition from) (target_in d))
 edge_from labels.References from d = some_or L08 (option_map (references from) (target_in d))
+edge_from labels.Declaration from d = some_or L08 (option_map (declaration from) (target_in d))
+edge_from labels.Implementation from d = some_or L08 (option_map (implementation from) (target_in d))
 edge_from labels.Hover from d = some_or L08 (option_map (hover from) (target_in d))
 edge_from labels.Moniker from d = some_or L08 (option_map (moniker_edge from) (target_in d))
 edge_from labels.Package from d = some_or L08 (option_map (package_edge from) (target_in d))
@@ -86,7 +95,7 @@ edge_from labels.Item from d = do
 edge_from labels.Other from d = some_or L08 (option_map (other_edge from) (ends_in d))
 
 -- what an edge of this label joins, or the least fault of its shape
-unfoldable pub edge_in : List ℕ → Data → Result EdgeValue Code
+unfoldable pub edge_in : EdgeLabel → Data → Result EdgeValue Code
 edge_in label d = do
   from ← some_or L08 (id_at (codes "outV") d)
-  edge_from (edge_label label) from d
+  edge_from label from d

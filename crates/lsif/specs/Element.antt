@@ -51,6 +51,8 @@ pub data VertexValue : Type 0 where
   result_set : VertexValue
   definition_result : VertexValue
   reference_result : VertexValue
+  declaration_result : VertexValue
+  implementation_result : VertexValue
   hover_result : List ℕ → VertexValue
   moniker : MonikerValue → VertexValue
   package_information : PackageValue → VertexValue
@@ -70,6 +72,8 @@ pub data EdgeValue : Type 0 where
   next : IdValue → IdValue → EdgeValue
   definition : IdValue → IdValue → EdgeValue
   references : IdValue → IdValue → EdgeValue
+  declaration : IdValue → IdValue → EdgeValue
+  implementation : IdValue → IdValue → EdgeValue
   hover : IdValue → IdValue → EdgeValue
   moniker_edge : IdValue → IdValue → EdgeValue
   package_edge : IdValue → IdValue → EdgeValue
@@ -125,6 +129,8 @@ vertex_value (vertices.Range e) = range e
 vertex_value vertices.ResultSet = result_set
 vertex_value vertices.DefinitionResult = definition_result
 vertex_value vertices.ReferenceResult = reference_result
+vertex_value vertices.DeclarationResult = declaration_result
+vertex_value vertices.ImplementationResult = implementation_result
 vertex_value (vertices.HoverResult s) = hover_result (string_bytes s)
 vertex_value (vertices.Moniker m) = moniker (moniker_value m)
 vertex_value (vertices.Package p) = package_information (package_value p)
@@ -144,6 +150,8 @@ edge_value (edges.Contains from to) = contains (id_value from) (id_values to.ite
 edge_value (edges.Next from to) = next (id_value from) (id_value to)
 edge_value (edges.Definition from to) = definition (id_value from) (id_value to)
 edge_value (edges.References from to) = references (id_value from) (id_value to)
+edge_value (edges.Declaration from to) = declaration (id_value from) (id_value to)
+edge_value (edges.Implementation from to) = implementation (id_value from) (id_value to)
 edge_value (edges.Hover from to) = hover (id_value from) (id_value to)
 edge_value (edges.Moniker from to) = moniker_edge (id_value from) (id_value to)
 edge_value (edges.Package from to) = package_edge (id_value from) (id_value to)

@@ -9,7 +9,7 @@ use Rattle.positions.specs.Position.{PositionValue, number_limit}
 use Rattle.positions.specs.Span.{SpanValue, is_span}
 use Rattle.lsif.specs.declared.vertices.VertexLabel.{VertexLabel}
 use Rattle.lsif.specs.declared.vertices.VertexLabel.TheVariants as labels
-use Rattle.lsif.specs.Element.{VertexValue, meta_data, project, document, range, result_set, definition_result, reference_result, hover_result, moniker, package_information, event, other_vertex}
+use Rattle.lsif.specs.Element.{VertexValue, meta_data, project, document, range, result_set, definition_result, reference_result, declaration_result, implementation_result, hover_result, moniker, package_information, event, other_vertex}
 use Rattle.lsif.specs.Ids.{whole_number_in, text_at}
 use Rattle.lsif.specs.Hovers.{hover_in}
 use Rattle.lsif.specs.Monikers.{moniker_in, package_in}
@@ -59,7 +59,7 @@ is_supported d =
     is_text (codes "0.6.0") (get (codes "version") d)
     && is_absent_or_text (codes "utf-16") (get (codes "positionEncoding") d)
 
--- which label a text is
+-- which label a text is in profile 1
 abbrev pub vertex_label : List ℕ → VertexLabel
 vertex_label text =
     if bytes_eq text (codes "metaData") then labels.MetaData
@@ -75,6 +75,13 @@ vertex_label text =
     else if bytes_eq text (codes "$event") then labels.Event
     else labels.Other
 
+-- which label a text is in profile 2: one of two more, or that of profile 1
+abbrev pub wider_vertex_label : List ℕ → VertexLabel
+wider_vertex_label text =
+    if bytes_eq text (codes "declarationResult") then labels.DeclarationResult
+    else if bytes_eq text (codes "implementationResult") then labels.ImplementationResult
+    else vertex_label text
+
 -- what a vertex of this label says, where the members that are read are of their forms
 unfoldable pub vertex_of : VertexLabel → Data → Option VertexValue
 vertex_of labels.MetaData d = Some (meta_data (is_supported d))
@@ -84,11 +91,10 @@ vertex_of labels.Range d = option_map range (span_in d)
 vertex_of labels.ResultSet d = Some result_set
 vertex_of labels.DefinitionResult d = Some definition_result
 vertex_of labels.ReferenceResult d = Some reference_result
+vertex_of labels.DeclarationResult d = Some declaration_result
+vertex_of labels.ImplementationResult d = Some implementation_result
 vertex_of labels.HoverResult d = option_map hover_result (hover_in d)
 vertex_of labels.Moniker d = option_map moniker (moniker_in d)
 vertex_of labels.Package d = option_map package_information (package_in d)
 vertex_of labels.Event d = option_map event (event_in d)
 vertex_of labels.Other d = Some other_vertex
-
-abbrev pub vertex_in : List ℕ → Data → Option VertexValue
-vertex_in label d = vertex_of (vertex_label label) d

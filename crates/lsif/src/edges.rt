@@ -1,12 +1,13 @@
 //! The edges that lines spell.
 ghost use Rattle.std.specs.Prelude.{◌≡◌, IfOk, IfErr, option_map, codes};
 ghost use Rattle.lsif.specs.Element.{id_value, id_values, item_value, edge_value};
-ghost use Rattle.lsif.specs.Edges.{targets_in, ends_in, target_in, property_of, property_in, shard_in, item_in, edge_label, edge_from, edge_in};
+ghost use Rattle.lsif.specs.Edges.{targets_in, ends_in, target_in, property_of, property_in, shard_in, item_in, edge_label, wider_edge_label, edge_from, edge_in};
+ghost use Rattle.lsif.specs.Reading.{labels_of};
 ghost use Rattle.lsif.specs.Shape.{Gives, IsShapeFault, some_or};
 ghost use Rattle.serde_json.specs.View.{view};
 
 use crate::code::Code;
-use crate::element::{Edge, Item, Property};
+use crate::element::{Edge, Item, Profile, Property};
 use crate::fault::ReadFault;
 use crate::id::{Id, ids, member_id};
 use serde_json::Value;
@@ -19,6 +20,8 @@ pub(crate) enum EdgeLabel {
     Next,
     Definition,
     References,
+    Declaration,
+    Implementation,
     Hover,
     Moniker,
     Package,
@@ -27,7 +30,7 @@ pub(crate) enum EdgeLabel {
     Other,
 }
 
-/// Which label a text is.
+/// Which label a text is in profile 1.
 fn edge_label(text: &str) -> EdgeLabel
     ensures { result ≡ edge_label text.now }
 {
@@ -51,6 +54,29 @@ fn edge_label(text: &str) -> EdgeLabel
         EdgeLabel::Item
     } else {
         EdgeLabel::Other
+    }
+}
+
+/// Which label a text is in profile 2.
+fn wider_edge_label(text: &str) -> EdgeLabel
+    ensures { result ≡ wider_edge_label text.now }
+{
+    if text == "textDocument/declaration" {
+        EdgeLabel::Declaration
+    } else if text == "textDocument/implementation" {
+        EdgeLabel::Implementation
+    } else {
+        edge_label(text)
+    }
+}
+
+/// Which label a text is.
+pub(crate) fn label_of_edge(profile: Profile, text: &str) -> EdgeLabel
+    ensures { result ≡ (labels_of profile).of_edge text.now }
+{
+    match profile {
+        Profile::One => edge_label(text),
+        Profile::Two => wider_edge_label(text),
     }
 }
 
@@ -180,6 +206,12 @@ fn edge_from(alloc: Global, label: EdgeLabel, from: Id, value: &Value) -> Result
         EdgeLabel::Next => joined(target(alloc, value)?.map(|to| Edge::Next(from, to))),
         EdgeLabel::Definition => joined(target(alloc, value)?.map(|to| Edge::Definition(from, to))),
         EdgeLabel::References => joined(target(alloc, value)?.map(|to| Edge::References(from, to))),
+        EdgeLabel::Declaration => {
+            joined(target(alloc, value)?.map(|to| Edge::Declaration(from, to)))
+        }
+        EdgeLabel::Implementation => {
+            joined(target(alloc, value)?.map(|to| Edge::Implementation(from, to)))
+        }
         EdgeLabel::Hover => joined(target(alloc, value)?.map(|to| Edge::Hover(from, to))),
         EdgeLabel::Moniker => joined(target(alloc, value)?.map(|to| Edge::Moniker(from, to))),
         EdgeLabel::Package => joined(target(alloc, value)?.map(|to| Edge::Package(from, to))),
@@ -191,12 +223,12 @@ fn edge_from(alloc: Global, label: EdgeLabel, from: Id, value: &Value) -> Result
 
 /// What an edge of this label joins, or the least fault of its shape.
 #[tactic(auto, unfolding(crate::specs::Edges::edge_in))]
-pub(crate) fn edge(alloc: Global, label: &str, value: &Value) -> Result<Edge, ReadFault>
-    ensures reading { Gives edge_value result (edge_in label.now (view value.now)) }
+pub(crate) fn edge(alloc: Global, label: EdgeLabel, value: &Value) -> Result<Edge, ReadFault>
+    ensures reading { Gives edge_value result (edge_in label (view value.now)) }
     ensures shape { IfErr result IsShapeFault }
 {
     let Some(from) = member_id(alloc, value, "outV")? else {
         return Err(ReadFault::Shape(Code::L08));
     };
-    edge_from(alloc, edge_label(label), from, value)
+    edge_from(alloc, label, from, value)
 }

@@ -5,10 +5,14 @@ ghost use Rattle.lsif.specs.Element.{id_value, element_value, element_id};
 use crate::id::Id;
 use positions::Span;
 
-/// The part of LSIF that a dump is read by.
+/// The part of LSIF that a dump is read by: which labels are read, and not as other labels.
 #[derive(Clone, Copy, Debug, PartialEq, Eq)]
 pub enum Profile {
+    /// Definitions, references and hovers, with monikers, packages and events.
     One,
+    /// What `One` reads; and declarations and implementations: vertices `declarationResult` and `implementationResult`, edges
+    /// `textDocument/declaration` and `textDocument/implementation`.
+    Two,
 }
 
 /// Whether a symbol comes from another project, may be named in others, or is only known in its own (LSIF 0.6.0,
@@ -64,6 +68,10 @@ pub enum Vertex {
     DefinitionResult,
     /// `referenceResult`.
     ReferenceResult,
+    /// `declarationResult`, of profile 2 alone.
+    DeclarationResult,
+    /// `implementationResult`, of profile 2 alone.
+    ImplementationResult,
     /// `hoverResult`, and its contents as compact JSON with the members of objects in the order of their names' bytes: a
     /// text; an object with `kind` and `value`, or with `language` and `value`; or an array of texts and of objects
     /// with `language` and `value` (Language Server Protocol 3.17, "Hover").
@@ -110,6 +118,10 @@ pub enum Edge {
     Definition(Id, Id),
     /// `textDocument/references`.
     References(Id, Id),
+    /// `textDocument/declaration`, of profile 2 alone.
+    Declaration(Id, Id),
+    /// `textDocument/implementation`, of profile 2 alone.
+    Implementation(Id, Id),
     /// `textDocument/hover`.
     Hover(Id, Id),
     /// `moniker`.

@@ -25,6 +25,6 @@ pub use element::{
 pub use fault::ReadFault;
 pub use id::Id;
 pub use lines::{LineBuffer, Lines, LinesFault, lines_law};
-pub use reading::{LONGEST_LINE, read_element};
+pub use reading::{LONGEST_LINE, profile_law, read_element};
 pub use sending::push_all;
 pub use streams::{Counted, Failed, Sink, Source, counted_law};

@@ -153,6 +153,7 @@ impl LineBuffer {
     }
 
     /// Takes the next line, where there was no fault before.
+    #[tactic(auto, unfolding(crate::specs::Lines::lines_of))]
     fn take_next<S: Source>(&mut self, source: &mut S) -> Result<bool, LinesFault>
         requires failures { S.failed source.old < 2 ^ 64 - 1 }
         requires sound { self.old.fault ≡ None }

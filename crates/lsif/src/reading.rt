@@ -1,16 +1,16 @@
 //! The reading of a line.
-ghost use Rattle.std.specs.Prelude.{IfErr};
+ghost use Rattle.std.specs.Prelude.{◌≡◌, ℕ, List, IfErr};
 ghost use Rattle.lsif.specs.Element.{element_value};
-ghost use Rattle.lsif.specs.Reading.{json_of, element_in, reading};
+ghost use Rattle.lsif.specs.Reading.{base_labels, labels_of, element_in, json_of, reading_by, reading, IsAddedLabel, IsOtherLabel, HasNoAddedLabel};
 ghost use Rattle.lsif.specs.Shape.{Gives, IsShapeFault, some_or};
 ghost use Rattle.serde_json.specs.View.{view};
 
 use crate::code::Code;
-use crate::edges::edge;
-use crate::element::Element;
+use crate::edges::{edge, label_of_edge};
+use crate::element::{Element, Profile};
 use crate::fault::ReadFault;
 use crate::id::member_id;
-use crate::vertices::vertex;
+use crate::vertices::{label_of_vertex, vertex};
 use serde_json::{Category, Value};
 use std::alloc::Global;
 
@@ -19,8 +19,8 @@ pub const LONGEST_LINE: usize = 1048576;
 
 /// The element that a JSON value is.
 #[tactic(auto, unfolding(crate::specs::Reading::element_in))]
-fn element(alloc: Global, value: &Value) -> Result<Element, ReadFault>
-    ensures reading { Gives element_value result (element_in (view value.now)) }
+fn element(alloc: Global, profile: Profile, value: &Value) -> Result<Element, ReadFault>
+    ensures reading { Gives element_value result (element_in (labels_of profile) (view value.now)) }
     ensures shape { IfErr result IsShapeFault }
 {
     let Some(id) = member_id(alloc, value, "id")? else {
@@ -33,12 +33,13 @@ fn element(alloc: Global, value: &Value) -> Result<Element, ReadFault>
         return Err(ReadFault::Shape(Code::L05));
     };
     if kind == "vertex" {
-        match vertex(alloc, label, value)? {
+        match vertex(alloc, label_of_vertex(profile, label), value)? {
             Some(vertex) => Ok(Element::Vertex(id, vertex)),
             None => Err(ReadFault::Shape(Code::L07)),
         }
     } else if kind == "edge" {
-        Ok(Element::Edge(id, edge(alloc, label, value)?))
+        let edge = edge(alloc, label_of_edge(profile, label), value)?;
+        Ok(Element::Edge(id, edge))
     } else {
         Err(ReadFault::Shape(Code::L05))
     }
@@ -60,16 +61,24 @@ fn json(alloc: Global, line: &[u8]) -> Result<Value, ReadFault>
     }
 }
 
-/// The element that a line of a dump is, given without its line feed, or the least fault of its shape.
-#[tactic(auto, unfolding(crate::specs::Reading::reading))]
-pub fn read_element(alloc: Global, line: &[u8]) -> Result<Element, ReadFault>
-    ensures reading { Gives element_value result (reading line.now) }
+/// Profile 1 reads by its own labels alone, and the four labels that profile 2 adds are other labels to it. Each line that
+/// has none of the four is read alike in both profiles.
+pub fn profile_law()
+    ensures base { (line : List ℕ) → reading Profile.One line ≡ reading_by base_labels line }
+    ensures added { (text : List ℕ) → IsAddedLabel text → IsOtherLabel text }
+    ensures alike { (line : List ℕ) → HasNoAddedLabel line → reading Profile.Two line ≡ reading Profile.One line }
+{}
+
+/// The element that a line of a dump is in a profile, given without its line feed, or the least fault of its shape.
+#[tactic(auto, unfolding(crate::specs::Reading::reading, crate::specs::Reading::reading_by))]
+pub fn read_element(alloc: Global, profile: Profile, line: &[u8]) -> Result<Element, ReadFault>
+    ensures reading { Gives element_value result (reading profile line.now) }
     ensures shape { IfErr result IsShapeFault }
 {
     if line.len() > LONGEST_LINE {
         return Err(ReadFault::Shape(Code::L01));
     }
-    element(alloc, &json(alloc, line)?)
+    element(alloc, profile, &json(alloc, line)?)
 }
 
 #[cfg(test)]

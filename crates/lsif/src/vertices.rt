@@ -1,10 +1,11 @@
 //! The vertices that lines spell.
 ghost use Rattle.std.specs.Prelude.{◌≡◌, IfOk, option_map, codes, string_bytes};
 ghost use Rattle.lsif.specs.Element.{vertex_value};
-ghost use Rattle.lsif.specs.Vertices.{coordinate_at, position_in, span_in, is_supported, uri_in, vertex_label, vertex_of, vertex_in};
+ghost use Rattle.lsif.specs.Vertices.{coordinate_at, position_in, span_in, is_supported, uri_in, vertex_label, wider_vertex_label, vertex_of};
+ghost use Rattle.lsif.specs.Reading.{labels_of};
 ghost use Rattle.serde_json.specs.View.{view};
 
-use crate::element::Vertex;
+use crate::element::{Profile, Vertex};
 use crate::events::event;
 use crate::hovers::hover;
 use crate::monikers::{moniker, package};
@@ -85,6 +86,8 @@ pub(crate) enum VertexLabel {
     ResultSet,
     DefinitionResult,
     ReferenceResult,
+    DeclarationResult,
+    ImplementationResult,
     HoverResult,
     Moniker,
     Package,
@@ -92,7 +95,7 @@ pub(crate) enum VertexLabel {
     Other,
 }
 
-/// Which label a text is.
+/// Which label a text is in profile 1.
 fn vertex_label(text: &str) -> VertexLabel
     ensures { result ≡ vertex_label text.now }
 {
@@ -123,9 +126,36 @@ fn vertex_label(text: &str) -> VertexLabel
     }
 }
 
+/// Which label a text is in profile 2.
+fn wider_vertex_label(text: &str) -> VertexLabel
+    ensures { result ≡ wider_vertex_label text.now }
+{
+    if text == "declarationResult" {
+        VertexLabel::DeclarationResult
+    } else if text == "implementationResult" {
+        VertexLabel::ImplementationResult
+    } else {
+        vertex_label(text)
+    }
+}
+
+/// Which label a text is.
+pub(crate) fn label_of_vertex(profile: Profile, text: &str) -> VertexLabel
+    ensures { result ≡ (labels_of profile).of_vertex text.now }
+{
+    match profile {
+        Profile::One => vertex_label(text),
+        Profile::Two => wider_vertex_label(text),
+    }
+}
+
 /// What a vertex of this label says. None where a member that is read isn't of its form.
 #[tactic(auto, unfolding(crate::specs::Vertices::vertex_of))]
-fn vertex_of(alloc: Global, label: VertexLabel, value: &Value) -> Result<Option<Vertex>, AllocError>
+pub(crate) fn vertex(
+    alloc: Global,
+    label: VertexLabel,
+    value: &Value,
+) -> Result<Option<Vertex>, AllocError>
     ensures { IfOk result (λ o. option_map vertex_value o ≡ vertex_of label (view value.now)) }
 {
     match label {
@@ -136,21 +166,12 @@ fn vertex_of(alloc: Global, label: VertexLabel, value: &Value) -> Result<Option<
         VertexLabel::ResultSet => Ok(Some(Vertex::ResultSet)),
         VertexLabel::DefinitionResult => Ok(Some(Vertex::DefinitionResult)),
         VertexLabel::ReferenceResult => Ok(Some(Vertex::ReferenceResult)),
+        VertexLabel::DeclarationResult => Ok(Some(Vertex::DeclarationResult)),
+        VertexLabel::ImplementationResult => Ok(Some(Vertex::ImplementationResult)),
         VertexLabel::HoverResult => Ok(hover(alloc, value)?.map(Vertex::HoverResult)),
         VertexLabel::Moniker => Ok(moniker(alloc, value)?.map(Vertex::Moniker)),
         VertexLabel::Package => Ok(package(alloc, value)?.map(Vertex::Package)),
         VertexLabel::Event => Ok(event(alloc, value)?.map(Vertex::Event)),
         VertexLabel::Other => Ok(Some(Vertex::Other)),
     }
-}
-
-/// What a vertex of the label that a text is says. None where a member that is read isn't of its form.
-pub(crate) fn vertex(
-    alloc: Global,
-    label: &str,
-    value: &Value,
-) -> Result<Option<Vertex>, AllocError>
-    ensures { IfOk result (λ o. option_map vertex_value o ≡ vertex_in label.now (view value.now)) }
-{
-    vertex_of(alloc, vertex_label(label), value)
 }

@@ -5,6 +5,7 @@ pub mod ContentLemmas
 pub mod CutLemmas
 pub mod EscapeLemmas
 pub mod FieldLemmas
+pub mod JudgingLemmas
 pub mod LineLemmas
 pub mod NumberLemmas
 pub mod PartLemmas

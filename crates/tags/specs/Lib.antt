@@ -7,6 +7,7 @@ pub mod Fault
 pub mod Faults
 pub mod Fields
 pub mod Grammar
+pub mod Judging
 pub mod Lines
 pub mod Outcome
 pub mod Parts

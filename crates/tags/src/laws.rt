@@ -1,9 +1,10 @@
 //! What is true of the definitions alone.
-ghost use Rattle.std.specs.Prelude.{◌≡◌, ◌+◌, ◌++◌, ◌∷◌, [], Err, Some, ℕ, List, fold, length};
+ghost use Rattle.std.specs.Prelude.{◌≡◌, ◌↔◌, ◌+◌, ◌++◌, ◌∷◌, [], Ok, Err, Some, ℕ, List, fold, length, true};
 ghost use Rattle.tags.specs.Bytes.{tab};
 ghost use Rattle.tags.specs.Escapes.{decoded};
 ghost use Rattle.tags.specs.Fault.{Reading, contents, tags_of, IsFaultless, IsFirstFault};
 ghost use Rattle.tags.specs.Grammar.{HasFront, IsName, Spells, TagLine};
+ghost use Rattle.tags.specs.Judging.{HasTags, HasFault, judged, lines_rise};
 ghost use Rattle.tags.specs.Lines.{Cuts, IsReading, Line, lines_of, with_last};
 ghost use Rattle.tags.specs.Steps.Readings.{reading_of};
 ghost use Rattle.tags.specs.Parts.{parts_in};
@@ -14,6 +15,7 @@ ghost use Rattle.tags.specs.Values.{TagValue};
 ghost use Rattle.tags.specs.Written.{IsWritten};
 ghost use Rattle.tags.specs.declared.code.Code.{Code};
 ghost use Rattle.tags.specs.declared.code.Code.TheVariants.{T04};
+ghost use Rattle.tags.specs.declared.code.LineFault.{LineFault};
 
 /// What is written by the grammar's pieces is read as the bytes that they stand for, and nothing else is
 /// read: a text that is written so has one meaning.
@@ -62,4 +64,11 @@ pub fn count_law()
     ensures running { (lines : List Reading) (s : Summary ℕ) → state_after counted 0 lines ≡ running s
         → IsFaultless lines × (s ≡ summary_of (length (tags_of (contents lines))) (contents lines)) }
     ensures stays { (lines : List Reading) (n : ℕ) (c : Code) → fold (next counted) (stopped n c) lines ≡ stopped n c }
+{}
+
+/// What is said of a text is its tags where no line is faulty, and else the first fault. The lines of the tags rise.
+pub fn text_law()
+    ensures tags { (text : List ℕ) (tags : List TagValue) → (judged text ≡ Ok tags) ↔ HasTags text tags }
+    ensures fault { (text : List ℕ) (fault : LineFault) → (judged text ≡ Err fault) ↔ HasFault text fault }
+    ensures rising { (text : List ℕ) (tags : List TagValue) → HasTags text tags → lines_rise tags ≡ true }
 {}

@@ -17,7 +17,7 @@ mod tag;
 
 pub use checker::{LONGEST_LINE, TagChecker};
 pub use code::{Code, LineFault, SplitFault, TagsFault};
-pub use laws::{count_law, escape_law, grammar_law, lines_law, reading_law, state_law};
+pub use laws::{count_law, escape_law, grammar_law, lines_law, reading_law, state_law, text_law};
 pub use parts::{Part, split};
 pub use reader::{TagReader, read_tags};
 pub use tag::{Field, Tag};

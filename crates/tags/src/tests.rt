@@ -1,7 +1,7 @@
 //! Tags files that are read or counted, their faults and their limits; and the parts of lines.
 use crate::{
     Code, LineFault, Part, SplitFault, Tag, TagChecker, TagReader, TagsFault, count_law,
-    escape_law, grammar_law, lines_law, read_tags, reading_law, split, state_law,
+    escape_law, grammar_law, lines_law, read_tags, reading_law, split, state_law, text_law,
 };
 use std::alloc::{AllocError, Global};
 use std::test::Fail;
@@ -304,6 +304,7 @@ fn limits(rt: HostRuntime) -> Result<(), Fail> {
     lines_law();
     reading_law();
     state_law();
+    text_law();
     Ok(())
 }
 

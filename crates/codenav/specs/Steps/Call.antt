@@ -1,11 +1,8 @@
 -- Faults of a call on their way out.
-use Rattle.std.specs.Prelude.{◌≡◌, ◌≢◌, ◌⊎◌, true, List, [], Option, Some, None, codes, bytes_eq, option_map, if◌then◌else◌, ⊤}
-use Rattle.clap.specs.Words.{App, Row, Rule, Text, fault_of, first_of, kind_of, new_app, new_rule, subcommand_of, with_rule, with_subcommand, IsAmong}
-use Rattle.clap.specs.declared.builder.action.ArgAction.TheVariants.{Set}
+use Rattle.std.specs.Prelude.{◌≡◌, ◌≢◌, ⊤}
+use Rattle.clap.specs.Words.{kind_of}
 use Rattle.clap.specs.declared.error.Error.{Error}
 use Rattle.clap.specs.declared.error.kind.ErrorKind.TheVariants.{OutOfMemory, ValueValidation}
-use Rattle.codenav.specs.declared.call.Call.{Call}
-use Rattle.codenav.specs.declared.call.Call.TheVariants.{CheckLsif, CheckTags, Replay}
 use Rattle.codenav.specs.declared.call.CallFault.{CallFault}
 use Rattle.codenav.specs.declared.call.CallFault.TheVariants.{Memory, Clap}
 

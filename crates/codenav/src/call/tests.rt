@@ -4,9 +4,12 @@ use std::test::Fail;
 
 /// The words of a call behind the program's name, parted by `|`, and what is read of them: the call, written in the same
 /// way, or the kind of `clap`'s error and the stream that its text goes to.
-const ROWS: &str = "check-lsif|dump.lsif => check-lsif|dump.lsif
-check-lsif|- => check-lsif|-
-check-lsif|a b/c => check-lsif|a b/c
+const ROWS: &str = "check-lsif|dump.lsif => check-lsif|dump.lsif|One
+check-lsif|- => check-lsif|-|One
+check-lsif|a b/c => check-lsif|a b/c|One
+check-lsif|a|--profile|1 => check-lsif|a|One
+check-lsif|a|--profile|2 => check-lsif|a|Two
+check-lsif|--profile=2|a => check-lsif|a|Two
 check-tags|dump.lsif => check-tags|dump.lsif
 check-tags|- => check-tags|-
 check-tags|a b/c => check-tags|a b/c
@@ -24,6 +27,13 @@ replay|:memory:|a|b => UnknownArgument on the standard error
 check|a => InvalidSubcommand on the standard error
 check-lsif|a|b => UnknownArgument on the standard error
 check-lsif|--deep|a => UnknownArgument on the standard error
+check-lsif|a|--profile|0 => ValueValidation on the standard error
+check-lsif|a|--profile|3 => ValueValidation on the standard error
+check-lsif|a|--profile|02 => ValueValidation on the standard error
+check-lsif|a|--profile|two => ValueValidation on the standard error
+check-lsif|a|--profile => InvalidValue on the standard error
+check-lsif|a|--profile|1|--profile|2 => ArgumentConflict on the standard error
+check-tags|a|--profile|1 => UnknownArgument on the standard error
 --help => DisplayHelp on the standard output
 check-lsif|--help => DisplayHelp on the standard output
 --version => DisplayVersion on the standard output
@@ -32,7 +42,9 @@ check-lsif|--help => DisplayHelp on the standard output
 /// A call, written in short.
 fn call_text(alloc: Global, call: Call<'_>) -> Result<String, Fail> {
     match call {
-        Call::CheckLsif { file } => Ok(format!(in alloc; "check-lsif|{file}")?),
+        Call::CheckLsif { file, profile } => {
+            Ok(format!(in alloc; "check-lsif|{file}|{profile:?}")?)
+        }
         Call::CheckTags { file } => Ok(format!(in alloc; "check-tags|{file}")?),
         Call::Replay { database, file } => Ok(format!(in alloc; "replay|{database}|{file}")?),
     }

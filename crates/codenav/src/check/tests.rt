@@ -5,6 +5,8 @@ use lsif::Counted;
 use std::process::Abort;
 use std::test::Fail;
 
+const BOTH: [Profile; 2] = [Profile::One, Profile::Two];
+
 /// The faults of a dump, as they are printed.
 const FAULTS: &str = "L01 line too long
 L02 not JSON
@@ -59,20 +61,22 @@ fn fault_of(code: &str) -> Result<&'static str, Fail> {
 /// that number.
 fn check(
     alloc: Global,
+    profile: Profile,
     reader: Pieces<'_>,
     most: usize,
     fails_at: u32,
 ) -> (Result<Status, CheckFault>, Vec<u8>) {
     let mut r = Counted::new(reader);
     let mut w = Counted::new(slow_writer(alloc, most, fails_at));
-    let answer = check_lsif(alloc, &mut r, &mut w);
+    let answer = check_lsif(alloc, profile, &mut r, &mut w);
     let Slow { taken, .. } = w.into_inner();
     (answer, taken)
 }
 
-/// Asserts the report, which a row begins with, of a text that is read in pieces of so many bytes.
-fn expect_in<R: AllocGlobal + Abort>(
+/// Asserts the report, which a row begins with, of a text that is read in pieces of so many bytes, in a profile.
+fn expect_by<R: AllocGlobal + Abort>(
     rt: &R,
+    profile: Profile,
     most: usize,
     text: &str,
     row: &str,
@@ -83,9 +87,23 @@ fn expect_in<R: AllocGlobal + Abort>(
     } else {
         Status::Faulty
     };
-    let (answer, written) = check(rt.alloc(), in_pieces(text.as_bytes(), most), most, 0);
-    assert_eq!(rt; answer, Ok(status), "{row}");
-    assert_eq!(rt; written.as_slice(), wanted.as_bytes(), "{row}");
+    let reader = in_pieces(text.as_bytes(), most);
+    let (answer, written) = check(rt.alloc(), profile, reader, most, 0);
+    assert_eq!(rt; answer, Ok(status), "{profile:?}: {row}");
+    assert_eq!(rt; written.as_slice(), wanted.as_bytes(), "{profile:?}: {row}");
+    Ok(())
+}
+
+/// As `expect_by`, in both profiles.
+fn expect_in<R: AllocGlobal + Abort>(
+    rt: &R,
+    most: usize,
+    text: &str,
+    row: &str,
+) -> Result<(), Fail> {
+    for profile in BOTH {
+        expect_by(rt, profile, most, text, row)?;
+    }
     Ok(())
 }
 
@@ -116,9 +134,10 @@ fn changed(
 }
 
 /// Asserts a dump's report for each row: the report, and after ` | ` each change. The texts are read in pieces of each of
-/// these sizes, and their ids stand in these quotation marks, or in none.
+/// these sizes, in each of these profiles, and their ids stand in these quotation marks, or in none.
 fn expect_rows<R: AllocGlobal + Abort>(
     rt: &R,
+    profiles: &[Profile],
     dump: &'static str,
     rows: &'static str,
     sizes: &[usize],
@@ -127,8 +146,10 @@ fn expect_rows<R: AllocGlobal + Abort>(
     for row in rows.lines() {
         let (_, changes) = row.split_once(" | ").unwrap_or((row, ""));
         let text = changed(rt.alloc(), dump, changes, around)?;
-        for most in sizes {
-            expect_in(rt, *most, text.as_str(), row)?;
+        for profile in profiles {
+            for most in sizes {
+                expect_by(rt, *profile, *most, text.as_str(), row)?;
+            }
         }
     }
     Ok(())
@@ -141,17 +162,19 @@ fn readers_and_writers_that_fail(rt: HostRuntime) -> Result<(), Fail> {
     for fails_at in 1..15 {
         let mut reader = in_pieces(text.as_bytes(), 64);
         reader.fails_at = fails_at;
-        let (answer, written) = check(rt.alloc(), reader, 1, 0);
+        let (answer, written) = check(rt.alloc(), Profile::One, reader, 1, 0);
         assert_eq!(rt; answer, Err(CheckFault::Read), "{fails_at}");
         assert!(rt; written.is_empty(), "{fails_at}");
     }
     for fails_at in 1..16 {
-        let (answer, written) = check(rt.alloc(), in_pieces(text.as_bytes(), 64), 1, fails_at);
+        let reader = in_pieces(text.as_bytes(), 64);
+        let (answer, written) = check(rt.alloc(), Profile::One, reader, 1, fails_at);
         assert_eq!(rt; answer, Err(CheckFault::Write), "{fails_at}");
         assert!(rt; b"ok 11 elements\n".starts_with(written.as_slice()));
         assert_eq!(rt; written.len() as u32 + 1, fails_at);
     }
-    let (answer, written) = check(rt.alloc(), in_pieces(text.as_bytes(), 64), 0, 0);
+    let reader = in_pieces(text.as_bytes(), 64);
+    let (answer, written) = check(rt.alloc(), Profile::One, reader, 0, 0);
     assert_eq!(rt; answer, Err(CheckFault::Write));
     assert!(rt; written.is_empty());
     Ok(())

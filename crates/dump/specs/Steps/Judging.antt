@@ -6,6 +6,7 @@ use Rattle.lsif.specs.Lines.{Cutter}
 use Rattle.lsif.specs.Reading.{longest_line}
 use Rattle.lsif.specs.declared.code.Code.{Code}
 use Rattle.lsif.specs.declared.element.Element.{Element}
+use Rattle.lsif.specs.declared.element.Profile.{Profile}
 use Rattle.dump.specs.declared.reading.DumpFault.{DumpFault}
 use Rattle.dump.specs.declared.reading.DumpFault.TheVariants as faults
 use Rattle.dump.specs.Conditions.{most_elements}
@@ -18,23 +19,23 @@ IsOutside faults.Memory = ⊤
 IsOutside faults.Read = ⊤
 IsOutside (faults.Line f) = ⊥
 
--- the first line of a dump has this reading; where it's an element, these bytes hold the other lines
-abbrev pub ReadsFirst : List ℕ → Reading → Option (List ℕ) → Type 0
-ReadsFirst text (Ok x) left = (rest : List ℕ) × (left ≡ Some rest) × (dump_of text ≡ Ok x ∷ dump_of rest)
-ReadsFirst text (Err c) left = (others : List Reading) × (dump_of text ≡ Err c ∷ others)
+-- by a profile the first line of a dump has this reading; where it's an element, these bytes hold the other lines
+abbrev pub ReadsFirst : Profile → List ℕ → Reading → Option (List ℕ) → Type 0
+ReadsFirst profile text (Ok x) left = (rest : List ℕ) × (left ≡ Some rest) × (dump_of profile text ≡ Ok x ∷ dump_of profile rest)
+ReadsFirst profile text (Err c) left = (others : List Reading) × (dump_of profile text ≡ Err c ∷ others)
 
--- the reading of the next line of known bytes, or that there is none
-abbrev pub ReadsNext : Option (List ℕ) → Option Reading → Option (List ℕ) → Type 0
-ReadsNext None next left = ⊤
-ReadsNext (Some text) (Some line) left = ReadsFirst text line left
-ReadsNext (Some text) None left = dump_of text ≡ []
+-- the reading by a profile of the next line of known bytes, or that there is none
+abbrev pub ReadsNext : Profile → Option (List ℕ) → Option Reading → Option (List ℕ) → Type 0
+ReadsNext profile None next left = ⊤
+ReadsNext profile (Some text) (Some line) left = ReadsFirst profile text line left
+ReadsNext profile (Some text) None left = dump_of profile text ≡ []
 
--- of known bytes the checker has taken the lines before those that are left
-abbrev pub HasTaken : Option (List ℕ) → Progress → Option (List ℕ) → Type 0
-HasTaken None state left = ⊤
-HasTaken (Some text) state left =
+-- of known bytes, read by a profile, the checker has taken the lines before those that are left
+abbrev pub HasTaken : Profile → Option (List ℕ) → Progress → Option (List ℕ) → Type 0
+HasTaken profile None state left = ⊤
+HasTaken profile (Some text) state left =
     (rest : List ℕ) × (left ≡ Some rest)
-    × (lines : List Reading) × (dump_of text ≡ lines ++ dump_of rest) × (state ≡ progress lines)
+    × (lines : List Reading) × (dump_of profile text ≡ lines ++ dump_of profile rest) × (state ≡ progress lines)
 
 -- how many elements a checker may still take, and one more
 abbrev pub room_of : Progress → ℕ

@@ -1,6 +1,6 @@
 -- What is kept beside the elements of a dump, so that they are looked up without a search.
-use Rattle.std.specs.Prelude.{◌≡◌, ℕ, Bool, true, false, List, [], ◌++◌, Vec, IsPermutation, length, Option, Some, None, is_some}
-use Rattle.std.specs.List.{list_any}
+use Rattle.std.specs.Prelude.{◌≡◌, ℕ, Bool, true, false, List, [], ◌++◌, Vec, IsPermutation, length, Option, Some, None, option_map, find}
+use Rattle.std.specs.List.{position}
 use Rattle.std.specs.HashMap.{get_by_text}
 use Rattle.positions.specs.Span.{SpanValue}
 use Rattle.lsif.specs.Element.{IdValue, same_id, ElementValue, element_id}
@@ -23,6 +23,10 @@ abbrev pub passes : (IdValue → Bool) → Option IdValue → Bool
 passes test (Some i) = test i
 passes test None = false
 
+-- the id of the first document of this serialized URL
+abbrev pub document_id : List ElementValue → List ℕ → Option IdValue
+document_id d uri = option_map element_id (find (is_document_of uri) d)
+
 abbrev pub has_id : IdValue → ElementValue → Bool
 has_id i x = same_id (element_id x) i
 
@@ -41,10 +45,10 @@ IsFilled true targets old new = IsPermutation (kept old ++ targets) (kept new)
 IsFilled false targets old new = kept new ≡ kept old
 
 -- the indices lead to the element of each id; each element has a row, which leads to the first elements that name it in each way;
--- the serialized URLs are those of documents; and of each document the spans of its ranges are kept, of which no two conflict
+-- each serialized URL leads to its first document; and of each document the spans of its ranges are kept, of which no two conflict
 pub record AreTables (x : Tables) (d : List ElementValue) : Type 0 where
   pub elements : IsTable (index_at x.indices) has_id d
   pub rows : length x.rows.items ≡ length d
   pub links : (l : Link) → IsTable (link_at x.indices x.rows.items l) (is_link d l) d
-  pub documents : (uri : List ℕ) → is_some (get_by_text x.documents uri) ≡ list_any (is_document_of uri) d
+  pub documents : (uri : List ℕ) → get_by_text x.documents uri ≡ position (is_document_of uri) d
   pub spans : (v : IdValue) → IsPermutation (spans_in d v) (kept (value_at x.spans v)) × (has_conflict (kept (value_at x.spans v)) ≡ false)

@@ -9,8 +9,8 @@ use Rattle.http_edge.specs.declared.route.Route.{Route}
 use Rattle.http_edge.specs.declared.refusal.Refusal.{Refusal}
 use Rattle.http_edge.specs.declared.reply.Answer.{Answer}
 use Rattle.http_edge.specs.declared.reply.Answer.TheVariants.{Reply, Refused}
-use Rattle.http_edge.specs.Replies.{reply_text, refusal_text}
+use Rattle.http_edge.specs.Replies.{AnswerValue, replied, turned_away}
 
-abbrev pub answer_text : Answer → List ℕ
-answer_text (Reply reply) = reply_text reply
-answer_text (Refused refusal) = refusal_text refusal
+abbrev pub answer_value : Answer → AnswerValue
+answer_value (Reply reply) = replied reply
+answer_value (Refused refusal) = turned_away refusal

@@ -19,7 +19,8 @@ use Rattle.http_edge.specs.declared.refusal.Refusal.{Refusal}
 use Rattle.http_edge.specs.declared.refusal.Refusal.TheVariants.{BadHead}
 use Rattle.http_edge.specs.declared.serve.ServeFault.{ServeFault}
 use Rattle.http_edge.specs.declared.serve.ServeFault.TheVariants.{Memory, Read, Write}
-use Rattle.http_edge.specs.Serving.{MovesOrHides}
+use Rattle.http_edge.specs.Replies.{AnswerValue}
+use Rattle.http_edge.specs.Serving.{MovesOrHides, MayAnswer, answered, left_after}
 use Rattle.http_edge.specs.Steps.Heads.{head_value}
 
 -- the bytes settle what the head says, or the input ended with them
@@ -76,3 +77,10 @@ NextMessage held left held' left' body (Ok None) =
     (bytes : List ℕ) × Moves left left' bytes × AtEnd left' × (held ++ bytes ≡ []) × (held' ≡ [])
 NextMessage held left held' left' body (Err e) =
     (bytes : List ℕ) × MovesOrHides left left' bytes × (refusal : Refusal) × IsUnended (held ++ bytes) refusal
+
+-- a message has this answer from each state that a desk stood for, which then stands for the next one, and leaves at a stop one of
+-- those of which it left one and of the next
+pub record Responds (store_may_refuse : Type 0) (stood stands : State → Type 0) (old_leaves new_leaves : List State → Type 0) (message : MessageValue) (given : AnswerValue) : Type 0 where
+  pub answer : (m : State) → stood m → MayAnswer store_may_refuse m message given
+  pub state : (m : State) → stood m → stands (answered m message given)
+  pub left : (m : State) (states : List State) → stood m → old_leaves states → new_leaves (left_after m states message given)

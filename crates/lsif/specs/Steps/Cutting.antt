@@ -1,7 +1,7 @@
 -- How the next line is found among the buffered bytes.
-use Rattle.std.specs.Prelude.{◌≡◌, ◌≢◌, ℕ, ◌+◌, ◌<◌, ◌≤◌, ◌⊎◌, List, [], ◌∷◌, ◌++◌, length, take, drop, Option, Some, None, Result, Ok, Err, ⊤, All, Bool, true, false}
+use Rattle.std.specs.Prelude.{◌≡◌, ◌≢◌, ℕ, ◌+◌, ◌<◌, ◌≤◌, ◌⊎◌, List, [], ◌∷◌, ◌++◌, length, take, drop, Option, Some, None, Result, Ok, Err, ⊤, All, Bool}
 use Rattle.lsif.specs.Streams.{AtEnd}
-use Rattle.lsif.specs.Lines.{Reader, line_feed}
+use Rattle.lsif.specs.Lines.{Reader, line_feed, BeginsWith, GivesNone}
 use Rattle.lsif.specs.declared.lines.LinesFault.{LinesFault}
 use Rattle.lsif.specs.declared.lines.LinesFault.TheVariants.{Memory, TooLong, Read}
 
@@ -42,20 +42,10 @@ KeepsUnread (Err TooLong) P = P
 KeepsUnread (Err Memory) P = P
 KeepsUnread (Ok a) P = P
 
--- the text is the line, its line feed and the rest, or it ends with the line, which isn't empty
-abbrev pub TakesLine : List ℕ → List ℕ → Bool → List ℕ → Type 0
-TakesLine text line has_feed rest =
-    HasNoFeed line
-    × (((has_feed ≡ true) × (text ≡ line ++ line_feed ∷ rest))
-    ⊎ ((has_feed ≡ false) × (0 < length line) × (text ≡ line) × (rest ≡ [])))
-
+-- the first line of known bytes
 abbrev pub TakesKnown : Option (List ℕ) → List ℕ → Bool → Option (List ℕ) → Type 0
 TakesKnown None line has_feed new = ⊤
-TakesKnown (Some text) line has_feed new = (rest : List ℕ) × (new ≡ Some rest) × TakesLine text line has_feed rest
-
-abbrev pub EndsKnown : Option (List ℕ) → Option (List ℕ) → Type 0
-EndsKnown None new = ⊤
-EndsKnown (Some text) new = (text ≡ []) × (new ≡ Some [])
+TakesKnown (Some text) line has_feed new = (rest : List ℕ) × (new ≡ Some rest) × HasNoFeed line × BeginsWith text line has_feed rest
 
 -- known bytes begin with more bytes than that with no line feed
 abbrev pub BeginsLong : ℕ → Option (List ℕ) → Type 0
@@ -74,5 +64,5 @@ NextTaken old (Ok (Some line)) new =
     (new.fault ≡ None) × (new.failures ≡ old.failures) × (new.longest ≡ old.longest)
     × (length line ≤ old.longest) × TakesKnown old.left line new.has_feed new.left
 NextTaken old (Ok None) new =
-    (new.fault ≡ None) × (new.failures ≡ old.failures) × (new.longest ≡ old.longest) × EndsKnown old.left new.left
+    (new.fault ≡ None) × (new.failures ≡ old.failures) × (new.longest ≡ old.longest) × GivesNone old.left new.left
 NextTaken old (Err fault) new = (new.fault ≡ Some fault) × (new.longest ≡ old.longest) × FaultsBy old fault new

@@ -1,7 +1,8 @@
 //! What is read of lines: an element, or the code of its shape. A table's row is a part of a line and what is read of
-//! it, with `=>` between them: a code, what a vertex of some labels says, or `an element`.
+//! it, with `=>` between them: a code, what a vertex or an edge of some labels says, or `an element`; and behind a bar what
+//! profile 2 reads, where that differs.
 use super::{LONGEST_LINE, read_element};
-use crate::element::{Edge, Element, MonikerKind, Vertex};
+use crate::element::{Edge, Element, MonikerKind, Profile, Vertex};
 use crate::fault::ReadFault;
 use crate::id::Id;
 use std::alloc::Global;
@@ -17,14 +18,14 @@ const LINES: &str = r#"
 {"id":1,"type":"vertex","label":1} => L05
 {"id":1,"type":"edge","label":"x","inV":2} => L08
 {"id":1,"type":"edge","label":"x","outV":1} => L08
-{"id":1,"type":"edge","label":"x","outV":1,"inV":2} => an element
-{"id":1,"type":"edge","label":"x","outV":1,"inVs":[]} => an element
+{"id":1,"type":"edge","label":"x","outV":1,"inV":2} => another edge
+{"id":1,"type":"edge","label":"x","outV":1,"inVs":[]} => another edge
 {"id":1,"type":"edge","label":"x","outV":1,"inV":2,"inVs":[]} => L08
 {"id":1,"type":"edge","label":"contains","outV":1,"inVs":[2,"3"]} => an element
 {"id":1,"type":"edge","label":"contains","outV":1,"inV":2} => L08
 {"id":1,"type":"edge","label":"contains","outV":1,"inV":null,"inVs":[]} => L08
 {"id":1,"type":"edge","label":"contains","outV":1,"inVs":[2,-1]} => L08
-{"id":1,"type":"vertex","label":"contains"} => an element
+{"id":1,"type":"vertex","label":"contains"} => another vertex
  {"id":1,"id":null,"type":"vertex","label":"x"} => L03
 "#;
 
@@ -102,6 +103,43 @@ null => L07
 {} => L07
 "#;
 
+const ADDED: &str = r#"
+"vertex","label":"declarationResult" => another vertex | a declaration result
+"vertex","label":"implementationResult","result":7 => another vertex | an implementation result
+"vertex","label":"textDocument/declaration" => another vertex
+"vertex","label":"textDocument/implementation" => another vertex
+"vertex","label":"declarationresult" => another vertex
+"edge","label":"textDocument/declaration","outV":1,"inV":2 => another edge | a declaration from 1 to 2
+"edge","label":"textDocument/declaration","outV":"1","inV":2 => another edge | a declaration
+"edge","label":"textDocument/declaration","outV":1,"inV":"2" => another edge | a declaration
+"edge","label":"textDocument/declaration","outV":1,"inVs":[2] => another edge | L08
+"edge","label":"textDocument/declaration","outV":1,"inVs":["2",3] => another edge | L08
+"edge","label":"textDocument/declaration","outV":1,"inVs":[] => another edge | L08
+"edge","label":"textDocument/declaration","outV":1,"inV":2,"inVs":[2] => L08
+"edge","label":"textDocument/declaration","outV":1,"inV":2,"inVs":null => L08
+"edge","label":"textDocument/declaration","outV":1,"inV":-1 => L08
+"edge","label":"textDocument/declaration","outV":1 => L08
+"edge","label":"textDocument/declaration","inV":2 => L08
+"edge","label":"textDocument/declaration","outV":null,"inV":2 => L08
+"edge","label":"textDocument/implementation","outV":1,"inV":2 => another edge | an implementation from 1 to 2
+"edge","label":"textDocument/implementation","outV":"1","inV":2 => another edge | an implementation
+"edge","label":"textDocument/implementation","outV":1,"inV":"2" => another edge | an implementation
+"edge","label":"textDocument/implementation","outV":1,"inVs":[2] => another edge | L08
+"edge","label":"textDocument/implementation","outV":1,"inVs":["2",3] => another edge | L08
+"edge","label":"textDocument/implementation","outV":1,"inVs":[] => another edge | L08
+"edge","label":"textDocument/implementation","outV":1,"inV":2,"inVs":[2] => L08
+"edge","label":"textDocument/implementation","outV":1,"inV":2,"inVs":null => L08
+"edge","label":"textDocument/implementation","outV":1,"inV":-1 => L08
+"edge","label":"textDocument/implementation","outV":1 => L08
+"edge","label":"textDocument/implementation","inV":2 => L08
+"edge","label":"textDocument/implementation","outV":null,"inV":2 => L08
+"edge","label":"textDocument/definition","outV":1,"inV":2 => an element
+"edge","label":"textDocument/definition","outV":1,"inVs":[2] => L08
+"edge","label":"textDocument/typeDefinition","outV":1,"inVs":[2] => another edge
+"edge","label":"declarationResult","outV":1,"inVs":[2] => another edge
+"edge","label":"implementationResult","outV":1,"inV":2 => another edge
+"#;
+
 /// What a vertex says, of the labels that the tables ask of.
 fn said(vertex: &Vertex) -> &str {
     match vertex {
@@ -116,6 +154,28 @@ fn said(vertex: &Vertex) -> &str {
         },
         Vertex::Package(package) if package.version.is_empty() => "no version",
         Vertex::Package(package) => package.version.as_str(),
+        Vertex::DeclarationResult => "a declaration result",
+        Vertex::ImplementationResult => "an implementation result",
+        Vertex::Other => "another vertex",
+        _ => "an element",
+    }
+}
+
+/// Whether these are the numbers 1 and 2.
+fn are_one_and_two(from: &Id, to: &Id) -> bool {
+    from.is(&Id::Number(1)) && to.is(&Id::Number(2))
+}
+
+/// What an edge is, of the labels that the tables ask of.
+fn joined(edge: &Edge) -> &str {
+    match edge {
+        Edge::Declaration(from, to) if are_one_and_two(from, to) => "a declaration from 1 to 2",
+        Edge::Declaration(_, _) => "a declaration",
+        Edge::Implementation(from, to) if are_one_and_two(from, to) => {
+            "an implementation from 1 to 2"
+        }
+        Edge::Implementation(_, _) => "an implementation",
+        Edge::Other(_, _) => "another edge",
         _ => "an element",
     }
 }
@@ -124,16 +184,22 @@ fn said(vertex: &Vertex) -> &str {
 fn outcome(reading: &Result<Element, ReadFault>) -> &str {
     match reading {
         Ok(Element::Vertex(_, vertex)) => said(vertex),
-        Ok(Element::Edge(_, _)) => "an element",
+        Ok(Element::Edge(_, edge)) => joined(edge),
         Err(ReadFault::Shape(code)) => code.name(),
         Err(ReadFault::Memory) => "out of memory",
     }
 }
 
-/// A row of this name, of what is read of the line.
+/// A row of this name, of what is read of the line in both profiles.
 fn row(alloc: Global, name: &str, line: &[u8]) -> Result<String, Fail> {
-    let reading = read_element(alloc, line);
-    Ok(format!(in alloc; "{name} => {}\n", outcome(&reading))?)
+    let first = read_element(alloc, Profile::One, line);
+    let second = read_element(alloc, Profile::Two, line);
+    let (one, two) = (outcome(&first), outcome(&second));
+    if one == two {
+        Ok(format!(in alloc; "{name} => {one}\n")?)
+    } else {
+        Ok(format!(in alloc; "{name} => {one} | {two}\n")?)
+    }
 }
 
 /// The rows of a table as they are found, where the lines have these texts around the parts.
@@ -156,6 +222,7 @@ fn tables_of_lines(rt: HostRuntime) -> Result<(), Fail> {
         (r#"{"id":"#, IDS, r#","type":"vertex","label":"resultSet"}"#),
         (vertex, VERTICES, "}"),
         (hover, HOVERS, "}}"),
+        (r#"{"id":7,"type":"#, ADDED, "}"),
     ] {
         let found = rows(rt.alloc(), before, table, after)?;
         assert_eq!(rt; found.as_str(), table);
@@ -204,14 +271,14 @@ empty => L02
 blank => L02
 a byte order mark => L02
 not UTF-8 => L02
-two ids, and a CR at the end => an element
+two ids, and a CR at the end => another vertex
 ";
 
 #[test]
 fn blanks_depths_and_lengths(rt: HostRuntime) -> Result<(), Fail> {
     assert_eq!(rt; blanks(rt.alloc())?.as_str(), BLANKS);
     let deepest = with_arrays(rt.alloc(), 126)?;
-    assert_eq!(rt; deepest.as_str(), "arrays => an element\n");
+    assert_eq!(rt; deepest.as_str(), "arrays => another vertex\n");
     let too_deep = with_arrays(rt.alloc(), 127)?;
     assert_eq!(rt; too_deep.as_str(), "arrays => L02\n");
     Ok(())
@@ -220,7 +287,7 @@ fn blanks_depths_and_lengths(rt: HostRuntime) -> Result<(), Fail> {
 #[test]
 fn longest_lines(rt: HostRuntime) -> Result<(), Fail> {
     let longest = with_blanks(rt.alloc(), LONGEST_LINE)?;
-    assert_eq!(rt; longest.as_str(), "blanks => an element\n");
+    assert_eq!(rt; longest.as_str(), "blanks => another vertex\n");
     let too_long = with_blanks(rt.alloc(), LONGEST_LINE + 1)?;
     assert_eq!(rt; too_long.as_str(), "blanks => L01\n");
     Ok(())
@@ -228,7 +295,7 @@ fn longest_lines(rt: HostRuntime) -> Result<(), Fail> {
 
 /// Whether the element of this line has the id.
 fn has_id(alloc: Global, line: &[u8], id: &Id) -> Option<bool> {
-    match read_element(alloc, line) {
+    match read_element(alloc, Profile::One, line) {
         Ok(element) => Some(element.id().is(id)),
         Err(_) => None,
     }
@@ -259,7 +326,7 @@ fn in_turn(ids: &[Id]) -> u64 {
 
 /// The counts of the element that is read of a line.
 fn counts_of(alloc: Global, line: &[u8]) -> Option<(usize, u64)> {
-    match read_element(alloc, line) {
+    match read_element(alloc, Profile::One, line) {
         Ok(element) => counts(&element),
         Err(_) => None,
     }

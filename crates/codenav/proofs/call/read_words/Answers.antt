@@ -1,6 +1,14 @@
-use Rattle.std.proofs.Common.{map}
-use Rattle.codenav.proofs.Calls.{has_kind, refused}
+use Rattle.std.proofs.Common.{◌∙◌, ap, map, sym, option_map}
+use Rattle.codenav.specs.Call.{call_of, call_value}
+use Rattle.codenav.proofs.Calls.{entered, has_kind, refused, taken}
 use Rattle.codenav.proofs.call.read_words.Goals as goal
+
+pub returns-in-Some-clause-call : goal.returns-in-Some-clause-call
+returns-in-Some-clause-call g c =
+    let words = map g.S.AsStr.text c.args.words.now in (
+      taken _ words c.requires c.in-Ok.ensures.kinds,
+      ap call_of (sym (entered _ words c.in-Ok.matches c.requires c.in-Ok.ensures.ok.2)) ∙ sym c.read_matches.ensures ∙ ap (option_map call_value) c.in-Some.is,
+    )
 
 pub returns-clause-fault : goal.returns-clause-fault
 returns-clause-fault g c =

@@ -1,5 +1,5 @@
 //! Faults of dumps: each fault, each two of which one is reported, and the first of several faulty lines.
-use super::{expect_in, expect_rows};
+use super::{BOTH, expect_in, expect_rows};
 use crate::samples::{BASE, push_line, text_of};
 use std::test::Fail;
 
@@ -197,14 +197,14 @@ const OF_ENDS: &str = "ok 9
 
 #[test]
 fn faults_and_pairs_of_faults(rt: HostRuntime) -> Result<(), Fail> {
-    expect_rows(&rt, BASE, OF_BASE, &[1, 2, 7, 1_000_000], "")?;
+    expect_rows(&rt, &BOTH, BASE, OF_BASE, &[1, 2, 7, 1_000_000], "")?;
     for (dump, rows) in [
         (META_DATA, SHAPES),
         ("", FIRST_LINES),
         (OVERLAPPING, ORDERS),
         (ENDS, OF_ENDS),
     ] {
-        expect_rows(&rt, dump, rows, &[4096], "")?;
+        expect_rows(&rt, &BOTH, dump, rows, &[4096], "")?;
     }
     Ok(())
 }

@@ -1,6 +1,7 @@
 //! Reports of dumps with vertices and edges of each label, with ids that are numbers and with ids that are texts.
-use super::expect_rows;
+use super::{BOTH, expect_rows};
 use crate::samples::BASE;
+use lsif::Profile;
 use std::test::Fail;
 
 /// A range in another one.
@@ -191,6 +192,42 @@ const OF_AFTER_THE_END: &str = "ok 11
 11 L18 | 11 item 9>[6] @4
 11 L16 | 11 item 9>[6] @6";
 
+/// A declaration and an implementation.
+const ADDED: &str = "metaData 0.6.0
+document file:///p.ts
+range 0:0 0:1
+range 1:0 1:1
+range 2:0 2:1
+declarationResult
+implementationResult
+textDocument/declaration 5>6
+textDocument/implementation 5>7
+item 6>[3] @2
+item 7>[4] @2
+contains 2>[3,4,5]";
+
+const OF_ADDED_IN_ONE: &str = "ok 12
+ok 12 | 9 textDocument/declaration 5>6
+ok 12 | 10 item 6>[3] references @2";
+
+const OF_ADDED_IN_TWO: &str = "ok 12
+9 L13 | 9 textDocument/declaration 5>6
+13 L13 | 13 textDocument/implementation 5>7
+10 L10 | 10 item 6>[3] definitions @2
+10 L10 | 10 item 6>[3] references @2
+11 L10 | 11 item 7>[4] referenceResults @2
+10 L10 | 10 item 6>[7] @2
+10 L10 | 10 item 6>[] references @2
+ok 12 | 10 item 6>[3,4,5] @2
+8 L10 | 8 textDocument/declaration 5>7
+9 L10 | 9 textDocument/implementation 5>6
+8 L10 | 8 textDocument/declaration 2>6
+8 L10 | 8 textDocument/definition 5>6
+8 L09 | 8 textDocument/declaration 5>9
+8 L08 | 8 textDocument/declaration 5>[6]
+10 L16 | 10 item 6>[3] @3
+10 E02 | 7 document file:///q.ts | 9 resultSet | 10 item 6>[3] @7 | 11 resultSet";
+
 #[test]
 fn elements_of_each_label(rt: HostRuntime) -> Result<(), Fail> {
     for (dump, rows) in [
@@ -205,8 +242,15 @@ fn elements_of_each_label(rt: HostRuntime) -> Result<(), Fail> {
         (ENDED, OF_ENDED),
         (AFTER_THE_END, OF_AFTER_THE_END),
     ] {
-        expect_rows(&rt, dump, rows, &[4096], "")?;
-        expect_rows(&rt, dump, rows, &[4096], "\"")?;
+        expect_rows(&rt, &BOTH, dump, rows, &[4096], "")?;
+        expect_rows(&rt, &BOTH, dump, rows, &[4096], "\"")?;
+    }
+    for (profile, rows) in [
+        (Profile::One, OF_ADDED_IN_ONE),
+        (Profile::Two, OF_ADDED_IN_TWO),
+    ] {
+        expect_rows(&rt, &[profile], ADDED, rows, &[4096], "")?;
+        expect_rows(&rt, &[profile], ADDED, rows, &[4096], "\"")?;
     }
     Ok(())
 }

@@ -1,8 +1,8 @@
-use Rattle.std.proofs.Common.{List, ◌∷◌, [], ◌++◌, take, arith, sym, subst}
+use Rattle.std.proofs.Common.{List, ◌∷◌, [], ◌++◌, ◌∙◌, take, arith, sym, ap, subst}
 use Rattle.desk.specs.Reply.{ReplyValue}
-use Rattle.desk.specs.Requests.{request_value, request_values}
-use Rattle.desk.specs.Runs.{moved, Run}
-use Rattle.desk.proofs.Steps.{run_more, requests_more}
+use Rattle.desk.specs.Requests.{RequestValue, request_value, request_values}
+use Rattle.desk.specs.Runs.{moved, Run, left_by}
+use Rattle.desk.proofs.Steps.{run_more, left_more, requests_more}
 use Rattle.desk.proofs.running.run.Goals as goal
 
 pub loop-request-preserved : goal.loop-request-preserved
@@ -25,4 +25,10 @@ loop-request-preserved g c =
             subst (λ qs. Run store m qs c.push_reserved.new.self.items next) (sym asked) (subst (λ rs. Run store m (done ++ q ∷ []) rs next) (sym {A = List ReplyValue} told) more),
             s.state h.0 h.2,
           );
+      left = λ m states stood leaves.
+          let h = i.run m stood in
+          let more = ap (λ (qs : List RequestValue). left_by m states qs c.push_reserved.new.self.items) asked
+          ∙ ap (λ (rs : List ReplyValue). left_by m states (done ++ q ∷ []) rs) told
+          ∙ left_more store m h.0 states done c.loop-request.replies.items q c.serve-reply.result h.1 in
+          subst (g.D.Desk.may_leave c.serve-reply.new.desk) (sym more) (s.left h.0 _ h.2 (i.left m states stood leaves));
     }

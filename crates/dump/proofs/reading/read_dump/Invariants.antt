@@ -8,9 +8,10 @@ abbrev pub invariant-reading : goal.invariant-reading
 invariant-reading g l = record {
   failed : g.R.Source.failed l.r ≡ g.R.Source.failed l.fn.r;
   ready : IsReady l.lines;
-  runs : IsRunning l.checker;
-  taken : HasTaken (g.R.Source.left l.fn.r) l.checker (unread l.lines.pending (g.R.Source.left l.r));
+  runs : IsRunning l.checker.progress;
+  profile : l.checker.profile ≡ l.fn.profile;
+  taken : HasTaken l.fn.profile (g.R.Source.left l.fn.r) l.checker.progress (unread l.lines.pending (g.R.Source.left l.r));
 }
 
 abbrev pub decreases-reading : goal.decreases-reading
-decreases-reading g l = room_of l.checker
+decreases-reading g l = room_of l.checker.progress

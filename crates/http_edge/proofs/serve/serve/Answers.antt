@@ -1,7 +1,8 @@
 use Rattle.std.proofs.Common.{◌≡◌, ◌<◌, ◌++◌, inl, inr, [], ◌∷◌, length, sym, arith, refl, ◌∙◌, length-append}
 use Rattle.http_edge.specs.Steps.Serving.{message_value}
 use Rattle.http_edge.proofs.MovedLemmas.{writes_nothing, writes_more, writes_to_more, moves_refl, moves_more, moves_or_more}
-use Rattle.http_edge.proofs.Runs.{run-snoc, joined-snoc, begun}
+use Rattle.http_edge.proofs.Runs.{run-snoc, left-snoc, texts-snoc, begun}
+use Rattle.http_edge.specs.Serving.{answered}
 use Rattle.http_edge.proofs.Sures.{settled-append, settled-snoc, requests-full, requests-ended, sure-full, gives_settles, stops-last, sure-unended}
 use Rattle.http_edge.proofs.serve.serve.Goals as goal
 
@@ -13,7 +14,9 @@ serving-init g c = record {
   chain = c.requires.empty;
   count = refl;
   within = omega arith;
-  run = λ m s. (m, [], refl, s, writes_nothing _);
+  answers = [];
+  run = λ m s. (m, refl, s, λ states h. h);
+  written = writes_nothing _;
   capacity = refl;
   reads = refl;
   counts = (refl, refl);
@@ -21,66 +24,77 @@ serving-init g c = record {
 }
 
 pub returns-clause-served : goal.returns-clause-served
-returns-clause-served g c = λ m s.
+returns-clause-served g c =
     let i = c.serving.invariant in
     let full : length i.messages ≡ c.args.limit = omega (arith, i.count, i.within) in
-    let run = i.run m s in (
-      run.0,
-      (
-        i.bytes,
-        i.messages,
-        run.1,
-        i.moved,
-        (requests-full c.args.limit i.bytes i.messages c.serving.buffer.pending i.chain full, inr (inl full, sure-full c.args.limit i.bytes i.messages c.serving.buffer.pending i.chain full)),
-        i.count,
-        run.2,
-        run.4,
-      ),
-      run.3,
+    (
+      i.messages,
+      i.answers,
+      λ m s.
+          let run = i.run m s in (
+            run.0,
+            (
+              i.bytes,
+              i.moved,
+              (requests-full c.args.limit i.bytes i.messages c.serving.buffer.pending i.chain full, inr (inl full, sure-full c.args.limit i.bytes i.messages c.serving.buffer.pending i.chain full)),
+              i.count,
+              run.1,
+              i.written,
+            ),
+            run.2,
+            run.3,
+          ),
     )
 
 pub returns-in-Ok-None-clause-served : goal.returns-in-Ok-None-clause-served
-returns-in-Ok-None-clause-served g c = λ m s.
+returns-in-Ok-None-clause-served g c =
     let i = c.serving.invariant in
-    let run = i.run m s in
     let next = rw c.in-Ok-None.field-0-is at c.in-Ok-None.ensures.message in
     let chain = settled-append i.bytes i.messages c.serving.buffer.pending next.0 i.chain in
     let lt : length i.messages < c.args.limit = omega (arith, i.count, c.serving-test.true) in (
-      run.0,
-      (
-        i.bytes ++ next.0,
-        i.messages,
-        run.1,
-        moves_more _ _ _ i.bytes next.0 i.moved next.1,
-        (requests-ended c.args.limit _ i.messages _ chain lt next.3, inl next.2),
-        i.count,
-        run.2,
-        run.4,
-      ),
-      run.3,
+      i.messages,
+      i.answers,
+      λ m s.
+          let run = i.run m s in (
+            run.0,
+            (
+              i.bytes ++ next.0,
+              moves_more _ _ _ i.bytes next.0 i.moved next.1,
+              (requests-ended c.args.limit _ i.messages _ chain lt next.3, inl next.2),
+              i.count,
+              run.1,
+              i.written,
+            ),
+            run.2,
+            run.3,
+          ),
     )
 
 pub returns-then-ends-clause-served : goal.returns-then-ends-clause-served
-returns-then-ends-clause-served g c = λ m s.
+returns-then-ends-clause-served g c =
     let i = c.serving.invariant in
-    let run = i.run m s in
     let next = rw c.in-Ok-Some.field-0-is at c.in-Ok-Some.ensures.message in
-    let said = c.in-Ok.ensures.sent run.0 run.3 in
+    let said = c.in-Ok.ensures.sent in
+    let message = message_value c.next_message.new.buffer.pending c.next_message.new.body c.in-Ok-Some.next.message in
     let chain = settled-append i.bytes i.messages c.serving.buffer.pending next.0 i.chain in
     let lt : length i.messages < c.args.limit = omega (arith, i.count, c.serving-test.true) in
     let last = sym (c.if-ends.ensures c.next_message.new.buffer.pending c.next_message.new.body) in (
-      said.0,
-      (
-        i.bytes ++ next.0,
-        i.messages ++ (message_value c.next_message.new.buffer.pending c.next_message.new.body c.in-Ok-Some.next.message) ∷ [],
-        run.1 ++ said.1 ∷ [],
-        moves_more _ _ _ i.bytes next.0 i.moved next.1,
-        stops-last c.args.limit _ i.messages _ (message_value c.next_message.new.buffer.pending c.next_message.new.body c.in-Ok-Some.next.message) _ _ chain lt next.2 last,
-        simp length-append (omega (arith, i.count)),
-        run-snoc _ m i.messages run.1 run.0 (message_value c.next_message.new.buffer.pending c.next_message.new.body c.in-Ok-Some.next.message) said.1 said.0 run.2 said.2,
-        rw (joined-snoc run.1 said.1) (writes_more _ _ _ _ _ run.4 said.4),
-      ),
-      said.3,
+      i.messages ++ message ∷ [],
+      i.answers ++ said.0 ∷ [],
+      λ m s.
+          let run = i.run m s in (
+            answered run.0 message said.0,
+            (
+              i.bytes ++ next.0,
+              moves_more _ _ _ i.bytes next.0 i.moved next.1,
+              stops-last c.args.limit _ i.messages _ message _ _ chain lt next.2 last,
+              simp length-append (omega (arith, i.count)),
+              run-snoc _ m i.messages i.answers run.0 message said.0 run.1 (said.1.answer run.0 run.2),
+              rw (texts-snoc i.answers said.0) (writes_more _ _ _ _ _ i.written said.2),
+            ),
+            said.1.state run.0 run.2,
+            λ states h. rw (left-snoc _ m states i.messages i.answers run.0 message said.0 run.1) (said.1.left run.0 _ run.2 (run.3 states h)),
+          ),
     )
 
 pub serving-preserved : goal.serving-preserved
@@ -97,15 +111,17 @@ serving-preserved g c =
           (settled-snoc _ i.messages _ (message_value c.next_message.new.buffer.pending c.next_message.new.body c.in-Ok-Some.next.message) _ chain settled (sym (c.if-ends.ensures c.next_message.new.buffer.pending c.next_message.new.body)));
       count = simp length-append (omega (arith, i.count));
       within = omega (arith, c.serving-test.true);
+      answers = i.answers ++ c.in-Ok.ensures.sent.0 ∷ [];
       run = λ m s.
           let run = i.run m s in
-          let said = c.in-Ok.ensures.sent run.0 run.3 in (
-            said.0,
-            run.1 ++ said.1 ∷ [],
-            run-snoc _ m i.messages run.1 run.0 (message_value c.next_message.new.buffer.pending c.next_message.new.body c.in-Ok-Some.next.message) said.1 said.0 run.2 said.2,
-            said.3,
-            rw (joined-snoc run.1 said.1) (writes_more _ _ _ _ _ run.4 said.4),
+          let said = c.in-Ok.ensures.sent in
+          let message = message_value c.next_message.new.buffer.pending c.next_message.new.body c.in-Ok-Some.next.message in (
+            answered run.0 message said.0,
+            run-snoc _ m i.messages i.answers run.0 message said.0 run.1 (said.1.answer run.0 run.2),
+            said.1.state run.0 run.2,
+            λ states h. rw (left-snoc _ m states i.messages i.answers run.0 message said.0 run.1) (said.1.left run.0 _ run.2 (run.3 states h)),
           );
+      written = rw (texts-snoc i.answers c.in-Ok.ensures.sent.0) (writes_more _ _ _ _ _ i.written c.in-Ok.ensures.sent.2);
       capacity = c.respond_next-written.ensures.capacity ∙ c.next_message.ensures.capacity ∙ i.capacity;
       reads = c.in-Ok-Some.ensures.counted ∙ i.reads;
       counts = (c.in-Ok.ensures.counted.0 ∙ i.counts.0, c.in-Ok.ensures.counted.1 ∙ i.counts.1);
@@ -113,47 +129,56 @@ serving-preserved g c =
     }
 
 pub returns-in-Err-clause-served : goal.returns-in-Err-clause-served
-returns-in-Err-clause-served g c = λ m s.
+returns-in-Err-clause-served g c =
     let i = c.serving.invariant in
-    let run = i.run m s in
     let next = c.in-Err.ensures.message in
     let chain = settled-append i.bytes i.messages c.serving.buffer.pending next.0 i.chain in
     let lt : length i.messages < c.args.limit = omega (arith, i.count, c.serving-test.true) in (
-      run.0,
-      (
-        i.bytes ++ next.0,
-        i.messages,
-        run.1,
-        moves_or_more _ _ _ i.bytes next.0 i.moved next.1,
-        sure-unended c.args.limit _ i.messages _ next.2 chain next.3 lt,
-        run.2,
-        run.4,
-      ),
-      run.3,
+      i.messages,
+      i.answers,
+      λ m s.
+          let run = i.run m s in (
+            run.0,
+            (
+              i.bytes ++ next.0,
+              moves_or_more _ _ _ i.bytes next.0 i.moved next.1,
+              sure-unended c.args.limit _ i.messages _ next.2 chain next.3 lt,
+              run.1,
+              i.written,
+            ),
+            run.2,
+            run.3,
+          ),
     )
 
 pub returns-in-Err-written-clause-served : goal.returns-in-Err-written-clause-served
-returns-in-Err-written-clause-served g c = λ m s.
+returns-in-Err-written-clause-served g c =
     let i = c.serving.invariant in
-    let run = i.run m s in
     let next = rw c.in-Ok-Some.field-0-is at c.in-Ok-Some.ensures.message in
-    let said = c.in-Err-written.ensures.sent run.0 run.3 in
+    let said = c.in-Err-written.ensures.sent in
+    let message = message_value c.next_message.new.buffer.pending c.next_message.new.body c.in-Ok-Some.next.message in
     let chain = settled-append i.bytes i.messages c.serving.buffer.pending next.0 i.chain in
     let lt : length i.messages < c.args.limit = omega (arith, i.count, c.serving-test.true) in (
-      said.0,
-      (
-        i.bytes ++ next.0,
-        i.messages ++ (message_value c.next_message.new.buffer.pending c.next_message.new.body c.in-Ok-Some.next.message) ∷ [],
-        run.1,
-        said.1,
-        said.4.0,
-        said.4.1,
-        moves_more _ _ _ i.bytes next.0 i.moved next.1,
-        begun c.args.limit _ i.messages _ (message_value c.next_message.new.buffer.pending c.next_message.new.body c.in-Ok-Some.next.message) _ _ chain lt next.2,
-        said.4.2,
-        said.4.3,
-        run-snoc _ m i.messages run.1 run.0 (message_value c.next_message.new.buffer.pending c.next_message.new.body c.in-Ok-Some.next.message) said.1 said.0 run.2 said.2,
-        writes_to_more _ _ _ _ _ run.4 said.4.4,
-      ),
-      said.3,
+      i.messages ++ message ∷ [],
+      i.answers ++ said.0 ∷ [],
+      λ m s.
+          let run = i.run m s in (
+            answered run.0 message said.0,
+            (
+              i.bytes ++ next.0,
+              i.answers,
+              said.0,
+              said.2.0,
+              said.2.1,
+              moves_more _ _ _ i.bytes next.0 i.moved next.1,
+              begun c.args.limit _ i.messages _ message _ _ chain lt next.2,
+              refl,
+              said.2.2,
+              said.2.3,
+              run-snoc _ m i.messages i.answers run.0 message said.0 run.1 (said.1.answer run.0 run.2),
+              writes_to_more _ _ _ _ _ i.written said.2.4,
+            ),
+            said.1.state run.0 run.2,
+            λ states h. rw (left-snoc _ m states i.messages i.answers run.0 message said.0 run.1) (said.1.left run.0 _ run.2 (run.3 states h)),
+          ),
     )

@@ -4,7 +4,8 @@ use Rattle.lsif.specs.Sending.{Writes}
 use Rattle.http_edge.specs.Steps.Messages.{SettlesAll}
 use Rattle.http_edge.specs.Requests.{MessageValue}
 use Rattle.desk.specs.Machine.{State}
-use Rattle.http_edge.specs.Serving.{Run, joined}
+use Rattle.http_edge.specs.Replies.{AnswerValue}
+use Rattle.http_edge.specs.Serving.{Run, left_by, texts}
 use Rattle.http_edge.proofs.serve.serve.Given as goal
 
 abbrev pub invariant-serving : goal.invariant-serving
@@ -15,8 +16,10 @@ invariant-serving g l = record {
   chain : SettlesAll bytes messages l.buffer.pending;
   count : l.count ≡ length messages;
   within : l.count ≤ l.limit;
-  run : (m : State) → g.D.Desk.stands l.fn.desk m → (n : State) × (texts : List (List ℕ)) × Run g.D.Desk.store_may_refuse m messages texts n
-      × g.D.Desk.stands l.desk n × Writes (g.W.Sink.output l.fn.w) (joined texts) (g.W.Sink.output l.w);
+  answers : List AnswerValue;
+  run : (m : State) → g.D.Desk.stands l.fn.desk m → (n : State) × Run g.D.Desk.store_may_refuse m messages answers n × g.D.Desk.stands l.desk n
+      × ((states : List State) → g.D.Desk.may_leave l.fn.desk states → g.D.Desk.may_leave l.desk (left_by m states messages answers));
+  written : Writes (g.W.Sink.output l.fn.w) (texts answers) (g.W.Sink.output l.w);
   capacity : l.buffer.capacity ≡ l.fn.buffer.capacity;
   reads : g.R.Source.failed l.r ≡ g.R.Source.failed l.fn.r;
   counts : SameCounts (g.W.Sink.output l.fn.w) (g.W.Sink.output l.w);

@@ -1,4 +1,4 @@
-use Rattle.std.proofs.Common.{◌≡◌, ◌-◌, ◌≤◌, length, take}
+use Rattle.std.proofs.Common.{◌-◌, ◌≤◌, length, take}
 use Rattle.lsif.specs.Sending.{Writes}
 use Rattle.lsif.proofs.sending.push_all.Given as goal
 

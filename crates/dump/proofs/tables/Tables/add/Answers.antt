@@ -64,7 +64,7 @@ returns-in-Some-clause-ok c =
       links = λ l. links_after d x free known l n long (link_at old.indices old.rows.items l) (link_at indices c.enter_all.new.rows.items l)
           (λ i. c.enter_all.ensures.links l i ∙ ap (λ rows. entered (here l i) n (link_at indices rows l i)) pushed ∙ ap (entered (here l i) n) (more l i) ∙ ap (λ o. entered (is_named o l i) n (link_at old.indices old.rows.items l i)) named)
           (c.requires.tables.links l);
-      documents = λ uri. document_more uri d x _ _ (c.requires.tables.documents uri) (c.in_ok-enter.ensures.documents uri);
+      documents = λ uri. document_more uri d x n _ _ long free.uri (c.requires.tables.documents uri) (c.in_ok-enter.ensures.documents uri);
       spans = fills d x free known (value_at old.spans) (value_at c.enter.new.self.spans) c.requires.tables.spans
           (λ v. subst (λ (ss : List SpanValue). IsFilled (is_id v (contains_source x)) ss (value_at old.spans v) (value_at c.enter.new.self.spans v)) (c.in_ok-targets.ensures ∙ ap (spans_of d) c.ranges_of.ensures) (c.in_ok-enter.ensures.spans v));
     }
@@ -89,7 +89,7 @@ returns-in_default-clause-ok c =
       links = λ l. links_after d x free known l n long (link_at old.indices old.rows.items l) (link_at indices c.push_reserved.new.self.items l)
           (λ i. ap (λ rows. link_at indices rows l i) pushed ∙ more l i ∙ sym (entered_not n (link_at old.indices old.rows.items l i)) ∙ ap (λ o. entered (is_named o l i) n (link_at old.indices old.rows.items l i)) named)
           (c.requires.tables.links l);
-      documents = λ uri. document_more uri d x _ _ (c.requires.tables.documents uri) (c.in_ok-enter.ensures.documents uri);
+      documents = λ uri. document_more uri d x n _ _ long free.uri (c.requires.tables.documents uri) (c.in_ok-enter.ensures.documents uri);
       spans = fills d x free known (value_at old.spans) (value_at c.enter.new.self.spans) c.requires.tables.spans
           (λ v. subst (λ (ss : List SpanValue). IsFilled (is_id v (contains_source x)) ss (value_at old.spans v) (value_at c.enter.new.self.spans v)) (c.in_ok-targets.ensures ∙ ap (spans_of d) c.ranges_of.ensures) (c.in_ok-enter.ensures.spans v));
     }

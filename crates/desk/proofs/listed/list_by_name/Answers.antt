@@ -1,0 +1,13 @@
+use Rattle.std.proofs.Common.{◌≡◌, rules}
+use Rattle.std.specs.Ordering.{is_lt}
+use Rattle.std.proofs.lemmas.List.Sorted.{ranks_by, answers_always}
+use Rattle.desk.specs.Answers.{name_cmp}
+use Rattle.desk.specs.Found.{tag_found}
+use Rattle.desk.specs.Steps.Listed.{by_value}
+use Rattle.desk.proofs.OneReplies.{name_total}
+use Rattle.desk.proofs.listed.list_by_name.Goals as goal
+
+pub returns-clause-sorted : goal.returns-clause-sorted
+returns-clause-sorted c =
+    c.sort_unstable_by.ensures.sorted (λ x y. is_lt (by_value name_cmp x y)) (ranks_by name_total tag_found)
+    (answers_always _ (λ a r. is_lt r ≡ is_lt (by_value name_cmp a.0.now a.1.0.now)) _ (λ f a r q k. search rules))

@@ -1,9 +1,0 @@
-use Rattle.std.proofs.Common.{◌≡◌, drop, ◌++◌, map}
-use Rattle.std.specs.List.{flat_map}
-use Rattle.lsif.specs.Element.{id_values}
-use Rattle.desk.specs.Places.{place_value}
-use Rattle.desk.specs.Steps.Places.{places_of_range}
-use Rattle.desk.proofs.places.add_ranges.Given as goal
-
-abbrev pub invariant-loop-range : goal.invariant-loop-range
-invariant-loop-range l = map place_value l.places.items ++ flat_map (places_of_range l.dump) (id_values (drop l.range-index l.ranges)) ≡ map place_value l.initial.places.items ++ flat_map (places_of_range l.dump) (id_values l.ranges)

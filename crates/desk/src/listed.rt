@@ -1,0 +1,138 @@
+//! The projects and the tags that queries list.
+ghost use Rattle.std.specs.Prelude.{◌≡◌, ◌++◌, ◌&&◌, IfOk, OnOk, map, length};
+ghost use Rattle.std.specs.BTreeMap.{IsOrdered};
+ghost use Rattle.std.specs.String.{string_cmp};
+ghost use Rattle.std.specs.List.Sorted.{IsPermutation, IsSorted};
+ghost use Rattle.tags.specs.Views.{tag_value};
+ghost use Rattle.desk.specs.Answers.{name_cmp};
+ghost use Rattle.desk.specs.Found.{project_found, tag_found};
+ghost use Rattle.desk.specs.Steps.Listed.{is_asked, is_wanted, by_value, project_tags, projects_of, tags_of, tags_so, AllRise, TagsRise};
+
+use crate::found::{FoundProject, FoundTag};
+use crate::names::ProjectName;
+use crate::project::Project;
+use std::alloc::{AllocError, Global};
+use std::cmp::Ordering;
+use std::collections::BTreeMap;
+use tags::Tag;
+
+/// Which names of tags are asked for: those that are equal to a text, or that begin with it.
+#[derive(Clone, Copy)]
+pub(crate) enum Wanted<'a> {
+    Name(&'a str),
+    Prefix(&'a str),
+}
+
+fn is_wanted(wanted: Wanted<'_>, name: &str) -> bool
+    ensures { result ≡ is_wanted wanted.entry name.now }
+{
+    match wanted {
+        Wanted::Name(text) => name == text,
+        Wanted::Prefix(text) => name.as_bytes().starts_with(text.as_bytes()),
+    }
+}
+
+/// Whether this project's tags are asked for.
+fn is_asked(asked: &Option<ProjectName>, project: &str) -> bool
+    ensures { result ≡ is_asked asked.now project.now }
+{
+    match asked {
+        Some(name) => name.as_str() == project,
+        None => true,
+    }
+}
+
+/// Adds the tags of a project with the names that are asked for.
+fn add_tags<'a>(
+    found: &mut Vec<FoundTag<'a>>,
+    wanted: Wanted<'_>,
+    project: &'a str,
+    tags: &'a [Tag],
+) -> Result<(), AllocError>
+    ensures { OnOk result (map tag_found found.new.items ≡ map tag_found found.old.items ++ tags_so (is_wanted wanted.entry) project.now (map tag_value tags.now)) }
+{
+    for tag in tags {
+        if is_wanted(wanted, tag.name.as_str()) {
+            found.push(FoundTag { project, tag })?;
+        }
+    }
+    Ok(())
+}
+
+/// Adds those of a project, where its tags are asked for.
+fn add_project<'a>(
+    found: &mut Vec<FoundTag<'a>>,
+    wanted: Wanted<'_>,
+    asked: &Option<ProjectName>,
+    name: &'a str,
+    project: &'a Project,
+) -> Result<(), AllocError>
+    ensures found { OnOk result (map tag_found found.new.items ≡ map tag_found found.old.items ++ project_tags (is_wanted wanted.entry) asked.now name.now project.now.tags) }
+    ensures rising { TagsRise project.now.tags }
+{
+    match &project.tags {
+        Some(part) => {
+            let tags = part.tags();
+            if is_asked(asked, name) {
+                add_tags(found, wanted, name, tags)
+            } else {
+                Ok(())
+            }
+        }
+        None => Ok(()),
+    }
+}
+
+/// The tags with the names that are asked for, of all projects or of one, in the order of projects and lines.
+pub(crate) fn list_tags<'a>(
+    alloc: Global,
+    projects: &'a BTreeMap<String, Project>,
+    wanted: Wanted<'_>,
+    asked: &Option<ProjectName>,
+) -> Result<Vec<FoundTag<'a>>, AllocError>
+    ensures found { IfOk result (λ found. map tag_found found.items ≡ tags_of (is_wanted wanted.entry) asked.now projects.now.entries) }
+    ensures rising { OnOk result (AllRise projects.now.entries) }
+    ensures ordered { IsOrdered string_cmp projects.now }
+{
+    let mut found = Vec::new(alloc);
+    for (name, project) in projects {
+        add_project(&mut found, wanted, asked, name.as_str(), project)?;
+    }
+    Ok(found)
+}
+
+/// The order of names, projects and lines.
+fn by_name(a: &FoundTag<'_>, b: &FoundTag<'_>) -> Ordering
+    ensures { result ≡ by_value name_cmp a.now b.now }
+{
+    let lines = a.tag.line.cmp(&b.tag.line);
+    let names = a.tag.name.as_str().cmp(b.tag.name.as_str());
+    names.then(a.project.cmp(b.project).then(lines))
+}
+
+/// Puts tags in the order of names, projects and lines.
+pub(crate) fn list_by_name(found: &mut Vec<FoundTag<'_>>)
+    ensures permutation { IsPermutation found.old.items found.new.items }
+    ensures sorted { IsSorted (by_value name_cmp) found.new.items }
+{
+    found.sort_unstable_by(|a, b| by_name(a, b));
+}
+
+/// The projects that have a dump or tags, in the order of their names.
+pub(crate) fn list_projects<'a>(
+    alloc: Global,
+    projects: &'a BTreeMap<String, Project>,
+) -> Result<Vec<FoundProject<'a>>, AllocError>
+    ensures found { IfOk result (λ found. map project_found found.items ≡ projects_of projects.now.entries) }
+    ensures ordered { IsOrdered string_cmp projects.now }
+{
+    let mut found = Vec::new(alloc);
+    for (name, project) in projects {
+        let (dump, tags) = (project.dump.is_some(), project.tags.is_some());
+        if dump || tags {
+            let name = name.as_str();
+            found.push(FoundProject { name, dump, tags })?;
+        }
+    }
+    Ok(found)
+}

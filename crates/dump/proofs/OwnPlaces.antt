@@ -1,0 +1,289 @@
+-- In a sound dump a request's first result is of its kind, and one of another request than references leads to no other result.
+use Rattle.std.proofs.Common.{◌≡◌, ⊎_elim, ◌∙◌, ◌||◌, ◌++◌, ◌∷◌, [], ℕ, nat_eq, Bool, true, false, not, List, map, refl, sym, ap, subst, arith, Option, Some, None, is_some}
+use Rattle.std.specs.Prelude.{Contains, ◌↔◌, if◌then◌else◌}
+use Rattle.std.specs.List.{flat_map}
+use Rattle.std.proofs.lemmas.List.Elements.{Contains-push_cases, Contains-append_cases}
+use Rattle.lsif.specs.declared.element.Property.{Property}
+use Rattle.lsif.specs.declared.element.Property.TheVariants.{Definitions, References, ReferenceResults}
+use Rattle.lsif.specs.Element.{IdValue, VertexValue, meta_data, project, document, range, result_set, definition_result, reference_result, declaration_result, implementation_result, hover_result, moniker, package_information, event, other_vertex, contains, next, definition, references, declaration, implementation, hover, moniker_edge, package_edge, attach, ItemValue, item, other_edge, ElementValue, vertex, edge}
+use Rattle.dump.specs.Conditions.{may_ask, is_result_set, is_moniker, is_package, is_definition_result, is_declaration_result, is_implementation_result, is_hover_result, are_definitions, are_ranges, may_have_item, may_not_join}
+use Rattle.dump.specs.Graph.{vertex_at, is_reference_result}
+use Rattle.dump.specs.Progress.{IsSound}
+use Rattle.dump.specs.Walks.{Pair, label_index, same_label, single_of, single_in, single_pairs, first_to, first_of_list, Path, stays, goes}
+use Rattle.dump.specs.declared.single.SingleLabel.{SingleLabel}
+use Rattle.dump.specs.declared.single.SingleLabel.TheVariants as labels
+use Rattle.dump.specs.declared.single.SingleLabel.TheVariants.{Next, Definition, Hover, PackageInformation, Declaration, Implementation}
+use Rattle.dump.specs.declared.request.Request.{Request}
+use Rattle.dump.specs.declared.request.Request.TheVariants as requests
+use Rattle.dump.specs.declared.role.Role.{Role}
+use Rattle.dump.specs.Requests.{label_of, First}
+use Rattle.dump.specs.Places.{PlaceValue, joined_results, result_pairs_of, result_pairs, IsItemPlace, Places}
+use Rattle.dump.proofs.Bools.{and_both, not_false, or_left, or_right}
+use Rattle.dump.proofs.Members.{contains_head, contains_tail, contains_cases, not_in_nil}
+use Rattle.dump.proofs.Nests.{kept_vertex, vertex_there}
+use Rattle.dump.proofs.Ends.{HasNoCode, holds, pair_of_first}
+
+-- ---- results that lead to no other
+
+-- a result of another request than references
+abbrev is_own_result : Option VertexValue → Bool
+is_own_result v = is_definition_result v || (is_declaration_result v || (is_implementation_result v || is_hover_result v))
+
+-- an edge of the label may lead to it
+abbrev is_target : SingleLabel → Option VertexValue → Bool
+is_target Next v = is_result_set v
+is_target Definition v = is_definition_result v
+is_target labels.References v = is_reference_result v
+is_target Hover v = is_hover_result v
+is_target PackageInformation v = is_package v
+is_target Declaration v = is_declaration_result v
+is_target Implementation v = is_implementation_result v
+
+-- an `item` edge may join it to results
+abbrev may_lead : Option VertexValue → Bool
+may_lead (Some reference_result) = true
+may_lead (Some other_vertex) = true
+may_lead (Some v) = false
+may_lead None = false
+
+target_known : (label : SingleLabel) (v : Option VertexValue) → is_target label v ≡ true → is_some v ≡ true
+target_known label (Some v) e = refl
+target_known Next None e = e
+target_known Definition None e = e
+target_known labels.References None e = e
+target_known Hover None e = e
+target_known PackageInformation None e = e
+target_known Declaration None e = e
+target_known Implementation None e = e
+
+lead_known : (v : Option VertexValue) → may_lead v ≡ true → is_some v ≡ true
+lead_known (Some v) e = refl
+lead_known None e = e
+
+apart : (v : Option VertexValue) → is_own_result v ≡ true → may_lead v ≡ true → ⊥
+apart None e f = cc
+apart (Some (meta_data b)) e f = cc
+apart (Some project) e f = cc
+apart (Some (document s)) e f = cc
+apart (Some (range s)) e f = cc
+apart (Some result_set) e f = cc
+apart (Some definition_result) e f = cc
+apart (Some reference_result) e f = cc
+apart (Some declaration_result) e f = cc
+apart (Some implementation_result) e f = cc
+apart (Some (hover_result s)) e f = cc
+apart (Some (moniker m)) e f = cc
+apart (Some (package_information p)) e f = cc
+apart (Some (event v)) e f = cc
+apart (Some other_vertex) e f = cc
+
+still_target : (d : List ElementValue) (x : ElementValue) (label : SingleLabel) (i : IdValue) → is_target label (vertex_at d i) ≡ true → is_target label (vertex_at (d ++ x ∷ []) i) ≡ true
+still_target d x label i e = let w = vertex_there (vertex_at d i) (target_known label (vertex_at d i) e) in ap (is_target label) (kept_vertex d x i w.0 w.1) ∙ e
+
+still_leads : (d : List ElementValue) (x : ElementValue) (i : IdValue) → may_lead (vertex_at d i) ≡ true → may_lead (vertex_at (d ++ x ∷ []) i) ≡ true
+still_leads d x i e = let w = vertex_there (vertex_at d i) (lead_known (vertex_at d i) e) in ap may_lead (kept_vertex d x i w.0 w.1) ∙ e
+
+-- ---- what edges lead to
+
+abbrev NamesTarget : List ElementValue → Option (SingleLabel × Pair) → Type 0
+NamesTarget d (Some s) = is_target s.0 (vertex_at d s.1.1) ≡ true
+NamesTarget d None = Unit {0}
+
+names_target : (d : List ElementValue) (x : ElementValue) → may_not_join d x ≡ false → NamesTarget d (single_of x)
+names_target d (edge i (next a b)) free = (and_both (may_ask (vertex_at d a)) (is_result_set (vertex_at d b)) (not_false _ free)).1
+names_target d (edge i (definition a b)) free = (and_both (may_ask (vertex_at d a)) (is_definition_result (vertex_at d b)) (not_false _ free)).1
+names_target d (edge i (references a b)) free = (and_both (may_ask (vertex_at d a)) (is_reference_result (vertex_at d b)) (not_false _ free)).1
+names_target d (edge i (declaration a b)) free = (and_both (may_ask (vertex_at d a)) (is_declaration_result (vertex_at d b)) (not_false _ free)).1
+names_target d (edge i (implementation a b)) free = (and_both (may_ask (vertex_at d a)) (is_implementation_result (vertex_at d b)) (not_false _ free)).1
+names_target d (edge i (hover a b)) free = (and_both (may_ask (vertex_at d a)) (is_hover_result (vertex_at d b)) (not_false _ free)).1
+names_target d (edge i (package_edge a b)) free = (and_both (is_moniker (vertex_at d a)) (is_package (vertex_at d b)) (not_false _ free)).1
+names_target d (edge i (moniker_edge a b)) free = tt
+names_target d (edge i (attach a b)) free = tt
+names_target d (edge i (contains a bs)) free = tt
+names_target d (edge i (item e)) free = tt
+names_target d (edge i (other_edge a bs)) free = tt
+names_target d (vertex i v) free = tt
+
+still_names : (d : List ElementValue) (x : ElementValue) (o : Option (SingleLabel × Pair)) → NamesTarget d o → NamesTarget (d ++ x ∷ []) o
+still_names d x (Some s) h = still_target d x s.0 s.1.1 h
+still_names d x None h = tt
+
+abbrev AllNameTargets : List ElementValue → Type 0
+AllNameTargets d = (x : ElementValue) → Contains d x → NamesTarget d (single_of x)
+
+names_more : (d : List ElementValue) (x : ElementValue) → HasNoCode d x → AllNameTargets d → AllNameTargets (d ++ x ∷ [])
+names_more d x free all y at = still_names d x (single_of y) (⊎_elim
+    (λ (h : Contains d y). all y h)
+    (λ (e : x ≡ y). subst (λ z. NamesTarget d (single_of z)) e (names_target d x free.joins))
+    (Contains-push_cases d x y at))
+
+all_name_targets : (d : List ElementValue) → IsSound d → AllNameTargets d
+all_name_targets = holds AllNameTargets (λ x at. absurd (not_in_nil x at)) names_more
+
+-- ---- the results that `item` edges join to others
+
+lead_fits : (d : List ElementValue) (v : Option VertexValue) (e : ItemValue) → e.property ≡ Some ReferenceResults → may_have_item d v e ≡ true → may_lead v ≡ true
+lead_fits d None e is h = h
+lead_fits d (Some definition_result) e is h = subst (λ o. are_definitions o ≡ true) is (and_both (are_definitions e.property) (are_ranges d e.targets) h).0
+lead_fits d (Some reference_result) e is h = refl
+lead_fits d (Some declaration_result) e is h = subst (λ (o : Option Property). not (is_some o) ≡ true) is (and_both (not (is_some e.property)) (are_ranges d e.targets) h).0
+lead_fits d (Some implementation_result) e is h = subst (λ (o : Option Property). not (is_some o) ≡ true) is (and_both (not (is_some e.property)) (are_ranges d e.targets) h).0
+lead_fits d (Some other_vertex) e is h = refl
+lead_fits d (Some (meta_data b)) e is h = h
+lead_fits d (Some project) e is h = h
+lead_fits d (Some (document s)) e is h = h
+lead_fits d (Some (range s)) e is h = h
+lead_fits d (Some result_set) e is h = h
+lead_fits d (Some (hover_result s)) e is h = h
+lead_fits d (Some (moniker m)) e is h = h
+lead_fits d (Some (package_information p)) e is h = h
+lead_fits d (Some (event v)) e is h = h
+
+abbrev AllMayLead : List ElementValue → Type 0
+AllMayLead d = (i : IdValue) (e : ItemValue) → Contains d (edge i (item e)) → e.property ≡ Some ReferenceResults → may_lead (vertex_at d e.source) ≡ true
+
+may_lead_more : (d : List ElementValue) (x : ElementValue) → HasNoCode d x → AllMayLead d → AllMayLead (d ++ x ∷ [])
+may_lead_more d x free all i e at is = still_leads d x e.source (⊎_elim
+    (λ (h : Contains d (edge i (item e))). all i e h is)
+    (λ (s : x ≡ edge i (item e)). lead_fits d (vertex_at d e.source) e is (not_false _ (subst (λ z. may_not_join d z ≡ false) s free.joins)))
+    (Contains-push_cases d x (edge i (item e)) at))
+
+all_may_lead : (d : List ElementValue) → IsSound d → AllMayLead d
+all_may_lead = holds AllMayLead (λ i e at. absurd (not_in_nil (edge i (item e)) at)) may_lead_more
+
+-- ---- members of lists of pairs
+
+member_of : (f : ElementValue → List Pair) (d : List ElementValue) (p : Pair) → Contains (flat_map f d) p → (x : ElementValue) × Contains d x × Contains (f x) p
+member_of f [] p at = absurd (not_in_nil p at)
+member_of f (x ∷ d) p at = ⊎_elim
+    (λ (h : Contains (f x) p). (x, contains_head x d, h))
+    (λ (t : Contains (flat_map f d) p). let r = member_of f d p t in (r.0, contains_tail x d r.0 r.1, r.2))
+    (Contains-append_cases (f x) (flat_map f d) p at)
+
+source_is : (a : IdValue) (is : List IdValue) (p : Pair) → Contains (map (λ to. (a, to)) is) p → a ≡ p.0
+source_is a [] p at = absurd (not_in_nil p at)
+source_is a (i ∷ is) p at = ⊎_elim (λ (e : (a, i) ≡ p). ap (λ (q : Pair). q.0) e) (λ (t : Contains (map (λ to. (a, to)) is) p). source_is a is p t) (contains_cases (a, i) (map (λ to. (a, to)) is) p at)
+
+joins_results : (e : ItemValue) (o : Option Property) (p : Pair) → Contains (joined_results e o) p → (o ≡ Some ReferenceResults) × (e.source ≡ p.0)
+joins_results e (Some ReferenceResults) p at = (refl, source_is e.source e.targets p at)
+joins_results e (Some Definitions) p at = absurd (not_in_nil p at)
+joins_results e (Some References) p at = absurd (not_in_nil p at)
+joins_results e None p at = absurd (not_in_nil p at)
+
+-- what leaves a pair may lead
+leads_here : (d : List ElementValue) → AllMayLead d → (x : ElementValue) (p : Pair) → Contains d x → Contains (result_pairs_of x) p → may_lead (vertex_at d p.0) ≡ true
+leads_here d all (edge i (item e)) p here at = let j = joins_results e e.property p at in subst (λ s. may_lead (vertex_at d s) ≡ true) j.1 (all i e here j.0)
+leads_here d all (edge i (contains a bs)) p here at = absurd (not_in_nil p at)
+leads_here d all (edge i (next a b)) p here at = absurd (not_in_nil p at)
+leads_here d all (edge i (definition a b)) p here at = absurd (not_in_nil p at)
+leads_here d all (edge i (references a b)) p here at = absurd (not_in_nil p at)
+leads_here d all (edge i (declaration a b)) p here at = absurd (not_in_nil p at)
+leads_here d all (edge i (implementation a b)) p here at = absurd (not_in_nil p at)
+leads_here d all (edge i (hover a b)) p here at = absurd (not_in_nil p at)
+leads_here d all (edge i (moniker_edge a b)) p here at = absurd (not_in_nil p at)
+leads_here d all (edge i (package_edge a b)) p here at = absurd (not_in_nil p at)
+leads_here d all (edge i (attach a b)) p here at = absurd (not_in_nil p at)
+leads_here d all (edge i (other_edge a bs)) p here at = absurd (not_in_nil p at)
+leads_here d all (vertex i v) p here at = absurd (not_in_nil p at)
+
+-- ---- the first result
+
+bound_by : (pairs : List Pair) (x r : IdValue) (later : Option IdValue) → (later ≡ Some r → (y : IdValue) × (first_to pairs y ≡ Some r)) → (o : Option IdValue) → first_to pairs x ≡ o
+    → (elim o as (λ _. Option IdValue) [ Some s ↦ Some s | None ↦ later ]) ≡ Some r → (y : IdValue) × (first_to pairs y ≡ Some r)
+bound_by pairs x r later rest None is e = rest e
+bound_by pairs x r later rest (Some s) is e = (x, is ∙ e)
+
+bound_of : (pairs : List Pair) (xs : List IdValue) (r : IdValue) → first_of_list pairs xs ≡ Some r → (y : IdValue) × (first_to pairs y ≡ Some r)
+bound_of pairs [] r e = cc
+bound_of pairs (x ∷ xs) r e = bound_by pairs x r (first_of_list pairs xs) (bound_of pairs xs r) (first_to pairs x) refl e
+
+label_at : ℕ → SingleLabel
+label_at n =
+    if nat_eq n 1 then Definition
+    else if nat_eq n 2 then labels.References
+    else if nat_eq n 3 then Hover
+    else if nat_eq n 4 then PackageInformation
+    else if nat_eq n 5 then Declaration
+    else if nat_eq n 6 then Implementation
+    else Next
+
+of_index : (label : SingleLabel) → label_at (label_index label) ≡ label
+unfolding label_at
+of_index Next = refl
+of_index Definition = refl
+of_index labels.References = refl
+of_index Hover = refl
+of_index PackageInformation = refl
+of_index Declaration = refl
+of_index Implementation = refl
+
+one_label : (a b : SingleLabel) → same_label a b ≡ true → a ≡ b
+one_label a b e = let same : label_index a ≡ label_index b = grind (arith, e) in sym (of_index a) ∙ ap label_at same ∙ of_index b
+
+-- an edge of a label leads to what it may lead to
+target_by : (d : List ElementValue) (label : SingleLabel) (o : Option (SingleLabel × Pair)) (p : Pair) → NamesTarget d o
+    → Contains (elim o as (λ _. List Pair) [ Some e ↦ if same_label e.0 label then e.1 ∷ [] else [] | None ↦ [] ]) p → is_target label (vertex_at d p.1) ≡ true
+target_by d label None p h at = absurd (not_in_nil p at)
+target_by d label (Some s) p h at = by (same_label s.0 label) refl at
+  where
+    by : (b : Bool) → same_label s.0 label ≡ b → Contains (if b then s.1 ∷ [] else []) p → is_target label (vertex_at d p.1) ≡ true
+    by false e at = absurd (not_in_nil p at)
+    by true e at =
+        let named : is_target label (vertex_at d s.1.1) ≡ true = subst (λ l. is_target l (vertex_at d s.1.1) ≡ true) (one_label s.0 label e) h in
+        ⊎_elim (λ (q : s.1 ≡ p). subst (λ (r : Pair). is_target label (vertex_at d r.1) ≡ true) q named) (λ (n : Contains [] p). absurd (not_in_nil p n)) (contains_cases s.1 [] p at)
+
+-- a request's first result is one of its kind
+first_target : (d : List ElementValue) → IsSound d → (q : Request) (x result : IdValue) → First q d x (Some result) → is_target (label_of q) (vertex_at d result) ≡ true
+first_target d h q x result first =
+    let bound = bound_of (single_pairs (label_of q) d) first.0 result (sym first.2) in
+    let at = member_of (single_in (label_of q)) d (bound.0, result) (pair_of_first (single_pairs (label_of q) d) bound.0 result bound.1) in
+    target_by d (label_of q) (single_of at.0) (bound.0, result) (all_name_targets d h at.0 at.1) at.2
+
+contents_in : (v : Option VertexValue) → is_hover_result v ≡ true → (contents : List ℕ) × (v ≡ Some (hover_result contents))
+contents_in None e = cc
+contents_in (Some (meta_data b)) e = cc
+contents_in (Some project) e = cc
+contents_in (Some (document s)) e = cc
+contents_in (Some (range s)) e = cc
+contents_in (Some result_set) e = cc
+contents_in (Some definition_result) e = cc
+contents_in (Some reference_result) e = cc
+contents_in (Some declaration_result) e = cc
+contents_in (Some implementation_result) e = cc
+contents_in (Some (hover_result s)) e = (s, refl)
+contents_in (Some (moniker m)) e = cc
+contents_in (Some (package_information p)) e = cc
+contents_in (Some (event v)) e = cc
+contents_in (Some other_vertex) e = cc
+
+pub first_contents : (d : List ElementValue) → IsSound d → (x result : IdValue) → First requests.Hover d x (Some result) → (contents : List ℕ) × (vertex_at d result ≡ Some (hover_result contents))
+first_contents d h x result first = contents_in (vertex_at d result) (first_target d h requests.Hover x result first)
+
+own_label : (q : Request) (v : Option VertexValue) → (q ≡ requests.References → ⊥) → is_target (label_of q) v ≡ true → is_own_result v ≡ true
+own_label requests.Definition v other e = or_left (is_definition_result v) _ e
+own_label requests.References v other e = absurd (other refl)
+own_label requests.Hover v other e = or_right (is_definition_result v) _ (or_right (is_declaration_result v) _ (or_right (is_implementation_result v) _ e))
+own_label requests.Declaration v other e = or_right (is_definition_result v) _ (or_left (is_declaration_result v) _ e)
+own_label requests.Implementation v other e = or_right (is_definition_result v) _ (or_right (is_declaration_result v) _ (or_left (is_implementation_result v) _ e))
+
+module _ (d : List ElementValue) (h : IsSound d) (q : Request) (other : q ≡ requests.References → ⊥) (x result : IdValue) (first : First q d x (Some result)) where
+  is_own_here : is_own_result (vertex_at d result) ≡ true
+  is_own_here = own_label q (vertex_at d result) other (first_target d h q x result first)
+
+  no_pair : (z : IdValue) → Contains (result_pairs d) (result, z) → ⊥
+  no_pair z at =
+      let m = member_of result_pairs_of d (result, z) at in
+      apart (vertex_at d result) is_own_here (leads_here d (all_may_lead d h) m.0 (result, z) m.1 m.2)
+
+  only_here : (y : IdValue) → Path (result_pairs d) result y → y ≡ result
+  only_here y stays = refl
+  only_here y (goes {y = w} z path at) = absurd (no_pair z (subst (λ v. Contains (result_pairs d) (v, z)) (only_here w path) at))
+
+  pub own_places : (in_roles : List Role) (place : PlaceValue) → Places in_roles d result place ↔ IsItemPlace in_roles d result place
+  own_places in_roles place = (to, back)
+    where
+      to : Places in_roles d result place → IsItemPlace in_roles d result place
+      to (y, path, there) = subst (λ v. IsItemPlace in_roles d v place) (only_here y path) there
+
+      back : IsItemPlace in_roles d result place → Places in_roles d result place
+      back there = (result, stays, there)

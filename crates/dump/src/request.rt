@@ -1,0 +1,30 @@
+//! The requests that results of vertices answer.
+ghost use Rattle.std.specs.Prelude.{◌≡◌};
+ghost use Rattle.dump.specs.Requests.{label_of};
+
+use crate::single::SingleLabel;
+
+/// A request that a vertex has a result for (LSIF 0.6.0, "Requests").
+#[derive(Clone, Copy, Debug, PartialEq, Eq)]
+pub enum Request {
+    Definition,
+    References,
+    Hover,
+    Declaration,
+    Implementation,
+}
+
+impl Request {
+    /// The label of the edges that name the results of the request.
+    pub(crate) fn label(self) -> SingleLabel
+        ensures { result ≡ label_of self }
+    {
+        match self {
+            Request::Definition => SingleLabel::Definition,
+            Request::References => SingleLabel::References,
+            Request::Hover => SingleLabel::Hover,
+            Request::Declaration => SingleLabel::Declaration,
+            Request::Implementation => SingleLabel::Implementation,
+        }
+    }
+}

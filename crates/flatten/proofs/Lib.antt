@@ -1,0 +1,5 @@
+pub mod Closures
+pub mod Gaining
+pub mod KeyLemmas
+pub mod Members
+pub mod Runs

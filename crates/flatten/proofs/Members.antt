@@ -1,0 +1,56 @@
+-- Members of lists.
+use Rattle.std.proofs.Common.{◌≡◌, ◌⊎◌, inl, inr, ⊎_elim, ◌∙◌, Bool, true, false, cond, List, [], ◌∷◌, map, filter, refl, sym, ap, subst, arith}
+use Rattle.std.specs.Prelude.{Contains}
+use Rattle.std.proofs.lemmas.List.Elements.{Contains-append_left, Contains-append_right, Contains-append_cases, Contains-push_cases}
+
+contains_head : {X : Type 0} (x : X) (xs : List X) → Contains (x ∷ xs) x
+contains_head x xs = Contains-append_left (x ∷ []) xs x (0, omega arith, refl)
+
+contains_tail : {X : Type 0} (y : X) (xs : List X) (x : X) → Contains xs x → Contains (y ∷ xs) x
+contains_tail y xs x at = Contains-append_right (y ∷ []) xs x at
+
+pub not_in_nil : {X : Type 0} (x : X) → Contains [] x → ⊥
+not_in_nil x at = omega (arith, at.1)
+
+contains_cases : {X : Type 0} (y : X) (xs : List X) (x : X) → Contains (y ∷ xs) x → (y ≡ x) ⊎ Contains xs x
+contains_cases y xs x at = ⊎_elim (λ (h : Contains (y ∷ []) x). ⊎_elim (λ (n : Contains [] x). absurd (not_in_nil x n)) (λ (e : y ≡ x). inl e) (Contains-push_cases [] y x h)) (λ (t : Contains xs x). inr t) (Contains-append_cases (y ∷ []) xs x at)
+
+pub contains_one : {X : Type 0} (y x : X) → Contains (y ∷ []) x → y ≡ x
+contains_one y x at = ⊎_elim (λ (e : y ≡ x). e) (λ (n : Contains [] x). absurd (not_in_nil x n)) (contains_cases y [] x at)
+
+pub one_contains : {X : Type 0} (y x : X) → y ≡ x → Contains (y ∷ []) x
+one_contains y x e = subst (Contains (y ∷ [])) e (contains_head y [])
+
+pub contains_map : {X Y : Type 0} (f : X → Y) (xs : List X) (x : X) → Contains xs x → Contains (map f xs) (f x)
+contains_map f [] x at = absurd (not_in_nil x at)
+contains_map f (y ∷ xs) x at = ⊎_elim (λ (e : y ≡ x). subst (λ z. Contains (f y ∷ map f xs) (f z)) e (contains_head (f y) (map f xs))) (λ (t : Contains xs x). contains_tail (f y) (map f xs) (f x) (contains_map f xs x t)) (contains_cases y xs x at)
+
+-- whence a member of a mapped list comes
+pub map_source : {X Y : Type 0} (f : X → Y) (xs : List X) (y : Y) → Contains (map f xs) y → (x : X) × Contains xs x × (f x ≡ y)
+map_source f [] y at = absurd (not_in_nil y at)
+map_source f (x ∷ xs) y at = ⊎_elim
+    (λ (e : f x ≡ y). (x, contains_head x xs, e))
+    (λ (t : Contains (map f xs) y). let r = map_source f xs y t in (r.0, contains_tail x xs r.0 r.1, r.2))
+    (contains_cases (f x) (map f xs) y at)
+
+pub filter_keeps : {X : Type 0} (p : X → Bool) (xs : List X) (x : X) → Contains xs x → p x ≡ true → Contains (filter p xs) x
+filter_keeps p [] x at e = absurd (not_in_nil x at)
+filter_keeps {X} p (y ∷ xs) x at e = ⊎_elim
+    (λ (s : y ≡ x). let passes : p y ≡ true = ap p s ∙ e in subst (λ b. Contains (cond b (y ∷ filter p xs) (filter p xs)) x) (sym passes) (subst (Contains (y ∷ filter p xs)) s (contains_head y (filter p xs))))
+    (λ (t : Contains xs x). by (p y) (filter_keeps p xs x t e))
+    (contains_cases y xs x at)
+  where
+    by : (b : Bool) → Contains (filter p xs) x → Contains (cond b (y ∷ filter p xs) (filter p xs)) x
+    by true h = contains_tail y (filter p xs) x h
+    by false h = h
+
+pub filter_source : {X : Type 0} (p : X → Bool) (xs : List X) (x : X) → Contains (filter p xs) x → Contains xs x × (p x ≡ true)
+filter_source p [] x at = absurd (not_in_nil x at)
+filter_source {X} p (y ∷ xs) x at = by (p y) refl (filter_source p xs x) at
+  where
+    by : (b : Bool) → p y ≡ b → (Contains (filter p xs) x → Contains xs x × (p x ≡ true)) → Contains (cond b (y ∷ filter p xs) (filter p xs)) x → Contains (y ∷ xs) x × (p x ≡ true)
+    by true e more h = ⊎_elim
+        (λ (s : y ≡ x). (subst (Contains (y ∷ xs)) s (contains_head y xs), sym (ap p s) ∙ e))
+        (λ (t : Contains (filter p xs) x). let r = more t in (contains_tail y xs x r.0, r.1))
+        (contains_cases y (filter p xs) x h)
+    by false e more h = let r = more h in (contains_tail y xs x r.0, r.1)

@@ -1,0 +1,3 @@
+pub mod KeyTexts
+pub mod Reached
+pub mod Steps

@@ -1,0 +1,95 @@
+//! What pairs of numbers lead to.
+ghost use Rattle.std.specs.Prelude.{◌≡◌, ◌==◌, ◌≤◌, ◌↔◌, ℕ, nat_lt, nat_le, true, false, length, map, filter, Contains, IsPermutation, IfOk, OnOk};
+ghost use Rattle.std.specs.List.Sorted.{IsNonDecreasingBy, IsPartitionPoint};
+ghost use Rattle.std.specs.Ordering.{nat_cmp};
+ghost use Rattle.dump.specs.Places.{IsListing};
+ghost use Rattle.flatten.specs.Reached.{IsReached};
+ghost use Rattle.flatten.specs.Steps.Found.{Gains};
+
+use crate::fault::FlattenFault;
+use crate::found::Found;
+use std::alloc::{AllocError, Global};
+
+/// The pairs in the order of their sources.
+fn by_source(alloc: Global, pairs: &[(u32, u32)]) -> Result<Vec<(u32, u32)>, AllocError>
+    ensures all { IfOk result (λ sorted. IsPermutation pairs.now sorted.items) }
+    ensures ordered { IfOk result (λ sorted. IsNonDecreasingBy (λ p. p.0) sorted.items) }
+{
+    let mut sorted = Vec::from_slice(alloc, pairs)?;
+    sorted.sort_unstable_by_key(|pair| pair.0);
+    Ok(sorted)
+}
+
+/// How many of the pairs, which are in the order of their sources, have a source below this.
+fn count_below(pairs: &[(u32, u32)], source: u32) -> usize
+    requires { IsNonDecreasingBy (λ p. p.0) pairs.now }
+    ensures bound { result ≤ length pairs.now }
+    ensures point { IsPartitionPoint (λ p. nat_lt p.0 source ≡ true) (λ p. nat_lt p.0 source ≡ false) pairs.now result }
+{
+    pairs.partition_point(|pair| pair.0 < source)
+}
+
+/// How many of the pairs, which are in the order of their sources, have this source or one below it.
+fn count_up_to(pairs: &[(u32, u32)], source: u32) -> usize
+    requires { IsNonDecreasingBy (λ p. p.0) pairs.now }
+    ensures bound { result ≤ length pairs.now }
+    ensures point { IsPartitionPoint (λ p. nat_le p.0 source ≡ true) (λ p. nat_le p.0 source ≡ false) pairs.now result }
+{
+    pairs.partition_point(|pair| pair.0 <= source)
+}
+
+/// The pairs out of this source, of pairs in the order of their sources.
+fn pairs_from(pairs: &[(u32, u32)], source: u32) -> &[(u32, u32)]
+    requires { IsNonDecreasingBy (λ p. p.0) pairs.now }
+    ensures { result.now ≡ filter (λ p. p.0 == source) pairs.now }
+{
+    let start = count_below(pairs, source);
+    let end = count_up_to(pairs, source);
+    &pairs[start..end]
+}
+
+/// Adds the targets of the pairs.
+fn add_targets(found: &mut Found, pairs: &[(u32, u32)]) -> Result<(), AllocError>
+    ensures { OnOk result (Gains found.old (map (λ p. p.1) pairs.now) found.new) }
+{
+    for pair in pairs {
+        found.add(pair.1)?;
+    }
+    Ok(())
+}
+
+/// The numbers, each once.
+fn found_at(alloc: Global, starts: &[u32]) -> Result<Found, AllocError>
+    ensures { IfOk result (λ found. (y : ℕ) → Contains found y ↔ Contains starts.now y) }
+{
+    let mut found = Found::new(alloc);
+    for start in starts {
+        found.add(*start)?;
+    }
+    Ok(found)
+}
+
+/// Adds the numbers that a path of the pairs reaches from those that were found; the pairs are in the order of their
+/// sources.
+fn follow(found: &mut Found, pairs: &[(u32, u32)]) -> Result<(), AllocError>
+    requires { IsNonDecreasingBy (λ p. p.0) pairs.now }
+    ensures { OnOk result ((y : ℕ) → Contains found.new y ↔ IsReached found.old pairs.now y) }
+{
+    let mut done = 0;
+    while done < found.numbers().len() {
+        let source = found.numbers()[done];
+        add_targets(found, pairs_from(pairs, source))?;
+        done += 1;
+    }
+    Ok(())
+}
+
+/// The numbers that a path of the pairs, of no step or more, reaches from one of the starts: in order, each once.
+pub fn reach(alloc: Global, starts: &[u32], pairs: &[(u32, u32)]) -> Result<Vec<u32>, FlattenFault>
+    ensures { IfOk result (λ found. IsListing nat_cmp (IsReached starts.now pairs.now) found.items) }
+{
+    let sorted = by_source(alloc, pairs)?;
+    let mut found = found_at(alloc, starts)?;
+    follow(&mut found, &sorted)?;
+    Ok(found.listed())
+}

@@ -1,0 +1,28 @@
+//! Why nothing is made flat.
+ghost use Rattle.std.specs.Prelude.{◌≡◌};
+ghost use Rattle.flatten.specs.declared.fault.FlattenFault.TheVariants.{Memory};
+
+use std::alloc::{AllocError, AllocFailed};
+
+/// Why a dump isn't made flat.
+#[derive(Clone, Copy, Debug, PartialEq, Eq)]
+pub enum FlattenFault {
+    /// Memory was refused.
+    Memory,
+}
+
+impl From<AllocError> for FlattenFault {
+    ghost from_gives = { λ _ e. e ≡ Memory };
+
+    fn from(_e: AllocError) -> FlattenFault {
+        FlattenFault::Memory
+    }
+}
+
+impl<T: Drop> From<AllocFailed<T>> for FlattenFault {
+    ghost from_gives = { λ _ e. e ≡ Memory };
+
+    fn from(_e: AllocFailed<T>) -> FlattenFault {
+        FlattenFault::Memory
+    }
+}
