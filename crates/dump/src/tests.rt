@@ -1,6 +1,10 @@
 //! Dumps that are fed or read, the faults that are answered for good, and what is asked of a checked dump.
-use crate::{CheckedDump, Checker, DumpFault, FeedFault, LineFault, Request, read_dump};
-use lsif::{Code, Counted, Element, Id, Profile, ReadFault, Vertex, read_element};
+use crate::{
+    CheckedDump, Checker, DumpFault, FeedFault, LineFault, Request, Role, chain_law, container_law,
+    ends_law, fault_law, hover_law, line_law, listing_law, nesting_law, own_law, path_law,
+    pick_law, read_dump, role_of, uri_law, vertex_law,
+};
+use lsif::{Code, Counted, Element, Id, Profile, Property, ReadFault, Vertex, read_element};
 use std::alloc::Global;
 use std::test::Fail;
 
@@ -317,5 +321,34 @@ fn documents_of_urls(rt: HostRuntime) -> Result<(), Fail> {
     for profile in PROFILES {
         assert_eq!(rt; documents(rt.alloc(), profile)?, [2, 40, 0]);
     }
+    Ok(())
+}
+
+/// Properties of `item` edges with the role of their targets.
+const ROLES: [(Option<Property>, Option<Role>); 4] = [
+    (None, Some(Role::Definitions)),
+    (Some(Property::Definitions), Some(Role::Definitions)),
+    (Some(Property::References), Some(Role::References)),
+    (Some(Property::ReferenceResults), None),
+];
+
+#[test]
+fn roles_and_laws(rt: HostRuntime) -> Result<(), Fail> {
+    for (property, role) in ROLES {
+        assert_eq!(rt; role_of(property), role);
+    }
+    fault_law();
+    path_law();
+    chain_law();
+    ends_law();
+    line_law();
+    container_law();
+    nesting_law();
+    vertex_law();
+    uri_law();
+    own_law();
+    hover_law();
+    listing_law();
+    pick_law();
     Ok(())
 }

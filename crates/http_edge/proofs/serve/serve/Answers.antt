@@ -26,8 +26,7 @@ serving-init g c = record {
 pub returns-clause-served : goal.returns-clause-served
 returns-clause-served g c =
     let i = c.serving.invariant in
-    let full : length i.messages ≡ c.args.limit = omega (arith, i.count, i.within) in
-    (
+    let full : length i.messages ≡ c.args.limit = omega (arith, i.count, i.within) in (
       i.messages,
       i.answers,
       λ m s.
