@@ -3,6 +3,7 @@ pub mod Changing
 pub mod Covers
 pub mod Elements
 pub mod EntryLists
+pub mod Examples
 pub mod Finding
 pub mod FirstAnswers
 pub mod FirstResults

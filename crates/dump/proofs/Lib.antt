@@ -6,6 +6,7 @@ pub mod Conflicts
 pub mod Documents
 pub mod EachId
 pub mod Ends
+pub mod Examples
 pub mod Fills
 pub mod FirstIndices
 pub mod Graphs

@@ -133,22 +133,28 @@ impl Desk for Counting {
 
     ghost stands = { λ _ _. ⊥ };
 
+    ghost may_leave = { λ _ _. ⊥ };
+
     ghost store_may_refuse = { ⊤ };
 
     fn apply(&mut self, command: &Command<'_>) -> Reply {
-        let Command::PutDump { body, .. } = command;
         self.commands = self.commands.saturating_add(1);
-        self.body = body.len();
+        if let Command::PutDump { body, .. } = command {
+            self.body = body.len();
+        }
         Reply::refused(Code::S01)
     }
 
     fn ask(&mut self, query: &Query) -> Reply {
-        let Query::Definition { at, .. } = query;
         self.queries = self.queries.saturating_add(1);
-        self.line = at.line();
-        self.character = at.character();
+        if let Query::Definition { at, .. } = query {
+            self.line = at.line();
+            self.character = at.character();
+        }
         Reply::refused(Code::D01)
     }
+
+    ghost weaker = { λ _ _ _ leaves. leaves };
 }
 
 /// A reader that gives at most so many bytes at a time, and fails at the read of that number.

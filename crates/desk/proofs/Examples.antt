@@ -1,0 +1,80 @@
+-- The definitions of the machine on small cases.
+use Rattle.std.proofs.Common.{◌≡◌, ℕ, true≢false, List, [], ◌∷◌, refl, sym, ap, arith}
+use Rattle.std.specs.Prelude.{Option, Some, None, bytes_eq, codes, if◌then◌else◌}
+use Rattle.lsif.specs.declared.element.MonikerKind.{MonikerKind}
+use Rattle.lsif.specs.declared.element.MonikerKind.TheVariants.{Import, Export}
+use Rattle.lsif.specs.declared.element.Profile.TheVariants.{One}
+use Rattle.lsif.specs.Element.{IdValue, number, result_set, moniker, moniker_edge, vertex, edge}
+use Rattle.dump.specs.declared.request.Request.TheVariants.{Definition}
+use Rattle.dump.specs.Graph.{element_at}
+use Rattle.dump.specs.Monikers.{MarkValue}
+use Rattle.dump.specs.Progress.{DumpValue}
+use Rattle.dump.specs.Walks.{stays, ends}
+use Rattle.desk.specs.declared.code.Code.TheVariants.{D01}
+use Rattle.desk.specs.Answers.{Answers, no_dump}
+use Rattle.desk.specs.Joins.{IsJoined}
+use Rattle.desk.specs.Judging.{judged}
+use Rattle.desk.specs.Machine.{Accepted, State, nothing, outcome_by, reply_by, after_by, reply_of, reply_to, after}
+use Rattle.desk.specs.Reply.{ReplyValue, refused}
+use Rattle.desk.specs.Requests.{CommandValue, DocumentPositionValue, definition}
+
+-- ---- joins
+
+-- result set 1 has moniker 2 of this kind
+abbrev named : MonikerKind → DumpValue
+named kind = record {
+  profile = One;
+  elements =
+      vertex (number 1) result_set
+      ∷ vertex (number 2) (moniker (record { scheme = codes "npm"; identifier = codes "lib::f"; kind = kind }))
+      ∷ edge (number 3) (moniker_edge (number 1) (number 2))
+      ∷ [];
+}
+
+abbrev mark_of_kind : MonikerKind → MarkValue
+mark_of_kind kind = record { kind = kind; key = record { scheme = codes "npm"; identifier = codes "lib::f"; «package» = None } }
+
+-- one project imports what another exports
+abbrev both : State
+both = record {
+  dump = λ project. if bytes_eq project (codes "app") then Some (named Import) else if bytes_eq project (codes "lib") then Some (named Export) else None;
+  tags = λ project. None;
+  kept = λ project key. None;
+}
+
+-- what exports the key is joined to what imports it
+pub joined_to_the_export : IsJoined both Definition (codes "app") (named Import) (number 1) (codes "lib") (named Export) (number 1)
+unfolding element_at
+joined_to_the_export = record {
+  elsewhere = λ e. true≢false (sym (ap (λ (t : List ℕ). bytes_eq t (codes "app")) e));
+  is_there = refl;
+  mark = mark_of_kind Import;
+  borne = mark_of_kind Export;
+  marks = (number 1 ∷ [], number 1, ends refl, (0, omega arith, refl), (number 2, number 2, (0, omega arith, refl), stays, refl));
+  follows = refl;
+  bears = (number 2, number 2, (0, omega arith, refl), stays, refl);
+  finds = refl;
+  same_key = refl;
+}
+
+-- no vertex is joined within the project itself
+pub none_within_the_project : (m : State) (project : List ℕ) (dump second : DumpValue) (r y : IdValue) → IsJoined m Definition project dump r project second y → ⊥
+none_within_the_project m project dump second r y joined = joined.elsewhere refl
+
+-- ---- commands
+
+-- a command whose key is kept has the kept reply, whatever its body, and changes nothing
+pub kept_key_answers : (m : State) (c : CommandValue) (kept : Accepted) → m.kept c.project c.key ≡ Some kept → (reply_to m c ≡ reply_of kept) × (after m c ≡ m)
+kept_key_answers m c kept e = (ap (λ (o : Option Accepted). reply_of_outcome o) e, ap (λ (o : Option Accepted). after_outcome o) e)
+  where
+    reply_of_outcome : Option Accepted → ReplyValue
+    reply_of_outcome o = reply_by (outcome_by o (judged c.action)) m c
+
+    after_outcome : Option Accepted → State
+    after_outcome o = after_by (outcome_by o (judged c.action)) m c
+
+-- ---- queries
+
+-- no project of an empty database has a dump
+pub nothing_has_no_dump : (target : DocumentPositionValue) → Answers nothing (definition target) (refused D01)
+nothing_has_no_dump target = no_dump refl
