@@ -1,4 +1,4 @@
-pub mod Feeds
+pub mod CutLines
 pub mod Floats
 pub mod ItemLists
 pub mod LinesOf

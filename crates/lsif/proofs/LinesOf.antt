@@ -2,19 +2,10 @@
 use Rattle.std.proofs.Common.{◌≡◌, ◌≢◌, ◌∙◌, ℕ, ◌<◌, ◌==◌, List, [], ◌∷◌, ◌++◌, Bool, true, false, length, refl, ap, sym, inl, inr, append_assoc, arith, if◌then◌else◌}
 use Rattle.std.specs.List.{AllByRecursion, flat_map}
 use Rattle.std.proofs.lemmas.Bool.Decides.{nat_tests}
-use Rattle.std.proofs.lemmas.List.Elements.{All-head, All-tail}
 use Rattle.lsif.specs.Lines.{line_feed, lines_of, onto_first, IsLine, ended, Cuts}
-use Rattle.lsif.specs.Steps.Cutting.{HasNoFeed}
-
-abbrev is_other : ℕ → Type 0
-is_other b = b ≢ line_feed
 
 not_feed : (b : ℕ) → b ≢ line_feed → (b == line_feed) ≡ false
 not_feed b h = grind (arith, nat_tests, h)
-
-pub is_line : (bytes : List ℕ) → HasNoFeed bytes → IsLine bytes
-is_line [] h = tt
-is_line (b ∷ bytes) h = (All-head is_other b bytes h, is_line bytes (All-tail is_other b bytes h))
 
 -- a line with its line feed is the first line
 pub lines_of-feed : (line rest : List ℕ) → IsLine line → lines_of (line ++ line_feed ∷ rest) ≡ line ∷ lines_of rest

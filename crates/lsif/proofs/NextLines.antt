@@ -1,10 +1,10 @@
 -- What was taken of the bytes, in the words of the lines of a text.
 use Rattle.std.proofs.Common.{◌≡◌, ◌∙◌, ℕ, ◌<◌, List, [], ◌∷◌, ◌++◌, Option, Some, None, Result, Ok, Err, Bool, true, false, length, refl, ap, sym, inr, arith, length-append}
-use Rattle.lsif.specs.Lines.{Reader, lines_of, IsLine, BeginsWith, GivesLine, HasLongLine, NextLine}
-use Rattle.lsif.specs.Steps.Cutting.{HasNoFeed, TakesKnown, BeginsLong, NextTaken}
+use Rattle.lsif.specs.Lines.{Reader, lines_of, IsLine, BeginsWith, GivesLine, GivesNone, HasLongLine, NextLine}
+use Rattle.lsif.specs.Steps.Cutting.{CutsKnown, TakesKnown, BeginsLong, NextTaken}
 use Rattle.lsif.specs.declared.lines.LinesFault.{LinesFault}
 use Rattle.lsif.specs.declared.lines.LinesFault.TheVariants.{Memory, TooLong, Read}
-use Rattle.lsif.proofs.LinesOf.{is_line, lines_of-feed, lines_of-last, lines_of-front}
+use Rattle.lsif.proofs.LinesOf.{lines_of-feed, lines_of-last, lines_of-front}
 
 no_lines : lines_of [] ≡ []
 unfolding lines_of
@@ -19,14 +19,17 @@ lines_of-begins text line false rest h b =
 gives_line : (old : Option (List ℕ)) (line : List ℕ) (has_feed : Bool) (new : Option (List ℕ)) → TakesKnown old line has_feed new → GivesLine old line has_feed new
 gives_line None line has_feed new t = tt
 gives_line (Some text) line has_feed new t =
-    let h = is_line line t.2 in
-    (t.0, t.1, lines_of-begins text line has_feed t.0 h t.3, h, t.3)
+    (t.0, t.1, lines_of-begins text line has_feed t.0 t.2 t.3, t.2, t.3)
 
-long_line : (longest : ℕ) (text front rest : List ℕ) → text ≡ front ++ rest → HasNoFeed front → longest < length front
+pub gives_none : (old : Option (List ℕ)) (line : List ℕ) (new : Option (List ℕ)) → CutsKnown old line None new → GivesNone old new
+gives_none None line new c = tt
+gives_none (Some text) line new c = (ap lines_of c.0 ∙ no_lines, c.1)
+
+long_line : (longest : ℕ) (text front rest : List ℕ) → text ≡ front ++ rest → IsLine front → longest < length front
     → HasLongLine longest (Some text)
 long_line longest text [] rest e none long = absurd (omega arith)
 long_line longest text (b ∷ front) rest e none long =
-    let first = lines_of-front b front rest (is_line (b ∷ front) none) in
+    let first = lines_of-front b front rest none in
     ((b ∷ front) ++ first.0, first.1, ap lines_of e ∙ first.2, simp length-append (omega arith))
 
 has_long_line : (longest : ℕ) (left : Option (List ℕ)) → BeginsLong longest left → HasLongLine longest left

@@ -1,5 +1,5 @@
 -- Ranges of a buffer.
-use Rattle.std.proofs.Common.{◌≡◌, ℕ, ◌+◌, ◌-◌, ◌<◌, ◌≤◌, List, ◌++◌, length, take, drop, arith, refl, sym, ◌∙◌, ap, append_assoc, Option, Some, None, length-drop}
+use Rattle.std.proofs.Common.{◌≡◌, ℕ, ◌+◌, ◌-◌, ◌<◌, ◌≤◌, List, ◌++◌, length, take, drop, arith, refl, sym, append_assoc, Option, Some, None, length-drop}
 use Rattle.std.specs.List.{slice_range}
 use Rattle.std.proofs.lemmas.List.{drop-take, drop-drop, length-take}
 use Rattle.std.proofs.lemmas.Slice.{between_is}
@@ -42,14 +42,3 @@ filled pending bytes start end n left left' ordered room within is pulled =
     let grows : slice_range bytes start (end + n) ≡ pending ++ more = rw (range_more bytes start end n ordered, is) refl in
     let ends : n ≡ 0 → AtEnd left' = λ none. pulled.1 none (simp length-drop (omega arith)) in
     (more, grind (arith, common_steps), grows, same_told pending _ more left left' grows pulled.0, pulled.0, ends)
-
-pub same_told_refl : (pending : List ℕ) (left : Option (List ℕ)) → SameUnread pending left pending left
-same_told_refl pending None = tt
-same_told_refl pending (Some xs) = (xs, refl, refl)
-
-pub same_told_trans : (p q r : List ℕ) (a b c : Option (List ℕ)) → SameUnread p a q b → SameUnread q b r c → SameUnread p a r c
-same_told_trans p q r None b c f g = tt
-same_told_trans p q r (Some xs) None c f g = cc (f.1)
-same_told_trans p q r (Some xs) (Some ys) c f g =
-    let same : f.0 ≡ ys = cc (f.1) in
-    (g.0, g.1, f.2 ∙ ap (λ l. q ++ l) same ∙ g.2)

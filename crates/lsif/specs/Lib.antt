@@ -7,6 +7,7 @@ pub mod Hovers
 pub mod Ids
 pub mod Lines
 pub mod Monikers
+pub mod Pieces
 pub mod Reading
 pub mod Sending
 pub mod Shape

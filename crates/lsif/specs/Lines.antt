@@ -45,18 +45,18 @@ pub record Reader : Type 0 where
   pub line : List ℕ
   pub has_feed : Bool
 
--- what cuts lines: the buffered bytes that weren't handed out, and the rest of a `Reader` but for its failures
-pub record Cutter : Type 0 where
+-- a line buffer: the bytes that were read and not handed out, and the rest of a `Reader` but for its failures
+pub record LineBufferValue : Type 0 where
   pub pending : List ℕ
   pub longest : ℕ
   pub fault : Option LinesFault
   pub line : List ℕ
   pub has_feed : Bool
 
--- what cuts lines, over a reader with this left and so many failures
-abbrev pub over : Cutter → Option (List ℕ) → ℕ → Reader
-over cutter left failures =
-    record { left = unread cutter.pending left; longest = cutter.longest; failures = failures; fault = cutter.fault; line = cutter.line; has_feed = cutter.has_feed }
+-- a line buffer over a reader with this left and so many failures
+abbrev pub over : LineBufferValue → Option (List ℕ) → ℕ → Reader
+over lines left failures =
+    record { left = unread lines.pending left; longest = lines.longest; failures = failures; fault = lines.fault; line = lines.line; has_feed = lines.has_feed }
 
 -- the text is the line, its line feed and the rest; without a line feed it is the line alone, which isn't empty
 abbrev pub BeginsWith : List ℕ → List ℕ → Bool → List ℕ → Type 0

@@ -1,5 +1,5 @@
 //! Buffered bytes.
-ghost use Rattle.std.specs.Prelude.{◌≡◌, ℕ, ◌+◌, ◌-◌, ◌^◌, ◌<◌, ◌≤◌, List, [], ◌++◌, drop, take, Option, Some, IfOk, length, vec_len, slice_range, ◌==◌};
+ghost use Rattle.std.specs.Prelude.{◌≡◌, ℕ, ◌+◌, ◌-◌, ◌^◌, ◌<◌, ◌≤◌, List, [], ◌++◌, drop, take, Option, Some, IfOk, length, vec_len, slice_range};
 ghost use Rattle.lsif.specs.Streams.{CountsFailure, Pulls};
 ghost use Rattle.lsif.specs.Buffered.{Fills};
 
@@ -45,13 +45,6 @@ impl Buffer {
         ensures fits { length result.now ≤ self.now.capacity }
     {
         &self.bytes[self.start..self.end]
-    }
-
-    /// Whether there is no room for one more byte.
-    pub fn is_full(&self) -> bool
-        ensures { result ≡ (length self.now.pending == self.now.capacity) }
-    {
-        self.end - self.start == self.bytes.len()
     }
 
     /// Lets the first bytes go.

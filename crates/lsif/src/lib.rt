@@ -4,6 +4,7 @@
 
 mod buffer;
 mod code;
+mod cutter;
 mod edges;
 mod element;
 mod events;
@@ -19,6 +20,7 @@ mod vertices;
 
 pub use buffer::Buffer;
 pub use code::Code;
+pub use cutter::Cutter;
 pub use element::{
     Edge, Element, Event, Item, Moniker, MonikerKind, Package, Profile, Property, Vertex,
 };

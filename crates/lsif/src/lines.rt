@@ -1,14 +1,16 @@
 //! Lines of a reader.
 ghost use Rattle.std.specs.Prelude.{◌≡◌, ◌≢◌, ℕ, ◌+◌, ◌-◌, ◌^◌, ◌<◌, ◌≤◌, List, [], ◌∷◌, ◌++◌, drop, take, Option, Some, None, IfOk, IfErr, MatchOption, MatchResult, length, false};
-ghost use Rattle.lsif.specs.Steps.Cutting.{HasNoFeed, IsFirstFeed, Scans, CountsRead, KeepsUnread, NextTaken};
-ghost use Rattle.lsif.specs.Streams.{AtEnd};
-ghost use Rattle.lsif.specs.Buffered.{SameUnread, unread};
+ghost use Rattle.lsif.specs.Pieces.{begun};
+ghost use Rattle.lsif.specs.Steps.Cutting.{CountsRead, CutsLine, NextTaken};
+ghost use Rattle.lsif.specs.declared.cutter.LineState.TheVariants as LineState;
+ghost use Rattle.lsif.specs.Buffered.{unread};
 ghost use Rattle.lsif.specs.Lines.{Cuts, NextLine, lent, lines_of, over, shown};
 ghost use Rattle.lsif.specs.contracts.lines.Lines.{the_row as lines_row};
 ghost use Rattle.std.specs.Io.BufRead.{Rests};
 ghost use types.Logic.{sem};
 
 use crate::buffer::Buffer;
+use crate::cutter::Cutter;
 use crate::streams::Source;
 use std::alloc::{AllocError, Global};
 use std::marker::Model;
@@ -45,23 +47,23 @@ pub fn lines_law()
 #[derive(Drop)]
 pub struct LineBuffer {
     buffer: Buffer,
-    /// How many of the buffered bytes were handed out, the last line and its line feed.
-    given: usize,
-    /// The length of that line.
-    line_len: usize,
-    longest: usize,
+    cutter: Cutter,
+    /// Whether a line feed ended the line that came last.
+    has_feed: bool,
     fault: Option<LinesFault>,
 }
 
 impl Model for LineBuffer {
-    ghost use Rattle.std.specs.Prelude.{◌≡◌, ◌≤◌, ◌+◌, length, drop, nat_lt, take};
-    ghost use Rattle.lsif.specs.Lines.{Cutter, IsLater};
+    ghost use Rattle.std.specs.Prelude.{◌≡◌, ◌≢◌, ◌++◌, ◌<◌, None};
+    ghost use Rattle.lsif.specs.Lines.{LineBufferValue, IsLater};
+    ghost use Rattle.lsif.specs.Pieces.{begun, last_line};
+    ghost use Rattle.lsif.specs.declared.cutter.LineState.TheVariants.{TooLong};
 
-    ghost Value = { Cutter };
+    ghost Value = { LineBufferValue };
 
-    ghost view = { λ l. record { pending = drop l.given l.buffer.pending; longest = l.longest; fault = l.fault; line = take l.line_len l.buffer.pending; has_feed = nat_lt l.line_len l.given } };
+    ghost view = { λ l. record { pending = begun l.cutter ++ l.buffer.pending; longest = l.cutter.longest; fault = l.fault; line = last_line l.cutter; has_feed = l.has_feed } };
 
-    ghost invariant = { λ l. (l.given ≤ length l.buffer.pending) × (l.line_len ≤ l.given) × (l.buffer.capacity ≡ l.longest + 1) × IsLater l.fault };
+    ghost invariant = { λ l. (0 < l.buffer.capacity) × IsLater l.fault × (l.fault ≡ None → l.cutter.state ≢ TooLong) };
 }
 
 /// The lines of a reader, each of at most so many bytes.
@@ -79,57 +81,32 @@ impl<S: Source> Model for Lines<S> {
     ghost view = { λ l. over l.lines (S.left l.source) (S.failed l.source) };
 }
 
-/// The place of the first line feed.
-fn find_feed(bytes: &[u8]) -> Option<usize>
-    ensures { MatchOption result (HasNoFeed bytes.now) (IsFirstFeed bytes.now) }
-{
-    for (k, byte) in bytes.iter().enumerate() {
-        if *byte == b'\n' {
-            return Some(k);
-        }
-    }
-    None
-}
+/// How many bytes are read at a time.
+const BUFFER_LEN: usize = 65536;
 
-/// The place of the first line feed, where none is among the first `from` bytes.
-fn find_feed_from(bytes: &[u8], from: usize) -> Option<usize>
-    requires within { from ≤ length bytes.now }
-    requires searched { HasNoFeed (take from bytes.now) }
-    ensures { MatchOption result (HasNoFeed bytes.now) (IsFirstFeed bytes.now) }
-{
-    match find_feed(&bytes[from..]) {
-        None => None,
-        Some(k) => Some(from + k),
-    }
-}
-
-/// The length of a last line with no line feed. An empty one is none.
-fn last_line(len: usize) -> Option<usize>
-    ensures { MatchOption result (len ≡ 0) (λ k. (k ≡ len) × (0 < len)) }
-{
-    if len == 0 { None } else { Some(len) }
-}
-
-/// Looks for a line among the buffered bytes, and reads more until there is one. It looks at each byte once.
-fn scan<S: Source>(source: &mut S, buffer: &mut Buffer) -> Result<Option<usize>, LinesFault>
-    requires { S.failed source.old < 2 ^ 64 - 1 }
-    ensures found { Scans buffer.old.capacity buffer.new.pending (S.left source.new) result }
-    ensures unread { KeepsUnread result (SameUnread buffer.old.pending (S.left source.old) buffer.new.pending (S.left source.new)) }
+/// Cuts the next line from the buffered bytes, and reads more until it has ended. Answers whether a line feed ended it; none
+/// where there is no line.
+fn cut_line<S: Source>(
+    source: &mut S,
+    buffer: &mut Buffer,
+    cutter: &mut Cutter,
+) -> Result<Option<bool>, LinesFault>
+    requires count { S.failed source.old < 2 ^ 64 - 1 }
+    requires room { 0 < buffer.old.capacity }
+    requires begun { cutter.old.state ≢ LineState.TooLong }
+    ensures cut { CutsLine (unread (begun cutter.old ++ buffer.old.pending) (S.left source.old)) cutter.new result (unread (begun cutter.new ++ buffer.new.pending) (S.left source.new)) }
     ensures counted { CountsRead (S.failed source.old) (S.failed source.new) result }
     ensures capacity { buffer.new.capacity ≡ buffer.old.capacity }
+    ensures longest { cutter.new.longest ≡ cutter.old.longest }
 {
-    let mut searched = 0;
     'filling: loop {
-        let pending = buffer.pending();
-        if let Some(k) = find_feed_from(pending, searched) {
-            return Ok(Some(k));
-        }
-        searched = pending.len();
-        if buffer.is_full() {
-            return Err(LinesFault::TooLong);
+        let taken = cutter.take(buffer.pending())?;
+        buffer.advance(taken);
+        if cutter.line().is_some() {
+            return Ok(Some(true));
         }
         match buffer.fill(source) {
-            Ok(0) => return Ok(last_line(searched)),
+            Ok(0) => return Ok(if cutter.end() { Some(false) } else { None }),
             Ok(_) => {}
             Err(_) => return Err(LinesFault::Read),
         }
@@ -141,36 +118,26 @@ impl LineBuffer {
     pub fn new(alloc: Global, longest: usize) -> Result<LineBuffer, LinesFault>
         ensures { MatchResult result (λ l. l ≡ record { pending = []; longest = longest; fault = None; line = []; has_feed = false }) (λ fault. fault ≡ LinesFault.Memory) }
     {
-        let capacity = longest.checked_add(1).ok_or(LinesFault::Memory)?;
-        let buffer = Buffer::new(alloc, capacity)?;
+        let cutter = Cutter::new(alloc, longest)?;
+        let buffer = Buffer::new(alloc, BUFFER_LEN)?;
         Ok(LineBuffer {
             buffer,
-            given: 0,
-            line_len: 0,
-            longest,
+            cutter,
+            has_feed: false,
             fault: None,
         })
     }
 
     /// Takes the next line, where there was no fault before.
-    #[tactic(auto, unfolding(crate::specs::Lines::lines_of))]
     fn take_next<S: Source>(&mut self, source: &mut S) -> Result<bool, LinesFault>
         requires failures { S.failed source.old < 2 ^ 64 - 1 }
         requires sound { self.old.fault ≡ None }
         ensures { NextTaken (over self.old (S.left source.old) (S.failed source.old)) (shown result self.new.line) (over self.new (S.left source.new) (S.failed source.new)) }
     {
-        self.buffer.advance(self.given);
-        self.given = 0;
-        self.line_len = 0;
-        match scan(source, &mut self.buffer) {
+        match cut_line(source, &mut self.buffer, &mut self.cutter) {
             Ok(None) => Ok(false),
-            Ok(Some(len)) => {
-                self.line_len = len;
-                self.given = if len < self.buffer.pending().len() {
-                    len + 1
-                } else {
-                    len
-                };
+            Ok(Some(has_feed)) => {
+                self.has_feed = has_feed;
                 Ok(true)
             }
             Err(fault) => {
@@ -196,14 +163,14 @@ impl LineBuffer {
     pub fn line(&self) -> &[u8]
         ensures { result.now ≡ self.now.line }
     {
-        &self.buffer.pending()[..self.line_len]
+        self.cutter.line().unwrap_or(&[])
     }
 
     /// Whether a line feed ended the line that came last. Only a line that the reader's end ended has none.
     pub fn has_feed(&self) -> bool
         ensures { result ≡ self.now.has_feed }
     {
-        self.line_len < self.given
+        self.has_feed
     }
 }
 

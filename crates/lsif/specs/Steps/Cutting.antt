@@ -1,32 +1,45 @@
--- How the next line is found among the buffered bytes.
-use Rattle.std.specs.Prelude.{◌≡◌, ◌≢◌, ℕ, ◌+◌, ◌<◌, ◌≤◌, ◌⊎◌, List, [], ◌∷◌, ◌++◌, length, take, drop, Option, Some, None, Result, Ok, Err, ⊤, All, Bool}
-use Rattle.lsif.specs.Streams.{AtEnd}
-use Rattle.lsif.specs.Lines.{Reader, line_feed, BeginsWith, GivesNone}
+-- How the next line is cut from the buffered bytes.
+use Rattle.std.specs.Prelude.{◌≡◌, ◌≢◌, ℕ, ◌+◌, ◌<◌, ◌≤◌, List, [], ◌∷◌, ◌++◌, length, take, drop, Option, Some, None, Result, Ok, Err, ⊤, Bool, true, false}
+use Rattle.lsif.specs.Lines.{Reader, IsLine, line_feed, BeginsWith, GivesNone}
+use Rattle.lsif.specs.Pieces.{CutterValue, begun}
+use Rattle.lsif.specs.declared.cutter.LineState.TheVariants as LineState
+use Rattle.lsif.specs.declared.cutter.LineState.TheVariants.{Ended}
 use Rattle.lsif.specs.declared.lines.LinesFault.{LinesFault}
 use Rattle.lsif.specs.declared.lines.LinesFault.TheVariants.{Memory, TooLong, Read}
 
--- no byte is a line feed
-abbrev pub HasNoFeed : List ℕ → Type 0
-HasNoFeed bytes = All (λ b. b ≢ line_feed) bytes
-
 -- the first line feed is there
 abbrev pub IsFirstFeed : List ℕ → ℕ → Type 0
-IsFirstFeed bytes k = (k < length bytes) × HasNoFeed (take k bytes) × (bytes ≡ take k bytes ++ line_feed ∷ drop (k + 1) bytes)
+IsFirstFeed bytes k = (k < length bytes) × IsLine (take k bytes) × (bytes ≡ take k bytes ++ line_feed ∷ drop (k + 1) bytes)
 
--- a line of that length is buffered, with its line feed or with the end after it
-abbrev pub IsLineIn : List ℕ → ℕ → Option (List ℕ) → Type 0
-IsLineIn pending k left =
-    (k ≤ length pending) × HasNoFeed (take k pending)
-    × (((k < length pending) × (pending ≡ take k pending ++ line_feed ∷ drop (k + 1) pending))
-    ⊎ ((0 < k) × (k ≡ length pending) × AtEnd left))
+-- the bytes before the first line feed, or all where there is none
+abbrev pub IsFirstPart : List ℕ → List ℕ → Bool → Type 0
+IsFirstPart bytes part true = IsLine part × ((rest : List ℕ) × (bytes ≡ part ++ line_feed ∷ rest))
+IsFirstPart bytes part false = IsLine part × (part ≡ bytes)
 
--- what a search for a line finds among the buffered bytes
-abbrev pub Scans : ℕ → List ℕ → Option (List ℕ) → Result (Option ℕ) LinesFault → Type 0
-Scans capacity pending left (Ok (Some k)) = (k < capacity) × IsLineIn pending k left
-Scans capacity pending left (Ok None) = (pending ≡ []) × AtEnd left
-Scans capacity pending left (Err Memory) = ⊥
-Scans capacity pending left (Err TooLong) = HasNoFeed pending × (length pending ≡ capacity)
-Scans capacity pending left (Err Read) = ⊤
+-- known bytes begin with more bytes than that with no line feed
+abbrev pub BeginsLong : ℕ → Option (List ℕ) → Type 0
+BeginsLong longest None = ⊤
+BeginsLong longest (Some text) = (front : List ℕ) × (rest : List ℕ) × (text ≡ front ++ rest) × IsLine front × (longest < length front)
+
+-- a last line without line feed is ended, where there is one
+abbrev pub EndsLast : CutterValue → Bool → CutterValue → Type 0
+EndsLast old true new = (0 < length (begun old)) × (new ≡ record { longest = old.longest; line = begun old; state = Ended })
+EndsLast old false new = (begun old ≡ []) × (new ≡ old)
+
+-- this is the first line of known bytes, and a line feed ended it, or the end did; or there is none; and what is left after it
+abbrev pub CutsKnown : Option (List ℕ) → List ℕ → Option Bool → Option (List ℕ) → Type 0
+CutsKnown None line next new = ⊤
+CutsKnown (Some text) line (Some has_feed) new = (rest : List ℕ) × (new ≡ Some rest) × BeginsWith text line has_feed rest
+CutsKnown (Some text) line None new = (text ≡ []) × (new ≡ Some [])
+
+-- what a cutter makes of the bytes that weren't handed out
+abbrev pub CutsLine : Option (List ℕ) → CutterValue → Result (Option Bool) LinesFault → Option (List ℕ) → Type 0
+CutsLine old cutter (Ok (Some has_feed)) new =
+    (cutter.state ≡ Ended) × IsLine cutter.line × (length cutter.line ≤ cutter.longest) × CutsKnown old cutter.line (Some has_feed) new
+CutsLine old cutter (Ok None) new = (cutter.state ≢ LineState.TooLong) × CutsKnown old cutter.line None new
+CutsLine old cutter (Err TooLong) new = BeginsLong cutter.longest old
+CutsLine old cutter (Err Memory) new = ⊥
+CutsLine old cutter (Err Read) new = ⊤
 
 -- a search that failed to read counted one failure, and any other none
 abbrev pub CountsRead : {A : Type 0} → ℕ → ℕ → Result A LinesFault → Type 0
@@ -35,22 +48,10 @@ CountsRead old new (Err Memory) = ⊥
 CountsRead old new (Err TooLong) = new ≡ old
 CountsRead old new (Err Read) = new ≡ old + 1
 
--- unless reading failed, what is known stays
-abbrev pub KeepsUnread : {A : Type 0} → Result A LinesFault → Type 0 → Type 0
-KeepsUnread (Err Read) P = ⊤
-KeepsUnread (Err TooLong) P = P
-KeepsUnread (Err Memory) P = P
-KeepsUnread (Ok a) P = P
-
 -- the first line of known bytes
 abbrev pub TakesKnown : Option (List ℕ) → List ℕ → Bool → Option (List ℕ) → Type 0
 TakesKnown None line has_feed new = ⊤
-TakesKnown (Some text) line has_feed new = (rest : List ℕ) × (new ≡ Some rest) × HasNoFeed line × BeginsWith text line has_feed rest
-
--- known bytes begin with more bytes than that with no line feed
-abbrev pub BeginsLong : ℕ → Option (List ℕ) → Type 0
-BeginsLong longest None = ⊤
-BeginsLong longest (Some text) = (front : List ℕ) × (rest : List ℕ) × (text ≡ front ++ rest) × HasNoFeed front × (longest < length front)
+TakesKnown (Some text) line has_feed new = (rest : List ℕ) × (new ≡ Some rest) × IsLine line × BeginsWith text line has_feed rest
 
 -- when a fault comes, by the bytes
 abbrev pub FaultsBy : Reader → LinesFault → Reader → Type 0
