@@ -2,7 +2,7 @@
 use Rattle.std.proofs.Common.{◌≡◌, ◌∙◌, ℕ, ◌+◌, ◌<◌, Bool, true, false, List, [], ◌∷◌, length, fold, map, Option, Some, None, Result, Ok, Err, refl, sym, ap, subst, arith, if◌then◌else◌}
 use Rattle.std.specs.Prelude.{IfOk}
 use Rattle.std.proofs.lemmas.Bool.{leb-false}
-use Rattle.lsif.specs.Lines.{Cutter}
+use Rattle.lsif.specs.Lines.{LineBufferValue}
 use Rattle.tags.specs.States.{Summary, State, running, stopped, add, advance, counted, next, order_in, state_after, summary_of, Finishes, IsRunning}
 use Rattle.tags.specs.Fault.{Reading, contents, is_descending, is_late, is_past_limit, most_lines, tags_of, IsFaultless, IsFirstFault}
 use Rattle.tags.specs.Lines.{AreReadings, IsHanded, IsReading, Line, lines_of}
@@ -34,7 +34,7 @@ begins_so : (left left' : Option (List ℕ)) (line : Reading) → ReadsFirst lef
 begins_so None left' line h = tt
 begins_so (Some text) left' line h = (readings_of h.0, h.2)
 
-pub fed_line : (result : Result Step CheckFault) (left left' : Option (List ℕ)) (line : Reading) (old new : State ℕ) (lines : Cutter)
+pub fed_line : (result : Result Step CheckFault) (left left' : Option (List ℕ)) (line : Reading) (old new : State ℕ) (lines : LineBufferValue)
     → ReadsFirst left line left' → IsReady lines → Feeds result new (next counted old line)
     → IfOk result (λ step. Takes left old step new lines left')
 fed_line (Ok steps.Good) left left' line old new lines h ready f =
@@ -48,7 +48,7 @@ never_good : (old : State ℕ) (c : Code) → IsRunning (next counted old (Err c
 never_good (running s) c h = h
 never_good (stopped n b) c h = h
 
-pub fed_code : (result : Result Step CheckFault) (left left' : Option (List ℕ)) (c : Code) (old new : State ℕ) (lines : Cutter)
+pub fed_code : (result : Result Step CheckFault) (left left' : Option (List ℕ)) (c : Code) (old new : State ℕ) (lines : LineBufferValue)
     → BeginsSo left (Err c) → Feeds result new (next counted old (Err c))
     → IfOk result (λ step. Takes left old step new lines left')
 fed_code (Ok steps.Good) left left' c old new lines h f = absurd (never_good old c f.1)

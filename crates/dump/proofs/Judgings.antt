@@ -3,7 +3,7 @@ use Rattle.std.proofs.Common.{◌≡◌, ◌∙◌, ◌++◌, ◌∷◌, [], ◌
 use Rattle.std.proofs.lemmas.List.Sums.{fold-append}
 use Rattle.std.proofs.lemmas.Bool.{lt-ltb}
 use Rattle.lsif.specs.Element.{ElementValue, Reading, element_value, reading_value}
-use Rattle.lsif.specs.Lines.{GivesLine, HasLongLine, Cutter}
+use Rattle.lsif.specs.Lines.{GivesLine, HasLongLine, LineBufferValue}
 use Rattle.lsif.specs.Reading.{reading, reading_by, longest_line}
 use Rattle.lsif.specs.declared.element.Profile.{Profile}
 use Rattle.lsif.specs.declared.element.Element.{Element}
@@ -136,7 +136,7 @@ runs_not : (old : Progress) (c : Code) → IsRunning (next old (Err c)) → ⊥
 runs_not (running elements) c h = h
 runs_not (stopped f) c h = h
 
-pub goes_ready : (reading : Result Element Code) (lines : Cutter) (old : Progress) → GoesOn (Some reading) lines → IsRunning (next old (reading_value reading)) → IsReady lines
+pub goes_ready : (reading : Result Element Code) (lines : LineBufferValue) (old : Progress) → GoesOn (Some reading) lines → IsRunning (next old (reading_value reading)) → IsReady lines
 goes_ready (Ok e) lines old g h = g
 goes_ready (Err c) lines old g h = absurd (runs_not old c h)
 

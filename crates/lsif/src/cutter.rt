@@ -145,3 +145,6 @@ impl Cutter {
         true
     }
 }
+
+#[cfg(test)]
+mod tests;

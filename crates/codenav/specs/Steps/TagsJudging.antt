@@ -1,6 +1,6 @@
 -- What the parts of a check of a tags file answer.
 use Rattle.std.specs.Prelude.{◌≡◌, ℕ, ◌+◌, ◌-◌, List, [], ◌∷◌, fold, Option, Some, None, Result, Ok, Err, ⊤}
-use Rattle.lsif.specs.Lines.{Cutter}
+use Rattle.lsif.specs.Lines.{LineBufferValue}
 use Rattle.tags.specs.States.{Summary, State, running, stopped, counted, next, state_after, IsRunning}
 use Rattle.tags.specs.Fault.{Reading, most_lines}
 use Rattle.tags.specs.Lines.{longest_line}
@@ -39,11 +39,11 @@ ReadsNone None = ⊤
 ReadsNone (Some text) = readings_of text ≡ []
 
 -- lines of the longest length that a tags file may have, before any fault
-abbrev pub IsReady : Cutter → Type 0
+abbrev pub IsReady : LineBufferValue → Type 0
 IsReady lines = (lines.fault ≡ None) × (lines.longest ≡ longest_line)
 
 -- what a step says of the bytes and the states before it and after it
-abbrev pub Takes : Option (List ℕ) → State ℕ → Step → State ℕ → Cutter → Option (List ℕ) → Type 0
+abbrev pub Takes : Option (List ℕ) → State ℕ → Step → State ℕ → LineBufferValue → Option (List ℕ) → Type 0
 Takes left old steps.Good new lines left' =
     (line : Reading) × ReadsFirst left line left' × (new ≡ next counted old line) × IsRunning new × IsReady lines
 Takes left old (steps.Faulty f) new lines left' =

@@ -2,7 +2,7 @@
 use Rattle.std.specs.Prelude.{ℕ, ◌+◌, ◌-◌, List, [], ◌∷◌, ◌++◌, length, Option, Some, None, Result, Ok, Err, ⊤, ◌≡◌, true}
 use Rattle.lsif.specs.Element.{Reading}
 use Rattle.lsif.specs.Code.{is_shape_code}
-use Rattle.lsif.specs.Lines.{Cutter}
+use Rattle.lsif.specs.Lines.{LineBufferValue}
 use Rattle.lsif.specs.Reading.{longest_line}
 use Rattle.lsif.specs.declared.code.Code.{Code}
 use Rattle.lsif.specs.declared.element.Element.{Element}
@@ -43,11 +43,11 @@ room_of (running elements) = most_elements + 1 - length elements
 room_of (stopped f) = 0
 
 -- a checker over lines of the longest length that a dump may have goes on after an element
-abbrev pub IsReady : Cutter → Type 0
+abbrev pub IsReady : LineBufferValue → Type 0
 IsReady lines = (lines.fault ≡ None) × (lines.longest ≡ longest_line)
 
 -- after an element the lines go on; a fault is one of a line's shape
-abbrev pub GoesOn : Option (Result Element Code) → Cutter → Type 0
+abbrev pub GoesOn : Option (Result Element Code) → LineBufferValue → Type 0
 GoesOn None lines = ⊤
 GoesOn (Some (Ok e)) lines = IsReady lines
 GoesOn (Some (Err c)) lines = is_shape_code c ≡ true
