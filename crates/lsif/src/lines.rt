@@ -1,5 +1,5 @@
 //! Lines of a reader.
-ghost use Rattle.std.specs.Prelude.{◌≡◌, ◌≢◌, ℕ, ◌+◌, ◌-◌, ◌^◌, ◌<◌, ◌≤◌, List, [], ◌∷◌, ◌++◌, drop, take, Option, Some, None, IfOk, IfErr, MatchOption, MatchResult, length, false};
+ghost use Rattle.std.specs.Prelude.{◌≡◌, ◌≢◌, ℕ, ◌-◌, ◌^◌, ◌<◌, List, [], ◌++◌, None, MatchResult, false};
 ghost use Rattle.lsif.specs.Pieces.{begun};
 ghost use Rattle.lsif.specs.Steps.Cutting.{CountsRead, CutsLine, NextTaken};
 ghost use Rattle.lsif.specs.declared.cutter.LineState.TheVariants as LineState;
