@@ -1,10 +1,12 @@
 -- The definitions of the machine on small cases.
-use Rattle.std.proofs.Common.{◌≡◌, ℕ, true≢false, List, [], ◌∷◌, refl, sym, ap, arith}
+use Rattle.std.proofs.Common.{suc, zero, ◌≡◌, ◌∙◌, ℕ, false, true≢false, List, [], ◌∷◌, ◌++◌, refl, sym, ap, inl, inr, arith, slice_get}
+use Rattle.std.specs.List.{flat_map}
 use Rattle.std.specs.Prelude.{Option, Some, None, bytes_eq, codes, if◌then◌else◌}
 use Rattle.lsif.specs.declared.element.MonikerKind.{MonikerKind}
 use Rattle.lsif.specs.declared.element.MonikerKind.TheVariants.{Import, Export}
 use Rattle.lsif.specs.declared.element.Profile.TheVariants.{One}
-use Rattle.lsif.specs.Element.{IdValue, number, result_set, moniker, moniker_edge, vertex, edge}
+use Rattle.lsif.specs.Lines.{ended}
+use Rattle.lsif.specs.Element.{IdValue, Reading, number, result_set, moniker, moniker_edge, vertex, edge}
 use Rattle.dump.specs.declared.request.Request.TheVariants.{Definition}
 use Rattle.dump.specs.Graph.{element_at}
 use Rattle.dump.specs.Monikers.{MarkValue}
@@ -17,6 +19,7 @@ use Rattle.desk.specs.Judging.{judged}
 use Rattle.desk.specs.Machine.{Accepted, State, nothing, outcome_by, reply_by, after_by, reply_of, reply_to, after}
 use Rattle.desk.specs.Reply.{ReplyValue, refused}
 use Rattle.desk.specs.Requests.{CommandValue, DocumentPositionValue, definition}
+use Rattle.desk.specs.Uploads.{BodyValue, StandsFor, no_dump_line}
 
 -- ---- joins
 
@@ -78,3 +81,27 @@ kept_key_answers m c kept e = (ap (λ (o : Option Accepted). reply_of_outcome o)
 -- no project of an empty database has a dump
 pub nothing_has_no_dump : (target : DocumentPositionValue) → Answers nothing (definition target) (refused D01)
 nothing_has_no_dump target = no_dump refl
+
+-- ---- uploads
+
+-- a dump of which one byte came, `{`
+abbrev brace_came : BodyValue
+brace_came = record { lines = no_dump_line One; last = codes "{"; is_out_of_memory = false }
+
+no_reading : (k : ℕ) (line : Reading) → slice_get [] k ≡ Some line → ⊥
+no_reading zero line e = cc
+no_reading (suc k) line e = no_reading k line e
+
+-- it stands for the body of that byte
+pub stands_for_the_brace : StandsFor brace_came (codes "{")
+stands_for_the_brace = inr ([], codes "{", (tt, (λ e. absurd (omega (arith, e)), tt), refl), (refl, λ k c has. no_reading k has.0 has.1, refl))
+
+brace_is_there : (front : List ℕ) → [] ≡ front ++ codes "{" → ⊥
+brace_is_there [] e = cc
+brace_is_there (b ∷ front) e = cc
+
+-- and not for the empty body
+pub not_for_the_empty_body : StandsFor brace_came [] → ⊥
+not_for_the_empty_body (inl refused) = cc
+not_for_the_empty_body (inr (lines, last, cut, holds)) =
+    brace_is_there (flat_map ended lines) (cut.2 ∙ ap (λ l. flat_map ended lines ++ l) (sym holds.2))

@@ -35,7 +35,7 @@ finished_ok profile (running elements) out e =
     (sym (ap (λ (d : DumpValue). d.profile) both.0), ap (λ (d : DumpValue). running d.elements) both.0, both.1)
 finished_ok profile (stopped g) out e = cc
 
-same_elements : (xs ys : List ElementValue) → map {B = Reading} Ok xs ≡ map Ok ys → xs ≡ ys
+pub same_elements : (xs ys : List ElementValue) → map {B = Reading} Ok xs ≡ map Ok ys → xs ≡ ys
 same_elements [] [] e = refl
 same_elements [] (y ∷ ys) e = cc
 same_elements (x ∷ xs) [] e = cc

@@ -16,12 +16,16 @@ pub mod Judging
 pub mod Keys
 pub mod Lines
 pub mod Listing
+pub mod LongLines
 pub mod Members
 pub mod Numbers
 pub mod OneReplies
 pub mod ProjectLists
 pub mod Refusals
 pub mod Retrying
+pub mod Saying
 pub mod Speaking
+pub mod Standing
 pub mod Steps
 pub mod TagLists
+pub mod TakenLines

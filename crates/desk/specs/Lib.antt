@@ -10,3 +10,4 @@ pub mod Reply
 pub mod Requests
 pub mod Retries
 pub mod Runs
+pub mod Uploads

@@ -11,3 +11,4 @@ pub mod Places
 pub mod Plain
 pub mod Speaking
 pub mod Results
+pub mod Uploads

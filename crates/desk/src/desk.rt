@@ -1,14 +1,17 @@
 //! What serves requests.
 use crate::reply::Reply;
 use crate::request::{Command, Query};
+use crate::upload::Upload;
 
 /// What serves requests. It stands for states of the abstract machine: a reply is the machine's, and it then stands for
 /// the machine's next state; or it is a refusal, S01 or S02, and nothing changed.
 pub trait Desk {
-    ghost use Rattle.std.specs.Prelude.{List, [], ◌∷◌, ◌++◌};
+    ghost use Rattle.std.specs.Prelude.{◌≡◌, ℕ, true, List, [], ◌∷◌, ◌++◌};
     ghost use Rattle.desk.specs.Machine.{State};
+    ghost use Rattle.desk.specs.Reply.{out_of_memory};
     ghost use Rattle.desk.specs.Requests as requests;
     ghost use Rattle.desk.specs.Runs.{MayReply, moved, left};
+    ghost use Rattle.desk.specs.Uploads.{StandsFor, command_of};
 
     /// The states that it stands for.
     ghost stands: { Self → State → Type 0 };
@@ -24,6 +27,13 @@ pub trait Desk {
         ensures reply { (m : State) → stands self.old m → MayReply store_may_refuse m (requests.command (requests.command_value command.now)) result }
         ensures state { (m : State) → stands self.old m → stands self.new (moved m (requests.command (requests.command_value command.now)) result) }
         ensures left { (m : State) (states : List State) → stands self.old m → may_leave self.old states → may_leave self.new (left m states (requests.command (requests.command_value command.now)) result) };
+
+    /// Serves the command that an upload is, with each body that it stands for. Where it met want of memory, that is the reply.
+    fn finish_upload(&mut self, upload: Upload) -> Reply
+        ensures reply { (m : State) (body : List ℕ) → stands self.old m → StandsFor upload.body body → MayReply store_may_refuse m (requests.command (command_of upload body)) result }
+        ensures state { (m : State) (body : List ℕ) → stands self.old m → StandsFor upload.body body → stands self.new (moved m (requests.command (command_of upload body)) result) }
+        ensures left { (m : State) (states : List State) (body : List ℕ) → stands self.old m → may_leave self.old states → StandsFor upload.body body → may_leave self.new (left m states (requests.command (command_of upload body)) result) }
+        ensures memory { upload.body.is_out_of_memory ≡ true → result ≡ out_of_memory };
 
     /// Answers a query.
     fn ask(&mut self, query: &Query) -> Reply

@@ -8,8 +8,8 @@ mod code;
 mod desk;
 mod found;
 mod hover;
-mod in_memory;
 mod laws;
+mod line_reader;
 mod listed;
 mod names;
 mod plain;
@@ -18,6 +18,7 @@ mod reply;
 mod request;
 mod running;
 mod tags_part;
+mod upload;
 mod walks;
 
 pub use code::Code;
@@ -28,6 +29,7 @@ pub use plain::PlainDesk;
 pub use reply::Reply;
 pub use request::{Command, Query, Request};
 pub use running::{RunFault, run};
+pub use upload::{Upload, UploadFault};
 
 #[cfg(test)]
 mod tests;

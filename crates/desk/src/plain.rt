@@ -1,10 +1,11 @@
 //! A desk that keeps what it accepted in memory.
-ghost use Rattle.std.specs.Prelude.{◌≡◌, ◌&&◌, ℕ, List, IfOk, OnOk, OnErr, Some, None, is_some, option_map, bytes_eq, string_bytes, if◌then◌else◌};
+ghost use Rattle.std.specs.Prelude.{◌≡◌, ◌&&◌, ℕ, true, List, IfOk, OnOk, OnErr, Some, None, is_err, is_some, option_map, bytes_eq, string_bytes, if◌then◌else◌};
 ghost use Rattle.desk.specs.Answers.{Answers, AnswersAt, AnswersPlaces, AnswersHover, reference_roles};
 ghost use Rattle.desk.specs.Machine.{State, nothing, accepted, changed, after, dump_after, tags_after, reply_of, reply_to};
-ghost use Rattle.desk.specs.Requests.{at_value, command_value, query_value};
+ghost use Rattle.desk.specs.Requests.{CommandValue, at_value, command_value, query_value};
 ghost use Rattle.desk.specs.Requests as queries;
-ghost use Rattle.desk.specs.Steps.Plain.{accepted_value, change_value, dump_in, tags_in, kept_in, Stands};
+ghost use Rattle.desk.specs.Steps.Plain.{Concludes, accepted_value, change_value, dump_in, tags_in, kept_in, Stands};
+ghost use Rattle.desk.specs.Uploads.{StandsFor, command_of};
 
 use crate::answers::{PlaceQuery, find_places};
 use crate::bodies::{hover_found, places_found, profile_found, projects_found, tags_found};
@@ -17,6 +18,7 @@ use crate::project::{Accepted, Change, Project, judge, reply_of};
 use crate::reply::Reply;
 use crate::request::{Command, Query};
 use crate::tags_part::TagsPart;
+use crate::upload::Upload;
 use dump::{CheckedDump, Role};
 use flatten::FlattenFault;
 use positions::Position;
@@ -122,20 +124,47 @@ impl PlainDesk {
         Ok(reply)
     }
 
+    /// Answers a command of which this was said: by the kept reply, where its key is kept. Nothing changes where memory is
+    /// refused.
+    fn conclude(
+        &mut self,
+        project: &ProjectName,
+        key: &Key,
+        said: Result<Change, Reply>,
+    ) -> Result<Reply, AllocError>
+        ensures reply { (m : State) (c : CommandValue) → Stands self.old.projects m → Concludes c project.now key.now said → IfOk result (λ r. r ≡ reply_to m c) }
+        ensures ok { (m : State) (c : CommandValue) → Stands self.old.projects m → Concludes c project.now key.now said → OnOk result (Stands self.new.projects (after m c)) }
+        ensures err { (m : State) → Stands self.old.projects m → OnErr result (Stands self.new.projects m) }
+    {
+        if let Some(kept) = kept_in(&self.projects, project.as_str(), key.as_str()) {
+            return reply_of(self.alloc, kept);
+        }
+        match said {
+            Ok(change) => self.accept(project, key, change),
+            Err(fault) => Ok(fault),
+        }
+    }
+
     /// Serves a command. Nothing changes where memory is refused.
     fn serve(&mut self, command: &Command<'_>) -> Result<Reply, AllocError>
         ensures reply { (m : State) → Stands self.old.projects m → IfOk result (λ r. r ≡ reply_to m (command_value command.now)) }
         ensures ok { (m : State) → Stands self.old.projects m → OnOk result (Stands self.new.projects (after m (command_value command.now))) }
         ensures err { (m : State) → Stands self.old.projects m → OnErr result (Stands self.new.projects m) }
     {
-        let (project, key) = (command.project(), command.key());
-        if let Some(kept) = kept_in(&self.projects, project.as_str(), key.as_str()) {
-            return reply_of(self.alloc, kept);
-        }
-        match judge(self.alloc, command)? {
-            Ok(change) => self.accept(project, key, change),
-            Err(fault) => Ok(fault),
-        }
+        let said = judge(self.alloc, command)?;
+        self.conclude(command.project(), command.key(), said)
+    }
+
+    /// Serves the command that an upload is. Nothing changes where memory is refused.
+    fn finish(&mut self, upload: Upload) -> Result<Reply, AllocError>
+        ensures reply { (m : State) (body : List ℕ) → Stands self.old.projects m → StandsFor upload.body body → IfOk result (λ r. r ≡ reply_to m (command_of upload body)) }
+        ensures ok { (m : State) (body : List ℕ) → Stands self.old.projects m → StandsFor upload.body body → OnOk result (Stands self.new.projects (after m (command_of upload body))) }
+        ensures err { (m : State) → Stands self.old.projects m → OnErr result (Stands self.new.projects m) }
+        ensures memory { upload.body.is_out_of_memory ≡ true → is_err result ≡ true }
+    {
+        let Upload { project, key, body } = upload;
+        let said = body.finish()?;
+        self.conclude(&project, &key, said)
     }
 }
 
@@ -294,6 +323,13 @@ impl Desk for PlainDesk {
 
     fn apply(&mut self, command: &Command<'_>) -> Reply {
         match self.serve(command) {
+            Ok(reply) => reply,
+            Err(_) => Reply::out_of_memory(),
+        }
+    }
+
+    fn finish_upload(&mut self, upload: Upload) -> Reply {
+        match self.finish(upload) {
             Ok(reply) => reply,
             Err(_) => Reply::out_of_memory(),
         }

@@ -1,23 +1,20 @@
 //! What is kept of a project.
-ghost use Rattle.std.specs.Prelude.{◌≡◌, ℕ, List, IfOk, OnOk, OnErr, Some, None, bytes_eq, string_bytes, if◌then◌else◌};
+ghost use Rattle.std.specs.Prelude.{◌≡◌, ℕ, List, [], IfOk, OnOk, OnErr, Some, None, bytes_eq, string_bytes, if◌then◌else◌};
 ghost use Rattle.std.specs.HashMap.{get_by_text};
-ghost use Rattle.lsif.specs.declared.element.Profile.{Profile};
-ghost use Rattle.desk.specs.Judging.{dump_change, judged, judged_dump, judged_tags, tags_change};
+ghost use Rattle.desk.specs.Judging.{judged};
+ghost use Rattle.desk.specs.Uploads.{StandsFor, action_of};
 ghost use Rattle.desk.specs.Machine.{accepted, dump_after, reply_of, tags_after};
 ghost use Rattle.desk.specs.Requests.{command_value};
 ghost use Rattle.desk.specs.Steps.Plain.{accepted_value, change_value, said_value};
 
-use crate::bodies::{dump_accepted, dump_refused, removed, tags_accepted, tags_refused};
-use crate::in_memory::InMemory;
-use crate::laws::judgement_law;
+use crate::bodies::{dump_accepted, removed, tags_accepted};
 use crate::reply::Reply;
 use crate::request::Command;
 use crate::tags_part::TagsPart;
-use dump::{CheckedDump, DumpFault, read_dump};
-use lsif::Profile;
+use crate::upload::BodyReader;
+use dump::CheckedDump;
 use std::alloc::{AllocError, Global};
 use std::collections::HashMap;
-use tags::TagsFault;
 
 /// What the reply to an accepted command says: that a dump of so many elements was put, or so many tags; or whether anything
 /// was removed.
@@ -47,32 +44,13 @@ pub(crate) fn reply_of(alloc: Global, accepted: Accepted) -> Result<Reply, Alloc
     }
 }
 
-/// What is said of a dump that is put.
-fn judge_dump(
-    alloc: Global,
-    profile: Profile,
-    body: &[u8],
-) -> Result<Result<Change, Reply>, AllocError>
-    ensures { IfOk result (λ said. said_value said ≡ dump_change (judged_dump profile body.now)) }
+/// What is said of a body that is one piece: the change that its command makes, or its fault.
+fn judge_body(mut reader: BodyReader, body: &[u8]) -> Result<Result<Change, Reply>, AllocError>
+    requires { StandsFor reader [] }
+    ensures { IfOk result (λ answer. said_value answer ≡ judged (action_of reader.lines body.now)) }
 {
-    judgement_law();
-    match read_dump(alloc, profile, &mut InMemory::new(body)) {
-        Ok(dump) => Ok(Ok(Change::SetDump(dump))),
-        Err(DumpFault::Line(fault)) => Ok(Err(dump_refused(alloc, fault)?)),
-        Err(DumpFault::Memory) => Err(AllocError),
-        Err(DumpFault::Read) => unreachable!(),
-    }
-}
-
-/// What is said of tags that are put.
-fn judge_tags(alloc: Global, body: &[u8]) -> Result<Result<Change, Reply>, AllocError>
-    ensures { IfOk result (λ said. said_value said ≡ tags_change (judged_tags body.now)) }
-{
-    match TagsPart::read(alloc, body) {
-        Ok(tags) => Ok(Ok(Change::SetTags(tags))),
-        Err(TagsFault::Line(fault)) => Ok(Err(tags_refused(alloc, fault)?)),
-        Err(TagsFault::Memory) => Err(AllocError),
-    }
+    reader.piece(body)?;
+    reader.finish()
 }
 
 /// What is said of a command: the change that it makes, or the fault of its body.
@@ -83,8 +61,10 @@ pub(crate) fn judge(
     ensures { IfOk result (λ said. said_value said ≡ judged (command_value command.now).action) }
 {
     match command {
-        Command::PutDump { profile, body, .. } => judge_dump(alloc, *profile, body),
-        Command::PutTags { body, .. } => judge_tags(alloc, body),
+        Command::PutDump { profile, body, .. } => {
+            judge_body(BodyReader::dump(alloc, *profile)?, body)
+        }
+        Command::PutTags { body, .. } => judge_body(BodyReader::tags(alloc)?, body),
         Command::Remove { .. } => Ok(Ok(Change::Clear)),
     }
 }

@@ -1,14 +1,10 @@
 //! The tags that a project has.
-ghost use Rattle.std.specs.Prelude.{◌≡◌, Ok, Err, IfOk, IfErr, true, length, map};
+ghost use Rattle.std.specs.Prelude.{◌≡◌, true, map};
 ghost use Rattle.tags.specs.Judging.{lines_rise};
-ghost use Rattle.tags.specs.Views.{tag_value};
-ghost use Rattle.tags.specs.declared.code.LineFault.{LineFault};
-ghost use Rattle.tags.specs.declared.code.TagsFault.TheVariants.{Line};
-ghost use Rattle.desk.specs.Judging.{judged_tags};
+ghost use Rattle.tags.specs.Views.{tag_value, tag_values};
 
-use std::alloc::Global;
 use std::marker::Model;
-use tags::{Tag, TagsFault, read_tags, text_law};
+use tags::Tag;
 
 /// The tags of a tags file, each on a later line than those before it.
 #[derive(Drop)]
@@ -30,16 +26,12 @@ impl Model for TagsPart {
 }
 
 impl TagsPart {
-    /// The tags that a body has, or its fault.
-    pub(crate) fn read(alloc: Global, body: &[u8]) -> Result<TagsPart, TagsFault>
-        ensures tags { IfOk result (λ part. judged_tags body.now ≡ Ok part) }
-        ensures fault { IfErr result (λ e. (f : LineFault) → e ≡ Line f → judged_tags body.now ≡ Err f) }
+    /// These tags.
+    pub(crate) fn new(tags: Vec<Tag>) -> TagsPart
+        requires { lines_rise (tag_values tags.items) ≡ true }
+        ensures { result ≡ tag_values tags.items }
     {
-        text_law();
-        match read_tags(alloc, body) {
-            Ok(tags) => Ok(TagsPart { tags }),
-            Err(fault) => Err(fault),
-        }
+        TagsPart { tags }
     }
 
     /// The tags, in the order of their lines.

@@ -15,13 +15,14 @@ fn cut(text: &'static str) -> (&'static str, &'static str) {
     text.split_once(' ').unwrap_or((text, ""))
 }
 
-/// The tags file that is written in short.
+/// The tags file that is written in short: `␉` stands for a tab, `␍` for CR, `␊` for LF and `-` for no text.
 fn tags_text(alloc: Global, short: &str) -> Result<String, Fail> {
     let mut text = String::new(alloc);
     for sign in short.chars() {
         match sign {
             '-' => {}
             '␉' => text.push('\t')?,
+            '␍' => text.push('\r')?,
             '␊' => text.push('\n')?,
             _ => text.push(sign)?,
         }
@@ -31,7 +32,7 @@ fn tags_text(alloc: Global, short: &str) -> Result<String, Fail> {
 
 /// What the request of a row uploads, if anything. A row is a request that is written in short:
 /// - `put PROJECT KEY PROFILE DUMP`;
-/// - `tags PROJECT KEY TEXT`, where `␉` stands for a tab, `␊` for LF and `-` for no text;
+/// - `tags PROJECT KEY TEXT`, a tags file in short;
 /// - `remove PROJECT KEY`;
 /// - `definition PROJECT URL LINE:CHARACTER`, and `references`, `hover`, `declaration` and `implementation` in the same way,
 ///   with `no` at the end of references where the declaration isn't asked for;
@@ -258,6 +259,7 @@ mod commands;
 mod forms;
 mod joins;
 mod lists;
+mod pieces;
 mod profiles;
 mod queries;
 mod samples;

@@ -177,12 +177,12 @@ end_none elements (x ∷ rest) k h j c g = end_sound elements k x rest (end_code
 
 -- ---- the fault
 
-line_fault : (dump : List Reading) (f : LineFault) → progress dump ≡ stopped f → IsLineFault dump f
+pub line_fault : (dump : List Reading) (f : LineFault) → progress dump ≡ stopped f → IsLineFault dump f
 line_fault dump f h =
     let first = first_from dump [] f h in
     record { index = first.index; line = omega (arith, first.line); code = first.code; least = λ j lt c g. first.least j c lt g }
 
-sound_lines : (dump : List Reading) (elements : List ElementValue) → progress dump ≡ running elements → AreSoundLines dump
+pub sound_lines : (dump : List Reading) (elements : List ElementValue) → progress dump ≡ running elements → AreSoundLines dump
 sound_lines dump elements h k c g = sound_from dump [] elements h k c g
 
 element_fault : (elements : List ElementValue) (f : LineFault) → end_fault_from elements 0 elements ≡ Some f → IsElementFault elements f
@@ -256,6 +256,14 @@ one_element_fault elements f g a b =
 
 sound_no_line : (dump : List Reading) (f : LineFault) → AreSoundLines dump → IsLineFault dump f → ⊥
 sound_no_line dump f sound a = sound a.index f.code a.code
+
+stops_by : (dump : List Reading) (f : LineFault) (p : Progress) → progress dump ≡ p → IsLineFault dump f → p ≡ stopped f
+stops_by dump f (running elements) h a = absurd (sound_no_line dump f (sound_lines dump elements h) a)
+stops_by dump f (stopped g) h a = ap stopped (one_line_fault dump g f (line_fault dump g h) a)
+
+-- a checker stops at the first faulty line
+pub stops_at : (dump : List Reading) (f : LineFault) → IsLineFault dump f → progress dump ≡ stopped f
+stops_at dump f a = stops_by dump f (progress dump) refl a
 
 empty_no_element : (dump : List Reading) (f : LineFault) → dump ≡ [] → IsElementFault (elements_of dump) f → ⊥
 empty_no_element dump f e a =

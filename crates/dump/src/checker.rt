@@ -52,6 +52,13 @@ impl Checker {
         }
     }
 
+    /// The profile that the lines are to be read by.
+    pub fn profile(&self) -> Profile
+        ensures { result ≡ self.now.profile }
+    {
+        self.profile
+    }
+
     /// Takes the next line: its element, or the fault of its shape. Answers the fault of the line, if it has one, and
     /// from then on that fault for good. Where memory is refused the line doesn't count as taken.
     pub fn feed(&mut self, reading: Result<Element, Code>) -> Result<(), FeedFault>

@@ -5,7 +5,7 @@ ghost use Rattle.lsif.specs.Element.{IdValue, VertexValue, document, hover_resul
 ghost use Rattle.dump.specs.declared.fault.LineFault.{LineFault};
 ghost use Rattle.dump.specs.Conditions.{order_code, most_elements};
 ghost use Rattle.dump.specs.Contained.{IsNested, container, is_in};
-ghost use Rattle.dump.specs.Fault.{IsFault, IsFaultless};
+ghost use Rattle.dump.specs.Fault.{AreSoundLines, IsFault, IsFaultless, IsLineFault};
 ghost use Rattle.dump.specs.Places.{PlaceValue, IsItemPlace, Places, place_cmp};
 ghost use Rattle.dump.specs.Requests.{Cover, First, Pick, RangeValue};
 ghost use Rattle.std.specs.List.Sorted.{IsStrictlySortedBy};
@@ -17,7 +17,8 @@ ghost use Rattle.dump.specs.Graph.{vertex_at, ends, line_of};
 ghost use Rattle.dump.specs.Walks.{Pair, Path, IsChain, HasChain, reaches, next_pairs};
 
 /// Each dump has one fault or none, and feeding its lines in turn and then finishing answers it. A checker that runs on
-/// keeps the elements of all lines, at most 100,000. The fault of a line stays that of every dump that begins so.
+/// keeps the elements of all lines, at most 100,000. It stops at the first line that has a fault, and that fault stays the one of
+/// every dump that begins so.
 pub fn fault_law()
     ensures holds { (dump : List Reading) → IsFault dump (finished (progress dump)) }
     ensures only { (dump : List Reading) (fault : Option LineFault) → IsFault dump fault → fault ≡ finished (progress dump) }
@@ -25,6 +26,8 @@ pub fn fault_law()
         → dump ≡ map Ok elements }
     ensures room { (elements : List ElementValue) (x : ElementValue) → order_code elements x ≡ None
         → length elements < most_elements }
+    ensures line { (dump : List Reading) (fault : LineFault) → (progress dump ≡ stopped fault) ↔ IsLineFault dump fault }
+    ensures sound { (dump : List Reading) (elements : List ElementValue) → progress dump ≡ running elements → AreSoundLines dump }
     ensures stays { (dump more : List Reading) (fault : LineFault) → progress dump ≡ stopped fault
         → progress (dump ++ more) ≡ stopped fault }
 {}

@@ -125,16 +125,21 @@ fn finishing_with_no_line(rt: HostRuntime) {
     }
 }
 
-/// The profile of the dump of two lines, and how many elements it has.
-fn dump_of_two(alloc: Global, profile: Profile) -> Result<(Profile, usize), Fail> {
-    let dump = dump_of(alloc, profile, &[META_DATA, DOCUMENT])?;
-    Ok((dump.profile(), dump.elements().len()))
+/// The profiles of the checker that took two lines and of their dump, and how many elements the dump has.
+fn dump_of_two(alloc: Global, profile: Profile) -> Result<(Profile, Profile, usize), Fail> {
+    let mut checker = Checker::new(alloc, profile);
+    feed(alloc, profile, &mut checker, &[META_DATA, DOCUMENT])?;
+    let fed = checker.profile();
+    match checker.finish() {
+        Ok(dump) => Ok((fed, dump.profile(), dump.elements().len())),
+        Err(_) => Err("a fault")?,
+    }
 }
 
 #[test]
 fn finishing_a_dump(rt: HostRuntime) -> Result<(), Fail> {
     for profile in PROFILES {
-        assert_eq!(rt; dump_of_two(rt.alloc(), profile)?, (profile, 2));
+        assert_eq!(rt; dump_of_two(rt.alloc(), profile)?, (profile, profile, 2));
     }
     Ok(())
 }
@@ -185,27 +190,42 @@ fn found_of(alloc: Global, dump: &CheckedDump, vertex: u64) -> Result<String, Fa
     let implementation = number(dump.first(Request::Implementation, &id));
     let package = number(dump.package_of(&id));
     Ok(format!(in alloc;
-        "{vertex}: {definition} {references} {hover} {declaration} {implementation} {package}\n"
+        "{vertex}: {definition} {references} {hover} {declaration} {implementation} {package}"
+    )?)
+}
+
+/// What the `next` edge out of this vertex leads to; and the definition, the references, the hover, the declaration and the
+/// implementation that the vertex itself has.
+fn own_of(alloc: Global, dump: &CheckedDump, vertex: u64) -> Result<String, Fail> {
+    let id = Id::Number(vertex);
+    let next = number(dump.next(&id));
+    let definition = number(dump.result(Request::Definition, &id));
+    let references = number(dump.result(Request::References, &id));
+    let hover = number(dump.result(Request::Hover, &id));
+    let declaration = number(dump.result(Request::Declaration, &id));
+    let implementation = number(dump.result(Request::Implementation, &id));
+    Ok(format!(in alloc;
+        ", next {next}, own {definition} {references} {hover} {declaration} {implementation}\n"
     )?)
 }
 
 /// In profile 1 nothing is a declaration or an implementation.
 const FOUND_IN_ONE: &str = "\
-3: 8 20 22 0 0 0
-5: 8 20 22 0 0 0
-6: 9 20 0 0 0 0
-2: 0 0 0 0 0 0
-24: 0 0 0 0 0 25
-25: 0 0 0 0 0 0
+3: 8 20 22 0 0 0, next 5, own 0 0 0 0 0
+5: 8 20 22 0 0 0, next 6, own 8 0 22 0 0
+6: 9 20 0 0 0 0, next 0, own 9 20 0 0 0
+2: 0 0 0 0 0 0, next 0, own 0 0 0 0 0
+24: 0 0 0 0 0 25, next 0, own 0 0 0 0 0
+25: 0 0 0 0 0 0, next 0, own 0 0 0 0 0
 ";
 
 const FOUND_IN_TWO: &str = "\
-3: 8 20 22 30 32 0
-5: 8 20 22 30 32 0
-6: 9 20 0 30 0 0
-2: 0 0 0 0 0 0
-24: 0 0 0 0 0 25
-25: 0 0 0 0 0 0
+3: 8 20 22 30 32 0, next 5, own 0 0 0 0 0
+5: 8 20 22 30 32 0, next 6, own 8 0 22 0 32
+6: 9 20 0 30 0 0, next 0, own 9 20 0 30 0
+2: 0 0 0 0 0 0, next 0, own 0 0 0 0 0
+24: 0 0 0 0 0 25, next 0, own 0 0 0 0 0
+25: 0 0 0 0 0 0, next 0, own 0 0 0 0 0
 ";
 
 /// A dump with answers to all that is asked.
@@ -222,6 +242,7 @@ fn all_found(alloc: Global, dump: &CheckedDump) -> Result<String, Fail> {
     let mut found = String::new(alloc);
     for vertex in [3, 5, 6, 2, 24, 25] {
         found.push_str(found_of(alloc, dump, vertex)?.as_str())?;
+        found.push_str(own_of(alloc, dump, vertex)?.as_str())?;
     }
     Ok(found)
 }

@@ -1,5 +1,5 @@
 //! Lines that are cut from the pieces of a text.
-ghost use Rattle.std.specs.Prelude.{◌≡◌, ◌≤◌, ◌+◌, ◌++◌, length, vec_capacity, MatchOption, MatchResult, [], option_map};
+ghost use Rattle.std.specs.Prelude.{◌≡◌, ◌≤◌, ◌+◌, ◌++◌, length, vec_capacity, MatchOption, MatchResult, [], option_map, IfSome};
 ghost use Rattle.lsif.specs.Lines.{IsLine};
 ghost use Rattle.lsif.specs.Pieces.{Takes, line_in, rest_in};
 ghost use Rattle.lsif.specs.Steps.Cutting.{EndsLast, IsFirstFeed, IsFirstPart};
@@ -116,7 +116,8 @@ impl Cutter {
 
     /// The line whose line feed was taken last, without it. A CR before it is part of the line.
     pub fn line(&self) -> Option<&[u8]>
-        ensures { option_map (λ line. line.now) result ≡ line_in self.now }
+        ensures value { option_map (λ line. line.now) result ≡ line_in self.now }
+        ensures within { IfSome result (λ line. length line.now ≤ self.now.longest) }
     {
         match self.state {
             LineState::Ended => Some(&self.line),
@@ -126,7 +127,8 @@ impl Cutter {
 
     /// The last line, which no line feed has ended, where it isn't empty.
     pub fn rest(&self) -> Option<&[u8]>
-        ensures { option_map (λ line. line.now) result ≡ rest_in self.now }
+        ensures value { option_map (λ line. line.now) result ≡ rest_in self.now }
+        ensures within { IfSome result (λ line. length line.now ≤ self.now.longest) }
     {
         match self.state {
             LineState::Open if !self.line.is_empty() => Some(&self.line),

@@ -1,5 +1,5 @@
 -- What is said of a text, by its one list of readings.
-use Rattle.std.proofs.Common.{◌≡◌, ◌≢◌, ◌∙◌, ◌⊎◌, inl, inr, ⊎_elim, ℕ, ◌+◌, ◌<◌, Bool, true, false, ◌&&◌, nat_lt, List, [], ◌∷◌, map, Option, None, Some, Result, Ok, Err, refl, ap, sym, subst, arith, slice_get, take}
+use Rattle.std.proofs.Common.{◌≡◌, ◌∙◌, ◌⊎◌, ⊎_elim, ℕ, ◌+◌, ◌<◌, Bool, true, false, ◌&&◌, nat_lt, List, [], ◌∷◌, map, Some, Ok, Err, refl, ap, sym, subst, arith, take}
 use Rattle.std.specs.List.{list_all}
 use Rattle.std.proofs.lemmas.Bool.Decides.{nat_tests}
 use Rattle.tags.specs.Fault.{Reading, contents, tags_of, tags_from, code_of, HasCode, IsFaultless, IsFirstFault}
@@ -7,7 +7,7 @@ use Rattle.tags.specs.Judging.{HasTags, HasFault, judged_at, judged, lines_rise}
 use Rattle.tags.specs.Lines.{Line, AreReadings, lines_of}
 use Rattle.tags.specs.States.{State, Summary, running, stopped, listed, state_after}
 use Rattle.tags.specs.Steps.Readings.{reading_of, readings_of}
-use Rattle.tags.specs.Values.{ContentValue, sorted, other, ordinary, TagValue, numbered}
+use Rattle.tags.specs.Values.{ContentValue, sorted, other, ordinary, TagValue}
 use Rattle.tags.specs.declared.code.Code.{Code}
 use Rattle.tags.specs.declared.code.LineFault.{LineFault}
 use Rattle.tags.proofs.ConditionLemmas.{reads_all, reads_only}
@@ -38,7 +38,7 @@ one_code lines k c d (line, at, is) (second, there, says) =
 apart : (j k : ℕ) → (j ≡ k) ⊎ ((j < k) ⊎ (k < j))
 apart j k = grind arith
 
-one_fault : (lines : List Reading) (j k : ℕ) (c d : Code) → IsFirstFault lines j c → IsFirstFault lines k d → (j ≡ k) × (c ≡ d)
+pub one_fault : (lines : List Reading) (j k : ℕ) (c d : Code) → IsFirstFault lines j c → IsFirstFault lines k d → (j ≡ k) × (c ≡ d)
 one_fault lines j k c d a b = ⊎_elim
     (λ (e : j ≡ k). (e, one_code lines k c d (subst (λ i. HasCode lines i c) e a.code) b.code))
     (λ (h : (j < k) ⊎ (k < j)). ⊎_elim (λ (l : j < k). absurd (b.least j l c a.code)) (λ (l : k < j). absurd (a.least k l d b.code)) h)

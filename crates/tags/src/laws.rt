@@ -47,9 +47,10 @@ pub fn lines_law()
         → lines_of text ≡ with_last pieces last }
 {}
 
-/// Where a reader of lines stops is the first fault. Where it doesn't there is none, and what it keeps is the tags and
+/// Lines have one first fault at most, and there a reader of them stops. Where it doesn't there is none, and what it keeps is the tags and
 /// what has to be known of the lines. Once stopped it stays so.
 pub fn state_law()
+    ensures one { (lines : List Reading) (j k : ℕ) (c d : Code) → IsFirstFault lines j c → IsFirstFault lines k d → (j ≡ k) × (c ≡ d) }
     ensures stopped { (lines : List Reading) (n : ℕ) (c : Code) → state_after listed [] lines ≡ stopped n c
         → (k : ℕ) × (n ≡ k + 1) × IsFirstFault lines k c }
     ensures running { (lines : List Reading) (s : Summary (List TagValue)) → state_after listed [] lines ≡ running s

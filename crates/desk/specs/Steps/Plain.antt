@@ -5,9 +5,10 @@ use Rattle.std.specs.BTreeMap.{BTreeMap}
 use Rattle.std.specs.HashMap as hash
 use Rattle.dump.specs.Progress.{DumpValue}
 use Rattle.tags.specs.Values.{TagValue}
-use Rattle.desk.specs.Judging.{Change, set_dump, set_tags, clear}
+use Rattle.desk.specs.Judging.{Change, set_dump, set_tags, clear, judged}
 use Rattle.desk.specs.Machine.{Accepted, dump_put, tags_put, parts_removed, State}
 use Rattle.desk.specs.Reply.{ReplyValue}
+use Rattle.desk.specs.Requests.{CommandValue}
 use Rattle.desk.specs.declared.project.Accepted as made
 use Rattle.desk.specs.declared.project.Accepted.TheVariants.{DumpPut, TagsPut, Removed}
 use Rattle.desk.specs.declared.project.Change as makes
@@ -28,6 +29,10 @@ change_value Clear = clear
 abbrev pub said_value : Result makes.Change ReplyValue → Result Change ReplyValue
 said_value (Ok change) = Ok (change_value change)
 said_value (Err fault) = Err fault
+
+-- this is said of a command of this project and key
+abbrev pub Concludes : CommandValue → List ℕ → List ℕ → Result makes.Change ReplyValue → Type 0
+Concludes command project key said = (command.project ≡ project) × (command.key ≡ key) × (said_value said ≡ judged command.action)
 
 -- the dump of a project
 abbrev pub dump_in : {Y : Type 0} → BTreeMap (String Y) Project → List ℕ → Option DumpValue

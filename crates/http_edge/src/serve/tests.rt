@@ -2,7 +2,7 @@
 //! names of the replies, and a row that begins with `#` says something of those below it.
 use super::*;
 use crate::{phrase_law, route_law};
-use desk::{Code, Command, Query};
+use desk::{Code, Command, Query, Upload};
 use lsif::Counted;
 use std::io;
 use std::io::{ErrorKind, Read, Write};
@@ -143,6 +143,11 @@ impl Desk for Counting {
             self.body = body.len();
         }
         Reply::refused(Code::S01)
+    }
+
+    fn finish_upload(&mut self, _: Upload) -> Reply {
+        self.commands = self.commands.saturating_add(1);
+        Reply::out_of_memory()
     }
 
     fn ask(&mut self, query: &Query) -> Reply {

@@ -1,7 +1,7 @@
 //! What is read of lines: an element, or the code of its shape. A table's row is a part of a line and what is read of
 //! it, with `=>` between them: a code, what a vertex or an edge of some labels says, or `an element`; and behind a bar what
 //! profile 2 reads, where that differs.
-use super::{LONGEST_LINE, read_element};
+use super::{LONGEST_LINE, profile_law, read_element};
 use crate::element::{Edge, Element, MonikerKind, Profile, Vertex};
 use crate::fault::ReadFault;
 use crate::id::Id;
@@ -215,6 +215,7 @@ fn rows(alloc: Global, before: &str, table: &str, after: &str) -> Result<String,
 
 #[test]
 fn tables_of_lines(rt: HostRuntime) -> Result<(), Fail> {
+    profile_law();
     let vertex = r#"{"id":1,"type":"vertex","label":"#;
     let hover = r#"{"id":1,"type":"vertex","label":"hoverResult","result":{"contents":"#;
     for (before, table, after) in [

@@ -7,7 +7,7 @@ use Rattle.dump.specs.Progress.{progress, running, next, finished}
 use Rattle.dump.proofs.Adds.{find_any}
 use Rattle.dump.proofs.Bools.{absurd_true}
 use Rattle.dump.proofs.Uniques.{any_from}
-use Rattle.dump.proofs.Progresses.{holds, one, stays, kept}
+use Rattle.dump.proofs.Progresses.{holds, line_fault, one, sound_lines, stays, stops_at, kept}
 use Rattle.dump.proofs.laws.fault_law.Goals as goal
 
 pub returns-clause-holds : goal.returns-clause-holds
@@ -18,6 +18,12 @@ returns-clause-only c = λ dump fault is. one dump fault (finished (progress dum
 
 pub returns-clause-elements : goal.returns-clause-elements
 returns-clause-elements c = λ dump elements h. kept dump elements h
+
+pub returns-clause-line : goal.returns-clause-line
+returns-clause-line c = λ dump fault. (line_fault dump fault, stops_at dump fault)
+
+pub returns-clause-sound : goal.returns-clause-sound
+returns-clause-sound c = sound_lines
 
 pub returns-clause-stays : goal.returns-clause-stays
 returns-clause-stays c = λ dump more fault h. fold-append next (running []) dump more ∙ ap (λ p. fold next p more) h ∙ stays more fault

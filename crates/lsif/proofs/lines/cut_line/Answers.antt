@@ -23,7 +23,7 @@ returns-then-is_some-clause-cut g c =
     let n = c.in_ok-taken.taken in
     let takes = subst (λ (p : List ℕ). Takes c.filling.cutter p (Ok n) c.take.new.self) c.pending.ensures.bytes c.in_ok-taken.ensures in
     let some : line_in c.take.new.self ≢ None =
-    some_line c.line.result (line_in c.take.new.self) (sym c.is_some.ensures ∙ c.if-is_some.true) c.line.ensures in
+    some_line c.line.result (line_in c.take.new.self) (sym c.is_some.ensures ∙ c.if-is_some.true) c.line.ensures.value in
     let left = g.S.Source.left c.filling.source in
     let cut = cuts_feed first (g.S.Source.left c.args.source.now) c.filling.cutter c.take.new.self pending n left c.filling.invariant.unread takes some in
     rw c.advance.ensures.pending cut
@@ -35,7 +35,7 @@ returns-then-end-clause-cut g c =
     let n = c.in_ok-taken.taken in
     let takes = subst (λ (p : List ℕ). Takes c.filling.cutter p (Ok n) c.take.new.self) c.pending.ensures.bytes c.in_ok-taken.ensures in
     let none : line_in c.take.new.self ≡ None =
-    no_line c.line.result (line_in c.take.new.self) (sym c.is_some.ensures ∙ c.if-is_some.false) c.line.ensures in
+    no_line c.line.result (line_in c.take.new.self) (sym c.is_some.ensures ∙ c.if-is_some.false) c.line.ensures.value in
     let left = g.S.Source.left c.filling.source in
     let fill = c.in-Ok-eq0 in
     cuts_last first (g.S.Source.left c.args.source.now) c.filling.cutter c.take.new.self c.end.new.self pending c.advance.new.self.pending

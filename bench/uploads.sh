@@ -1,0 +1,177 @@
+#!/usr/bin/env bash
+# Measures what an upload in pieces costs a desk in memory: the least time of pieces of 8,192 bytes beside that of the same body
+# as one piece, in one run and in turn; and the most memory that the program holds while it reads the body from a file
+# piece by piece, beside that with the whole body in memory, in multiples of the body. For a dump and for a tags file.
+# usage: bench/uploads.sh [RUNS]      (default 9)
+# It builds and proves a small program over the crates of this repository, in a copy beside /tmp, which takes some minutes.
+set -eu
+export LC_ALL=C
+runs=${1:-9}
+top=$(cd "$(dirname "${BASH_SOURCE[0]}")/.." && pwd)
+folder=$(mktemp -d)
+trap 'rm -rf "$folder"' EXIT
+mkdir -p "$folder/crates/uploads/src" "$folder/crates/uploads/data"
+for crate in positions lsif dump flatten tags desk; do
+    cp -r "$top/crates/$crate" "$folder/crates/"
+done
+cp "$top/HANDLES" "$folder/"
+{ grep -v '^http_edge:\|^codenav:' "$top/crates.txt"; echo "uploads: lsif desk"; } >"$folder/crates.txt"
+
+cat >"$folder/crates/uploads/src/main.rt" <<'EOP'
+//! Uploads a body as each line of a file says: `time KIND FILE` prints the microseconds of one piece and of pieces of 8,192
+//! bytes, of a body in memory; `pieces KIND FILE` uploads a file as it's read; `whole KIND FILE` reads it first.
+#![tactic(auto)]
+use desk::{Desk, Key, PlainDesk, ProjectName, Reply, Upload};
+use lsif::Profile;
+use std::alloc::Global;
+use std::fs::File;
+use std::io::Read;
+use std::process::ExitCode;
+use std::rt::{Clock, Files};
+use std::time::Instant;
+use std::{fs, io};
+
+fn main(rt: HostRuntime) -> ExitCode {
+    match run(&rt) {
+        Ok(()) => ExitCode::from(0),
+        Err(_) => ExitCode::from(1),
+    }
+}
+
+fn bad() -> io::Error {
+    io::Error::from(io::ErrorKind::InvalidData)
+}
+
+fn begin(alloc: Global, kind: &str) -> io::Result<Upload> {
+    let project = ProjectName::read(alloc, "app")?.ok_or(bad())?;
+    let key = Key::read(alloc, "k")?.ok_or(bad())?;
+    let begun = if kind == "tags" {
+        Upload::tags(alloc, project, key)
+    } else {
+        Upload::dump(alloc, project, key, Profile::One)
+    };
+    begun.map_err(|_| bad())
+}
+
+fn upload(alloc: Global, kind: &str, body: &[u8], most: usize) -> io::Result<Reply> {
+    let mut upload = begin(alloc, kind)?;
+    for piece in body.chunks(most.max(1)) {
+        upload.piece(piece).map_err(|_| bad())?;
+    }
+    Ok(PlainDesk::new(alloc).finish_upload(upload))
+}
+
+fn upload_file<R: Alloc<A = Global> + Files>(rt: &R, kind: &str, name: &str) -> io::Result<Reply> {
+    let mut file = File::open(rt, name)?;
+    let mut buffer = Vec::from_elem(rt.alloc(), 0, 8192)?;
+    let mut upload = begin(rt.alloc(), kind)?;
+    for _ in 0..u64::MAX {
+        let count = file.read(&mut buffer)?;
+        if count == 0 {
+            break;
+        }
+        upload.piece(&buffer[..count]).map_err(|_| bad())?;
+    }
+    Ok(PlainDesk::new(rt.alloc()).finish_upload(upload))
+}
+
+fn act<R: Alloc<A = Global> + Files + Print + Clock>(rt: &R, words: &[&str]) -> io::Result<()> {
+    let [act, kind, name] = words else {
+        return Err(bad());
+    };
+    if *act == "pieces" {
+        let reply = upload_file(rt, kind, name)?;
+        println!(rt; "{} {}", act, reply.status())?;
+        return Ok(());
+    }
+    let body = fs::read(rt, name)?;
+    let start = Instant::now(rt)?;
+    let reply = upload(rt.alloc(), kind, &body, body.len())?;
+    let whole = start.elapsed(rt)?;
+    if *act == "whole" {
+        println!(rt; "{} {}", act, reply.status())?;
+        return Ok(());
+    }
+    let start = Instant::now(rt)?;
+    let again = upload(rt.alloc(), kind, &body, 8192)?;
+    let pieces = start.elapsed(rt)?;
+    println!(rt; "{} {} {} {}", act, again.status(), whole.as_nanos() / 1000, pieces.as_nanos() / 1000)?;
+    Ok(())
+}
+
+fn run<R: Alloc<A = Global> + Files + Print + Clock>(rt: &R) -> io::Result<()> {
+    let text = fs::read_to_string(rt, "commands")?;
+    for line in text.lines() {
+        let mut words = Vec::new(rt.alloc());
+        for word in line.split(' ') {
+            words.push(word)?;
+        }
+        act(rt, &words)?;
+    }
+    Ok(())
+}
+EOP
+
+# A dump of documents with result sets, each named four times, some 90,000 elements.
+awk '
+    function vertex(label, members) {
+        printf "{\"id\":%d,\"type\":\"vertex\",\"label\":\"%s\"%s}\n", ++last, label, members
+        return last
+    }
+    function edge(label, source, target) {
+        printf "{\"id\":%d,\"type\":\"edge\",\"label\":\"%s\",\"outV\":%d,\"inV\":%d}\n", ++last, label, source, target
+    }
+    function range(line, first, set) {
+        vertex("range", ",\"start\":{\"line\":" line ",\"character\":" first "},\"end\":{\"line\":" line ",\"character\":" first + 8 "}")
+        edge("next", last, set)
+        targets = targets (targets == "" ? "" : ",") last - 1
+        return last - 1
+    }
+    BEGIN {
+        vertex("metaData", ",\"version\":\"0.6.0\",\"positionEncoding\":\"utf-16\"")
+        for (n = 0; n < 6900; n++) {
+            if (n % 25 == 0) {
+                file = vertex("document", ",\"uri\":\"file:///part/" n / 25 ".ts\"")
+                targets = ""
+            }
+            set = vertex("resultSet", "")
+            first = range(8 * (n % 25), 3, set)
+            for (k = 1; k < 4; k++)
+                range(8 * (n % 25) + k, 8, set)
+            result = vertex("definitionResult", "")
+            edge("textDocument/definition", set, result)
+            printf "{\"id\":%d,\"type\":\"edge\",\"label\":\"item\",\"outV\":%d,\"inVs\":[%d],\"document\":%d}\n", ++last, result, first, file
+            if (n % 25 == 24 || n == 6899)
+                printf "{\"id\":%d,\"type\":\"edge\",\"label\":\"contains\",\"outV\":%d,\"inVs\":[%s]}\n", ++last, file, targets
+        }
+    }' >"$folder/dump"
+{
+    printf '!_TAG_FILE_FORMAT\t2\t//\n!_TAG_FILE_SORTED\t1\t//\n'
+    awk 'BEGIN {
+        for (n = 1; n < 99999; n++)
+            printf "name_%06d\tsrc/part_%03d.c\t/^int name_%06d(void)$/;\"\tf\tline:%d\n", n, n % 500, n, n
+    }'
+} >"$folder/tags"
+
+(cd "$folder/crates/uploads" && rt run) >"$folder/log" 2>&1 </dev/null || [ -x "$folder/crates/uploads/out/uploads" ] || { cat "$folder/log" >&2; exit 1; }
+program=$folder/crates/uploads/out/uploads
+
+# The most memory in bytes while the command is done.
+memory_of() {
+    echo "$*" >"$folder/commands"
+    (cd "$folder" && /usr/bin/time -f %M -o memory "$program") | grep -q ' 200$' || { echo "$*: refused" >&2; exit 1; }
+    echo $(($(cat "$folder/memory") * 1024))
+}
+
+for kind in dump tags; do
+    size=$(wc -c <"$folder/$kind")
+    for _ in $(seq "$runs"); do echo "time $kind $kind"; done >"$folder/commands"
+    (cd "$folder" && "$program") | awk -v kind="$kind" -v size="$size" '
+        $2 != 200 { exit 1 }
+        whole == "" || $3 < whole { whole = $3 }
+        pieces == "" || $4 < pieces { pieces = $4 }
+        END { printf "%-5s %9d bytes  one piece %8.1f ms  pieces of 8,192 %8.1f ms  ratio %.2f\n", kind, size, whole / 1000, pieces / 1000, pieces / whole }'
+    awk -v kind="$kind" -v size="$size" -v pieces="$(memory_of pieces "$kind" "$kind")" -v whole="$(memory_of whole "$kind" "$kind")" 'BEGIN {
+        printf "%-5s memory: in pieces %.2f times the body, with the body in memory %.2f times\n", kind, pieces / size, whole / size
+    }'
+done

@@ -1,0 +1,262 @@
+//! Uploads whose bodies come in pieces.
+use super::samples::dump_text;
+use super::{cut, project, reply_to, text_of, upload};
+use crate::{Desk, Key, PlainDesk, Upload, UploadFault};
+use lsif::Profile;
+use std::alloc::Global;
+use std::process::Abort;
+use std::test::Fail;
+
+/// The upload of a row, of whose body no byte has come.
+fn begin(alloc: Global, row: &'static str) -> Result<Upload, Fail> {
+    let (verb, rest) = cut(row);
+    let (name, rest) = cut(rest);
+    let (key, rest) = cut(rest);
+    let project = project(alloc, name)?;
+    let key = Key::read(alloc, key)?.ok_or("no key")?;
+    let begun = match verb {
+        "tags" => Upload::tags(alloc, project, key),
+        _ if rest.starts_with('2') => Upload::dump(alloc, project, key, Profile::Two),
+        _ => Upload::dump(alloc, project, key, Profile::One),
+    };
+    match begun {
+        Ok(upload) => Ok(upload),
+        Err(UploadFault::Memory) => Err(Fail::from("out of memory")),
+    }
+}
+
+/// The reply to the upload of a row, of whose body the first bytes come as one piece, and then so many bytes at a time.
+fn reply_in_pieces(
+    alloc: Global,
+    desk: &mut PlainDesk,
+    row: &'static str,
+    body: &[u8],
+    first: usize,
+    most: usize,
+) -> Result<String, Fail> {
+    let mut upload = begin(alloc, row)?;
+    let (front, rest) = body.split_at(first.min(body.len()));
+    let mut taken = upload.piece(front);
+    for piece in rest.chunks(most.max(1)) {
+        taken = taken.and(upload.piece(piece));
+    }
+    match taken {
+        Ok(()) => text_of(alloc, &desk.finish_upload(upload)),
+        Err(UploadFault::Memory) => Err(Fail::from("out of memory")),
+    }
+}
+
+/// Asserts the reply of a new desk to a body that is cut at each byte, and that comes in pieces of 1, 2 and 7 bytes.
+fn expect_reply<R: AllocGlobal + Abort>(
+    rt: &R,
+    row: &'static str,
+    body: &[u8],
+    wanted: &str,
+) -> Result<(), Fail> {
+    for first in 0..=body.len() {
+        let mut desk = PlainDesk::new(rt.alloc());
+        let found = reply_in_pieces(rt.alloc(), &mut desk, row, body, first, body.len())?;
+        assert_eq!(rt; found.as_str(), wanted, "{row} cut at {first}");
+    }
+    for most in [1, 2, 7] {
+        let mut desk = PlainDesk::new(rt.alloc());
+        let found = reply_in_pieces(rt.alloc(), &mut desk, row, body, 0, most)?;
+        assert_eq!(rt; found.as_str(), wanted, "{row} in pieces of {most}");
+    }
+    Ok(())
+}
+
+/// Uploads, and the reply to each.
+const ROWS: [(&str, &str); 12] = [
+    ("put app k1 1 base", r#"200 {"accepted":"lsif","count":11}"#),
+    ("put app k1 1 ring", r#"200 {"accepted":"lsif","count":13}"#),
+    (
+        "put app k1 1 base | 11 -",
+        r#"422 {"fault":"E01","line":3,"text":"range in no document"}"#,
+    ),
+    (
+        "put app k1 1 base | 3 { | 4 metaData",
+        r#"422 {"fault":"L02","line":3,"text":"not JSON"}"#,
+    ),
+    ("put app k1 2 ring", r#"200 {"accepted":"lsif","count":13}"#),
+    (
+        "put app k1 1 nothing",
+        r#"422 {"fault":"L06","line":1,"text":"metaData missing, wrong or repeated"}"#,
+    ),
+    (
+        "put app k1 1 brace",
+        r#"422 {"fault":"L02","line":1,"text":"not JSON"}"#,
+    ),
+    (
+        r#"tags app k1 a\x41\tb␉f.c␉/a\/b/;"␉f␊"#,
+        r#"200 {"accepted":"tags","count":1}"#,
+    ),
+    (
+        "tags app k1 x␉f.c␉1␍␊y␉f.c␉2",
+        r#"200 {"accepted":"tags","count":2}"#,
+    ),
+    (
+        "tags app k1 x␉f.c␉1␊y␉f.c␉2␍",
+        r#"422 {"fault":"T03","line":2,"text":"control character"}"#,
+    ),
+    (
+        r#"tags app k1 x␉f.c␉1␊\q␉f.c␉2␊y␊"#,
+        r#"422 {"fault":"T05","line":2,"text":"bad escape"}"#,
+    ),
+    ("tags app k1 -", r#"200 {"accepted":"tags","count":0}"#),
+];
+
+/// Asserts the replies of the rows, and those of a dump without its last line feed.
+#[test]
+fn pieces(rt: HostRuntime) -> Result<(), Fail> {
+    for (row, wanted) in ROWS {
+        let body = upload(rt.alloc(), row)?;
+        expect_reply(&rt, row, body.as_bytes(), wanted)?;
+    }
+    let body = upload(rt.alloc(), "put app k1 1 base")?;
+    let unended = body.as_bytes().strip_suffix(b"\n").unwrap_or(b"");
+    let wanted = r#"200 {"accepted":"lsif","count":11}"#;
+    expect_reply(&rt, "put app k1 1 base", unended, wanted)
+}
+
+/// The pieces of a dump and of tags files, and how many bytes are held after each.
+const HELD: [(&str, &str, [(&str, usize); 4]); 3] = [
+    (
+        "put app k1 1",
+        r#"422 {"fault":"L02","line":1,"text":"not JSON"}"#,
+        [("{", 1), ("}x", 3), ("\n{", 0), ("{", 0)],
+    ),
+    (
+        "tags app k1",
+        r#"200 {"accepted":"tags","count":2}"#,
+        [("x\tf", 3), (".c\t1\r", 8), ("\n", 0), ("y\tf.c\t2", 7)],
+    ),
+    (
+        "tags app k2",
+        r#"422 {"fault":"T04","line":2,"text":"fewer than three parts"}"#,
+        [("x\tf.c\t1\n\ny", 0), ("y", 0), ("\n", 0), ("", 0)],
+    ),
+];
+
+/// A body under a kept key has the kept reply, whatever it is; the fault of a line waits for the end.
+#[test]
+fn held_bytes_and_kept_keys(rt: HostRuntime) -> Result<(), Fail> {
+    for (row, wanted, pieces) in HELD {
+        let mut desk = PlainDesk::new(rt.alloc());
+        let mut upload = begin(rt.alloc(), row)?;
+        for (piece, held) in pieces {
+            assert_eq!(rt; upload.piece(piece.as_bytes()), Ok(()), "{row}");
+            assert_eq!(rt; upload.held(), held, "{row}, after {piece:?}");
+        }
+        let found = text_of(rt.alloc(), &desk.finish_upload(upload))?;
+        assert_eq!(rt; found.as_str(), wanted, "{row}");
+    }
+    let mut desk = PlainDesk::new(rt.alloc());
+    let kept = reply_to(rt.alloc(), &mut desk, "put app k1 1 base")?;
+    for (row, body) in [
+        ("put app k1 1", "{"),
+        ("tags app k1", ""),
+        ("tags app k1", "x"),
+    ] {
+        let found = reply_in_pieces(rt.alloc(), &mut desk, row, body.as_bytes(), 0, 1)?;
+        assert_eq!(rt; found.as_str(), kept.as_str(), "{row} {body}");
+    }
+    Ok(())
+}
+
+/// A dump of so many elements.
+fn large_dump(alloc: Global, count: usize) -> Result<String, Fail> {
+    let mut text = dump_text(alloc, "nothing | 1 metaData")?;
+    for id in 2..=count {
+        let line = format!(in alloc;
+            "{{\"id\":{id},\"type\":\"vertex\",\"label\":\"resultSet\"}}\n"
+        )?;
+        text.push_str(line.as_str())?;
+    }
+    Ok(text)
+}
+
+/// A text that is filled with spaces up to so many bytes.
+fn filled(alloc: Global, text: &str, len: usize) -> Result<String, Fail> {
+    let mut filled = String::from_str(alloc, text.trim_end())?;
+    for _ in filled.len()..len {
+        filled.push(' ')?;
+    }
+    Ok(filled)
+}
+
+/// Large bodies that come in pieces of 8,192 bytes.
+#[test]
+fn large_bodies(rt: HostRuntime) -> Result<(), Fail> {
+    let alloc = rt.alloc();
+    let dump = large_dump(alloc, 40000)?;
+    let line = dump_text(alloc, "nothing | 1 metaData")?;
+    let tag = "x\tf.c\t/";
+    let (longest, longer) = (
+        filled(alloc, line.as_str(), 1048576)?,
+        filled(alloc, line.as_str(), 1048577)?,
+    );
+    let (long_tag, longer_tag) = (filled(alloc, tag, 65535)?, filled(alloc, tag, 65536)?);
+    for (row, body, last, wanted) in [
+        (
+            "put app k1 1",
+            &dump,
+            "",
+            r#"200 {"accepted":"lsif","count":40000}"#,
+        ),
+        (
+            "put app k1 1",
+            &longest,
+            "",
+            r#"200 {"accepted":"lsif","count":1}"#,
+        ),
+        (
+            "put app k1 1",
+            &longest,
+            "\n",
+            r#"200 {"accepted":"lsif","count":1}"#,
+        ),
+        (
+            "put app k1 1",
+            &longer,
+            "",
+            r#"422 {"fault":"L01","line":1,"text":"line too long"}"#,
+        ),
+        (
+            "put app k1 1",
+            &longest,
+            "\r\n",
+            r#"422 {"fault":"L01","line":1,"text":"line too long"}"#,
+        ),
+        (
+            "tags app k1",
+            &long_tag,
+            "/",
+            r#"200 {"accepted":"tags","count":1}"#,
+        ),
+        (
+            "tags app k1",
+            &long_tag,
+            "/\n",
+            r#"200 {"accepted":"tags","count":1}"#,
+        ),
+        (
+            "tags app k1",
+            &longer_tag,
+            "/",
+            r#"422 {"fault":"T01","line":1,"text":"line too long"}"#,
+        ),
+        (
+            "tags app k1",
+            &long_tag,
+            "/\r\n",
+            r#"422 {"fault":"T01","line":1,"text":"line too long"}"#,
+        ),
+    ] {
+        let mut desk = PlainDesk::new(alloc);
+        let whole = format!(in alloc; "{body}{last}")?;
+        let found = reply_in_pieces(alloc, &mut desk, row, whole.as_bytes(), 0, 8192)?;
+        assert_eq!(rt; found.as_str(), wanted, "{row}, {} bytes", whole.len());
+    }
+    Ok(())
+}
