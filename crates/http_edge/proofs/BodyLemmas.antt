@@ -1,13 +1,17 @@
 -- A head, and then its body.
-use Rattle.std.proofs.Common.{◌≡◌, ℕ, ◌+◌, ◌<◌, ◌≤◌, inl, inr, List, [], ◌∷◌, ◌++◌, length, take, drop, Option, refl, sym, ◌∙◌, ap, arith, append_assoc, length-append, zero, suc}
-use Rattle.std.proofs.Math.Seq.{drop-nil}
-use Rattle.std.proofs.lemmas.List.{take-append-le, drop-append-le, take_all, drop_all, length-take, length-drop}
+use Rattle.std.proofs.Common.{◌≡◌, ℕ, ◌+◌, ◌<◌, ◌≤◌, inl, inr, List, [], ◌++◌, length, take, drop, Option, Result, Ok, Err, IfOk, refl, sym, ◌∙◌, ap, arith, append_assoc, length-append}
+use Rattle.std.proofs.lemmas.List.{take-append-le, drop-append-le, take_all, drop_all}
+use Rattle.std.specs.declared.alloc.AllocError.{AllocError}
 use Rattle.lsif.specs.Streams.{AtEnd}
 use Rattle.http_edge.specs.Heads.{request_head, SettlesHead}
 use Rattle.http_edge.specs.Messages.{IsUnended}
 use Rattle.http_edge.specs.Requests.{refused, message_of}
-use Rattle.http_edge.specs.Steps.Serving.{GivesHead, Gives}
+use Rattle.http_edge.specs.Steps.Requests.{AsksAfter, Asks}
+use Rattle.http_edge.specs.Steps.Serving.{GivesHead, Gives, Says}
 use Rattle.http_edge.specs.declared.refusal.Refusal.TheVariants.{BodyCut}
+use Rattle.http_edge.specs.declared.request.Asked.{Asked}
+use Rattle.http_edge.specs.declared.request.Asked.TheVariants.{Upload, Request, Refused}
+use Rattle.http_edge.proofs.RequestLemmas.{message_goes_on}
 use Rattle.http_edge.proofs.MessageLemmas.{head-append, head_some}
 
 -- a head that asks for a body came whole
@@ -18,19 +22,19 @@ head_whole bytes method target len rest left given = elim given [
   | inr u ↦ cc (u.3)
 ]
 
-pub body_whole : (held c rest body junk next method target : List ℕ) (len : ℕ) (left : Option (List ℕ))
+pub body_whole : (held c rest body next method target : List ℕ) (len : ℕ) (left : Option (List ℕ))
     → SettlesHead held (request_head method target len) rest → rest ++ c ≡ body ++ next → length body ≡ len
-    → Gives (held ++ c) (message_of method target (take len (body ++ junk))) next left
-body_whole held c rest body junk next method target len left s e fits =
+    → Gives (held ++ c) (message_of method target body) next left
+body_whole held c rest body next method target len left s e fits =
     let le : len ≤ length body = omega (arith, fits) in
-    let whole : (ys : List ℕ) → take len (body ++ ys) ≡ body = λ ys. take-append-le len body ys le ∙ take_all len body (omega (arith, fits)) in
+    let whole : take len (body ++ next) ≡ body = take-append-le len body next le ∙ take_all len body (omega (arith, fits)) in
     let after : drop len (body ++ next) ≡ next = drop-append-le len body next le ∙ ap (λ l. l ++ next) (drop_all len body (omega (arith, fits))) in
     let long = length-append body next in
     inl (
       request_head method target len,
       rest ++ c,
       head-append held c (request_head method target len) rest s,
-      rw e (omega (arith, fits, long), rw (whole junk, whole next) refl, sym after),
+      rw e (omega (arith, fits, long), rw whole refl, sym after),
     )
 
 pub body_unended : (held c rest method target : List ℕ) (len : ℕ) → SettlesHead held (request_head method target len) rest → length (rest ++ c) < len
@@ -50,16 +54,13 @@ body_ended held c rest method target len next left s short ended e =
       e,
     )
 
-pub room_taken : (xs : List ℕ) (len most : ℕ) → len ≤ most → most ≤ length xs → length (take len xs) ≡ len
-room_taken xs len most a b = let l = length-take len xs in omega arith
-
 -- the same, of buffered bytes that came one part after another
-pub gives_whole : (old b held c rest body junk next method target : List ℕ) (len : ℕ) (left left' : Option (List ℕ))
+pub gives_whole : (old b held c rest body next method target : List ℕ) (len : ℕ) (left left' : Option (List ℕ))
     → held ≡ old ++ b → GivesHead held (request_head method target len) rest left' → rest ++ c ≡ body ++ next → length body ≡ len
-    → Gives (old ++ (b ++ c)) (message_of method target (take len (body ++ junk))) next left
-gives_whole old b held c rest body junk next method target len left left' e given f fits =
+    → Gives (old ++ (b ++ c)) (message_of method target body) next left
+gives_whole old b held c rest body next method target len left left' e given f fits =
     rw (← append_assoc old b c, ← e)
-    (body_whole held c rest body junk next method target len left (head_whole held method target len rest left' given) f fits)
+    (body_whole held c rest body next method target len left (head_whole held method target len rest left' given) f fits)
 
 pub gives_cut : (old b held c rest method target : List ℕ) (len : ℕ) (next : List ℕ) (left left' : Option (List ℕ))
     → held ≡ old ++ b → GivesHead held (request_head method target len) rest left' → length (rest ++ c) < len → AtEnd left → next ≡ []
@@ -74,12 +75,33 @@ cut_unended old b held c rest method target len left' e given short =
     rw (← append_assoc old b c, ← e)
     (body_unended held c rest method target len (head_whole held method target len rest left' given) short)
 
-pub drop_twice : (taken count : ℕ) (held : List ℕ) → drop count (drop taken held) ≡ drop (taken + count) held
-drop_twice zero count held = ap (λ k. drop k held) (omega arith)
-drop_twice (suc taken) count [] = drop-nil count ∙ sym (drop-nil (suc taken + count))
-drop_twice (suc taken) count (x ∷ held) =
-    let one : suc (taken + count) ≡ suc taken + count = omega arith in
-    drop_twice taken count held ∙ ap (λ k. drop k (x ∷ held)) one
+-- ---- pieces of a body
 
-pub within_twice : (taken count : ℕ) (held : List ℕ) → taken ≤ length held → count ≤ length (drop taken held) → taken + count ≤ length held
-within_twice taken count held a b = let l = length-drop taken held in omega arith
+-- one more piece
+pub joined : (held bytes more body piece pending rest : List ℕ) → held ++ bytes ≡ body ++ pending → pending ++ more ≡ piece ++ rest
+    → held ++ (bytes ++ more) ≡ (body ++ piece) ++ rest
+joined held bytes more body piece pending rest e f =
+    sym (append_assoc held bytes more) ∙ ap (λ l. l ++ more) e ∙ append_assoc body pending more ∙ ap (λ l. body ++ l) f ∙ sym (append_assoc body piece rest)
+
+-- a body that isn't whole
+pub still_short : (held bytes more body pending : List ℕ) (rest len : ℕ) → held ++ bytes ≡ body ++ pending → pending ++ more ≡ [] → length body + rest ≡ len → 0 < rest
+    → length (held ++ (bytes ++ more)) < len
+still_short held bytes more body pending rest len e f count some =
+    let all = joined held bytes more body [] pending [] e f in
+    let a = length-append (body ++ []) [] in
+    let b = length-append body [] in
+    rw all (omega (arith, a, b, count))
+
+-- ---- what is asked
+
+-- what was asked when all of the body had come
+pub said : (asked : Result Asked AllocError) (method target body : List ℕ) → AsksAfter asked method target body → Says asked (message_of method target body)
+said (Ok (Upload upload)) method target body a = (body, a.0, a.1 body)
+said (Ok (Request q)) method target body a = a body
+said (Ok (Refused refusal)) method target body a = a body
+said (Err e) method target body a = message_goes_on method target body
+
+-- what is asked before any byte of the body came
+pub begun : (asked : Result Asked AllocError) (method target : List ℕ) → IfOk asked (λ a. Asks a method target) → AsksAfter asked method target []
+begun (Ok a) method target asks = asks
+begun (Err e) method target asks = tt

@@ -10,7 +10,7 @@ use Rattle.http_edge.specs.Values.{Values, absent, single, several}
 use Rattle.http_edge.specs.Steps.Values.{with_value, with_values}
 use Rattle.http_edge.specs.Fields.{Pair, field_values, same_name, body_limit}
 
-pub body_limit_is : body_limit ≡ 8388608
+pub body_limit_is : body_limit ≡ 33554432
 unfolding body_limit
 body_limit_is = refl
 

@@ -61,13 +61,13 @@ range_in_front bytes n a b le within =
 value_in_front : (bytes : List ℕ) (n : ℕ) (head : Head) → FitsIn n head → head_value (take n bytes) head ≡ head_value bytes head
 value_in_front bytes n (Refused refusal) fits = refl
 value_in_front bytes n (Request line len) fits =
-    rw (range_in_front bytes n line.method.start line.method.end fits.1.0 fits.1.1, range_in_front bytes n line.target.start line.target.end fits.2.0 fits.2.1) refl
+    rw (range_in_front bytes n line.method.start line.method.end fits.0.0 fits.0.1, range_in_front bytes n line.target.start line.target.end fits.1.0 fits.1.1) refl
 
 fits_more : (n m : ℕ) (head : Head) → n ≤ m → FitsIn n head → FitsIn m head
 fits_more n m (Refused refusal) le fits = tt
 fits_more n m (Request line len) le fits =
-    let method = fits.1.1 in
-    let target = fits.2.1 in (fits.0, (fits.1.0, omega arith), (fits.2.0, omega arith))
+    let method = fits.0.1 in
+    let target = fits.1.1 in ((fits.0.0, omega arith), (fits.1.0, omega arith))
 
 pub found_fits : (bytes : List ℕ) (m n : ℕ) → Some n ≡ find_head (take m bytes) → n ≡ length (take n bytes)
 found_fits bytes m n found =

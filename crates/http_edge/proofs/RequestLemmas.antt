@@ -1,20 +1,22 @@
 -- What requests ask.
-use Rattle.std.proofs.Common.{◌≡◌, ◌≢◌, ℕ, ◌⊎◌, inl, inr, Bool, true, false, List, [], ◌∷◌, Option, Some, None, MatchOption, length, codes, refl, ap, sym, ◌∙◌}
-use Rattle.std.specs.Prelude.{◌==◌, ◌||◌, not, slice_index}
-use Rattle.std.specs.Char.{is_digit, digit_value}
-use Rattle.std.specs.List.{list_all}
+use Rattle.std.proofs.Common.{◌≡◌, ℕ, Bool, true, false, List, Option, Some, None, refl, ap, sym, ◌∙◌}
 use Rattle.std.specs.Str.{bytes_eq, IsUtf8, is_utf8}
-use Rattle.std.specs.Str.Parse.{AllDigits, digits_value}
-use Rattle.std.proofs.lemmas.Bool.{and_parts, and_from, or_cases, not-true, ltb-true, lt-ltb, eqb-false, ne_eqb, false_from_ne_true}
+use Rattle.std.proofs.lemmas.Bool.{false_from_ne_true}
 use Rattle.std.proofs.lemmas.Str.{IsUtf8-from_is_utf8, is_utf8-from_IsUtf8}
-use Rattle.positions.specs.Position.{number_limit}
-use Rattle.desk.specs.Requests.{RequestValue}
-use Rattle.http_edge.specs.Requests.{request, refused, path_in, query_in, with_form, with_method, with_route, route_in, request_of, message_of}
+use Rattle.std.specs.declared.alloc.AllocError.{AllocError}
+use Rattle.std.specs.Prelude.{Result, Ok, Err, IfOk, option_map}
+use Rattle.desk.specs.declared.request.Query.{Query}
+use Rattle.desk.specs.Requests.{QueryValue, RequestValue, query_value}
+use Rattle.desk.specs.Requests as requests
+use Rattle.http_edge.specs.Requests.{refused, path_in, query_in, with_form, with_method, with_route, route_in, request_of, message_of}
 use Rattle.http_edge.specs.Messages.{ends}
+use Rattle.http_edge.specs.Parameters.{parameters}
 use Rattle.http_edge.specs.Routes.{method_of, route_of}
 use Rattle.http_edge.specs.declared.route.Route.{Route}
-use Rattle.http_edge.specs.declared.refusal.Refusal.TheVariants.{BodyCut, NoSuchRoute, MethodNotAllowed, BadParameter}
-use Rattle.http_edge.proofs.Paths.{same_is}
+use Rattle.http_edge.specs.Steps.Requests.{Asks, AsksFor}
+use Rattle.http_edge.specs.declared.request.Asked.{Asked}
+use Rattle.http_edge.specs.declared.request.Asked.TheVariants.{Upload, Request, Refused}
+use Rattle.http_edge.specs.declared.refusal.Refusal.TheVariants.{BodyCut, NoSuchRoute, MethodNotAllowed}
 
 form_goes_on : (asked : Option RequestValue) → ends (with_form asked) ≡ false
 form_goes_on None = refl
@@ -27,7 +29,7 @@ method_goes_on false route asked = refl
 route_goes_on : (found : Option (Route × List ℕ)) (method query body : List ℕ) → ends (with_route found method query body) ≡ false
 route_goes_on None method query body = refl
 route_goes_on (Some found) method query body =
-    method_goes_on (bytes_eq method (method_of found.0)) found.0 (request_of found.0 found.1 query body)
+    method_goes_on (bytes_eq method (method_of found.0)) found.0 (request_of found.0 found.1 (parameters query) body)
 
 -- a request whose head and body are whole doesn't end the stream
 pub message_goes_on : (method target body : List ℕ) → ends (message_of method target body) ≡ false
@@ -41,29 +43,50 @@ message_whole method target body e =
 
 -- ---- by route, method and parameters
 
-pub asks_no_route : (method target body : List ℕ) → None ≡ route_in (path_in target) → refused NoSuchRoute ≡ message_of method target body
+pub asks_no_route : (method target : List ℕ) → None ≡ route_in (path_in target) → (body : List ℕ) → message_of method target body ≡ refused NoSuchRoute
 unfolding message_of
-asks_no_route method target body e = rw (← e) refl
+asks_no_route method target e body = rw (← e) refl
 
-pub asks_other_method : (method target body : List ℕ) (found : Route × List ℕ) → Some found ≡ route_in (path_in target) → bytes_eq method (method_of found.0) ≡ false
-    → refused (MethodNotAllowed found.0) ≡ message_of method target body
+pub asks_other_method : (method target : List ℕ) (found : Route × List ℕ) → Some found ≡ route_in (path_in target) → bytes_eq method (method_of found.0) ≡ false
+    → (body : List ℕ) → message_of method target body ≡ refused (MethodNotAllowed found.0)
 unfolding message_of
-asks_other_method method target body found e m = rw (← e, m) refl
+asks_other_method method target found e m body = rw (← e, m) refl
 
-pub asks_form : (method target body : List ℕ) (found : Route × List ℕ) → Some found ≡ route_in (path_in target) → bytes_eq method (method_of found.0) ≡ true
-    → with_form (request_of found.0 found.1 (query_in target) body) ≡ message_of method target body
+asks_form : (method target body : List ℕ) (found : Route × List ℕ) → Some found ≡ route_in (path_in target) → bytes_eq method (method_of found.0) ≡ true
+    → message_of method target body ≡ with_form (request_of found.0 found.1 (parameters (query_in target)) body)
 unfolding message_of
 asks_form method target body found e m = rw (← e, m) refl
 
-pub asks_request : (method target query body : List ℕ) (found : Route × List ℕ) (q : RequestValue) → Some found ≡ route_in (path_in target) → true ≡ bytes_eq method (method_of found.0)
-    → query ≡ query_in target → Some q ≡ request_of found.0 found.1 query body → request q ≡ message_of method target body
-asks_request method target query body found q e m same is =
-    ap with_form (rw same at is) ∙ asks_form method target body found e (sym m)
+asks_value : (method target : List ℕ) (found : Route × List ℕ) (pairs : List (List ℕ × List ℕ)) (value : Option RequestValue) → Some found ≡ route_in (path_in target)
+    → true ≡ bytes_eq method (method_of found.0) → pairs ≡ parameters (query_in target) → (body : List ℕ) → request_of found.0 found.1 pairs body ≡ value
+    → message_of method target body ≡ with_form value
+asks_value method target found pairs value e m same body is =
+    asks_form method target body found e (sym m) ∙ ap with_form (rw same at is)
 
-pub asks_nothing : (method target query body : List ℕ) (found : Route × List ℕ) → Some found ≡ route_in (path_in target) → true ≡ bytes_eq method (method_of found.0)
-    → query ≡ query_in target → None ≡ request_of found.0 found.1 query body → refused BadParameter ≡ message_of method target body
-asks_nothing method target query body found e m same is =
-    ap with_form (rw same at is) ∙ asks_form method target body found e (sym m)
+asks_parameters : (asked : Asked) (method target : List ℕ) (found : Route × List ℕ) (pairs : List (List ℕ × List ℕ)) → Some found ≡ route_in (path_in target)
+    → true ≡ bytes_eq method (method_of found.0) → pairs ≡ parameters (query_in target) → AsksFor asked (request_of found.0 found.1 pairs) → Asks asked method target
+asks_parameters (Upload upload) method target found pairs e m same asks =
+    (asks.0, λ body. asks_value method target found pairs _ e m same body (asks.1 body))
+asks_parameters (Request q) method target found pairs e m same asks = λ body. asks_value method target found pairs _ e m same body (asks body)
+asks_parameters (Refused refusal) method target found pairs e m same asks =
+    λ body. rw asks.0 (asks_value method target found pairs None e m same body (asks.1 body))
+
+pub asks_read : (r : Result Asked AllocError) (method target : List ℕ) (found : Route × List ℕ) (pairs : List (List ℕ × List ℕ)) → Some found ≡ route_in (path_in target)
+    → true ≡ bytes_eq method (method_of found.0) → pairs ≡ parameters (query_in target) → IfOk r (λ asked. AsksFor asked (request_of found.0 found.1 pairs))
+    → IfOk r (λ asked. Asks asked method target)
+asks_read (Ok asked) method target found pairs e m same asks = asks_parameters asked method target found pairs e m same asks
+asks_read (Err fault) method target found pairs e m same asks = tt
+
+-- ---- by what was read of the parameters
+
+pub asks_same : (asked : Asked) (f g : List ℕ → Option RequestValue) → ((body : List ℕ) → f body ≡ g body) → AsksFor asked f → AsksFor asked g
+asks_same (Upload upload) f g same asks = (asks.0, λ body. sym (same body) ∙ asks.1 body)
+asks_same (Request q) f g same asks = λ body. sym (same body) ∙ asks body
+asks_same (Refused refusal) f g same asks = (asks.0, λ body. sym (same body) ∙ asks.1 body)
+
+pub asks_query : (asked : Asked) (q read : Option Query) (value : Option QueryValue) → AsksFor asked (λ body. option_map requests.query (option_map query_value q)) → q ≡ read
+    → option_map query_value read ≡ value → AsksFor asked (λ body. option_map requests.query value)
+asks_query asked q read value asks is says = asks_same asked _ _ (λ body. ap (option_map requests.query) (ap (option_map query_value) is ∙ says)) asks
 
 pub text_route : (path : List ℕ) → IsUtf8 path → route_of path ≡ route_in path
 text_route path u = rw (is_utf8-from_IsUtf8 path u) refl

@@ -5,8 +5,6 @@ use Rattle.std.specs.Char.{to_ascii_lowercase, is_ascii_digit}
 use Rattle.std.specs.Str.{bytes_eq}
 use Rattle.std.specs.Str.Parse.{digits_value}
 use Rattle.http_edge.specs.Values.{Values, absent, single, several, values}
-use Rattle.http_edge.specs.declared.fields.FieldValues.{FieldValues}
-use Rattle.http_edge.specs.declared.fields.FieldValues.TheVariants.{Absent, Single, Several}
 use Rattle.http_edge.specs.declared.refusal.Refusal.{Refusal}
 use Rattle.http_edge.specs.declared.refusal.Refusal.TheVariants.{BadHead, LengthRequired, BodyTooLarge, TransferCoding}
 
@@ -26,7 +24,7 @@ field_values name (field ∷ fields) =
 
 -- how many bytes a body has at most
 unfoldable pub body_limit : ℕ
-body_limit = 8388608
+body_limit = 33554432
 
 -- 1 to 19 decimal digits
 abbrev pub is_length : List ℕ → Bool

@@ -1,11 +1,9 @@
 -- The head of a request: where it ends, and what it says (RFC 9112, sections 2 to 6).
-use Rattle.std.specs.Prelude.{◌≡◌, ℕ, ◌<◌, ◌≤◌, ◌⊎◌, Bool, true, false, ◌&&◌, List, [], ◌∷◌, length, take, drop, map, Option, Some, None, Result, Ok, Err, option_map, count_by, codes, if◌then◌else◌, ◌==◌, nat_lt, nat_eq, ⊤, suc}
+use Rattle.std.specs.Prelude.{◌≡◌, ℕ, ◌<◌, ◌≤◌, ◌⊎◌, Bool, true, false, ◌&&◌, List, [], ◌∷◌, length, take, drop, map, Option, Some, None, Result, Ok, Err, option_map, count_by, codes, if◌then◌else◌, ◌==◌, nat_lt, nat_eq, suc}
 use Rattle.std.specs.Cmp.Lexicographic.{pointwise}
 use Rattle.httparse.specs.Grammar.{RequestHead, ReadsRequest}
-use Rattle.httparse.specs.Spans.{name_and_value, span_bytes, IsWithin}
-use Rattle.http_edge.specs.Fields.{body_length, body_limit}
-use Rattle.http_edge.specs.declared.head.Head.{Head}
-use Rattle.http_edge.specs.declared.head.Head.TheVariants.{Refused, Request}
+use Rattle.httparse.specs.Spans.{name_and_value}
+use Rattle.http_edge.specs.Fields.{body_length}
 use Rattle.http_edge.specs.declared.refusal.Refusal.{Refusal}
 use Rattle.http_edge.specs.declared.refusal.Refusal.TheVariants.{BadHead, HeadTooLarge}
 

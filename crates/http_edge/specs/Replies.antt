@@ -7,8 +7,6 @@ use Rattle.http_edge.specs.Refusals.{status_of, allow_of, body_of}
 use Rattle.http_edge.specs.Routes.{method_of}
 use Rattle.http_edge.specs.declared.route.Route.{Route}
 use Rattle.http_edge.specs.declared.refusal.Refusal.{Refusal}
-use Rattle.http_edge.specs.declared.reply.Answer.{Answer}
-use Rattle.http_edge.specs.declared.reply.Answer.TheVariants.{Reply, Refused}
 
 -- the phrase of a status, a number of three digits
 unfoldable pub phrase : ℕ → List ℕ

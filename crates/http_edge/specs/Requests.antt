@@ -1,20 +1,19 @@
 -- What a request asks of the desk, by its method, its target and its body.
-use Rattle.std.specs.Prelude.{ℕ, Bool, true, false, List, [], ◌∷◌, Option, Some, None, codes, option_map, option_and_then, if◌then◌else◌, ◌==◌}
+use Rattle.std.specs.Prelude.{ℕ, Bool, true, false, List, [], ◌∷◌, length, Option, Some, None, codes, option_map, option_and_then, if◌then◌else◌, ◌==◌, ◌&&◌, not}
 use Rattle.std.specs.Str.{is_utf8, bytes_eq}
 use Rattle.url.specs.Parser.{parse_url}
 use Rattle.positions.specs.Position.{PositionValue}
 use Rattle.lsif.specs.Vertices.{serialized}
+use Rattle.lsif.specs.declared.element.Profile as profiles
+use Rattle.lsif.specs.declared.element.Profile.TheVariants.{One, Two}
 use Rattle.desk.specs.Names.{is_project_name, is_key, is_without_nul, where_so, number_in}
-use Rattle.lsif.specs.declared.element.Profile.TheVariants.{One}
-use Rattle.desk.specs.Requests.{CommandValue, QueryValue, RequestValue, put_dump, definition}
+use Rattle.desk.specs.Requests.{ActionValue, put_dump, put_tags, remove, CommandValue, DocumentPositionValue, at_value, QueryValue, definition, references, hover, declaration, implementation, names, prefix, projects, profile, RequestValue}
 use Rattle.desk.specs.Requests as requests
 use Rattle.http_edge.specs.Values.{Values, absent, single, several}
-use Rattle.http_edge.specs.Parameters.{parameter}
+use Rattle.http_edge.specs.Parameters.{parameter, parameters}
 use Rattle.http_edge.specs.Routes.{route_of, method_of}
 use Rattle.http_edge.specs.declared.route.Route.{Route}
-use Rattle.http_edge.specs.declared.route.Route.TheVariants.{Lsif, Definition}
-use Rattle.http_edge.specs.declared.request.Asked.{Asked}
-use Rattle.http_edge.specs.declared.request.Asked.TheVariants.{Request, Refused}
+use Rattle.http_edge.specs.declared.route.Route.TheVariants as routes
 use Rattle.http_edge.specs.declared.refusal.Refusal.{Refusal}
 use Rattle.http_edge.specs.declared.refusal.Refusal.TheVariants.{NoSuchRoute, MethodNotAllowed, BadParameter}
 
@@ -32,43 +31,113 @@ abbrev pub query_in : List ℕ → List ℕ
 query_in [] = []
 query_in (b ∷ target) = if b == 63 then target else query_in target
 
--- a parameter that has to be there once, and to be of a form
+-- ---- parameters of a form
+
+-- a parameter that has to be there once
 abbrev pub required : {A : Type 0} → (List ℕ → Option A) → Values → Option A
 required form absent = None
 required form (single text) = form text
 required form several = None
 
+-- a parameter that may be there once, and stands for that where it isn't there
+abbrev pub optional : {A : Type 0} → A → (List ℕ → Option A) → Values → Option A
+optional default form absent = Some default
+optional default form (single text) = form text
+optional default form several = None
+
+-- both, where both are there
+abbrev pub both : {A B : Type 0} → Option A → Option B → Option (A × B)
+both (Some a) (Some b) = Some (a, b)
+both (Some a) None = None
+both None b = None
+
+-- the name of a project that a text is
+abbrev pub project_name : List ℕ → Option (List ℕ)
+project_name = where_so is_project_name
+
 -- the serialized URL that a text spells, which has no U+0000
-unfoldable pub uri_in : List ℕ → Option (List ℕ)
-uri_in text = option_and_then (where_so is_without_nul) (serialized (parse_url None text))
+unfoldable pub url_in : List ℕ → Option (List ℕ)
+url_in text = option_and_then (where_so is_without_nul) (serialized (parse_url None text))
 
-abbrev pub put_of : Option (List ℕ) → Option (List ℕ) → List ℕ → Option CommandValue
-put_of (Some project) (Some key) body = Some (record { project = project; key = key; action = put_dump One body })
-put_of (Some project) None body = None
-put_of None key body = None
+abbrev pub profile_named : List ℕ → Option profiles.Profile
+profile_named text = if bytes_eq text (codes "1") then Some One else (if bytes_eq text (codes "2") then Some Two else None)
 
-abbrev pub position_of : Option ℕ → Option ℕ → Option PositionValue
-position_of (Some line) (Some character) = Some (record { line = line; character = character })
-position_of (Some line) None = None
-position_of None character = None
+abbrev pub yes_or_no : List ℕ → Option Bool
+yes_or_no text = if bytes_eq text (codes "yes") then Some true else (if bytes_eq text (codes "no") then Some false else None)
 
-abbrev pub definition_of : Option (List ℕ) → Option (List ℕ) → Option PositionValue → Option QueryValue
-definition_of (Some project) (Some uri) (Some position) = Some (definition (record { project = project; uri = uri; position = position }))
-definition_of (Some project) (Some uri) None = None
-definition_of (Some project) None position = None
-definition_of None uri position = None
+-- a text that isn't empty and has no U+0000
+abbrev pub is_tag_text : List ℕ → Bool
+is_tag_text text = not (length text == 0) && is_without_nul text
 
--- the position that a query names
-abbrev pub position_in : List ℕ → Option PositionValue
-position_in query =
-    position_of (required number_in (parameter query (codes "line"))) (required number_in (parameter query (codes "character")))
+abbrev pub key_in : List (List ℕ × List ℕ) → Option (List ℕ)
+key_in pairs = required (where_so is_key) (parameter (codes "key") pairs)
 
--- the request of a route, with the text of its project, its query and its body
-unfoldable pub request_of : Route → List ℕ → List ℕ → List ℕ → Option RequestValue
-request_of Lsif project query body =
-    option_map requests.command (put_of (where_so is_project_name project) (required (where_so is_key) (parameter query (codes "key"))) body)
-request_of Definition project query body =
-    option_map requests.query (definition_of (where_so is_project_name project) (required uri_in (parameter query (codes "uri"))) (position_in query))
+-- profile 1 where none is named
+abbrev pub profile_in : List (List ℕ × List ℕ) → Option profiles.Profile
+profile_in pairs = optional One profile_named (parameter (codes "profile") pairs)
+
+abbrev pub uri_in : List (List ℕ × List ℕ) → Option (List ℕ)
+uri_in pairs = required url_in (parameter (codes "uri") pairs)
+
+abbrev pub position_of : ℕ × ℕ → PositionValue
+position_of (line, character) = record { line = line; character = character }
+
+abbrev pub position_in : List (List ℕ × List ℕ) → Option PositionValue
+position_in pairs =
+    option_map position_of (both (required number_in (parameter (codes "line") pairs)) (required number_in (parameter (codes "character") pairs)))
+
+-- the declaration is asked for where nothing is said of it
+abbrev pub declaration_in : List (List ℕ × List ℕ) → Option Bool
+declaration_in pairs = optional true yes_or_no (parameter (codes "declaration") pairs)
+
+-- one project, or all where none is named
+abbrev pub searched_in : List (List ℕ × List ℕ) → Option (Option (List ℕ))
+searched_in pairs = optional None (λ text. option_map Some (project_name text)) (parameter (codes "project") pairs)
+
+-- ---- requests of parameters
+
+abbrev pub command_of : ActionValue → List ℕ × List ℕ → RequestValue
+command_of action (project, key) = requests.command (record { project = project; key = key; action = action })
+
+abbrev pub dump_put : List ℕ → List ℕ × (List ℕ × profiles.Profile) → RequestValue
+dump_put body (project, (key, by)) = command_of (put_dump by body) (project, key)
+
+abbrev pub place_of : List ℕ × (List ℕ × PositionValue) → DocumentPositionValue
+place_of (project, (uri, position)) = at_value project uri position
+
+-- a position in a document of a project
+abbrev pub place_in : List ℕ → List (List ℕ × List ℕ) → Option DocumentPositionValue
+place_in project pairs = option_map place_of (both (project_name project) (both (uri_in pairs) (position_in pairs)))
+
+abbrev pub references_of : DocumentPositionValue × Bool → QueryValue
+references_of (place, declared) = references place declared
+
+abbrev pub names_of : List ℕ × Option (List ℕ) → QueryValue
+names_of (name, project) = names name project
+
+abbrev pub prefix_of : List ℕ × Option (List ℕ) → QueryValue
+prefix_of (start, project) = prefix start project
+
+-- exactly one of a name and a prefix, in one project or in all
+abbrev pub tags_of : Values → Values → Option (Option (List ℕ)) → Option QueryValue
+tags_of (single name) absent project = option_map names_of (both (where_so is_tag_text name) project)
+tags_of absent (single start) project = option_map prefix_of (both (where_so is_tag_text start) project)
+tags_of name start project = None
+
+-- the request of a route, with the text of its project, its parameters and its body
+unfoldable pub request_of : Route → List ℕ → List (List ℕ × List ℕ) → List ℕ → Option RequestValue
+request_of routes.Lsif project pairs body = option_map (dump_put body) (both (project_name project) (both (key_in pairs) (profile_in pairs)))
+request_of routes.Tags project pairs body = option_map (command_of (put_tags body)) (both (project_name project) (key_in pairs))
+request_of routes.Project project pairs body = option_map (command_of remove) (both (project_name project) (key_in pairs))
+request_of routes.Definition project pairs body = option_map requests.query (option_map definition (place_in project pairs))
+request_of routes.References project pairs body = option_map requests.query (option_map references_of (both (place_in project pairs) (declaration_in pairs)))
+request_of routes.Hover project pairs body = option_map requests.query (option_map hover (place_in project pairs))
+request_of routes.Declaration project pairs body = option_map requests.query (option_map declaration (place_in project pairs))
+request_of routes.Implementation project pairs body = option_map requests.query (option_map implementation (place_in project pairs))
+request_of routes.Profile project pairs body = option_map requests.query (option_map profile (project_name project))
+request_of routes.Names project pairs body =
+    option_map requests.query (tags_of (parameter (codes "name") pairs) (parameter (codes "prefix") pairs) (searched_in pairs))
+request_of routes.Projects project pairs body = Some (requests.query projects)
 
 abbrev pub with_form : Option RequestValue → MessageValue
 with_form None = refused BadParameter
@@ -81,7 +150,7 @@ with_method false route asked = refused (MethodNotAllowed route)
 abbrev pub with_route : Option (Route × List ℕ) → List ℕ → List ℕ → List ℕ → MessageValue
 with_route None method query body = refused NoSuchRoute
 with_route (Some found) method query body =
-    with_method (bytes_eq method (method_of found.0)) found.0 (request_of found.0 found.1 query body)
+    with_method (bytes_eq method (method_of found.0)) found.0 (request_of found.0 found.1 (parameters query) body)
 
 -- the route of a path that is text
 abbrev pub route_in : List ℕ → Option (Route × List ℕ)
@@ -90,5 +159,3 @@ route_in path = if is_utf8 path then route_of path else None
 -- what a method, a target and a body ask
 unfoldable pub message_of : List ℕ → List ℕ → List ℕ → MessageValue
 message_of method target body = with_route (route_in (path_in target)) method (query_in target) body
-
--- ---- the same of the program's values

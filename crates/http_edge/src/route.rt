@@ -1,6 +1,6 @@
 //! The routes of paths.
 ghost use Rattle.std.specs.Prelude.{◌≡◌, ◌↔◌, ℕ, List, IfOk, Some, option_map};
-ghost use Rattle.http_edge.specs.Steps.Routes.{routes, named_route};
+ghost use Rattle.http_edge.specs.Steps.Routes.{routes, named_route, template_of};
 ghost use Rattle.http_edge.specs.Routes.{method_of, route_of, IsPathOf};
 
 use matchit::{InsertError, Router};
@@ -11,9 +11,42 @@ use std::alloc::Global;
 pub(crate) enum Route {
     /// `/projects/{p}/lsif`, where a dump is put.
     Lsif,
+    /// `/projects/{p}/tags`, where a tags file is put.
+    Tags,
+    /// `/projects/{p}`, which is removed.
+    Project,
     /// `/projects/{p}/definition`, which answers definitions.
     Definition,
+    /// `/projects/{p}/references`, which answers references.
+    References,
+    /// `/projects/{p}/hover`, which answers hovers.
+    Hover,
+    /// `/projects/{p}/declaration`, which answers declarations.
+    Declaration,
+    /// `/projects/{p}/implementation`, which answers implementations.
+    Implementation,
+    /// `/projects/{p}/profile`, which answers the profile of the project's dump.
+    Profile,
+    /// `/names`, which answers tags by their names.
+    Names,
+    /// `/projects`, which lists the projects.
+    Projects,
 }
+
+/// The routes.
+const ROUTES: [Route; 11] = [
+    Route::Lsif,
+    Route::Tags,
+    Route::Project,
+    Route::Definition,
+    Route::References,
+    Route::Hover,
+    Route::Declaration,
+    Route::Implementation,
+    Route::Profile,
+    Route::Names,
+    Route::Projects,
+];
 
 impl Route {
     /// The method that the route takes (RFC 9110, section 9).
@@ -21,37 +54,59 @@ impl Route {
         ensures { result.now ≡ method_of self }
     {
         match self {
-            Route::Lsif => "PUT",
-            Route::Definition => "GET",
+            Route::Lsif | Route::Tags => "PUT",
+            Route::Project => "DELETE",
+            _ => "GET",
+        }
+    }
+
+    /// The form of the route's paths, as the router reads it.
+    fn template(self) -> &'static str
+        ensures { result.now ≡ template_of self }
+    {
+        match self {
+            Route::Lsif => "/projects/{p}/lsif",
+            Route::Tags => "/projects/{p}/tags",
+            Route::Project => "/projects/{p}",
+            Route::Definition => "/projects/{p}/definition",
+            Route::References => "/projects/{p}/references",
+            Route::Hover => "/projects/{p}/hover",
+            Route::Declaration => "/projects/{p}/declaration",
+            Route::Implementation => "/projects/{p}/implementation",
+            Route::Profile => "/projects/{p}/profile",
+            Route::Names => "/names",
+            Route::Projects => "/projects",
         }
     }
 }
 
-/// The routes.
+/// The routes, in a router.
 pub(crate) fn router(alloc: Global) -> Result<Router<Route>, InsertError>
     ensures { IfOk result (λ r. r ≡ routes) }
 {
     let mut router = Router::new(alloc);
-    router.insert("/projects/{p}/lsif", Route::Lsif)?;
-    router.insert("/projects/{p}/definition", Route::Definition)?;
+    for route in ROUTES {
+        router.insert(route.template(), route)?;
+    }
     Ok(router)
 }
 
-/// The route of a path, and the segment of the path that names the project. None where the path has no route.
+/// The route of a path, and the segment of the path that names the project, which is empty where the route has none. None where the path has no
+/// route.
 pub(crate) fn find_route<'p>(router: &Router<Route>, path: &'p str) -> Option<(Route, &'p str)>
     requires { router.now ≡ routes }
     ensures { option_map named_route result ≡ route_of path.now }
 {
     match router.at(path) {
-        Ok(found) => match found.params.get("p") {
-            Some(project) => Some((*found.value, project)),
-            None => None,
-        },
+        Ok(found) => Some((*found.value, found.params.get("p").unwrap_or(""))),
         Err(_) => None,
     }
 }
 
-/// A path has a route exactly where it has the route's shape.
+/// A path has a route exactly where it has the form of that route's paths.
 pub fn route_law()
     ensures { (path : List ℕ) (route : Route) (project : List ℕ) → (route_of path ≡ Some (route, project)) ↔ IsPathOf route project path }
 {}
+
+#[cfg(test)]
+mod tests;

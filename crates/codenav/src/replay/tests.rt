@@ -27,7 +27,7 @@ const DEMO: [(&str, &str, u32, &str); 4] = [
         r#"{"places":[]}"#,
     ),
     (
-        "GET /projects/app/declaration HTTP/1.1\r\nHost: localhost\r\n\r\n",
+        "GET /projects/app/definitions HTTP/1.1\r\nHost: localhost\r\n\r\n",
         "404 Not Found",
         38,
         r#"{"fault":"H06","text":"no such route"}"#,

@@ -1,10 +1,6 @@
 -- Messages one after the other, and the bytes that follow them.
-use Rattle.std.specs.Prelude.{◌≡◌, ◌≢◌, ℕ, ◌<◌, ◌≤◌, ◌⊎◌, Bool, true, false, List, [], ◌∷◌, ◌++◌, length, take, drop, zero, suc}
-use Rattle.http_edge.specs.Heads.{HeadValue, rejected, request_head, SettlesHead, IsHeadUnended}
-use Rattle.http_edge.specs.Refusals.{ends_stream}
-use Rattle.http_edge.specs.Requests.{MessageValue, request, refused, message_of}
-use Rattle.http_edge.specs.declared.refusal.Refusal.{Refusal}
-use Rattle.http_edge.specs.declared.refusal.Refusal.TheVariants.{BadHead, BodyCut}
+use Rattle.std.specs.Prelude.{◌≡◌, ℕ, false, List, [], ◌∷◌}
+use Rattle.http_edge.specs.Requests.{MessageValue}
 use Rattle.http_edge.specs.Messages.{Settles, ends}
 
 -- these messages, none of which ends the stream, and what follows them

@@ -1,22 +1,44 @@
 -- What is asked as the program has it.
-use Rattle.std.specs.Prelude.{ℕ, Bool, true, false, List, [], ◌∷◌, Option, Some, None, codes, if◌then◌else◌, ◌==◌}
-use Rattle.std.specs.Str.{is_utf8, bytes_eq}
-use Rattle.url.specs.Parser.{parse_url}
-use Rattle.positions.specs.Position.{PositionValue}
-use Rattle.lsif.specs.Vertices.{serialized}
-use Rattle.desk.specs.Names.{is_project_name, is_key, where_so, number_in}
-use Rattle.desk.specs.Requests.{RequestValue, put_dump, definition, request_value}
-use Rattle.http_edge.specs.Values.{Values, absent, single, several}
-use Rattle.http_edge.specs.Parameters.{parameter}
-use Rattle.http_edge.specs.Routes.{route_of, method_of}
-use Rattle.http_edge.specs.declared.route.Route.{Route}
-use Rattle.http_edge.specs.declared.route.Route.TheVariants.{Lsif, Definition}
+use Rattle.std.specs.Prelude.{◌≡◌, ℕ, List, [], Option, Some, None, Result, Ok, Err, ⊤}
+use Rattle.std.specs.declared.alloc.AllocError.{AllocError}
+use Rattle.desk.specs.Requests.{DocumentPositionValue, QueryValue, RequestValue, command, definition, hover, declaration, implementation, at_value, request_value}
+use Rattle.desk.specs.Uploads.{StandsFor, UploadValue, command_of}
+use Rattle.http_edge.specs.declared.queries.DocumentPosition.{DocumentPosition}
+use Rattle.http_edge.specs.declared.queries.PositionQuery.{PositionQuery}
+use Rattle.http_edge.specs.declared.queries.PositionQuery.TheVariants as at_position
 use Rattle.http_edge.specs.declared.request.Asked.{Asked}
-use Rattle.http_edge.specs.declared.request.Asked.TheVariants.{Request, Refused}
-use Rattle.http_edge.specs.declared.refusal.Refusal.{Refusal}
-use Rattle.http_edge.specs.declared.refusal.Refusal.TheVariants.{NoSuchRoute, MethodNotAllowed, BadParameter}
-use Rattle.http_edge.specs.Requests.{MessageValue, request, refused}
+use Rattle.http_edge.specs.declared.request.Asked.TheVariants.{Upload, Request, Refused}
+use Rattle.http_edge.specs.declared.refusal.Refusal.TheVariants.{BadParameter}
+use Rattle.http_edge.specs.Requests.{request, refused, message_of}
 
-abbrev pub asked_value : Asked → MessageValue
-asked_value (Request q) = request (request_value q)
-asked_value (Refused refusal) = refused refusal
+abbrev pub place_value : DocumentPosition → DocumentPositionValue
+place_value place = at_value place.project place.uri place.position
+
+-- the query at a position
+abbrev pub query_at : PositionQuery → DocumentPositionValue → QueryValue
+query_at at_position.Definition = definition
+query_at at_position.Hover = hover
+query_at at_position.Declaration = declaration
+query_at at_position.Implementation = implementation
+
+-- the request that an upload is with a body
+abbrev pub upload_request : List ℕ → UploadValue → RequestValue
+upload_request body upload = command (command_of upload body)
+
+-- this is the request with each body, or there is none; no byte of an upload's body has come
+abbrev pub AsksFor : Asked → (List ℕ → Option RequestValue) → Type 0
+AsksFor (Upload upload) asked = StandsFor upload.body [] × ((body : List ℕ) → asked body ≡ Some (upload_request body upload))
+AsksFor (Request q) asked = (body : List ℕ) → asked body ≡ Some (request_value q)
+AsksFor (Refused refusal) asked = (refusal ≡ BadParameter) × ((body : List ℕ) → asked body ≡ None)
+
+-- this is what the method and the target ask with each body, and an upload stands for these bytes of it; or memory was refused
+abbrev pub AsksAfter : Result Asked AllocError → List ℕ → List ℕ → List ℕ → Type 0
+AsksAfter (Ok (Upload upload)) method target body =
+    StandsFor upload.body body × ((whole : List ℕ) → message_of method target whole ≡ request (command (command_of upload whole)))
+AsksAfter (Ok (Request q)) method target body = (whole : List ℕ) → message_of method target whole ≡ request (request_value q)
+AsksAfter (Ok (Refused refusal)) method target body = (whole : List ℕ) → message_of method target whole ≡ refused refusal
+AsksAfter (Err e) method target body = ⊤
+
+-- no byte of an upload's body has come
+abbrev pub Asks : Asked → List ℕ → List ℕ → Type 0
+Asks asked method target = AsksAfter (Ok asked) method target []

@@ -19,8 +19,9 @@ H06 => HTTP/1.1 404 Not Found|Connection: close|Content-Type: application/json|C
 H08 => HTTP/1.1 501 Not Implemented|Connection: close|Content-Type: application/json|Content-Length: 54||{"fault":"H08","text":"transfer coding not supported"}
 D03 => HTTP/1.1 400 Bad Request|Connection: close|Content-Type: application/json|Content-Length: 38||{"fault":"D03","text":"bad parameter"}
 D01 => HTTP/1.1 404 Not Found|Connection: close|Content-Type: application/json|Content-Length: 44||{"fault":"D01","text":"project has no dump"}
-S01 => HTTP/1.1 503 Service Unavailable|Connection: close|Content-Type: application/json|Content-Length: 38||{"fault":"S01","text":"store refused"}
+S02 => HTTP/1.1 503 Service Unavailable|Connection: close|Content-Type: application/json|Content-Length: 38||{"fault":"S02","text":"out of memory"}
 H07_PUT => HTTP/1.1 405 Method Not Allowed|Connection: close|Content-Type: application/json|Allow: PUT|Content-Length: 43||{"fault":"H07","text":"method not allowed"}
+H07_DELETE => HTTP/1.1 405 Method Not Allowed|Connection: close|Content-Type: application/json|Allow: DELETE|Content-Length: 43||{"fault":"H07","text":"method not allowed"}
 H07_GET => HTTP/1.1 405 Method Not Allowed|Connection: close|Content-Type: application/json|Allow: GET|Content-Length: 43||{"fault":"H07","text":"method not allowed"}
 "#;
 
@@ -28,6 +29,12 @@ const PUT: &str = "PUT /projects/app/lsif?key=k1 HTTP/1.1\r\nContent-Length: 5\r
 
 const GET: &str =
     "GET /projects/app/definition?uri=file:///a.ts&line=2&character=1 HTTP/1.1\r\n\r\n";
+
+/// An upload of more bytes than are read at a time.
+const LONG_PUT: &str = "PUT /projects/app/tags?key=k1 HTTP/1.1\r\nContent-Length: 20000\r\n\r\n";
+
+/// A query with a body, which is dropped.
+const LONG_GET: &str = "GET /projects HTTP/1.1\r\nContent-Length: 20000\r\n\r\n";
 
 const SHORT_PUT: &str = "PUT /projects/a/lsif?key=k HTTP/1.1\r\nContent-Length: 1\r\n\r\n";
 
@@ -44,13 +51,22 @@ GET /x HTTP/1.1|Content-Length: 1a|| => H01
 GET /x HTTP/1.1|content-length: 00000000000000000000|| => H01
 GET /x HTTP/1.1|content-length: 0000000000000000000|| => H06
 PUT /projects/app/lsif?key=k HTTP/1.1|| => H03
-GET /x HTTP/1.1|Content-Length: 8388609|| => H04
+GET /x HTTP/1.1|Content-Length: 33554433|| => H04
+PUT /projects/app/lsif?key=k HTTP/1.1|Content-Length: 33554433|| => H04
+GET /x HTTP/1.1|Content-Length: 33554432||ab => H05
 GET /x HTTP/1.1|Content-Length: 3||ab => H05
 GET /x HTTP/1.1|Content-Length: 3||abc => H06
 GET /x HTTP/1.1|| => H06
 GET /projects//lsif HTTP/1.1|| => H06
 GET /projects/app/lsif/ HTTP/1.1|| => H06
-GET /projects/app HTTP/1.1|| => H06
+GET /projects/app HTTP/1.1|| => H07_DELETE
+POST /projects HTTP/1.1|| => H07_GET
+POST /names HTTP/1.1|| => H07_GET
+GET /projects/app/tags?key=k HTTP/1.1|| => H07_PUT
+GET /projects/ HTTP/1.1|| => H06
+GET /projects/app/other HTTP/1.1|| => H06
+PUT /projects/app%2D/lsif?key=k HTTP/1.1|Content-Length: 0|| => D03
+GET /projects/APP/definition HTTP/1.1|| => D03
 GET /projects/app/lsif?key=k HTTP/1.1|| => H07_PUT
 PUT /projects/app/definition HTTP/1.1|Content-Length: 0|| => H07_GET
 put /projects/app/lsif?key=k HTTP/1.1|| => H07_PUT
@@ -64,17 +80,21 @@ GET  HTTP/1.1|Transfer-Encoding: a|| => H01
 # a transfer coding, and two lengths, none for a PUT, or one too large
 GET /x HTTP/1.1|Transfer-Encoding: a|Content-Length: 1|Content-Length: 1|| => H08
 PUT /x HTTP/1.1|Transfer-Encoding: a|| => H08
-PUT /x HTTP/1.1|Transfer-Encoding: a|Content-Length: 8388609|| => H08
+PUT /x HTTP/1.1|Transfer-Encoding: a|Content-Length: 33554433|| => H08
 # a length that isn't one, and too large
 PUT /x HTTP/1.1|Content-Length: 99999999999999999999|| => H01
 # no length, and no route
 PUT /x HTTP/1.1|| => H03
 # too large, and cut
-GET /x HTTP/1.1|Content-Length: 8388609||abc => H04
+GET /x HTTP/1.1|Content-Length: 33554433||abc => H04
 # cut, and no route
 GET /x HTTP/1.1|Content-Length: 4||abc => H05
+# cut, and another method
+GET /projects/app HTTP/1.1|Content-Length: 4||abc => H05
 # no route, and a method that no route takes
 POST /x HTTP/1.1|| => H06
+# no route, and a parameter twice
+GET /x?key=a&key=a HTTP/1.1|| => H06
 # another method, and a missing parameter
 GET /projects/app/lsif HTTP/1.1|| => H07_PUT
 # a missing parameter, and a project without a dump
@@ -85,7 +105,7 @@ GET /projects/app/definition HTTP/1.1|| => D03
 const FOLLOWED: &str = r#"
 GET|| => H01
 PUT /x HTTP/1.1|| => H03
-GET /x HTTP/1.1|Content-Length: 8388609|| => H04
+GET /x HTTP/1.1|Content-Length: 33554433|| => H04
 GET /x HTTP/1.1|Transfer-Encoding: a|| => H08
 GET /x HTTP/1.1|Content-Length: 2||ab => H06 D01
 GET /projects/app/lsif HTTP/1.1|| => H07_PUT D01
@@ -118,7 +138,7 @@ const UPLOADS: &str = r#"
 /projects/App/lsif?key=a => D03
 "#;
 
-/// A desk that has no dump and keeps none: it counts what it's asked.
+/// A desk that has no dump, and no memory for one: it counts what it's asked.
 #[derive(Drop)]
 struct Counting {
     commands: u32,
@@ -137,16 +157,14 @@ impl Desk for Counting {
 
     ghost store_may_refuse = { ⊤ };
 
-    fn apply(&mut self, command: &Command<'_>) -> Reply {
+    fn apply(&mut self, _: &Command<'_>) -> Reply {
         self.commands = self.commands.saturating_add(1);
-        if let Command::PutDump { body, .. } = command {
-            self.body = body.len();
-        }
-        Reply::refused(Code::S01)
+        Reply::out_of_memory()
     }
 
-    fn finish_upload(&mut self, _: Upload) -> Reply {
+    fn finish_upload(&mut self, upload: Upload) -> Reply {
         self.commands = self.commands.saturating_add(1);
+        self.body = upload.held();
         Reply::out_of_memory()
     }
 
@@ -425,13 +443,13 @@ fn expect_case(alloc: Global, differences: &mut String, case: &Case) -> Result<(
 fn expect_cases(alloc: Global, differences: &mut String) -> Result<(), Fail> {
     for case in [
         case_of(&[], usize::MAX, 9, "", (0, 0)),
-        case_of(TWO, usize::MAX, 9, "S01 D01", (1, 1)),
-        case_of(FOUR, 1, 9, "S01 D01 S01 D01", (2, 2)),
-        case_of(FOUR, 2, 9, "S01 D01 S01 D01", (2, 2)),
-        case_of(FOUR, 7, 9, "S01 D01 S01 D01", (2, 2)),
+        case_of(TWO, usize::MAX, 9, "S02 D01", (1, 1)),
+        case_of(FOUR, 1, 9, "S02 D01 S02 D01", (2, 2)),
+        case_of(FOUR, 2, 9, "S02 D01 S02 D01", (2, 2)),
+        case_of(FOUR, 7, 9, "S02 D01 S02 D01", (2, 2)),
         case_of(THREE, usize::MAX, 0, "", (0, 0)),
-        case_of(THREE, usize::MAX, 1, "S01", (1, 0)),
-        case_of(THREE, usize::MAX, 2, "S01 D01", (1, 1)),
+        case_of(THREE, usize::MAX, 1, "S02", (1, 0)),
+        case_of(THREE, usize::MAX, 2, "S02 D01", (1, 1)),
     ] {
         expect_case(alloc, differences, &case)?;
     }
@@ -509,6 +527,46 @@ fn long_heads(rt: HostRuntime) -> Result<(), Fail> {
     Ok(())
 }
 
+/// Adds to the differences what is served of a long body and a query after it, read so many bytes at a time.
+fn expect_long_body(
+    alloc: Global,
+    differences: &mut String,
+    head: &str,
+    most: usize,
+    names: &str,
+    taken: usize,
+) -> Result<(), Fail> {
+    let stream = repeated(alloc, head, "body ", 4000, GET)?;
+    let served = serve_over(
+        alloc,
+        in_pieces(stream.as_bytes(), most),
+        any_writer(alloc),
+        9,
+    );
+    let wanted = replies(alloc, names)?;
+    let as_wanted = served.is(Ok(2), wanted.as_str()) && served.desk.body == taken;
+    Ok(note(differences, as_wanted, head, &served)?)
+}
+
+/// Bodies that come in several pieces: an upload takes all of them, and a query none.
+#[test]
+fn long_bodies(rt: HostRuntime) -> Result<(), Fail> {
+    let mut differences = String::new(rt.alloc());
+    for most in [1000, 8192, usize::MAX] {
+        expect_long_body(
+            rt.alloc(),
+            &mut differences,
+            LONG_PUT,
+            most,
+            "S02 D01",
+            20000,
+        )?;
+        expect_long_body(rt.alloc(), &mut differences, LONG_GET, most, "D01 D01", 0)?;
+    }
+    assert_eq!(rt; differences.as_str(), "");
+    Ok(())
+}
+
 /// The replies to a short upload and a query of which only so many bytes are there.
 fn names_of_cut(at: usize) -> &'static str {
     let head = SHORT_PUT.len();
@@ -519,9 +577,9 @@ fn names_of_cut(at: usize) -> &'static str {
     } else if at == head {
         "H05"
     } else if at - head == 1 {
-        "S01"
+        "S02"
     } else {
-        "S01 H01"
+        "S02 H01"
     }
 }
 
@@ -531,7 +589,7 @@ fn expect_cuts(alloc: Global, differences: &mut String, stream: &str) -> Result<
         let cut = stream.get(..at).ok_or("no such place")?;
         expect(alloc, differences, cut, names_of_cut(at))?;
     }
-    expect(alloc, differences, stream, "S01 H06")
+    expect(alloc, differences, stream, "S02 H06")
 }
 
 /// A stream that ends at each of its bytes.
@@ -631,7 +689,7 @@ fn expect_write_faults(
 /// The differences of what is served where a writer fails.
 fn write_fault_differences(alloc: Global, stream: &str) -> Result<String, Fail> {
     let first = replies(alloc, "D01")?.len();
-    let whole = replies(alloc, "D01 S01")?;
+    let whole = replies(alloc, "D01 S02")?;
     let mut differences = String::new(alloc);
     expect_write_faults(alloc, &mut differences, stream, whole.as_str(), first)?;
     Ok(differences)

@@ -1,11 +1,10 @@
-use Rattle.std.proofs.Common.{refl}
-use Rattle.matchit.proofs.OnLiterals.{matchit_on_literals}
-use Rattle.http_edge.specs.Steps.Routes.{routes}
+use Rattle.http_edge.specs.Routes.{all_routes}
+use Rattle.http_edge.proofs.Paths.{started, turned}
 use Rattle.http_edge.proofs.route.router.Goals as goal
 
-pub returns : goal.returns
-unfolding matchit_on_literals routes
-returns c =
-    let a = c.in_ok-insert.ensures in
-    let b = c.in_ok-insert-2.ensures in
-    rw (b.1, a.1, c.new-router.ensures) refl
+pub loop-route-init : goal.loop-route-init
+loop-route-init c = started c.new-router.result c.new-router.ensures
+
+pub loop-route-preserved : goal.loop-route-preserved
+loop-route-preserved c =
+    turned all_routes c.loop-route.route-index _ c.loop-route.router _ _ c.loop-route-test.true (rw c.template.ensures at c.in_ok-insert.ensures) c.loop-route.invariant

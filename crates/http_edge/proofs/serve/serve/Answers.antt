@@ -1,5 +1,4 @@
 use Rattle.std.proofs.Common.{◌≡◌, ◌<◌, ◌++◌, inl, inr, [], ◌∷◌, length, sym, arith, refl, ◌∙◌, length-append}
-use Rattle.http_edge.specs.Steps.Serving.{message_value}
 use Rattle.http_edge.proofs.MovedLemmas.{writes_nothing, writes_more, writes_to_more, moves_refl, moves_more, moves_or_more}
 use Rattle.http_edge.proofs.Runs.{run-snoc, left-snoc, texts-snoc, begun}
 use Rattle.http_edge.specs.Serving.{answered}
@@ -17,10 +16,8 @@ serving-init g c = record {
   answers = [];
   run = λ m s. (m, refl, s, λ states h. h);
   written = writes_nothing _;
-  capacity = refl;
   reads = refl;
   counts = (refl, refl);
-  room = refl;
 }
 
 pub returns-clause-served : goal.returns-clause-served
@@ -35,7 +32,7 @@ returns-clause-served g c =
             (
               i.bytes,
               i.moved,
-              (requests-full c.args.limit i.bytes i.messages c.serving.buffer.pending i.chain full, inr (inl full, sure-full c.args.limit i.bytes i.messages c.serving.buffer.pending i.chain full)),
+              (requests-full c.args.limit i.bytes i.messages c.serving.reader i.chain full, inr (inl full, sure-full c.args.limit i.bytes i.messages c.serving.reader i.chain full)),
               i.count,
               run.1,
               i.written,
@@ -49,7 +46,7 @@ pub returns-in-Ok-None-clause-served : goal.returns-in-Ok-None-clause-served
 returns-in-Ok-None-clause-served g c =
     let i = c.serving.invariant in
     let next = rw c.in-Ok-None.field-0-is at c.in-Ok-None.ensures.message in
-    let chain = settled-append i.bytes i.messages c.serving.buffer.pending next.0 i.chain in
+    let chain = settled-append i.bytes i.messages c.serving.reader next.0 i.chain in
     let lt : length i.messages < c.args.limit = omega (arith, i.count, c.serving-test.true) in (
       i.messages,
       i.answers,
@@ -69,15 +66,15 @@ returns-in-Ok-None-clause-served g c =
           ),
     )
 
-pub returns-then-ends-clause-served : goal.returns-then-ends-clause-served
-returns-then-ends-clause-served g c =
+pub returns-then-is_last-clause-served : goal.returns-then-is_last-clause-served
+returns-then-is_last-clause-served g c =
     let i = c.serving.invariant in
     let next = rw c.in-Ok-Some.field-0-is at c.in-Ok-Some.ensures.message in
     let said = c.in-Ok.ensures.sent in
-    let message = message_value c.next_message.new.buffer.pending c.next_message.new.body c.in-Ok-Some.next.message in
-    let chain = settled-append i.bytes i.messages c.serving.buffer.pending next.0 i.chain in
+    let message = next.1 in
+    let chain = settled-append i.bytes i.messages c.serving.reader next.0 i.chain in
     let lt : length i.messages < c.args.limit = omega (arith, i.count, c.serving-test.true) in
-    let last = sym (c.if-ends.ensures c.next_message.new.buffer.pending c.next_message.new.body) in (
+    let last = sym (c.if-is_last.ensures message next.4) in (
       i.messages ++ message ∷ [],
       i.answers ++ said.0 ∷ [],
       λ m s.
@@ -85,14 +82,14 @@ returns-then-ends-clause-served g c =
             answered run.0 message said.0,
             (
               i.bytes ++ next.0,
-              moves_more _ _ _ i.bytes next.0 i.moved next.1,
-              stops-last c.args.limit _ i.messages _ message _ _ chain lt next.2 last,
+              moves_more _ _ _ i.bytes next.0 i.moved next.2,
+              stops-last c.args.limit _ i.messages _ message _ _ chain lt next.3 last,
               simp length-append (omega (arith, i.count)),
-              run-snoc _ m i.messages i.answers run.0 message said.0 run.1 (said.1.answer run.0 run.2),
+              run-snoc _ m i.messages i.answers run.0 message said.0 run.1 (said.1.answer run.0 message run.2 next.4),
               rw (texts-snoc i.answers said.0) (writes_more _ _ _ _ _ i.written said.2),
             ),
-            said.1.state run.0 run.2,
-            λ states h. rw (left-snoc _ m states i.messages i.answers run.0 message said.0 run.1) (said.1.left run.0 _ run.2 (run.3 states h)),
+            said.1.state run.0 message run.2 next.4,
+            λ states h. rw (left-snoc _ m states i.messages i.answers run.0 message said.0 run.1) (said.1.left run.0 _ message run.2 (run.3 states h) next.4),
           ),
     )
 
@@ -100,38 +97,36 @@ pub serving-preserved : goal.serving-preserved
 serving-preserved g c =
     let i = c.serving.invariant in
     let next = rw c.in-Ok-Some.field-0-is at c.in-Ok-Some.ensures.message in
-    let chain = settled-append i.bytes i.messages c.serving.buffer.pending next.0 i.chain in
-    let settled = gives_settles _ (message_value c.next_message.new.buffer.pending c.next_message.new.body c.in-Ok-Some.next.message) _ _ next.2 (sym (c.if-ends.ensures c.next_message.new.buffer.pending c.next_message.new.body)) in
+    let said = c.in-Ok.ensures.sent in
+    let message = next.1 in
+    let chain = settled-append i.bytes i.messages c.serving.reader next.0 i.chain in
+    let goes_on = sym (c.if-is_last.ensures message next.4) in
+    let settled = gives_settles _ message _ _ next.3 goes_on in
     record {
       bytes = i.bytes ++ next.0;
-      messages = i.messages ++ (message_value c.next_message.new.buffer.pending c.next_message.new.body c.in-Ok-Some.next.message) ∷ [];
-      moved = moves_more _ _ _ i.bytes next.0 i.moved next.1;
-      chain = rw c.respond_next-written.ensures.pending
-          (settled-snoc _ i.messages _ (message_value c.next_message.new.buffer.pending c.next_message.new.body c.in-Ok-Some.next.message) _ chain settled (sym (c.if-ends.ensures c.next_message.new.buffer.pending c.next_message.new.body)));
+      messages = i.messages ++ message ∷ [];
+      moved = moves_more _ _ _ i.bytes next.0 i.moved next.2;
+      chain = settled-snoc _ i.messages _ message _ chain settled goes_on;
       count = simp length-append (omega (arith, i.count));
       within = omega (arith, c.serving-test.true);
-      answers = i.answers ++ c.in-Ok.ensures.sent.0 ∷ [];
+      answers = i.answers ++ said.0 ∷ [];
       run = λ m s.
-          let run = i.run m s in
-          let said = c.in-Ok.ensures.sent in
-          let message = message_value c.next_message.new.buffer.pending c.next_message.new.body c.in-Ok-Some.next.message in (
+          let run = i.run m s in (
             answered run.0 message said.0,
-            run-snoc _ m i.messages i.answers run.0 message said.0 run.1 (said.1.answer run.0 run.2),
-            said.1.state run.0 run.2,
-            λ states h. rw (left-snoc _ m states i.messages i.answers run.0 message said.0 run.1) (said.1.left run.0 _ run.2 (run.3 states h)),
+            run-snoc _ m i.messages i.answers run.0 message said.0 run.1 (said.1.answer run.0 message run.2 next.4),
+            said.1.state run.0 message run.2 next.4,
+            λ states h. rw (left-snoc _ m states i.messages i.answers run.0 message said.0 run.1) (said.1.left run.0 _ message run.2 (run.3 states h) next.4),
           );
-      written = rw (texts-snoc i.answers c.in-Ok.ensures.sent.0) (writes_more _ _ _ _ _ i.written c.in-Ok.ensures.sent.2);
-      capacity = c.respond_next-written.ensures.capacity ∙ c.next_message.ensures.capacity ∙ i.capacity;
+      written = rw (texts-snoc i.answers said.0) (writes_more _ _ _ _ _ i.written said.2);
       reads = c.in-Ok-Some.ensures.counted ∙ i.reads;
       counts = (c.in-Ok.ensures.counted.0 ∙ i.counts.0, c.in-Ok.ensures.counted.1 ∙ i.counts.1);
-      room = c.next_message.ensures.len ∙ i.room;
     }
 
 pub returns-in-Err-clause-served : goal.returns-in-Err-clause-served
 returns-in-Err-clause-served g c =
     let i = c.serving.invariant in
     let next = c.in-Err.ensures.message in
-    let chain = settled-append i.bytes i.messages c.serving.buffer.pending next.0 i.chain in
+    let chain = settled-append i.bytes i.messages c.serving.reader next.0 i.chain in
     let lt : length i.messages < c.args.limit = omega (arith, i.count, c.serving-test.true) in (
       i.messages,
       i.answers,
@@ -150,13 +145,13 @@ returns-in-Err-clause-served g c =
           ),
     )
 
-pub returns-in-Err-written-clause-served : goal.returns-in-Err-written-clause-served
-returns-in-Err-written-clause-served g c =
+pub returns-in-Err-respond-clause-served : goal.returns-in-Err-respond-clause-served
+returns-in-Err-respond-clause-served g c =
     let i = c.serving.invariant in
     let next = rw c.in-Ok-Some.field-0-is at c.in-Ok-Some.ensures.message in
-    let said = c.in-Err-written.ensures.sent in
-    let message = message_value c.next_message.new.buffer.pending c.next_message.new.body c.in-Ok-Some.next.message in
-    let chain = settled-append i.bytes i.messages c.serving.buffer.pending next.0 i.chain in
+    let said = c.in-Err-respond.ensures.sent in
+    let message = next.1 in
+    let chain = settled-append i.bytes i.messages c.serving.reader next.0 i.chain in
     let lt : length i.messages < c.args.limit = omega (arith, i.count, c.serving-test.true) in (
       i.messages ++ message ∷ [],
       i.answers ++ said.0 ∷ [],
@@ -169,15 +164,15 @@ returns-in-Err-written-clause-served g c =
               said.0,
               said.2.0,
               said.2.1,
-              moves_more _ _ _ i.bytes next.0 i.moved next.1,
-              begun c.args.limit _ i.messages _ message _ _ chain lt next.2,
+              moves_more _ _ _ i.bytes next.0 i.moved next.2,
+              begun c.args.limit _ i.messages _ message _ _ chain lt next.3,
               refl,
               said.2.2,
               said.2.3,
-              run-snoc _ m i.messages i.answers run.0 message said.0 run.1 (said.1.answer run.0 run.2),
+              run-snoc _ m i.messages i.answers run.0 message said.0 run.1 (said.1.answer run.0 message run.2 next.4),
               writes_to_more _ _ _ _ _ i.written said.2.4,
             ),
-            said.1.state run.0 run.2,
-            λ states h. rw (left-snoc _ m states i.messages i.answers run.0 message said.0 run.1) (said.1.left run.0 _ run.2 (run.3 states h)),
+            said.1.state run.0 message run.2 next.4,
+            λ states h. rw (left-snoc _ m states i.messages i.answers run.0 message said.0 run.1) (said.1.left run.0 _ message run.2 (run.3 states h) next.4),
           ),
     )

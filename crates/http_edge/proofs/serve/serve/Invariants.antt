@@ -13,17 +13,15 @@ invariant-serving g l = record {
   bytes : List ℕ;
   messages : List MessageValue;
   moved : Moves (g.R.Source.left l.fn.r) (g.R.Source.left l.r) bytes;
-  chain : SettlesAll bytes messages l.buffer.pending;
+  chain : SettlesAll bytes messages l.reader;
   count : l.count ≡ length messages;
   within : l.count ≤ l.limit;
   answers : List AnswerValue;
   run : (m : State) → g.D.Desk.stands l.fn.desk m → (n : State) × Run g.D.Desk.store_may_refuse m messages answers n × g.D.Desk.stands l.desk n
       × ((states : List State) → g.D.Desk.may_leave l.fn.desk states → g.D.Desk.may_leave l.desk (left_by m states messages answers));
   written : Writes (g.W.Sink.output l.fn.w) (texts answers) (g.W.Sink.output l.w);
-  capacity : l.buffer.capacity ≡ l.fn.buffer.capacity;
   reads : g.R.Source.failed l.r ≡ g.R.Source.failed l.fn.r;
   counts : SameCounts (g.W.Sink.output l.fn.w) (g.W.Sink.output l.w);
-  room : length l.body ≡ length l.fn.body;
 }
 
 abbrev pub decreases-serving : goal.decreases-serving

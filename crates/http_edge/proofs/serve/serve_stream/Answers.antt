@@ -2,17 +2,7 @@ use Rattle.std.proofs.Common.{◌≡◌, [], refl, rules, Err}
 use Rattle.http_edge.specs.declared.serve.ServeFault.TheVariants.{Memory}
 use Rattle.http_edge.proofs.serve.serve_stream.Goals as goal
 
-pub returns-in_err-router-clause-served : goal.returns-in_err-router-clause-served
-returns-in_err-router-clause-served g c =
+pub returns-in_err-reader-clause-served : goal.returns-in_err-reader-clause-served
+returns-in_err-reader-clause-served g c =
     let is : c.from_residual.result ≡ Err Memory = search rules in
-    rw is ([], [], λ m s. (m, (refl, refl, refl, refl, refl), s, λ states h. h))
-
-pub returns-in_err-buffer-clause-served : goal.returns-in_err-buffer-clause-served
-returns-in_err-buffer-clause-served g c =
-    let is : c.from_residual-in_err-buffer.result ≡ Err Memory = search rules in
-    rw is ([], [], λ m s. (m, (refl, refl, refl, refl, refl), s, λ states h. h))
-
-pub returns-in_err-body-clause-served : goal.returns-in_err-body-clause-served
-returns-in_err-body-clause-served g c =
-    let is : c.from_residual-in_err-body.result ≡ Err Memory = search rules in
     rw is ([], [], λ m s. (m, (refl, refl, refl, refl, refl), s, λ states h. h))
