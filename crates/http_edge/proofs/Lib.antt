@@ -6,6 +6,7 @@ pub mod MessageLemmas
 pub mod MovedLemmas
 pub mod PairLemmas
 pub mod Paths
+pub mod Phrases
 pub mod ReplyLemmas
 pub mod RequestLemmas
 pub mod Rows

@@ -39,3 +39,7 @@ not_empty (x ∷ p) q some e = cc
 -- a beginning of a text is one of what goes on after it
 pub sends_less : (a b : Output) (p q : List ℕ) (e : Failed) → Sends a p (Err e) b → Sends a (p ++ q) (Err e) b
 sends_less a b p q e s = (s.0, s.1 ++ q, ap (λ l. l ++ q) s.2 ∙ append_assoc s.0 s.1 q, not_empty s.1 q s.3, s.4)
+
+-- nine texts, each put behind the one before
+pub nine_texts : (a b c d e f g h i : List ℕ) → ((((((((a ++ b) ++ c) ++ d) ++ e) ++ f) ++ g) ++ h) ++ i) ≡ a ++ (b ++ (c ++ (d ++ (e ++ (f ++ (g ++ (h ++ i)))))))
+nine_texts a b c d e f g h i = rw (append_assoc, append_assoc, append_assoc, append_assoc, append_assoc, append_assoc, append_assoc) refl

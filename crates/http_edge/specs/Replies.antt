@@ -12,25 +12,24 @@ use Rattle.http_edge.specs.declared.refusal.Refusal.{Refusal}
 unfoldable pub phrase : ℕ → List ℕ
 phrase status = if nat_le 100 status && nat_lt status 1000 then unwrap_or (reason_phrase status) [] else []
 
--- the status line without its end
-unfoldable pub status_line : ℕ → List ℕ
-status_line status = codes "HTTP/1.1 " ++ (decimal status ++ (codes " " ++ phrase status))
+-- the field Allow, where a route's method is allowed
+abbrev pub allow_text : Option Route → List ℕ
+allow_text None = []
+allow_text (Some route) = codes "Allow: " ++ (method_of route ++ codes "\r\n")
 
+-- the end of the status line, and the fields that each response has
 abbrev pub fixed_fields : List ℕ
 fixed_fields = codes "\r\nConnection: close\r\nContent-Type: application/json\r\n"
 
--- the end of the status line, and the fields before the length
-unfoldable pub fields_text : Option Route → List ℕ
-fields_text None = fixed_fields
-fields_text (Some route) = fixed_fields ++ (codes "Allow: " ++ (method_of route ++ codes "\r\n"))
+-- a status line, the fields, among them the length of the body, and an empty line
+unfoldable pub head_text : ℕ → Option Route → ℕ → List ℕ
+head_text status allow body_length =
+    codes "HTTP/1.1 " ++ (decimal status ++ (codes " " ++ (phrase status ++ (fixed_fields ++ (allow_text allow
+    ++ (codes "Content-Length: " ++ (decimal body_length ++ codes "\r\n\r\n")))))))
 
--- the length of a body, an empty line, and the body
-unfoldable pub body_text : List ℕ → List ℕ
-body_text body = codes "Content-Length: " ++ (decimal (length body) ++ (codes "\r\n\r\n" ++ body))
-
--- a status line, the fields, an empty line and the body
+-- a head and a body
 abbrev pub response_text : ℕ → Option Route → List ℕ → List ℕ
-response_text status allow body = status_line status ++ (fields_text allow ++ body_text body)
+response_text status allow body = head_text status allow (length body) ++ body
 
 abbrev pub reply_text : ReplyValue → List ℕ
 reply_text reply = response_text reply.status None reply.body

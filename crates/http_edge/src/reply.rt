@@ -1,12 +1,14 @@
 //! The text of replies.
-ghost use Rattle.std.specs.Prelude.{◌≡◌, ◌++◌, codes};
+ghost use Rattle.std.specs.Prelude.{◌≡◌, ◌+◌, ◌≤◌, ◌++◌, codes, length};
+ghost use Rattle.arrayvec.specs.ArrayString.{array_string_len};
 ghost use Rattle.lsif.specs.Sending.{Sends};
 ghost use Rattle.lsif.specs.Streams.{CanCount};
-ghost use Rattle.http_edge.specs.Replies.{phrase, status_line, fields_text, body_text, response_text, answer_text};
+ghost use Rattle.http_edge.specs.Replies.{phrase, allow_text, head_text, response_text, answer_text};
 ghost use Rattle.http_edge.specs.Steps.Replies.{answer_value};
 
 use crate::refusal::Refusal;
 use crate::route::Route;
+use arrayvec::ArrayString;
 use desk::Reply;
 use http::StatusCode;
 use itoa::Buffer;
@@ -21,7 +23,8 @@ pub(crate) enum Answer {
 
 /// The phrase of a status (RFC 9112, section 4: a reason phrase).
 fn phrase(status: u16) -> &'static str
-    ensures { result.now ≡ phrase status }
+    ensures text { result.now ≡ phrase status }
+    ensures short { length result.now ≤ 31 }
 {
     match StatusCode::from_u16(status) {
         Ok(status) => status.canonical_reason().unwrap_or(""),
@@ -44,85 +47,39 @@ pub fn phrase_law()
     ensures unavailable { phrase 503 ≡ codes "Service Unavailable" }
 {}
 
-fn push_two<W: Sink>(w: &mut W, a: &str, b: &str) -> Result<(), Failed>
-    requires { CanCount (W.output w.old) }
-    ensures { Sends (W.output w.old) (a.now ++ b.now) result (W.output w.new) }
+/// Adds the field `Allow` to a head where a method is allowed.
+fn push_allow(head: &mut ArrayString<256>, allow: Option<Route>)
+    requires { array_string_len head.old + 15 ≤ 256 }
+    ensures text { head.new.bytes ≡ head.old.bytes ++ allow_text allow }
+    ensures short { array_string_len head.new ≤ array_string_len head.old + 15 }
 {
-    match push_all(w, a.as_bytes()) {
-        Ok(()) => push_all(w, b.as_bytes()),
-        Err(e) => Err(e),
+    if let Some(route) = allow {
+        head.push_str("Allow: ");
+        head.push_str(route.method());
+        head.push_str("\r\n");
     }
 }
 
-fn push_three<W: Sink>(w: &mut W, a: &str, b: &str, c: &str) -> Result<(), Failed>
-    requires { CanCount (W.output w.old) }
-    ensures { Sends (W.output w.old) (a.now ++ (b.now ++ c.now)) result (W.output w.new) }
-{
-    match push_all(w, a.as_bytes()) {
-        Ok(()) => push_two(w, b, c),
-        Err(e) => Err(e),
-    }
-}
-
-/// Writes four texts, one after the other.
-fn push_four<W: Sink>(w: &mut W, a: &str, b: &str, c: &str, d: &str) -> Result<(), Failed>
-    requires { CanCount (W.output w.old) }
-    ensures { Sends (W.output w.old) (a.now ++ (b.now ++ (c.now ++ d.now))) result (W.output w.new) }
-{
-    match push_all(w, a.as_bytes()) {
-        Ok(()) => push_three(w, b, c, d),
-        Err(e) => Err(e),
-    }
-}
-
-/// Writes the status line without its end (RFC 9112, section 4).
-fn push_status<W: Sink>(w: &mut W, status: u16) -> Result<(), Failed>
-    requires { CanCount (W.output w.old) }
-    ensures { Sends (W.output w.old) (status_line status) result (W.output w.new) }
+/// The head of a response (RFC 9112, sections 4 and 5), to its empty line: of at most 222 bytes, since a phrase has at most 31 and
+/// a number's digits are at most 40.
+fn head(status: u16, allow: Option<Route>, body_length: usize) -> ArrayString<256>
+    ensures { result.bytes ≡ head_text status allow body_length }
 {
     let mut digits = Buffer::new();
-    push_four(w, "HTTP/1.1 ", digits.format(status), " ", phrase(status))
+    let mut head = ArrayString::new();
+    head.push_str("HTTP/1.1 ");
+    head.push_str(digits.format(status));
+    head.push_str(" ");
+    head.push_str(phrase(status));
+    head.push_str("\r\nConnection: close\r\nContent-Type: application/json\r\n");
+    push_allow(&mut head, allow);
+    head.push_str("Content-Length: ");
+    head.push_str(digits.format(body_length));
+    head.push_str("\r\n\r\n");
+    head
 }
 
-/// Writes the field `Allow` where a route's method is allowed, and the fields that each response has.
-fn push_fields<W: Sink>(w: &mut W, allow: Option<Route>) -> Result<(), Failed>
-    requires { CanCount (W.output w.old) }
-    ensures { Sends (W.output w.old) (fields_text allow) result (W.output w.new) }
-{
-    const FIELDS: &str = "\r\nConnection: close\r\nContent-Type: application/json\r\n";
-    match allow {
-        Some(route) => push_four(w, FIELDS, "Allow: ", route.method(), "\r\n"),
-        None => push_all(w, FIELDS.as_bytes()),
-    }
-}
-
-/// Writes the length of the body, the end of the head, and the body.
-fn push_body<W: Sink>(w: &mut W, body: &str) -> Result<(), Failed>
-    requires { CanCount (W.output w.old) }
-    ensures { Sends (W.output w.old) (body_text body.now) result (W.output w.new) }
-{
-    let mut digits = Buffer::new();
-    push_four(
-        w,
-        "Content-Length: ",
-        digits.format(body.len()),
-        "\r\n\r\n",
-        body,
-    )
-}
-
-fn push_fields_and_body<W: Sink>(w: &mut W, allow: Option<Route>, body: &str) -> Result<(), Failed>
-    requires { CanCount (W.output w.old) }
-    ensures { Sends (W.output w.old) (fields_text allow ++ body_text body.now) result (W.output w.new) }
-{
-    match push_fields(w, allow) {
-        Ok(()) => push_body(w, body),
-        Err(e) => Err(e),
-    }
-}
-
-/// Writes a response (RFC 9112, section 2.1): a status line, the fields, an empty line and the body. The field `Allow` is
-/// there where a method is allowed.
+/// Writes a response (RFC 9112, section 2.1): its head, and then its body. The field `Allow` is there where a method is allowed.
 fn push_response<W: Sink>(
     w: &mut W,
     status: u16,
@@ -132,8 +89,9 @@ fn push_response<W: Sink>(
     requires { CanCount (W.output w.old) }
     ensures { Sends (W.output w.old) (response_text status allow body.now) result (W.output w.new) }
 {
-    match push_status(w, status) {
-        Ok(()) => push_fields_and_body(w, allow, body),
+    let head = head(status, allow, body.len());
+    match push_all(w, head.as_str().as_bytes()) {
+        Ok(()) => push_all(w, body.as_bytes()),
         Err(e) => Err(e),
     }
 }
