@@ -1,4 +1,7 @@
 pub mod Calls
+pub mod Connections
 pub mod Judgings
+pub mod Numbers
 pub mod TagsJudgings
 pub mod TagsLines
+pub mod Waits

@@ -1,13 +1,16 @@
 -- What the words of the command line say, by clap's meaning of them.
-use Rattle.std.specs.Prelude.{◌≡◌, ◌⊎◌, ℤ, pos, true, List, [], Option, Some, None, codes, bytes_eq, option_map, if◌then◌else◌, ⊤}
-use Rattle.clap.specs.Words.{App, Row, Rule, Text, fault_of, first_of, kind_of, new_app, new_rule, subcommand_of, with_rule, with_subcommand, IsAmong}
+use Rattle.std.specs.Prelude.{◌≡◌, ◌≤◌, ◌⊎◌, ◌&&◌, ℕ, ℤ, pos, true, Bool, List, [], length, nat_le, nat_lt, Option, Some, None, codes, bytes_eq, option_map, if◌then◌else◌, ⊤}
+use Rattle.std.specs.Char.{is_digit}
+use Rattle.std.specs.List.{list_all}
+use Rattle.std.specs.Str.Parse.{digits_value, without_leading_plus}
+use Rattle.clap.specs.Words.{App, Row, Rule, Text, fault_of, first_of, kind_of, new_app, new_rule, one_of, subcommand_of, with_rule, with_subcommand, IsAmong}
 use Rattle.clap.specs.declared.builder.action.ArgAction.TheVariants.{Set}
 use Rattle.clap.specs.declared.builder.value_parser.ValueParser.TheVariants.{Signed}
 use Rattle.clap.specs.declared.error.kind.ErrorKind.TheVariants.{ValueValidation}
 use Rattle.lsif.specs.declared.element.Profile.{Profile}
 use Rattle.lsif.specs.declared.element.Profile.TheVariants.{One, Two}
 use Rattle.codenav.specs.declared.call.Call.{Call}
-use Rattle.codenav.specs.declared.call.Call.TheVariants.{CheckLsif, CheckTags, Replay}
+use Rattle.codenav.specs.declared.call.Call.TheVariants.{CheckLsif, CheckTags, Replay, Serve}
 use Rattle.codenav.specs.declared.call.CallFault.{CallFault}
 use Rattle.codenav.specs.declared.call.CallFault.TheVariants.{Memory, Clap}
 
@@ -16,11 +19,28 @@ pub data CallValue : Type 0 where
   check_lsif : Text → Profile → CallValue
   check_tags : Text → CallValue
   replay : Text → Text → CallValue
+  serve : Text → ℕ → ℕ → CallValue
 
 abbrev pub call_value : Call → CallValue
 call_value (CheckLsif file profile) = check_lsif file.now profile
 call_value (CheckTags file) = check_tags file.now
 call_value (Replay database file) = replay database.now file.now
+call_value (Serve database port requests) = serve database.now port requests
+
+-- the greatest port
+abbrev pub most_port : ℕ
+most_port = 65535
+
+-- how many connections are served at most
+abbrev pub most_connections : ℕ
+most_connections = 1000000
+
+-- the numbers of a call are from 1 to their greatest
+abbrev pub IsWithinBounds : CallValue → Type 0
+IsWithinBounds (check_lsif file profile) = ⊤
+IsWithinBounds (check_tags file) = ⊤
+IsWithinBounds (replay database file) = ⊤
+IsWithinBounds (serve database port requests) = (1 ≤ port) × (port ≤ most_port) × (1 ≤ requests) × (requests ≤ most_connections)
 
 -- a word that has to be there
 abbrev pub word : Text → Rule
@@ -29,6 +49,10 @@ word id = record (new_rule id) { required = true; action = Some Set; value_names
 -- an option whose value is a number in these bounds
 abbrev pub number_option : Text → ℤ → ℤ → Rule
 number_option id least most = record (new_rule id) { long = Some id; action = Some Set; value_names = 1; parser = Some (Signed least most) }
+
+-- an option that has to be there, whose value is a number in these bounds
+abbrev pub required_number : Text → ℤ → ℤ → Rule
+required_number id least most = record (number_option id least most) { required = true }
 
 -- check-lsif FILE --profile N
 abbrev pub check_lsif_app : App
@@ -42,6 +66,12 @@ check_tags_app = with_rule (new_app (codes "check-tags")) (word (codes "file"))
 abbrev pub replay_app : App
 replay_app = with_rule (with_rule (new_app (codes "replay")) (word (codes "db"))) (word (codes "file"))
 
+-- serve DB --port N --requests N
+abbrev pub serve_app : App
+serve_app =
+    with_rule (with_rule (with_rule (new_app (codes "serve")) (word (codes "db"))) (required_number (codes "port") (pos 1) (pos most_port)))
+    (required_number (codes "requests") (pos 1) (pos most_connections))
+
 -- the program, which has a version and has to have a subcommand
 abbrev pub top_app : App
 top_app =
@@ -49,7 +79,9 @@ top_app =
 
 -- the command line
 abbrev pub app : App
-app = with_subcommand (with_subcommand (with_subcommand top_app check_lsif_app.top) check_tags_app.top) replay_app.top
+app =
+    with_subcommand (with_subcommand (with_subcommand (with_subcommand top_app check_lsif_app.top) check_tags_app.top) replay_app.top)
+    serve_app.top
 
 -- the profile of this number; profile 1 where none is given
 abbrev pub profile_named : Option Text → Option Profile
@@ -80,6 +112,33 @@ replay_with None file = None
 abbrev pub replay_of : List Row → Option CallValue
 replay_of rows = replay_with (first_of (codes "db") rows) (first_of (codes "file") rows)
 
+-- decimal digits, one or more, of a number from 1 to the most
+abbrev pub is_number_up_to : ℕ → Text → Bool
+is_number_up_to most digits =
+    nat_lt 0 (length digits) && (list_all (λ c. is_digit c 10) digits && (nat_le 1 (digits_value 10 digits) && nat_le (digits_value 10 digits) most))
+
+-- the number that digits write, where it's from 1 to the most
+abbrev pub number_up_to : ℕ → Text → Option ℕ
+number_up_to most digits = if is_number_up_to most digits then Some (digits_value 10 digits) else None
+
+-- the number of an option with this value, where there is one; a plus may stand before its digits
+abbrev pub number_named : ℕ → Option Text → Option ℕ
+number_named most None = None
+number_named most (Some text) = number_up_to most (without_leading_plus text)
+
+-- the call of serve with these values, where all are there
+abbrev pub serve_with : Option Text → Option ℕ → Option ℕ → Option CallValue
+serve_with (Some database) (Some port) (Some requests) = Some (serve database port requests)
+serve_with (Some database) (Some port) None = None
+serve_with (Some database) None requests = None
+serve_with None port requests = None
+
+-- the call of serve with these matches
+abbrev pub serve_of : List Row → Option CallValue
+serve_of rows =
+    serve_with (first_of (codes "db") rows) (number_named most_port (one_of (codes "port") rows))
+    (number_named most_connections (one_of (codes "requests") rows))
+
 -- the call of the subcommand with this name and these matches
 abbrev pub call_of : Option (Text × List Row) → Option CallValue
 call_of None = None
@@ -87,6 +146,7 @@ call_of (Some sub) =
     if bytes_eq sub.0 (codes "check-lsif") then check_lsif_of sub.1
     else if bytes_eq sub.0 (codes "check-tags") then check_tags_of sub.1
     else if bytes_eq sub.0 (codes "replay") then replay_of sub.1
+    else if bytes_eq sub.0 (codes "serve") then serve_of sub.1
     else None
 
 -- clap takes the words, and they say this call

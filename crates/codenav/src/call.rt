@@ -1,8 +1,8 @@
 //! What the program's words ask for.
-ghost use Rattle.std.specs.Prelude.{◌≡◌, ◌≢◌, List, Option, Some, None, IfOk, IfErr, MatchResult, map, option_map, false, codes};
-ghost use Rattle.clap.specs.Words.{app_of, first_of, found_of, kind_of, rows_of, rule_of, subcommand_rows_of, with_subcommand};
-ghost use Rattle.codenav.specs.Call.{IsCall, IsRefused, app, call_of, call_value, check_lsif_app, check_lsif_of, check_lsif_with, check_tags_app, check_tags_of, number_option, profile_named, replay_app, replay_of, replay_with, top_app, word};
-ghost use Rattle.codenav.specs.Steps.Call.{IsMissing, ShowsError};
+ghost use Rattle.std.specs.Prelude.{◌≡◌, ◌≢◌, ◌≤◌, List, Option, Some, None, IfOk, IfSome, IfErr, MatchResult, map, option_map, false, codes, pos};
+ghost use Rattle.clap.specs.Words.{app_of, first_of, found_of, kind_of, one_of, rows_of, rule_of, subcommand_rows_of, with_subcommand};
+ghost use Rattle.codenav.specs.Call.{IsCall, IsRefused, IsWithinBounds, app, call_of, call_value, check_lsif_app, check_lsif_of, check_lsif_with, check_tags_app, check_tags_of, most_connections, most_port, number_named, number_option, profile_named, replay_app, replay_of, replay_with, required_number, serve_app, serve_of, serve_with, top_app, word};
+ghost use Rattle.codenav.specs.Steps.Call.{IsMissing, ShowsError, up_to};
 
 use clap::builder::ValueParser;
 use clap::error::ErrorKind;
@@ -14,15 +14,38 @@ use std::convert::AsStr;
 /// The version of the program.
 const VERSION: &str = "0.1.0";
 
+/// What the word DB is.
+const DATABASE: &str = "The database: :memory:, which is empty at first";
+
+/// The greatest port.
+const MOST_PORT: u32 = 65535;
+
+/// How many connections are served at most.
+const MOST_CONNECTIONS: u32 = 1000000;
+
 /// What the program is to do.
 #[derive(Clone, Copy, Debug, PartialEq, Eq)]
 pub enum Call<'a> {
     /// Check the dump in this file, read by the profile.
-    CheckLsif { file: &'a str, profile: Profile },
+    CheckLsif {
+        file: &'a str,
+        profile: Profile,
+    },
     /// Check the tags file of this name.
-    CheckTags { file: &'a str },
+    CheckTags {
+        file: &'a str,
+    },
     /// Answer the requests in this file over this database.
-    Replay { database: &'a str, file: &'a str },
+    Replay {
+        database: &'a str,
+        file: &'a str,
+    },
+    /// Serve so many connections, of one request each, on this port, over this database.
+    Serve {
+        database: &'a str,
+        port: u16,
+        requests: u32,
+    },
 }
 
 /// Why the program's words are no call.
@@ -83,6 +106,14 @@ fn number_option<'a>(alloc: Global, id: &'a str, least: i64, most: i64, help: &'
         .help(help)
 }
 
+/// An option that has to be there, whose value is a number in these bounds.
+fn required_number<'a>(alloc: Global, id: &'a str, least: i64, most: i64, help: &'a str) -> Arg<'a>
+    ensures rule { rule_of result ≡ required_number id.entry.now least most }
+    ensures local { result.global ≡ false }
+{
+    number_option(alloc, id, least, most, help).required(true)
+}
+
 /// `check-lsif FILE --profile N`.
 fn check_lsif<'a>(alloc: Global) -> Result<Command<'a>, AllocError>
     ensures { IfOk result (λ c. app_of c ≡ check_lsif_app) }
@@ -119,12 +150,7 @@ fn check_tags<'a>(alloc: Global) -> Result<Command<'a>, AllocError>
 fn replay<'a>(alloc: Global) -> Result<Command<'a>, AllocError>
     ensures { IfOk result (λ c. app_of c ≡ replay_app) }
 {
-    let database = word(
-        alloc,
-        "db",
-        "DB",
-        "The database: :memory:, which is empty at first",
-    );
+    let database = word(alloc, "db", "DB", DATABASE);
     let file = word(
         alloc,
         "file",
@@ -135,6 +161,48 @@ fn replay<'a>(alloc: Global) -> Result<Command<'a>, AllocError>
         .about("Answers the requests in a file over a database, and prints the replies")
         .arg(database)?
         .arg(file)
+}
+
+/// The option `--port N`.
+fn port<'a>(alloc: Global) -> Arg<'a>
+    ensures rule { rule_of result ≡ required_number (codes "port") (pos 1) (pos most_port) }
+    ensures local { result.global ≡ false }
+{
+    required_number(
+        alloc,
+        "port",
+        1,
+        i64::from(MOST_PORT),
+        "The port on 127.0.0.1 that is listened on, 1 to 65535",
+    )
+}
+
+/// The option `--requests N`.
+fn requests<'a>(alloc: Global) -> Arg<'a>
+    ensures rule { rule_of result ≡ required_number (codes "requests") (pos 1) (pos most_connections) }
+    ensures local { result.global ≡ false }
+{
+    required_number(
+        alloc,
+        "requests",
+        1,
+        i64::from(MOST_CONNECTIONS),
+        "How many connections are served, with one request each, 1 to 1000000",
+    )
+}
+
+/// `serve DB --port N --requests N`.
+fn serve<'a>(alloc: Global) -> Result<Command<'a>, AllocError>
+    ensures { IfOk result (λ c. app_of c ≡ serve_app) }
+{
+    let database = word(alloc, "db", "DB", DATABASE);
+    let port = port(alloc);
+    let requests = requests(alloc);
+    Command::new(alloc, "serve")
+        .about("Serves connections on a port of 127.0.0.1, one after the other, over a database")
+        .arg(database)?
+        .arg(port)?
+        .arg(requests)
 }
 
 /// The program with no subcommand yet.
@@ -163,12 +231,20 @@ fn with_checks<'a>(alloc: Global) -> Result<Command<'a>, AllocError>
     with_check_lsif(alloc)?.subcommand(check_tags)
 }
 
+/// The program with both checks and `replay`.
+fn with_replay<'a>(alloc: Global) -> Result<Command<'a>, AllocError>
+    ensures { IfOk result (λ c. app_of c ≡ with_subcommand (with_subcommand (with_subcommand top_app check_lsif_app.top) check_tags_app.top) replay_app.top) }
+{
+    let replay = replay(alloc)?;
+    with_checks(alloc)?.subcommand(replay)
+}
+
 /// The command line.
 fn command<'a>(alloc: Global) -> Result<Command<'a>, AllocError>
     ensures { IfOk result (λ c. app_of c ≡ app) }
 {
-    let replay = replay(alloc)?;
-    with_checks(alloc)?.subcommand(replay)
+    let serve = serve(alloc)?;
+    with_replay(alloc)?.subcommand(serve)
 }
 
 /// The value of FILE among these matches.
@@ -192,7 +268,8 @@ fn profile_named(number: Option<&str>) -> Option<Profile>
 
 /// The call of `check-lsif` with these values.
 fn check_lsif_call<'a>(file: Option<&'a str>, profile: Option<Profile>) -> Option<Call<'a>>
-    ensures { option_map call_value result ≡ check_lsif_with (option_map (λ f. f.now) file.entry) profile }
+    ensures call { option_map call_value result ≡ check_lsif_with (option_map (λ f. f.now) file.entry) profile }
+    ensures bounds { IfSome result (λ call. IsWithinBounds (call_value call)) }
 {
     match (file, profile) {
         (Some(file), Some(profile)) => Some(Call::CheckLsif { file, profile }),
@@ -209,14 +286,16 @@ fn profile_of<'a>(found: &ArgMatches<'a>) -> Option<&'a str>
 
 /// The call of `check-lsif` with these matches.
 fn read_check_lsif<'a>(found: &ArgMatches<'a>) -> Option<Call<'a>>
-    ensures { option_map call_value result ≡ check_lsif_of (rows_of (found_of found.now)) }
+    ensures call { option_map call_value result ≡ check_lsif_of (rows_of (found_of found.now)) }
+    ensures bounds { IfSome result (λ call. IsWithinBounds (call_value call)) }
 {
     check_lsif_call(file_of(found), profile_named(profile_of(found)))
 }
 
 /// The call of `check-tags` with these matches.
 fn read_check_tags<'a>(found: &ArgMatches<'a>) -> Option<Call<'a>>
-    ensures { option_map call_value result ≡ check_tags_of (rows_of (found_of found.now)) }
+    ensures call { option_map call_value result ≡ check_tags_of (rows_of (found_of found.now)) }
+    ensures bounds { IfSome result (λ call. IsWithinBounds (call_value call)) }
 {
     match file_of(found) {
         Some(file) => Some(Call::CheckTags { file }),
@@ -233,7 +312,8 @@ fn database_of<'a>(found: &ArgMatches<'a>) -> Option<&'a str>
 
 /// The call of `replay` with these values.
 fn replay_call<'a>(database: Option<&'a str>, file: Option<&'a str>) -> Option<Call<'a>>
-    ensures { option_map call_value result ≡ replay_with (option_map (λ d. d.now) database.entry) (option_map (λ f. f.now) file.entry) }
+    ensures call { option_map call_value result ≡ replay_with (option_map (λ d. d.now) database.entry) (option_map (λ f. f.now) file.entry) }
+    ensures bounds { IfSome result (λ call. IsWithinBounds (call_value call)) }
 {
     match (database, file) {
         (Some(database), Some(file)) => Some(Call::Replay { database, file }),
@@ -243,14 +323,66 @@ fn replay_call<'a>(database: Option<&'a str>, file: Option<&'a str>) -> Option<C
 
 /// The call of `replay` with these matches.
 fn read_replay<'a>(found: &ArgMatches<'a>) -> Option<Call<'a>>
-    ensures { option_map call_value result ≡ replay_of (rows_of (found_of found.now)) }
+    ensures call { option_map call_value result ≡ replay_of (rows_of (found_of found.now)) }
+    ensures bounds { IfSome result (λ call. IsWithinBounds (call_value call)) }
 {
     replay_call(database_of(found), file_of(found))
 }
 
+/// The number, where it's from 1 to the most.
+fn up_to(number: Option<u32>, most: u32) -> Option<u32>
+    ensures number { result ≡ up_to most number }
+    ensures bounds { IfSome result (λ n. (1 ≤ n) × (n ≤ most)) }
+{
+    match number {
+        Some(number) if 1 <= number && number <= most => Some(number),
+        _ => None,
+    }
+}
+
+/// The number that an option has among these matches, from 1 to the most.
+fn number_of(found: &ArgMatches<'_>, id: &str, most: u32) -> Option<u32>
+    ensures number { result ≡ number_named most (one_of id.now (rows_of (found_of found.now))) }
+    ensures bounds { IfSome result (λ n. (1 ≤ n) × (n ≤ most)) }
+{
+    up_to(found.get_one::<u32>(id), most)
+}
+
+/// The call of `serve` with these values.
+fn serve_call<'a>(
+    database: Option<&'a str>,
+    port: Option<u32>,
+    requests: Option<u32>,
+) -> Option<Call<'a>>
+    requires port { IfSome port (λ n. (1 ≤ n) × (n ≤ most_port)) }
+    requires requests { IfSome requests (λ n. (1 ≤ n) × (n ≤ most_connections)) }
+    ensures call { option_map call_value result ≡ serve_with (option_map (λ d. d.now) database.entry) port requests }
+    ensures bounds { IfSome result (λ call. IsWithinBounds (call_value call)) }
+{
+    match (database, port, requests) {
+        (Some(database), Some(port), Some(requests)) => Some(Call::Serve {
+            database,
+            port: port as u16,
+            requests,
+        }),
+        _ => None,
+    }
+}
+
+/// The call of `serve` with these matches.
+fn read_serve<'a>(found: &ArgMatches<'a>) -> Option<Call<'a>>
+    ensures call { option_map call_value result ≡ serve_of (rows_of (found_of found.now)) }
+    ensures bounds { IfSome result (λ call. IsWithinBounds (call_value call)) }
+{
+    let port = number_of(found, "port", MOST_PORT);
+    let requests = number_of(found, "requests", MOST_CONNECTIONS);
+    serve_call(database_of(found), port, requests)
+}
+
 /// The call of the subcommand with that name and these matches.
 fn read_subcommand<'a>(name: &str, found: &ArgMatches<'a>) -> Option<Call<'a>>
-    ensures { option_map call_value result ≡ call_of (Some (name.now, rows_of (found_of found.now))) }
+    ensures call { option_map call_value result ≡ call_of (Some (name.now, rows_of (found_of found.now))) }
+    ensures bounds { IfSome result (λ call. IsWithinBounds (call_value call)) }
 {
     if name == "check-lsif" {
         return read_check_lsif(found);
@@ -261,12 +393,16 @@ fn read_subcommand<'a>(name: &str, found: &ArgMatches<'a>) -> Option<Call<'a>>
     if name == "replay" {
         return read_replay(found);
     }
+    if name == "serve" {
+        return read_serve(found);
+    }
     None
 }
 
 /// The call that the matches say.
 fn read_matches<'a>(matches: &ArgMatches<'a>) -> Option<Call<'a>>
-    ensures { option_map call_value result ≡ call_of (subcommand_rows_of matches.now) }
+    ensures call { option_map call_value result ≡ call_of (subcommand_rows_of matches.now) }
+    ensures bounds { IfSome result (λ call. IsWithinBounds (call_value call)) }
 {
     match matches.subcommand() {
         Some((name, found)) => read_subcommand(name, found),
@@ -291,6 +427,7 @@ fn read_words<'a, S: AsStr>(
 ) -> Result<Call<'a>, CallFault>
     requires { app_of command.old ≡ app }
     ensures call { IfOk result (λ call. IsCall (map S.text words.entry.now) (call_value call)) }
+    ensures bounds { IfOk result (λ call. IsWithinBounds (call_value call)) }
     ensures fault { IfErr result (IsRefused (map S.text words.entry.now)) }
 {
     match command.try_get_matches_from_mut(words) {
@@ -302,9 +439,11 @@ fn read_words<'a, S: AsStr>(
     }
 }
 
-/// Reads the program's words, its name first: the subcommand and the values that `clap` finds in them.
+/// Reads the program's words, its name first: the subcommand and the values that `clap` finds in them. A port is from 1 to
+/// 65535, and a number of requests from 1 to 1,000,000.
 pub fn read_call<'a, S: AsStr>(alloc: Global, words: &'a [S]) -> Result<Call<'a>, CallFault>
     ensures call { IfOk result (λ call. IsCall (map S.text words.entry.now) (call_value call)) }
+    ensures bounds { IfOk result (λ call. IsWithinBounds (call_value call)) }
     ensures fault { IfErr result (IsRefused (map S.text words.entry.now)) }
 {
     let mut command = command(alloc)?;

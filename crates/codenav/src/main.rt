@@ -8,6 +8,8 @@ mod replay;
 mod report;
 #[cfg(test)]
 mod samples;
+mod serve;
+mod timed;
 
 use call::{Call, CallFault, read_call};
 use check::check_lsif;
@@ -16,11 +18,15 @@ use http_edge::ServeFault;
 use lsif::{Counted, Profile};
 use replay::replay;
 use report::{CheckFault, Status};
+use serve::{CountedListener, ServerFault, serve};
 use std::alloc::Global;
 use std::io::ErrorKind;
+use std::net::{Ipv4Addr, Net, SocketAddr, TcpListener};
 use std::process::ExitCode;
 use std::rt::{Env, Files};
+use std::time::{Clock, Duration};
 use std::{env, fs, io};
+use timed::Limits;
 
 /// The status of a call that could not be carried out.
 const FAILED: u8 = 2;
@@ -30,7 +36,7 @@ fn main(rt: HostRuntime) -> ExitCode {
 }
 
 /// Carries out what the program's words say, and answers the exit status.
-fn run<R: Alloc<A = Global> + Env + Files + Print + Eprint>(rt: &R) -> u8 {
+fn run<R: Alloc<A = Global> + Clock + Env + Files + Net + Print + Eprint>(rt: &R) -> u8 {
     let words = match read_words(rt) {
         Ok(words) => words,
         Err(error) if error.kind() == ErrorKind::OutOfMemory => return fail(rt, "out of memory"),
@@ -40,6 +46,13 @@ fn run<R: Alloc<A = Global> + Env + Files + Print + Eprint>(rt: &R) -> u8 {
         Ok(Call::CheckLsif { file, profile }) => check_dump(rt, profile, file),
         Ok(Call::CheckTags { file }) => check_tags_file(rt, file),
         Ok(Call::Replay { database, file }) => replay_file(rt, database, file),
+        Ok(
+            Call::Serve {
+                database,
+                port,
+                requests,
+            },
+        ) => serve_port(rt, database, port, requests),
         Err(CallFault::Memory) => fail(rt, "out of memory"),
         Err(CallFault::Clap(error)) => show(rt, &error),
     }
@@ -109,6 +122,36 @@ fn replay_file<R: Alloc<A = Global> + Files + Print + Eprint>(
         Err(ServeFault::Memory) => fail(rt, "out of memory"),
         Err(ServeFault::Read) => fail(rt, "cannot read the file"),
         Err(ServeFault::Write) => fail(rt, "cannot write the output"),
+    }
+}
+
+/// `codenav serve DB --port N --requests N`: serves so many connections on that port of 127.0.0.1, and says so when it
+/// listens. The only database is `:memory:`.
+fn serve_port<R: Alloc<A = Global> + Clock + Net + Print + Eprint>(
+    rt: &R,
+    database: &str,
+    port: u16,
+    requests: u32,
+) -> u8 {
+    if database != ":memory:" {
+        return fail(rt, "store refused");
+    }
+    let Ok(listener) = TcpListener::bind(rt, SocketAddr::from((Ipv4Addr::LOCALHOST, port))) else {
+        return fail(rt, "cannot listen");
+    };
+    if println!(rt; "listening on 127.0.0.1:{port}").is_err() {
+        return fail(rt, "cannot write the output");
+    }
+    let limits = Limits {
+        wait: Duration::from_secs(10),
+        whole: Duration::from_secs(120),
+        rest: Duration::from_secs(1),
+    };
+    let mut counted = CountedListener::new(&listener);
+    match serve(rt.alloc(), rt, limits, &mut counted, requests) {
+        Ok(()) => 0,
+        Err(ServerFault::Accept) => fail(rt, "cannot accept"),
+        Err(ServerFault::Memory) => fail(rt, "out of memory"),
     }
 }
 

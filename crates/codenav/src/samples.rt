@@ -1,4 +1,4 @@
-//! Dumps written in short, and readers and writers that move so many bytes at a time, which the tests share.
+//! Dumps written in short, replies, and readers and writers that move so many bytes at a time, which the tests share.
 use std::alloc::Global;
 use std::io;
 use std::io::{Read, Write};
@@ -118,6 +118,39 @@ pub(crate) fn text_of(alloc: Global, dump: &str) -> Result<String, Fail> {
         push_line(&mut text, k.saturating_add(1), line, "")?;
     }
     Ok(text)
+}
+
+/// The text of a dump with other lines: after each number what stands there, `-` for nothing. A number beyond the last
+/// line adds one. The other lines keep their ids.
+pub(crate) fn changed(
+    alloc: Global,
+    dump: &'static str,
+    changes: &'static str,
+    around: &str,
+) -> Result<String, Fail> {
+    let mut lines: Vec<&str> = dump.lines().collect(alloc)?;
+    for change in changes.split(" | ").filter(|change| !change.is_empty()) {
+        let (number, line) = change.split_once(' ').unwrap_or((change, ""));
+        let place = number.parse::<usize>()?.checked_sub(1).ok_or("no line 0")?;
+        match lines.get_mut(place) {
+            Some(old) => *old = line,
+            None => lines.push(line)?,
+        }
+    }
+    let mut text = String::new(alloc);
+    for (k, line) in lines.iter().enumerate() {
+        if *line != "-" {
+            push_line(&mut text, k + 1, line, around)?;
+        }
+    }
+    Ok(text)
+}
+
+/// The text of a reply with that status, so long a body and that body.
+pub(crate) fn reply(alloc: Global, status: &str, length: u32, body: &str) -> Result<String, Fail> {
+    Ok(format!(in alloc;
+        "HTTP/1.1 {status}\r\nConnection: close\r\nContent-Type: application/json\r\nContent-Length: {length}\r\n\r\n{body}"
+    )?)
 }
 
 /// A reader that gives at most so many bytes at a time, and fails at the read of that number.

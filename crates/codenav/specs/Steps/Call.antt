@@ -1,5 +1,5 @@
--- Faults of a call on their way out.
-use Rattle.std.specs.Prelude.{◌≡◌, ◌≢◌, ⊤}
+-- Numbers of a call on their way in, and its faults on their way out.
+use Rattle.std.specs.Prelude.{◌≡◌, ◌≢◌, ℕ, ◌&&◌, nat_le, Option, Some, None, if◌then◌else◌, ⊤}
 use Rattle.clap.specs.Words.{kind_of}
 use Rattle.clap.specs.declared.error.Error.{Error}
 use Rattle.clap.specs.declared.error.kind.ErrorKind.TheVariants.{OutOfMemory, ValueValidation}
@@ -15,3 +15,8 @@ ShowsError error (Clap shown) = (shown ≡ error) × (kind_of error ≢ OutOfMem
 abbrev pub IsMissing : CallFault → Type 0
 IsMissing Memory = ⊤
 IsMissing (Clap error) = kind_of error ≡ ValueValidation
+
+-- the number, where it's from 1 to the most
+abbrev pub up_to : ℕ → Option ℕ → Option ℕ
+up_to most None = None
+up_to most (Some n) = if nat_le 1 n && nat_le n most then Some n else None

@@ -19,6 +19,10 @@ replay|:memory:|a b/c => replay|:memory:|a b/c
 replay|index.db|dump.lsif => replay|index.db|dump.lsif
 replay|index.db|- => replay|index.db|-
 replay|index.db|a b/c => replay|index.db|a b/c
+serve|:memory:|--port|8080|--requests|3 => serve|:memory:|8080|3
+serve|index.db|--requests=1|--port=1 => serve|index.db|1|1
+serve|--port|65535|--requests|1000000|:memory: => serve|:memory:|65535|1000000
+serve|:memory:|--port|+80|--requests|0007 => serve|:memory:|80|7
  => MissingSubcommand on the standard error
 check-lsif => MissingRequiredArgument on the standard error
 check-tags => MissingRequiredArgument on the standard error
@@ -34,6 +38,21 @@ check-lsif|a|--profile|two => ValueValidation on the standard error
 check-lsif|a|--profile => InvalidValue on the standard error
 check-lsif|a|--profile|1|--profile|2 => ArgumentConflict on the standard error
 check-tags|a|--profile|1 => UnknownArgument on the standard error
+serve|:memory: => MissingRequiredArgument on the standard error
+serve|--port|80|--requests|1 => MissingRequiredArgument on the standard error
+serve|:memory:|--port|80 => MissingRequiredArgument on the standard error
+serve|:memory:|--requests|1 => MissingRequiredArgument on the standard error
+serve|:memory:|a|--port|80|--requests|1 => UnknownArgument on the standard error
+serve|:memory:|--port|0|--requests|1 => ValueValidation on the standard error
+serve|:memory:|--port|65536|--requests|1 => ValueValidation on the standard error
+serve|:memory:|--port|80|--requests|0 => ValueValidation on the standard error
+serve|:memory:|--port|80|--requests|1000001 => ValueValidation on the standard error
+serve|:memory:|--port|80|--requests|99999999999999999999 => ValueValidation on the standard error
+serve|:memory:|--port=-1|--requests|1 => ValueValidation on the standard error
+serve|:memory:|--port|http|--requests|1 => ValueValidation on the standard error
+serve|:memory:|--port=|--requests|1 => ValueValidation on the standard error
+serve|:memory:|--port|80|--requests|1|--port|81 => ArgumentConflict on the standard error
+replay|:memory:|a|--port|80 => UnknownArgument on the standard error
 --help => DisplayHelp on the standard output
 check-lsif|--help => DisplayHelp on the standard output
 --version => DisplayVersion on the standard output
@@ -47,6 +66,11 @@ fn call_text(alloc: Global, call: Call<'_>) -> Result<String, Fail> {
         }
         Call::CheckTags { file } => Ok(format!(in alloc; "check-tags|{file}")?),
         Call::Replay { database, file } => Ok(format!(in alloc; "replay|{database}|{file}")?),
+        Call::Serve {
+            database,
+            port,
+            requests,
+        } => Ok(format!(in alloc; "serve|{database}|{port}|{requests}")?),
     }
 }
 

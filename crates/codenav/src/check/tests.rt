@@ -1,6 +1,6 @@
 //! Reports of dumps, of readers that fail and of writers that fail.
 use super::*;
-use crate::samples::{BASE, Pieces, Slow, in_pieces, push_line, slow_writer, text_of};
+use crate::samples::{BASE, Pieces, Slow, changed, in_pieces, slow_writer, text_of};
 use lsif::Counted;
 use std::process::Abort;
 use std::test::Fail;
@@ -105,32 +105,6 @@ fn expect_in<R: AllocGlobal + Abort>(
         expect_by(rt, profile, most, text, row)?;
     }
     Ok(())
-}
-
-/// The text of a dump with other lines: after each number what stands there, `-` for nothing. A number beyond the last
-/// line adds one. The other lines keep their ids.
-fn changed(
-    alloc: Global,
-    dump: &'static str,
-    changes: &'static str,
-    around: &str,
-) -> Result<String, Fail> {
-    let mut lines: Vec<&str> = dump.lines().collect(alloc)?;
-    for change in changes.split(" | ").filter(|change| !change.is_empty()) {
-        let (number, line) = change.split_once(' ').unwrap_or((change, ""));
-        let place = number.parse::<usize>()?.checked_sub(1).ok_or("no line 0")?;
-        match lines.get_mut(place) {
-            Some(old) => *old = line,
-            None => lines.push(line)?,
-        }
-    }
-    let mut text = String::new(alloc);
-    for (k, line) in lines.iter().enumerate() {
-        if *line != "-" {
-            push_line(&mut text, k + 1, line, around)?;
-        }
-    }
-    Ok(text)
 }
 
 /// Asserts a dump's report for each row: the report, and after ` | ` each change. The texts are read in pieces of each of

@@ -1,116 +1,390 @@
-//! The bytes that are written for a stream of requests, and over readers and writers that fail.
+//! The bytes that are written for streams of requests, also for streams that are cut, and over readers and writers that
+//! fail.
 use super::*;
-use crate::samples::{BASE, Pieces, Slow, in_pieces, slow_writer, text_of};
+use crate::samples::{BASE, Pieces, Slow, changed, in_pieces, reply, slow_writer};
 use lsif::Counted;
 use std::process::Abort;
 use std::test::Fail;
 
-/// The requests of `demo/first.http`, each with the end of its reply's status line, the length of the reply's body and the
-/// body: the base dump, which comes after the first head, two positions of it, and a path with no route.
-const DEMO: [(&str, &str, u32, &str); 4] = [
+/// Dumps in short, by name.
+const DUMPS: [(&str, &str); 7] = [
+    ("base", BASE),
     (
-        "PUT /projects/app/lsif?key=k1 HTTP/1.1\r\nHost: localhost\r\nContent-Length: 780\r\n\r\n",
-        "200 OK",
-        30,
-        r#"{"accepted":"lsif","count":11}"#,
+        "nested",
+        "metaData 'version':'0.6.0','positionEncoding':'utf-16'
+document file:///n.ts
+range 0:0 0:20
+range 0:5 0:8
+definitionResult
+textDocument/definition 3>5
+item 5>[3] @2
+contains 2>[4,3]",
     ),
     (
-        "GET /projects/app/definition?uri=file:///a.ts&line=2&character=1 HTTP/1.1\r\nHost: localhost\r\n\r\n",
-        "200 OK",
-        115,
-        r#"{"places":[{"end":{"character":7,"line":0},"project":"app","start":{"character":4,"line":0},"uri":"file:///a.ts"}]}"#,
+        "touching",
+        "metaData 'version':'0.6.0','positionEncoding':'utf-16'
+document file:///u.ts
+range 0:0 0:5
+range 0:5 0:9
+range 0:5 0:5
+definitionResult
+definitionResult
+definitionResult
+textDocument/definition 3>6
+textDocument/definition 4>7
+textDocument/definition 5>8
+item 6>[3] @2
+item 7>[4] @2
+item 8>[5] @2
+contains 2>[3,4,5]",
     ),
     (
-        "GET /projects/app/definition?uri=file:///a.ts&line=2&character=3 HTTP/1.1\r\nHost: localhost\r\n\r\n",
-        "200 OK",
-        13,
-        r#"{"places":[]}"#,
+        "cycle",
+        "metaData 'version':'0.6.0','positionEncoding':'utf-16'
+document file:///c.ts
+range 0:0 0:1
+range 1:0 1:1
+referenceResult
+referenceResult
+textDocument/references 4>6
+item 5>[6] referenceResults @2
+item 6>[5] referenceResults @2
+item 5>[3] definitions @2
+item 6>[4] references @2
+item 5>[4] references @2
+contains 2>[3,4]",
     ),
     (
-        "GET /projects/app/definitions HTTP/1.1\r\nHost: localhost\r\n\r\n",
-        "404 Not Found",
-        38,
-        r#"{"fault":"H06","text":"no such route"}"#,
+        "importing",
+        "metaData 'version':'0.6.0','positionEncoding':'utf-16'
+document file:///app.ts
+range 1:0 1:3
+moniker 'kind':'import','scheme':'npm','identifier':'lib::f'
+packageInformation 'manager':'npm','name':'lib','version':'1.0.0'
+moniker 3>4
+packageInformation 4>5
+contains 2>[3]",
+    ),
+    (
+        "exporting",
+        "metaData 'version':'0.6.0','positionEncoding':'utf-16'
+document file:///lib.ts
+range 0:9 0:10
+moniker 'kind':'export','scheme':'npm','identifier':'lib::f'
+packageInformation 'manager':'npm','name':'lib','version':'1.0.0'
+moniker 3>4
+packageInformation 4>5
+definitionResult
+textDocument/definition 3>8
+item 8>[3] @2
+contains 2>[3]",
+    ),
+    (
+        "hovered",
+        "metaData 'version':'0.6.0','positionEncoding':'utf-16'
+document file:///h.ts
+range 0:0 0:3
+hoverResult 'result':{'contents':[{'value':'f','language':'c','x':1},'d']}
+textDocument/hover 3>4
+contains 2>[3]",
     ),
 ];
 
-/// The text of a reply.
-fn reply(alloc: Global, status: &str, length: u32, body: &str) -> Result<String, Fail> {
-    Ok(format!(in alloc;
-        "HTTP/1.1 {status}\r\nConnection: close\r\nContent-Type: application/json\r\nContent-Length: {length}\r\n\r\n{body}"
-    )?)
-}
+/// Streams, parted by empty lines, each over an index that is empty at first: what is asked, what is uploaded after ` < `,
+/// and after ` => ` the status and the body of the reply. A dump has its name, and after ` | ` each line that is another, as in
+/// the reports of dumps; in tags, `>` stands for a tab and ` | ` for the end of a line.
+const STREAMS: &str = r#"
+PUT /projects/app/lsif?key=k1 < base => 200 {"accepted":"lsif","count":11}
+GET /projects/app/definition?uri=file:///a.ts&line=2&character=1 => 200 {"places":[{"end":{"character":7,"line":0},"project":"app","start":{"character":4,"line":0},"uri":"file:///a.ts"}]}
+GET /projects/app/definition?uri=file:///a.ts&line=2&character=3 => 200 {"places":[]}
+GET /projects/app/definition?uri=file:///a.ts&line=2147483647&character=2147483647 => 200 {"places":[]}
+GET /projects/app/definition?uri=file:///a.ts&line=2147483647&character=2147483648 => 400 {"fault":"D03","text":"bad parameter"}
+GET /projects/app/definition?uri=file:///b.ts&line=2&character=1 => 404 {"fault":"D02","text":"no such document"}
+GET /projects/lib/definition?uri=file:///a.ts&line=2&character=1 => 404 {"fault":"D01","text":"project has no dump"}
+GET /projects/app/profile => 200 {"profile":1}
+GET /projects => 200 {"projects":[{"dump":true,"name":"app","tags":false}]}
 
-/// The first so many of these requests, and their replies.
-fn demo(alloc: Global, count: usize) -> Result<(String, String), Fail> {
-    let mut stream = String::new(alloc);
-    let mut replies = String::new(alloc);
-    for (k, (request, status, length, body)) in DEMO.iter().enumerate().take(count) {
-        stream.push_str(request)?;
-        if k == 0 {
-            stream.push_str(text_of(alloc, BASE)?.as_str())?;
-        }
-        replies.push_str(reply(alloc, status, *length, body)?.as_str())?;
+PUT /projects/app/lsif?key=k1 < => 422 {"fault":"L06","line":1,"text":"metaData missing, wrong or repeated"}
+PUT /projects/app/lsif?key=k1 < base | 8 #9 textDocument/definition 5>8 | 9 #8 definitionResult => 422 {"fault":"L09","line":8,"text":"vertex not emitted before"}
+PUT /projects/app/lsif?key=k1 < base | 11 - => 422 {"fault":"E01","line":3,"text":"range in no document"}
+PUT /projects/app/lsif?key=k1 < base | 10 item 8>[3] x @2 | 11 - => 422 {"fault":"L15","line":10,"text":"bad item property or shard"}
+PUT /projects/app/lsif?key=k1 < base | 4 range 0:6 0:9 => 422 {"fault":"L12","line":11,"text":"range equal to or overlapping another"}
+PUT /projects/app/lsif?key=k1 < base | 1 #9007199254740992 metaData 'version':'0.6.0','positionEncoding':'utf-16' => 422 {"fault":"L03","line":1,"text":"no valid id"}
+PUT /projects/app/lsif?key=k1 < base | 7 next 5>5 => 422 {"fault":"L14","line":7,"text":"next closes a cycle"}
+GET /projects => 200 {"projects":[]}
+PUT /projects/app/lsif?key=k1 < base | 1 #9007199254740991 metaData 'version':'0.6.0','positionEncoding':'utf-16' => 200 {"accepted":"lsif","count":11}
+
+PUT /projects/app/lsif?key=k1 < nested => 200 {"accepted":"lsif","count":8}
+GET /projects/app/definition?uri=file:///n.ts&line=0&character=6 => 200 {"places":[{"end":{"character":20,"line":0},"project":"app","start":{"character":0,"line":0},"uri":"file:///n.ts"}]}
+
+PUT /projects/app/lsif?key=k1 < touching => 200 {"accepted":"lsif","count":15}
+GET /projects/app/definition?uri=file:///u.ts&line=0&character=5 => 200 {"places":[{"end":{"character":9,"line":0},"project":"app","start":{"character":5,"line":0},"uri":"file:///u.ts"}]}
+
+PUT /projects/app/lsif?key=k1 < cycle => 200 {"accepted":"lsif","count":13}
+GET /projects/app/references?uri=file:///c.ts&line=1&character=0&declaration=yes => 200 {"places":[{"end":{"character":1,"line":0},"project":"app","start":{"character":0,"line":0},"uri":"file:///c.ts"},{"end":{"character":1,"line":1},"project":"app","start":{"character":0,"line":1},"uri":"file:///c.ts"}]}
+GET /projects/app/references?uri=file:///c.ts&line=1&character=0&declaration=no => 200 {"places":[{"end":{"character":1,"line":1},"project":"app","start":{"character":0,"line":1},"uri":"file:///c.ts"}]}
+
+PUT /projects/app/lsif?key=k1 < importing => 200 {"accepted":"lsif","count":8}
+PUT /projects/lib/lsif?key=k1 < exporting => 200 {"accepted":"lsif","count":11}
+GET /projects/app/definition?uri=file:///app.ts&line=1&character=0 => 200 {"places":[{"end":{"character":10,"line":0},"project":"lib","start":{"character":9,"line":0},"uri":"file:///lib.ts"}]}
+PUT /projects/lib2/lsif?key=k1 < exporting => 200 {"accepted":"lsif","count":11}
+GET /projects/app/definition?uri=file:///app.ts&line=1&character=0 => 200 {"places":[{"end":{"character":10,"line":0},"project":"lib","start":{"character":9,"line":0},"uri":"file:///lib.ts"},{"end":{"character":10,"line":0},"project":"lib2","start":{"character":9,"line":0},"uri":"file:///lib.ts"}]}
+DELETE /projects/lib2?key=d1 => 200 {"removed":true}
+DELETE /projects/lib?key=d1 => 200 {"removed":true}
+GET /projects/app/definition?uri=file:///app.ts&line=1&character=0 => 200 {"places":[]}
+DELETE /projects/lib?key=d2 => 200 {"removed":false}
+DELETE /projects/lib?key=d1 => 200 {"removed":true}
+
+PUT /projects/app/lsif?key=k1 < importing => 200 {"accepted":"lsif","count":8}
+PUT /projects/lib/lsif?key=k1 < exporting | 5 packageInformation 'manager':'npm','name':'lib','version':'1.0.1' => 200 {"accepted":"lsif","count":11}
+GET /projects/app/definition?uri=file:///app.ts&line=1&character=0 => 200 {"places":[]}
+
+PUT /projects/app/lsif?key=k1 < importing => 200 {"accepted":"lsif","count":8}
+PUT /projects/lib/lsif?key=k1&profile=2 < exporting | 8 declarationResult | 9 textDocument/declaration 3>8 => 200 {"accepted":"lsif","count":11}
+GET /projects/app/declaration?uri=file:///app.ts&line=1&character=0 => 200 {"places":[{"end":{"character":10,"line":0},"project":"lib","start":{"character":9,"line":0},"uri":"file:///lib.ts"}]}
+GET /projects/app/definition?uri=file:///app.ts&line=1&character=0 => 200 {"places":[]}
+GET /projects/app/implementation?uri=file:///app.ts&line=1&character=0 => 200 {"places":[]}
+GET /projects/lib/profile => 200 {"profile":2}
+PUT /projects/lib/lsif?key=k2&profile=3 < exporting => 400 {"fault":"D03","text":"bad parameter"}
+
+PUT /projects/app/lsif?key=k1 < base => 200 {"accepted":"lsif","count":11}
+PUT /projects/app/lsif?key=k2 < base | 11 - => 422 {"fault":"E01","line":3,"text":"range in no document"}
+GET /projects/app/definition?uri=file:///a.ts&line=2&character=1 => 200 {"places":[{"end":{"character":7,"line":0},"project":"app","start":{"character":4,"line":0},"uri":"file:///a.ts"}]}
+PUT /projects/app/lsif?key=k2 < base => 200 {"accepted":"lsif","count":11}
+
+PUT /projects/app/lsif?key=k1 < hovered => 200 {"accepted":"lsif","count":6}
+GET /projects/app/hover?uri=file:///h.ts&line=0&character=0 => 200 {"contents":[{"language":"c","value":"f"},"d"]}
+GET /projects/app/hover?uri=file:///h.ts&line=0&character=3 => 200 {"contents":null}
+
+PUT /projects/app/tags?key=k1 < tags ab>f.c>1 | a>f.c>2 => 200 {"accepted":"tags","count":2}
+PUT /projects/lib/tags?key=k1 < tags a>f.c>1 | b>f.c>2 => 200 {"accepted":"tags","count":2}
+GET /names?prefix=a => 200 {"tags":[{"address":"2","fields":[],"file":"f.c","kind":null,"line":2,"name":"a","project":"app"},{"address":"1","fields":[],"file":"f.c","kind":null,"line":1,"name":"a","project":"lib"},{"address":"1","fields":[],"file":"f.c","kind":null,"line":1,"name":"ab","project":"app"}]}
+GET /names?name=a => 200 {"tags":[{"address":"2","fields":[],"file":"f.c","kind":null,"line":2,"name":"a","project":"app"},{"address":"1","fields":[],"file":"f.c","kind":null,"line":1,"name":"a","project":"lib"}]}
+GET /names?prefix=a&project=lib => 200 {"tags":[{"address":"1","fields":[],"file":"f.c","kind":null,"line":1,"name":"a","project":"lib"}]}
+GET /names?prefix=a&project=zed => 200 {"tags":[]}
+GET /names?name=a&prefix=a => 400 {"fault":"D03","text":"bad parameter"}
+GET /names => 400 {"fault":"D03","text":"bad parameter"}
+GET /projects => 200 {"projects":[{"dump":false,"name":"app","tags":true},{"dump":false,"name":"lib","tags":true}]}
+"#;
+
+/// The stream that readers and writers fail in: uploads under keys, one of them a second time, and tags.
+const UPLOADS: &str = r#"
+PUT /projects/app/lsif?key=k1 < base => 200 {"accepted":"lsif","count":11}
+PUT /projects/app/lsif?key=k2 < base | 3 range 0:5 0:7 => 200 {"accepted":"lsif","count":11}
+PUT /projects/app/lsif?key=k1 < base => 200 {"accepted":"lsif","count":11}
+GET /projects/app/definition?uri=file:///a.ts&line=2&character=1 => 200 {"places":[{"end":{"character":7,"line":0},"project":"app","start":{"character":5,"line":0},"uri":"file:///a.ts"}]}
+PUT /projects/app/tags?key=k3 < tags a\x41\tb>f.c>/a\/b/;">f => 200 {"accepted":"tags","count":1}
+GET /names?prefix=aA => 200 {"tags":[{"address":"/a\\/b/","fields":[],"file":"f.c","kind":"f","line":1,"name":"aA\tb","project":"app"}]}
+PUT /projects/app/tags?key=k4 < tags \q>f.c>/a\/b/;">f => 422 {"fault":"T05","line":1,"text":"bad escape"}
+"#;
+
+/// An upload of a base dump, and a query of it.
+const BASE_TWICE: &str = r#"
+PUT /projects/app/lsif?key=k1 < base => 200 {"accepted":"lsif","count":11}
+GET /projects/app/definition?uri=file:///a.ts&line=2&character=1 => 200 {"places":[{"end":{"character":7,"line":0},"project":"app","start":{"character":4,"line":0},"uri":"file:///a.ts"}]}
+"#;
+
+/// An upload whose body isn't JSON, of 66 bytes, of which 61 are the head.
+const SHORT_PUT: &str =
+    "PUT /projects/app/lsif?key=k1 HTTP/1.1\r\nContent-Length: 5\r\n\r\n{\"id\"";
+
+/// A request for the projects, of 26 bytes.
+const PROJECTS: &str = "GET /projects HTTP/1.1\r\n\r\n";
+
+/// The reply to it while there are none, of 105 bytes.
+const NO_PROJECTS: &str =
+    "HTTP/1.1 200 OK\r\nConnection: close\r\nContent-Type: application/json\r\nContent-Length: 15\r\n\r\n{\"projects\":[]}";
+
+/// The body of an upload that a row names.
+fn body_of(alloc: Global, short: &'static str) -> Result<String, Fail> {
+    if short.is_empty() {
+        return Ok(String::new(alloc));
     }
-    Ok((stream, replies))
+    if let Some(tags) = short.strip_prefix("tags ") {
+        let lines = tags.replace(alloc, " | ", "\n")?;
+        let mut text = lines.replace(alloc, '>', "\t")?;
+        text.push('\n')?;
+        return Ok(text);
+    }
+    let (name, changes) = short.split_once(" | ").unwrap_or((short, ""));
+    for (known, dump) in DUMPS {
+        if known == name {
+            return changed(alloc, dump, changes, "");
+        }
+    }
+    Err(Fail::from("no dump of this name"))
 }
 
-/// What is answered and written over a reader, and how many bytes are left in it, where the writer takes seven bytes at a
+/// The text of a request that stands in a row before its reply.
+fn request(alloc: Global, row: &'static str) -> Result<String, Fail> {
+    match row.split_once(" <") {
+        None => Ok(format!(in alloc; "{row} HTTP/1.1\r\n\r\n")?),
+        Some((line, short)) => {
+            let body = body_of(alloc, short.trim_start())?;
+            let length = body.len();
+            Ok(format!(in alloc; "{line} HTTP/1.1\r\nContent-Length: {length}\r\n\r\n{body}")?)
+        }
+    }
+}
+
+/// The status line's end of a status.
+fn status_of(status: &str) -> Result<&'static str, Fail> {
+    match status {
+        "200" => Ok("200 OK"),
+        "400" => Ok("400 Bad Request"),
+        "404" => Ok("404 Not Found"),
+        "422" => Ok("422 Unprocessable Entity"),
+        _ => Err(Fail::from("no such status")),
+    }
+}
+
+/// The text of a reply whose status and body stand in a row.
+fn reply_of(alloc: Global, short: &str) -> Result<String, Fail> {
+    let (status, body) = short.split_once(' ').ok_or("no status")?;
+    let length = u32::try_from(body.len())?;
+    reply(alloc, status_of(status)?, length, body)
+}
+
+/// The first so many requests of a stream, one after the other, and the replies to them.
+fn exchange(alloc: Global, rows: &'static str, count: usize) -> Result<(String, String), Fail> {
+    let mut requests = String::new(alloc);
+    let mut replies = String::new(alloc);
+    for row in rows.trim_matches('\n').lines().take(count) {
+        let (asked, replied) = row.split_once(" => ").ok_or("no reply")?;
+        requests.push_str(request(alloc, asked)?.as_str())?;
+        replies.push_str(reply_of(alloc, replied)?.as_str())?;
+    }
+    Ok((requests, replies))
+}
+
+/// What is answered and written over a reader, and how many bytes are left in it, where the writer takes so many bytes at a
 /// time and fails at the write of that number.
 fn replay_over(
     alloc: Global,
     reader: Pieces<'_>,
+    most: usize,
     fails_at: u32,
 ) -> (Result<u32, ServeFault>, Vec<u8>, usize) {
     let mut r = Counted::new(reader);
-    let mut w = Counted::new(slow_writer(alloc, 7, fails_at));
+    let mut w = Counted::new(slow_writer(alloc, most, fails_at));
     let answer = replay(alloc, &mut r, &mut w);
     let Pieces { bytes, .. } = r.into_inner();
     let Slow { taken, .. } = w.into_inner();
     (answer, taken, bytes.len())
 }
 
-/// Asserts what is written for a stream, for several cuttings.
-fn expect<R: AllocGlobal + Abort>(rt: &R, stream: &str, count: u32, wanted: &str) {
-    for most in [1, 2, 7, 1_000_000] {
-        let (answer, written, _) = replay_over(rt.alloc(), in_pieces(stream.as_bytes(), most), 0);
-        assert_eq!(rt; answer, Ok(count));
-        assert_eq!(rt; written.as_slice(), wanted.as_bytes());
+/// Asserts what is answered and written for a stream, whose bytes are read and written so many at a time.
+fn expect<R: AllocGlobal + Abort>(rt: &R, stream: &[u8], most: usize, count: usize, wanted: &str) {
+    let (answer, written, _) = replay_over(rt.alloc(), in_pieces(stream, most), most, 0);
+    assert_eq!(rt;
+        str::from_utf8(&written).unwrap_or("not UTF-8"),
+        wanted,
+        "{most}"
+    );
+    assert_eq!(rt; answer.map(|served| served as usize), Ok(count), "{wanted}");
+}
+
+/// Streams that come whole.
+#[test]
+fn all_rows(rt: HostRuntime) -> Result<(), Fail> {
+    for rows in STREAMS.split("\n\n") {
+        let (requests, replies) = exchange(rt.alloc(), rows, usize::MAX)?;
+        let count = rows.trim_matches('\n').lines().count();
+        for most in [1, 7, 1_000_000] {
+            expect(&rt, requests.as_bytes(), most, count, replies.as_str());
+        }
+    }
+    expect(&rt, b"", 1, 0, "");
+    expect(&rt, PROJECTS.as_bytes(), 1, 1, NO_PROJECTS);
+    Ok(())
+}
+
+/// The reply to an upload and how many there are, where only so many bytes of it come.
+fn reply_to_cut(at: usize) -> (usize, &'static str) {
+    match at {
+        0 => (0, ""),
+        1..=60 => (1, r#"400 {"fault":"H01","text":"bad head"}"#),
+        61..=65 => (1, r#"400 {"fault":"H05","text":"body cut"}"#),
+        _ => (1, r#"422 {"fault":"L02","line":1,"text":"not JSON"}"#),
     }
 }
 
-/// The demo's stream, that of an empty file, and an upload with no body.
-#[test]
-fn streams(rt: HostRuntime) -> Result<(), Fail> {
-    let (stream, replies) = demo(rt.alloc(), 4)?;
-    assert_eq!(rt; stream.len(), 1107);
-    expect(&rt, stream.as_str(), 4, replies.as_str());
-    expect(&rt, "", 0, "");
-    let fault = reply(
-        rt.alloc(),
-        "422 Unprocessable Entity",
-        69,
-        r#"{"fault":"L06","line":1,"text":"metaData missing, wrong or repeated"}"#,
-    )?;
-    let stream = "PUT /projects/app/lsif?key=k1 HTTP/1.1\r\nContent-Length: 0\r\n\r\n";
-    expect(&rt, stream, 1, fault.as_str());
+/// Streams that end in a request, and a reader that fails in one.
+fn cut_streams<R: AllocGlobal + Abort>(rt: &R) -> Result<(), Fail> {
+    for at in 0..67 {
+        let (count, short) = reply_to_cut(at);
+        let wanted = if count == 0 {
+            String::new(rt.alloc())
+        } else {
+            reply_of(rt.alloc(), short)?
+        };
+        expect(rt, &SHORT_PUT.as_bytes()[..at], 9, count, wanted.as_str());
+    }
+    let (_, bad_head) = reply_to_cut(1);
+    let bad_head = reply_of(rt.alloc(), bad_head)?;
+    let stream = format!(in rt.alloc(); "{PROJECTS}{PROJECTS}")?;
+    let wanted = format!(in rt.alloc(); "{NO_PROJECTS}{bad_head}")?;
+    for at in 27..52 {
+        expect(rt, &stream.as_bytes()[..at], 9, 2, wanted.as_str());
+    }
+    Ok(())
+}
+
+/// What is served over a desk of a stream whose bytes are read one at a time, where the reader fails at one read and the writer
+/// at one write.
+fn serve_over(
+    alloc: Global,
+    desk: &mut PlainDesk,
+    stream: &str,
+    read: u32,
+    write: u32,
+) -> (Result<u32, ServeFault>, Vec<u8>) {
+    let mut reader = in_pieces(stream.as_bytes(), 1);
+    reader.fails_at = read;
+    let mut r = Counted::new(reader);
+    let mut w = Counted::new(slow_writer(alloc, 1, write));
+    let answer = serve_stream(alloc, desk, &mut r, &mut w, 9);
+    let Slow { taken, .. } = w.into_inner();
+    (answer, taken)
+}
+
+/// A reader that fails at any byte of an upload: it has no effect. A writer that fails at the reply to one: it has its effect,
+/// and sent again it gets the kept reply.
+fn effects<R: AllocGlobal + Abort>(rt: &R) -> Result<(), Fail> {
+    let mut desk = PlainDesk::new(rt.alloc());
+    for fails_at in 1..67 {
+        let (answer, written) = serve_over(rt.alloc(), &mut desk, SHORT_PUT, fails_at, 0);
+        assert_eq!(rt; answer, Err(ServeFault::Read), "{fails_at}");
+        assert!(rt; written.is_empty(), "{fails_at}");
+    }
+    let (answer, written) = serve_over(rt.alloc(), &mut desk, PROJECTS, 0, 0);
+    assert_eq!(rt; answer, Ok(1));
+    assert_eq!(rt; written.as_slice(), NO_PROJECTS.as_bytes());
+    let (upload, _) = exchange(rt.alloc(), BASE_TWICE, 1)?;
+    let (answer, written) = serve_over(rt.alloc(), &mut desk, upload.as_str(), 0, 1);
+    assert_eq!(rt; answer, Err(ServeFault::Write));
+    assert!(rt; written.is_empty());
+    let (again, replies) = exchange(rt.alloc(), BASE_TWICE, 2)?;
+    let (answer, written) = serve_over(rt.alloc(), &mut desk, again.as_str(), 0, 0);
+    assert_eq!(rt; answer, Ok(2));
+    assert_eq!(rt; written.as_slice(), replies.as_bytes());
     Ok(())
 }
 
 /// A reader that fails at each of its reads: the requests that came whole are answered.
-#[test]
-fn readers_that_fail(rt: HostRuntime) -> Result<(), Fail> {
-    let (stream, _) = demo(rt.alloc(), 4)?;
-    // The 1,107 bytes come in 12 reads or more, and another finds their end.
-    for fails_at in 1..14 {
+fn readers_that_fail<R: AllocGlobal + Abort>(rt: &R) -> Result<(), Fail> {
+    let (stream, whole) = exchange(rt.alloc(), UPLOADS, 7)?;
+    expect(rt, stream.as_bytes(), 1_000_000, 7, whole.as_str());
+    let reads = u32::try_from(stream.len() / 100)?;
+    for fails_at in 1..=reads {
         let mut reader = in_pieces(stream.as_bytes(), 100);
         reader.fails_at = fails_at;
-        let (answer, written, left) = replay_over(rt.alloc(), reader, 0);
+        let (answer, written, left) = replay_over(rt.alloc(), reader, 1_000_000, 0);
         assert_eq!(rt; answer, Err(ServeFault::Read), "{fails_at}");
         let mut wanted = String::new(rt.alloc());
-        for count in 1..5 {
-            let (whole, replies) = demo(rt.alloc(), count)?;
-            if whole.len() <= stream.len().saturating_sub(left) {
+        for count in 1..8 {
+            let (requests, replies) = exchange(rt.alloc(), UPLOADS, count)?;
+            if requests.len() <= stream.len().saturating_sub(left) {
                 wanted = replies;
             }
         }
@@ -119,19 +393,26 @@ fn readers_that_fail(rt: HostRuntime) -> Result<(), Fail> {
     Ok(())
 }
 
-/// A writer that fails at each of its writes: it took a beginning of the replies.
-#[test]
-fn writers_that_fail(rt: HostRuntime) -> Result<(), Fail> {
-    let (stream, replies) = demo(rt.alloc(), 4)?;
-    for fails_at in 1..82 {
-        let reader = in_pieces(stream.as_bytes(), 1_000_000);
-        let (answer, written, _) = replay_over(rt.alloc(), reader, fails_at);
-        assert_eq!(rt; answer, Err(ServeFault::Write), "{fails_at}");
-        assert!(rt;
-            replies.as_bytes().starts_with(written.as_slice()),
-            "{fails_at}"
-        );
-        assert!(rt; written.len() <= 7 * (fails_at as usize - 1), "{fails_at}");
+/// A writer that takes one byte at a time and fails at each of its writes: it took what comes before in the replies.
+fn writers_that_fail<R: AllocGlobal + Abort>(rt: &R) -> Result<(), Fail> {
+    let (stream, replies) = exchange(rt.alloc(), UPLOADS, 7)?;
+    for (requests, wanted) in [(PROJECTS, NO_PROJECTS), (stream.as_str(), replies.as_str())] {
+        for before in 0..wanted.len() {
+            let reader = in_pieces(requests.as_bytes(), 1_000_000);
+            let fails_at = u32::try_from(before)?.saturating_add(1);
+            let (answer, written, _) = replay_over(rt.alloc(), reader, 1, fails_at);
+            assert_eq!(rt; answer, Err(ServeFault::Write), "{before}");
+            let taken = wanted.get(..before).ok_or("no such place")?;
+            assert_eq!(rt; written.as_slice(), taken.as_bytes(), "{before}");
+        }
     }
     Ok(())
+}
+
+#[test]
+fn cut_and_failed(rt: HostRuntime) -> Result<(), Fail> {
+    cut_streams(&rt)?;
+    effects(&rt)?;
+    readers_that_fail(&rt)?;
+    writers_that_fail(&rt)
 }

@@ -6,7 +6,7 @@ use Rattle.codenav.proofs.call.command.Goals as goal
 
 pub returns : goal.returns
 returns c =
-    let local = (plain_fields c.in_ok-replay.replay (ap (λ (a : App). a.top.is_plain) c.in_ok-replay.ensures)).globals in
+    let local = (plain_fields c.in_ok-serve.serve (ap (λ (a : App). a.top.is_plain) c.in_ok-serve.ensures)).globals in
     IfOk-weaker c.subcommand.result _ _
-    (λ m h. h.shape local ∙ ap₂ with_subcommand c.in_ok-with_checks.ensures (ap (λ (a : App). a.top) c.in_ok-replay.ensures))
+    (λ m h. h.shape local ∙ ap₂ with_subcommand c.in_ok-with_replay.ensures (ap (λ (a : App). a.top) c.in_ok-serve.ensures))
     c.subcommand.ensures

@@ -7,7 +7,7 @@ pub returns-in-Some-clause-call : goal.returns-in-Some-clause-call
 returns-in-Some-clause-call g c =
     let words = map g.S.AsStr.text c.args.words.now in (
       taken _ words c.requires c.in-Ok.ensures.kinds,
-      ap call_of (sym (entered _ words c.in-Ok.matches c.requires c.in-Ok.ensures.ok.2)) ∙ sym c.read_matches.ensures ∙ ap (option_map call_value) c.in-Some.is,
+      ap call_of (sym (entered _ words c.in-Ok.matches c.requires c.in-Ok.ensures.ok.2)) ∙ sym c.read_matches.ensures.call ∙ ap (option_map call_value) c.in-Some.is,
     )
 
 pub returns-clause-fault : goal.returns-clause-fault

@@ -1,0 +1,190 @@
+#!/usr/bin/env bash
+# Measures what a request costs the program beside what it costs the desk alone, in one run: the processor time of each of
+# so many `GET /projects` and definition requests over the demo's dump, by `replay` from a file and by `serve` over loopback,
+# beside that of the same query asked of a desk in a loop. Then the most memory that `replay` holds for 10,000 and for 1,000,000
+# requests; and that of an upload of some 30 MB, beside that of `check-lsif` of the same dump.
+# usage: bench/requests.sh [REQUESTS [CONNECTIONS]]      (default 100000 and 10000)
+# It builds and proves a small program over the crates of this repository, in a copy beside /tmp, which takes some minutes.
+set -eu
+export LC_ALL=C
+requests=${1:-100000}
+connections=${2:-10000}
+top=$(cd "$(dirname "${BASH_SOURCE[0]}")/.." && pwd)
+"$top/codenav" --help >/dev/null
+program=$top/crates/codenav/out/codenav
+folder=$(mktemp -d)
+trap 'rm -rf "$folder"' EXIT
+mkdir -p "$folder/crates/asks/src" "$folder/crates/asks/data"
+for crate in positions lsif dump flatten tags desk; do
+    cp -r "$top/crates/$crate" "$folder/crates/"
+done
+cp "$top/HANDLES" "$folder/"
+{ grep -v '^http_edge:\|^codenav:' "$top/crates.txt"; echo "asks: positions lsif desk"; } >"$folder/crates.txt"
+
+cat >"$folder/crates/asks/src/main.rt" <<'EOP'
+//! Asks a desk that has the dump of the file `dump` for the projects and for a definition, as often as the file `count` says, and
+//! prints the nanoseconds of one query of each kind.
+#![tactic(auto)]
+use desk::{Command, Desk, DocUri, Key, PlainDesk, ProjectName, Query};
+use lsif::Profile;
+use positions::Position;
+use std::alloc::Global;
+use std::process::ExitCode;
+use std::rt::{Clock, Files};
+use std::time::Instant;
+use std::{fs, io};
+
+fn main(rt: HostRuntime) -> ExitCode {
+    match run(&rt) {
+        Ok(()) => ExitCode::from(0),
+        Err(_) => ExitCode::from(1),
+    }
+}
+
+fn bad() -> io::Error {
+    io::Error::from(io::ErrorKind::InvalidData)
+}
+
+fn project(alloc: Global) -> io::Result<ProjectName> {
+    ProjectName::read(alloc, "app")?.ok_or(bad())
+}
+
+fn definition(alloc: Global) -> io::Result<Query> {
+    let uri = DocUri::read(alloc, "file:///a.ts")?.ok_or(bad())?;
+    let at = Position::new(2, 1).ok_or(bad())?;
+    Ok(Query::Definition { project: project(alloc)?, uri, at })
+}
+
+fn ask<R: Print + Clock>(rt: &R, desk: &mut PlainDesk, query: &Query, name: &str, count: u32) -> io::Result<()> {
+    let start = Instant::now(rt)?;
+    for _ in 0..count {
+        if desk.ask(query).status() != 200 {
+            return Err(bad());
+        }
+    }
+    let time = start.elapsed(rt)?;
+    println!(rt; "{} {}", name, time.as_nanos() / u128::from(count.max(1)))?;
+    Ok(())
+}
+
+fn run<R: Alloc<A = Global> + Files + Print + Clock>(rt: &R) -> io::Result<()> {
+    let alloc = rt.alloc();
+    let count = fs::read_to_string(rt, "count")?;
+    let count = count.trim_end().parse::<u32>().map_err(|_| bad())?;
+    let body = fs::read(rt, "dump")?;
+    let key = Key::read(alloc, "k1")?.ok_or(bad())?;
+    let mut desk = PlainDesk::new(alloc);
+    desk.apply(&Command::PutDump { project: project(alloc)?, key, profile: Profile::One, body: &body });
+    let definition = definition(alloc)?;
+    ask(rt, &mut desk, &Query::Projects, "projects", count)?;
+    ask(rt, &mut desk, &definition, "definition", count)
+}
+EOP
+
+(cd "$folder/crates/asks" && rt run) >"$folder/log" 2>&1 </dev/null || [ -x "$folder/crates/asks/out/asks" ] || { cat "$folder/log" >&2; exit 1; }
+
+target_of() {
+    case $1 in
+        projects) echo /projects ;;
+        definition) echo '/projects/app/definition?uri=file:///a.ts&line=2&character=1' ;;
+    esac
+}
+
+# An upload of the dump in a file, and then so many requests of one kind.
+stream() {
+    printf 'PUT /projects/app/lsif?key=k1 HTTP/1.1\r\nContent-Length: %d\r\n\r\n' "$(wc -c <"$1")"
+    cat "$1"
+    awk -v count="$3" -v target="$(target_of "$2")" 'BEGIN { while (count--) printf "GET %s HTTP/1.1\r\nHost: localhost\r\n\r\n", target }'
+}
+
+# Runs a command, and prints its processor time in nanoseconds and the most memory in bytes.
+cost_of() {
+    /usr/bin/time -f '%U %S %M' -o "$folder/cost" "$@" >"$folder/out"
+    awk '{ printf "%.0f %.0f\n", ($1 + $2) * 1e9, $3 * 1024 }' "$folder/cost"
+}
+
+cp "$top/demo/base.lsif" "$folder/dump"
+echo "$requests" >"$folder/count"
+(cd "$folder" && crates/asks/out/asks) >"$folder/alone"
+
+# The nanoseconds of one request beyond what a desk alone takes for it.
+report() {
+    awk -v way="$1" -v kind="$2" -v count="$3" -v time="$4" '$1 == kind {
+        printf "%-7s %-11s %8.1f microseconds each, a desk alone %6.1f, beyond it %6.1f\n", way, kind, time / count / 1000, $2 / 1000, (time / count - $2) / 1000
+    }' "$folder/alone"
+}
+
+for kind in projects definition; do
+    stream "$folder/dump" "$kind" "$requests" >"$folder/stream"
+    cost=$(cost_of "$program" replay :memory: "$folder/stream")
+    [ "$(grep -c '^HTTP/1.1 200 OK' "$folder/out")" -gt "$requests" ] || { echo "replay: a request was refused" >&2; exit 1; }
+    report replay "$kind" "$requests" "${cost% *}"
+done
+
+cat >"$folder/client.py" <<'EOP'
+"""Puts a dump to a server on loopback and sends it so many requests of one kind, a connection each."""
+import socket
+import sys
+
+port, count, target, name = int(sys.argv[1]), int(sys.argv[2]), sys.argv[3], sys.argv[4]
+
+
+def ask(request):
+    with socket.create_connection(("127.0.0.1", port)) as peer:
+        peer.sendall(request)
+        reply = b""
+        while piece := peer.recv(65536):
+            reply += piece
+    if not reply.startswith(b"HTTP/1.1 200 OK\r\n"):
+        sys.exit(f"refused: {reply!r}")
+
+
+body = open(name, "rb").read()
+ask(b"PUT /projects/app/lsif?key=k1 HTTP/1.1\r\nContent-Length: %d\r\n\r\n" % len(body) + body)
+for _ in range(count):
+    ask(b"GET %s HTTP/1.1\r\nHost: localhost\r\n\r\n" % target.encode())
+EOP
+port=20000
+for kind in projects definition; do
+    port=$((port + 1 + RANDOM % 20000))
+    cost_of "$program" serve :memory: --port "$port" --requests $((connections + 1)) >"$folder/server" &
+    until grep -q '^listening on' "$folder/out" 2>/dev/null; do sleep 0.1; done
+    python3 "$folder/client.py" "$port" "$connections" "$(target_of "$kind")" "$folder/dump"
+    wait
+    cost=$(cat "$folder/server")
+    report serve "$kind" "$connections" "${cost% *}"
+    rm "$folder/out"
+done
+
+for count in 10000 1000000; do
+    stream "$folder/dump" definition $((count - 1)) >"$folder/stream"
+    cost=$(cost_of "$program" replay :memory: "$folder/stream")
+    awk -v count="$count" -v memory="${cost#* }" 'BEGIN { printf "replay of %7d requests: at most %.1f MB\n", count, memory / 1e6 }'
+done
+
+# 300 documents with hovers of some 800 bytes, 99,000 elements in all.
+awk '
+    function vertex(label, members) { printf "{\"id\":%d,\"type\":\"vertex\",\"label\":\"%s\"%s}\n", ++last, label, members; return last }
+    BEGIN {
+        text = sprintf("%800s", "")
+        gsub(/ /, "x", text)
+        vertex("metaData", ",\"version\":\"0.6.0\",\"positionEncoding\":\"utf-16\"")
+        for (n = 0; n < 300; n++) {
+            file = vertex("document", ",\"uri\":\"file:///part/" n ".ts\"")
+            targets = ""
+            for (line = 0; line < 109; line++) {
+                range = vertex("range", ",\"start\":{\"line\":" line ",\"character\":4},\"end\":{\"line\":" line ",\"character\":9}")
+                hover = vertex("hoverResult", ",\"result\":{\"contents\":\"" text line "\"}")
+                printf "{\"id\":%d,\"type\":\"edge\",\"label\":\"textDocument/hover\",\"outV\":%d,\"inV\":%d}\n", ++last, range, hover
+                targets = targets (targets == "" ? "" : ",") range
+            }
+            printf "{\"id\":%d,\"type\":\"edge\",\"label\":\"contains\",\"outV\":%d,\"inVs\":[%s]}\n", ++last, file, targets
+        }
+    }' >"$folder/long"
+stream "$folder/long" projects 0 >"$folder/stream"
+upload=$(cost_of "$program" replay :memory: "$folder/stream")
+grep -q '^{"accepted":"lsif"' "$folder/out" || { cat "$folder/out" >&2; exit 1; }
+check=$(cost_of "$program" check-lsif "$folder/long")
+awk -v size="$(wc -c <"$folder/long")" -v upload="${upload#* }" -v check="${check#* }" 'BEGIN {
+    printf "upload of %.1f MB: at most %.2f MB, check-lsif of the same %.2f MB, beyond it %.2f MiB\n", size / 1e6, upload / 1e6, check / 1e6, (upload - check) / 1048576
+}'

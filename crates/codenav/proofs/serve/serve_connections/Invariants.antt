@@ -1,0 +1,16 @@
+use Rattle.std.proofs.Common.{◌≡◌, ◌+◌, ◌-◌, ◌≤◌, List, length}
+use Rattle.desk.specs.Machine.{State}
+use Rattle.codenav.specs.Serve.{ConnectionValue, ServesEach}
+use Rattle.codenav.proofs.serve.serve_connections.Given as goal
+
+abbrev pub invariant-serving : goal.invariant-serving
+invariant-serving g l = record {
+  connections : List ConnectionValue;
+  served : l.count ≡ length connections;
+  accepted : l.listener.accepted ≡ l.fn.listener.accepted + l.count;
+  within : l.count ≤ l.requests;
+  each : (m : State) → g.D.Desk.stands l.fn.desk m → (n : State) × ServesEach g.D.Desk.store_may_refuse m connections n × g.D.Desk.stands l.desk n;
+}
+
+abbrev pub decreases-serving : goal.decreases-serving
+decreases-serving g l = l.requests - l.count
