@@ -6,12 +6,10 @@
 # each grew from the size before.
 # usage: bench/check.sh [RUNS [DUMP..]]      (default 9; a DUMP is one without fault, measured before those made here)
 set -eu
-export LC_ALL=C
 runs=${1:-9}
 [ $# = 0 ] || shift
-top=$(cd "$(dirname "${BASH_SOURCE[0]}")/.." && pwd)
-folder=$(mktemp -d)
-trap 'rm -rf "$folder"' EXIT
+. "$(dirname "${BASH_SOURCE[0]}")/shared.sh"
+. "$top/bench/dumps.sh"
 
 # So many tags of some 60 bytes, in order of their names.
 make_tags() {
@@ -19,109 +17,6 @@ make_tags() {
     awk -v count="$1" 'BEGIN {
         for (n = 1; n <= count; n++)
             printf "name_%06d\tsrc/part_%03d.c\t/^int name_%06d(void)$/;\"\tf\tline:%d\n", n, n % 500, n, n
-    }'
-}
-
-# What both makers of dumps print: each element has the number of its line as its id.
-print_elements='
-    function vertex(label, members) {
-        printf "{\"id\":%d,\"type\":\"vertex\",\"label\":\"%s\"%s}\n", ++last, label, members
-        return last
-    }
-    function edge(label, source, target) {
-        printf "{\"id\":%d,\"type\":\"edge\",\"label\":\"%s\",\"inV\":%d,\"outV\":%d}\n", ++last, label, target, source
-    }
-    function contains(source, targets) {
-        printf "{\"id\":%d,\"type\":\"edge\",\"label\":\"contains\",\"inVs\":[%s],\"outV\":%d}\n", ++last, targets, source
-    }
-    function item(source, target, document, property) {
-        printf "{\"id\":%d,\"type\":\"edge\",\"label\":\"item\",\"document\":%d,%s\"inVs\":[%s],\"outV\":%d}\n",
-            ++last, document, property, target, source
-    }
-    function meta_data() {
-        vertex("metaData", ",\"version\":\"0.6.0\",\"projectRoot\":\"file:///src\",\"positionEncoding\":\"utf-16\"")
-    }
-    function document(number) {
-        return vertex("document", ",\"uri\":\"file:///src/part_" number ".rs\",\"languageId\":\"rust\"")
-    }
-    function range(line, first, end_line, end) {
-        return vertex("range", ",\"start\":{\"line\":" line ",\"character\":" first "},\"end\":{\"line\":" end_line \
-            ",\"character\":" end "}")
-    }
-'
-
-# A dump of so many elements: documents of some 450 elements, each with a range over the whole document and functions
-# that are named four times; result sets that nothing names make up the number.
-make_dump() {
-    awk -v count="$1" "$print_elements"'
-    function bound_range(line, first, set) {
-        targets = targets "," range(line, first, line, first + 8)
-        edge("next", last, set)
-        return last - 1
-    }
-    function functions_range(line, number,    set, first, second, result) {
-        set = vertex("resultSet", "")
-        first = bound_range(line, 3, set)
-        second = bound_range(line + 1, 8, set)
-        bound_range(line + 1, 20, set)
-        bound_range(line + 2, 12, set)
-        result = vertex("definitionResult", "")
-        edge("textDocument/definition", set, result)
-        item(result, first, file, "")
-        result = vertex("referenceResult", "")
-        edge("textDocument/references", set, result)
-        item(result, first, file, "\"property\":\"definitions\",")
-        item(result, second "," second + 2 "," second + 4, file, "\"property\":\"references\",")
-        result = vertex("hoverResult", ",\"result\":{\"contents\":{\"kind\":\"markdown\",\"value\":\"\\n```rust\\nfn name_" \
-            number "(first: u32) -> u32\\n```\\n\\nThe number of this name.\"}}")
-        edge("textDocument/hover", set, result)
-    }
-    BEGIN {
-        meta_data()
-        project = vertex("project", ",\"kind\":\"rust\"")
-        while (last + 22 < count) {
-            file = document(last)
-            files = files (files == "" ? "" : ",") file
-            targets = range(0, 0, 200, 0)
-            for (n = 0; n < 25 && last + 20 < count; n++)
-                functions_range(8 * n, last)
-            contains(file, targets)
-        }
-        while (last + 1 < count)
-            vertex("resultSet", "")
-        contains(project, files)
-    }'
-}
-
-# A dump of one document with so many ranges, four a line, three of them in the fourth, from the first on or from the
-# last. So many edges contain them, each of them one range in so many.
-make_ranges() {
-    awk -v count="$1" -v edges="$2" -v order="$3" "$print_elements"'BEGIN {
-        meta_data()
-        file = document(0)
-        for (n = 0; n < count; n++) {
-            place = order == "rising" ? n : count - 1 - n
-            line = int(place / 4)
-            column = 10 * (place % 4)
-            id = column == 0 ? range(line, 0, line, 40) : range(line, column, line, column + 8)
-            k = n % edges
-            targets[k] = targets[k] (n < edges ? "" : ",") id
-        }
-        for (k = 0; k < edges; k++)
-            contains(file, targets[k])
-    }'
-}
-
-# A dump of so many result sets in one chain of `next` edges, which begins to be joined at its end where the order falls.
-make_chain() {
-    awk -v count="$1" -v order="$2" "$print_elements"'BEGIN {
-        meta_data()
-        for (n = 0; n < count; n++)
-            first = vertex("resultSet", "") - n
-        for (n = 0; n < count - 1; n++) {
-            from = first + (order == "rising" ? n : count - 2 - n)
-            edge("next", from, from + 1)
-        }
     }'
 }
 

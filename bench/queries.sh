@@ -5,19 +5,10 @@
 # usage: bench/queries.sh [QUERIES]      (default 200 of each kind)
 # It builds and proves a small program over the crates of this repository, in a copy beside /tmp, which takes some minutes.
 set -eu
-export LC_ALL=C
 queries=${1:-200}
-top=$(cd "$(dirname "${BASH_SOURCE[0]}")/.." && pwd)
-folder=$(mktemp -d)
-trap 'rm -rf "$folder"' EXIT
-mkdir -p "$folder/crates/queries/src" "$folder/crates/queries/data"
-for crate in positions lsif dump flatten tags desk; do
-    cp -r "$top/crates/$crate" "$folder/crates/"
-done
-cp "$top/HANDLES" "$folder/"
-{ grep -v '^http_edge:\|^codenav:' "$top/crates.txt"; echo "queries: positions lsif desk"; } >"$folder/crates.txt"
+. "$(dirname "${BASH_SOURCE[0]}")/shared.sh"
 
-cat >"$folder/crates/queries/src/main.rt" <<'EOP'
+build_program queries "positions lsif desk" <<'EOP'
 //! Serves the puts and the queries of a file, a line each, and prints the kind, the microseconds and the status of each.
 #![tactic(auto)]
 use desk::{Command, Desk, DocUri, Key, PlainDesk, ProjectName, Query, Reply};
@@ -196,8 +187,7 @@ make_dump lib 4190 export >"$folder/lib.lsif"
 make_dump app 6110 import >"$folder/app.lsif"
 make_wide >"$folder/wide.lsif"
 wc -l "$folder"/*.lsif | head -3
-(cd "$folder/crates/queries" && rt run) >"$folder/log" 2>&1 </dev/null || [ -x "$folder/crates/queries/out/queries" ] || { cat "$folder/log" >&2; exit 1; }
-program=$folder/crates/queries/out/queries
+program=$built
 for project in lib app; do
     sets=4190
     [ "$project" = lib ] || sets=6110

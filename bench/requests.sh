@@ -1,27 +1,19 @@
 #!/usr/bin/env bash
 # Measures what a request costs the program beside what it costs the desk alone, in one run: the processor time of each of
 # so many `GET /projects` and definition requests over the demo's dump, by `replay` from a file and by `serve` over loopback,
-# beside that of the same query asked of a desk in a loop. Then the most memory that `replay` holds for 10,000 and for 1,000,000
-# requests; and that of an upload of some 30 MB, beside that of `check-lsif` of the same dump.
+# beside that of the same query asked of a desk in a loop, and beside the system's time for a bare connection. Then the most
+# memory that `replay` holds for 10,000 and for 1,000,000 requests; and that of an upload of some 30 MB, beside that of
+# `check-lsif` of the same dump.
 # usage: bench/requests.sh [REQUESTS [CONNECTIONS]]      (default 100000 and 10000)
 # It builds and proves a small program over the crates of this repository, in a copy beside /tmp, which takes some minutes.
 set -eu
-export LC_ALL=C
 requests=${1:-100000}
 connections=${2:-10000}
-top=$(cd "$(dirname "${BASH_SOURCE[0]}")/.." && pwd)
+. "$(dirname "${BASH_SOURCE[0]}")/shared.sh"
 "$top/codenav" --help >/dev/null
 program=$top/crates/codenav/out/codenav
-folder=$(mktemp -d)
-trap 'rm -rf "$folder"' EXIT
-mkdir -p "$folder/crates/asks/src" "$folder/crates/asks/data"
-for crate in positions lsif dump flatten tags desk; do
-    cp -r "$top/crates/$crate" "$folder/crates/"
-done
-cp "$top/HANDLES" "$folder/"
-{ grep -v '^http_edge:\|^codenav:' "$top/crates.txt"; echo "asks: positions lsif desk"; } >"$folder/crates.txt"
 
-cat >"$folder/crates/asks/src/main.rt" <<'EOP'
+build_program asks "positions lsif desk" <<'EOP'
 //! Asks a desk that has the dump of the file `dump` for the projects and for a definition, as often as the file `count` says, and
 //! prints the nanoseconds of one query of each kind.
 #![tactic(auto)]
@@ -81,8 +73,6 @@ fn run<R: Alloc<A = Global> + Files + Print + Clock>(rt: &R) -> io::Result<()> {
 }
 EOP
 
-(cd "$folder/crates/asks" && rt run) >"$folder/log" 2>&1 </dev/null || [ -x "$folder/crates/asks/out/asks" ] || { cat "$folder/log" >&2; exit 1; }
-
 target_of() {
     case $1 in
         projects) echo /projects ;;
@@ -105,12 +95,13 @@ cost_of() {
 
 cp "$top/demo/base.lsif" "$folder/dump"
 echo "$requests" >"$folder/count"
-(cd "$folder" && crates/asks/out/asks) >"$folder/alone"
+(cd "$folder" && "$built") >"$folder/alone"
 
-# The nanoseconds of one request beyond what a desk alone takes for it.
+# The nanoseconds of one request beyond what a desk alone takes for it, and the system for a bare connection.
 report() {
-    awk -v way="$1" -v kind="$2" -v count="$3" -v time="$4" '$1 == kind {
-        printf "%-7s %-11s %8.1f microseconds each, a desk alone %6.1f, beyond it %6.1f\n", way, kind, time / count / 1000, $2 / 1000, (time / count - $2) / 1000
+    awk -v way="$1" -v kind="$2" -v count="$3" -v time="$4" -v bare="$5" '$1 == kind {
+        printf "%-7s %-11s %8.1f microseconds each, a desk alone %6.1f, the system for a bare connection %6.1f, beyond both %6.1f\n",
+            way, kind, time / count / 1000, $2 / 1000, bare / 1000, (time / count - $2 - bare) / 1000
     }' "$folder/alone"
 }
 
@@ -118,7 +109,7 @@ for kind in projects definition; do
     stream "$folder/dump" "$kind" "$requests" >"$folder/stream"
     cost=$(cost_of "$program" replay :memory: "$folder/stream")
     [ "$(grep -o 'HTTP/1.1 200 OK' "$folder/out" | wc -l)" -gt "$requests" ] || { echo "replay: a request was refused" >&2; exit 1; }
-    report replay "$kind" "$requests" "${cost% *}"
+    report replay "$kind" "$requests" "${cost% *}" 0
 done
 
 cat >"$folder/client.py" <<'EOP'
@@ -127,7 +118,6 @@ import socket
 import sys
 
 port, count, target, name = int(sys.argv[1]), int(sys.argv[2]), sys.argv[3], sys.argv[4]
-
 
 def ask(request):
     with socket.create_connection(("127.0.0.1", port)) as peer:
@@ -138,21 +128,45 @@ def ask(request):
     if not reply.startswith(b"HTTP/1.1 200 OK\r\n"):
         sys.exit(f"refused: {reply!r}")
 
-
 body = open(name, "rb").read()
 ask(b"PUT /projects/app/lsif?key=k1 HTTP/1.1\r\nContent-Length: %d\r\n\r\n" % len(body) + body)
 for _ in range(count):
     ask(b"GET %s HTTP/1.1\r\nHost: localhost\r\n\r\n" % target.encode())
 EOP
+cat >"$folder/bare.py" <<'EOP'
+"""Accepts so many connections on loopback, reads from each, answers and closes it; and prints the nanoseconds of system time of one."""
+import os
+import resource
+import socket
+import sys
+
+count = int(sys.argv[1])
+listener = socket.create_server(("127.0.0.1", 0))
+if os.fork() == 0:
+    for _ in range(count):
+        with socket.create_connection(listener.getsockname()) as peer:
+            peer.sendall(b"GET /projects HTTP/1.1\r\nHost: localhost\r\n\r\n")
+            while peer.recv(65536):
+                pass
+    os._exit(0)
+before = resource.getrusage(resource.RUSAGE_SELF).ru_stime
+for _ in range(count):
+    peer, _ = listener.accept()
+    peer.recv(8192)
+    peer.sendall(b"HTTP/1.1 200 OK\r\nContent-Length: 15\r\nConnection: close\r\n\r\n{\"projects\":[]}")
+    peer.close()
+print(round((resource.getrusage(resource.RUSAGE_SELF).ru_stime - before) / count * 1e9))
+EOP
 port=20000
 for kind in projects definition; do
+    bare=$(python3 "$folder/bare.py" "$connections")
     port=$((port + 1 + RANDOM % 20000))
     cost_of "$program" serve :memory: --port "$port" --requests $((connections + 1)) >"$folder/server" &
     until grep -q '^listening on' "$folder/out" 2>/dev/null; do sleep 0.1; done
     python3 "$folder/client.py" "$port" "$connections" "$(target_of "$kind")" "$folder/dump"
     wait
     cost=$(cat "$folder/server")
-    report serve "$kind" "$connections" "${cost% *}"
+    report serve "$kind" "$connections" "${cost% *}" "$bare"
     rm "$folder/out"
 done
 

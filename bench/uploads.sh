@@ -5,19 +5,10 @@
 # usage: bench/uploads.sh [RUNS]      (default 9)
 # It builds and proves a small program over the crates of this repository, in a copy beside /tmp, which takes some minutes.
 set -eu
-export LC_ALL=C
 runs=${1:-9}
-top=$(cd "$(dirname "${BASH_SOURCE[0]}")/.." && pwd)
-folder=$(mktemp -d)
-trap 'rm -rf "$folder"' EXIT
-mkdir -p "$folder/crates/uploads/src" "$folder/crates/uploads/data"
-for crate in positions lsif dump flatten tags desk; do
-    cp -r "$top/crates/$crate" "$folder/crates/"
-done
-cp "$top/HANDLES" "$folder/"
-{ grep -v '^http_edge:\|^codenav:' "$top/crates.txt"; echo "uploads: lsif desk"; } >"$folder/crates.txt"
+. "$(dirname "${BASH_SOURCE[0]}")/shared.sh"
 
-cat >"$folder/crates/uploads/src/main.rt" <<'EOP'
+build_program uploads "lsif desk" <<'EOP'
 //! Uploads a body as each line of a file says: `time KIND FILE` prints the microseconds of one piece and of pieces of 8,192
 //! bytes, of a body in memory; `pieces KIND FILE` uploads a file as it's read; `whole KIND FILE` reads it first.
 #![tactic(auto)]
@@ -153,8 +144,7 @@ awk '
     }'
 } >"$folder/tags"
 
-(cd "$folder/crates/uploads" && rt run) >"$folder/log" 2>&1 </dev/null || [ -x "$folder/crates/uploads/out/uploads" ] || { cat "$folder/log" >&2; exit 1; }
-program=$folder/crates/uploads/out/uploads
+program=$built
 
 # The most memory in bytes while the command is done.
 memory_of() {

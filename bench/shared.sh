@@ -1,0 +1,21 @@
+# What the measurements share. It sets `top`, the repository, and `folder`, which goes when the script ends.
+export LC_ALL=C
+top=$(cd "$(dirname "${BASH_SOURCE[0]}")/.." && pwd)
+folder=$(mktemp -d)
+trap 'rm -rf "$folder"' EXIT
+
+# Builds and proves a program of this name, whose main.rt is on the standard input, over these crates of the repository, in a
+# copy. Sets `built` to the program.
+build_program() {
+    local name=$1 crates=$2 home=$folder/crates/$1 crate
+    mkdir -p "$home/src" "$home/data"
+    cat >"$home/src/main.rt"
+    for crate in positions lsif dump flatten tags desk; do
+        cp -r "$top/crates/$crate" "$folder/crates/"
+        grep "^$crate:" "$top/crates.txt" >>"$folder/crates.txt"
+    done
+    echo "$name: $crates" >>"$folder/crates.txt"
+    cp "$top/HANDLES" "$folder/"
+    built=$home/out/$name
+    (cd "$home" && rt run) >"$folder/log" 2>&1 </dev/null || [ -x "$built" ] || { cat "$folder/log" >&2; exit 1; }
+}
