@@ -1,5 +1,5 @@
 -- What a walk along the pairs has found.
-use Rattle.std.proofs.Common.{◌≡◌, inl, inr, ⊎_elim, ◌∙◌, ℕ, ◌+◌, ◌<◌, ◌≤◌, Bool, eqb, ◌==◌, List, length, get_or, map, filter, IsSorted, sym, ap, subst, arith, length-append}
+use Rattle.std.proofs.Common.{◌≡◌, inl, inr, ⊎_elim, ◌∙◌, ℕ, ◌+◌, ◌<◌, ◌≤◌, Bool, eqb, ◌==◌, List, [], ◌∷◌, length, get_or, map, filter, IsSorted, refl, sym, ap, subst, arith, length-append}
 use Rattle.std.specs.Prelude.{Contains, ◌↔◌, IsPermutation}
 use Rattle.std.proofs.lemmas.Bool.{cases_lt}
 use Rattle.std.proofs.lemmas.List.{get_or_default}
@@ -15,7 +15,7 @@ use Rattle.std.specs.Ordering.{nat_cmp}
 use Rattle.flatten.specs.Reached.{IsReached}
 use Rattle.flatten.specs.Steps.Found.{Gains}
 use Rattle.flatten.proofs.Gaining.{gains_front}
-use Rattle.flatten.proofs.Members.{contains_map, map_source, filter_keeps, filter_source}
+use Rattle.flatten.proofs.Members.{contains_map, contains_one, map_source, one_contains, filter_keeps, filter_source}
 
 -- what is found is reached, and what the pairs join to the first so many of it is found
 pub record Going (starts : List ℕ) (pairs : List (ℕ × ℕ)) (found : List ℕ) (done : ℕ) : Type 0 where
@@ -82,7 +82,7 @@ going_all starts pairs found done g le y = (λ at. g.reached y at, λ r. along r
         let known = along x w at path in
         g.closed known.0 w v (omega (arith, known.1, le)) (subst (λ u. Contains pairs (u, v)) (sym known.2) pair)
 
-wider : {X : Type 0} (ps qs : List (X × X)) → ((q : X × X) → Contains ps q → Contains qs q) → (x y : X) → Path ps x y → Path qs x y
+pub wider : {X : Type 0} (ps qs : List (X × X)) → ((q : X × X) → Contains ps q → Contains qs q) → (x y : X) → Path ps x y → Path qs x y
 wider ps qs sub x y stays = stays
 wider ps qs sub x y (goes {y = w} z path at) = goes z (wider ps qs sub x w path) (sub (w, z) at)
 
@@ -106,3 +106,10 @@ listed xs ys zs moved up is = rw is (record {
     λ at. Contains-dedup_nat ys v (Contains-permutation xs ys v moved at),
   );
 })
+
+-- what is reached from one number
+pub reached_from : (start : ℕ) (first all : List ℕ) (pairs : List (ℕ × ℕ)) → ((y : ℕ) → Contains first y ↔ Contains (start ∷ []) y) → ((y : ℕ) → Contains all y ↔ IsReached first pairs y) → (y : ℕ) → Contains all y ↔ Path pairs start y
+reached_from start first all pairs begins reached y = (
+  λ at. let r = (reached y).0 at in subst (λ x. Path pairs x y) (sym (contains_one start r.0 ((begins r.0).0 r.1))) r.2,
+  λ path. (reached y).1 (start, (begins start).1 (one_contains start start refl), path),
+)

@@ -1,5 +1,17 @@
+pub mod ChainWalks
 pub mod Closures
+pub mod DocumentLists
 pub mod Gaining
+pub mod Intervals
+pub mod ItemRows
 pub mod KeyLemmas
+pub mod Listing
+pub mod MarkRows
 pub mod Members
+pub mod NumberPairs
+pub mod OpenIntervals
+pub mod RangeRows
+pub mod Rising
+pub mod RowOrders
 pub mod Runs
+pub mod Tables

@@ -1,3 +1,5 @@
+pub mod Flat
 pub mod KeyTexts
 pub mod Reached
+pub mod Rows
 pub mod Steps

@@ -1,2 +1,13 @@
 -- What only private contracts and proofs name.
+pub mod Borne
+pub mod Chains
+pub mod Documents
 pub mod Found
+pub mod Items
+pub mod Marks
+pub mod Numbers
+pub mod Parents
+pub mod Places
+pub mod Ranges
+pub mod Results
+pub mod Tables

@@ -3,15 +3,17 @@ ghost use Rattle.std.specs.Prelude.{◌≡◌, ◌==◌, ◌≤◌, ◌↔◌, �
 ghost use Rattle.std.specs.List.Sorted.{IsNonDecreasingBy, IsPartitionPoint};
 ghost use Rattle.std.specs.Ordering.{nat_cmp};
 ghost use Rattle.dump.specs.Places.{IsListing};
+ghost use Rattle.dump.specs.Walks.{Path};
 ghost use Rattle.flatten.specs.Reached.{IsReached};
 ghost use Rattle.flatten.specs.Steps.Found.{Gains};
 
+use crate::budget::Budget;
 use crate::fault::FlattenFault;
 use crate::found::Found;
 use std::alloc::{AllocError, Global};
 
 /// The pairs in the order of their sources.
-fn by_source(alloc: Global, pairs: &[(u32, u32)]) -> Result<Vec<(u32, u32)>, AllocError>
+pub(crate) fn by_source(alloc: Global, pairs: &[(u32, u32)]) -> Result<Vec<(u32, u32)>, AllocError>
     ensures all { IfOk result (λ sorted. IsPermutation pairs.now sorted.items) }
     ensures ordered { IfOk result (λ sorted. IsNonDecreasingBy (λ p. p.0) sorted.items) }
 {
@@ -39,7 +41,7 @@ fn count_up_to(pairs: &[(u32, u32)], source: u32) -> usize
 }
 
 /// The pairs out of this source, of pairs in the order of their sources.
-fn pairs_from(pairs: &[(u32, u32)], source: u32) -> &[(u32, u32)]
+pub(crate) fn pairs_from(pairs: &[(u32, u32)], source: u32) -> &[(u32, u32)]
     requires { IsNonDecreasingBy (λ p. p.0) pairs.now }
     ensures { result.now ≡ filter (λ p. p.0 == source) pairs.now }
 {
@@ -70,15 +72,17 @@ fn found_at(alloc: Global, starts: &[u32]) -> Result<Found, AllocError>
 }
 
 /// Adds the numbers that a path of the pairs reaches from those that were found; the pairs are in the order of their
-/// sources.
-fn follow(found: &mut Found, pairs: &[(u32, u32)]) -> Result<(), AllocError>
+/// sources. Each pair that it goes over is taken from the budget.
+fn follow(found: &mut Found, pairs: &[(u32, u32)], budget: &mut Budget) -> Result<(), FlattenFault>
     requires { IsNonDecreasingBy (λ p. p.0) pairs.now }
     ensures { OnOk result ((y : ℕ) → Contains found.new y ↔ IsReached found.old pairs.now y) }
 {
     let mut done = 0;
     while done < found.numbers().len() {
         let source = found.numbers()[done];
-        add_targets(found, pairs_from(pairs, source))?;
+        let targets = pairs_from(pairs, source);
+        budget.take(targets.len())?;
+        add_targets(found, targets)?;
         done += 1;
     }
     Ok(())
@@ -90,6 +94,22 @@ pub fn reach(alloc: Global, starts: &[u32], pairs: &[(u32, u32)]) -> Result<Vec<
 {
     let sorted = by_source(alloc, pairs)?;
     let mut found = found_at(alloc, starts)?;
-    follow(&mut found, &sorted)?;
+    follow(&mut found, &sorted, &mut Budget::new(usize::MAX))?;
     Ok(found.listed())
+}
+
+/// The numbers that a path of the pairs, of no step or more, reaches from this one; the pairs are in the order of their sources.
+/// Each pair that it goes over is taken from the budget.
+pub(crate) fn closed(
+    alloc: Global,
+    start: u32,
+    pairs: &[(u32, u32)],
+    budget: &mut Budget,
+) -> Result<Found, FlattenFault>
+    requires { IsNonDecreasingBy (λ p. p.0) pairs.now }
+    ensures { IfOk result (λ found. (y : ℕ) → Contains found y ↔ Path pairs.now start y) }
+{
+    let mut found = found_at(alloc, &[start])?;
+    follow(&mut found, pairs, budget)?;
+    Ok(found)
 }

@@ -1,14 +1,34 @@
-//! What a dump says, made flat: the numbers that pairs of numbers lead to, and the texts by which keys are compared.
+//! A checked dump, made flat: what its walks lead to, as rows; the numbers that pairs of numbers lead to, and the texts by which
+//! keys are compared.
 #![tactic(auto)]
 
+mod borne;
+mod budget;
+mod chains;
 mod closure;
+mod documents;
 mod fault;
+mod flattening;
 mod found;
+mod items;
 mod keys;
+mod marks;
+mod numbers;
+mod parents;
+mod places;
+mod ranges;
+mod results;
+mod rows;
 
 pub use closure::reach;
 pub use fault::FlattenFault;
+pub use flattening::flatten;
 pub use keys::{key_law, key_text};
+pub use rows::{BearerRow, DocRow, HoverRow, ItemRow, MarkRow, RangeRow, Rows};
 
 #[cfg(test)]
 mod tests;
+#[cfg(test)]
+mod tests_great;
+#[cfg(test)]
+mod tests_rows;

@@ -13,7 +13,7 @@ loop-done-preserved c =
     let lt : done < length found = subst (λ xs. done < length xs) c.numbers.ensures c.loop-done-test.true in
     let source = get_or c.numbers-in-loop-done.result.now done 0 in
     let is : source ≡ get_or found done source = ap (λ xs. get_or xs done 0) c.numbers-in-loop-done.ensures ∙ get_or_default found done 0 source lt in
-    going_more c.args.found.now c.args.pairs.now found c.add_targets.new.found done source c.loop-done.invariant lt is (rw c.pairs_from.ensures at c.in_ok-add_targets.ensures)
+    going_more c.args.found.now c.args.pairs.now found c.add_targets.new.found done source c.loop-done.invariant lt is (rw c.pairs_from-targets.ensures at c.in_ok-add_targets.ensures)
 
 pub returns : goal.returns
 returns c =

@@ -1,0 +1,167 @@
+-- What vertices have along their chains, from one member to the one before it.
+use Rattle.std.proofs.Common.{◌≡◌, ◌∙◌, ℕ, ◌+◌, ◌<◌, ◌≤◌, inl, inr, Bool, true, false, cond, not, ◌==◌, List, [], ◌∷◌, ◌++◌, length, filter, map, get_or, reverse, refl, sym, ap, subst, arith}
+use Rattle.std.specs.List.{list_any}
+use Rattle.std.specs.Prelude.{◌||◌, Option, Some, None, option_and_then}
+use Rattle.std.proofs.Math.ListN.{set}
+use Rattle.std.proofs.lemmas.Bool.{cases_lt}
+use Rattle.std.proofs.lemmas.List.{get_or-set_same, get_or-set_other, map-append, reverse-append}
+use Rattle.lsif.specs.Element.{IdValue, ElementValue}
+use Rattle.dump.specs.Requests.{label_of}
+use Rattle.dump.specs.declared.request.Request.{Request}
+use Rattle.dump.specs.declared.request.Request.TheVariants.{Definition, References, Hover, Declaration, Implementation}
+use Rattle.dump.specs.Walks.{Pair, IsChain, ends, links, first_to, first_of_list, next_pairs, single_pairs}
+use Rattle.flatten.specs.Flat.{AreResults, IsResult, number_of, result_for}
+use Rattle.flatten.specs.Steps.Chains.{AlongValue, AreAlong, AreFound, IsAfter, IsWalkBack, Leads, entry_at, first_by, nothing, or_else, or_later, own_of, own_result}
+use Rattle.flatten.specs.Steps.Results.{numbers_along}
+use Rattle.flatten.proofs.NumberPairs.{AreOnes}
+
+-- ---- chains
+
+pub chain_end : (pairs : List Pair) (x : IdValue) (xs : List IdValue) → IsChain pairs x xs → first_to pairs x ≡ None → xs ≡ x ∷ []
+chain_end pairs x xs (ends e) n = refl
+chain_end pairs x xs (links {y = y} e c) n = let k : ◌≡◌ {A = Option IdValue} None (Some y) = sym n ∙ e in cc
+
+pub chain_on : (pairs : List Pair) (x y : IdValue) (xs : List IdValue) → IsChain pairs x xs → first_to pairs x ≡ Some y → (ys : List IdValue) × IsChain pairs y ys × (xs ≡ x ∷ ys)
+chain_on pairs x y xs (ends e) n = let k : ◌≡◌ {A = Option IdValue} None (Some y) = sym e ∙ n in cc
+chain_on pairs x y xs (links {y = w} {ys = ys} e c) n =
+    let k : Some w ≡ Some y = sym e ∙ n in
+    let same : w ≡ y = cc in
+    (ys, subst (λ v. IsChain pairs v ys) same c, refl)
+
+pub some_member : (pairs : List Pair) (x : IdValue) (xs : List IdValue) → IsChain pairs x xs → 1 ≤ length xs
+some_member pairs x xs (ends e) = omega arith
+some_member pairs x xs (links {ys = ys} e c) = omega arith
+
+pub one_chain : (pairs : List Pair) (x : IdValue) (xs zs : List IdValue) → IsChain pairs x xs → IsChain pairs x zs → xs ≡ zs
+one_chain pairs x xs zs (ends e) d = sym (chain_end pairs x zs d e)
+one_chain pairs x xs zs (links {y = y} {ys = ys} e c) d =
+    let r = chain_on pairs x y zs d e in
+    ap (λ l. x ∷ l) (one_chain pairs y ys r.0 c r.1) ∙ sym r.2
+
+-- ---- a vertex and what follows it
+
+module _ (elements : List ElementValue) (borne : List (ℕ × ℕ)) where
+  along_by : (x : IdValue) (along : AlongValue) (o : Option IdValue) → first_to (next_pairs elements) x ≡ o → IsAfter elements borne o along → AreAlong elements borne x (or_later (own_of elements borne x) along)
+  along_by x along None e is = (x ∷ [], ends e, ap (or_later (own_of elements borne x)) is)
+  along_by x along (Some y) e (ys, c, is) = (x ∷ ys, links e c, ap (or_later (own_of elements borne x)) is)
+
+  pub along_after : (x : IdValue) (along : AlongValue) → IsAfter elements borne (first_to (next_pairs elements) x) along → AreAlong elements borne x (or_later (own_of elements borne x) along)
+  along_after x along h = along_by x along (first_to (next_pairs elements) x) refl h
+
+  -- ---- the walk
+
+  -- at a vertex of which it's found what it has
+  pub walk_found : (from at : IdValue) (path : List IdValue) (along : AlongValue) → Leads elements from at path → AreAlong elements borne at along → IsWalkBack elements borne from path along
+  walk_found from at [] along same h = subst (λ x. AreAlong elements borne x along) same h
+  walk_found from at (x ∷ path) along (next, more) h = (subst (λ o. IsAfter elements borne o along) (sym next) h, more)
+
+  -- at the end of a chain
+  pub walk_ends : (from at : IdValue) (path : List IdValue) → Leads elements from at path → first_to (next_pairs elements) at ≡ None → IsWalkBack elements borne from (at ∷ path) nothing
+  walk_ends from at path leads none = (subst (λ o. IsAfter elements borne o nothing) (sym none) refl, leads)
+
+  pub walk_starts : (from : IdValue) → Leads elements from from []
+  walk_starts from = refl
+
+  -- back from the last of the path
+  pub walk_back : (from x : IdValue) (path : List IdValue) (along : AlongValue) → IsWalkBack elements borne from (x ∷ path) along
+      → AreAlong elements borne x (or_later (own_of elements borne x) along) × IsWalkBack elements borne from path (or_later (own_of elements borne x) along)
+  walk_back from x path along (after, leads) =
+      let here = along_after x along after in
+      (here, walk_found from x path (or_later (own_of elements borne x) along) leads here)
+
+pub back_push : {X : Type 0} (xs : List X) (x : X) → reverse (xs ++ x ∷ []) ≡ x ∷ reverse xs
+back_push xs x = reverse-append xs (x ∷ [])
+
+-- one step back: what the last of the path has, and what is left of the walk
+pub back_step : {A : Type 0} (id : A → IdValue) (d e : List ElementValue) (borne pairs sources : List (ℕ × ℕ)) (from : IdValue) (path rest : List A) (member : A) (along own more : AlongValue) → d ≡ e → pairs ≡ borne → sources ≡ pairs → path ≡ rest ++ member ∷ []
+    → own ≡ own_of d sources (id member) → more ≡ or_later own along → IsWalkBack e borne from (reverse (map id path)) along → AreAlong d pairs (id member) more × IsWalkBack e borne from (reverse (map id rest)) more
+back_step id d e borne pairs sources from path rest member along own more same_dump same_pairs same_sources popped is_own is_more walk =
+    let x = id member in
+    let back : reverse (map id path) ≡ x ∷ reverse (map id rest) = ap (λ l. reverse (map id l)) popped ∙ ap reverse (map-append id rest (member ∷ [])) ∙ back_push (map id rest) x in
+    let r = walk_back e borne from x (reverse (map id rest)) along (subst (λ l. IsWalkBack e borne from l along) back walk) in
+    let is : more ≡ or_later (own_of e borne x) along = is_more ∙ ap (λ o. or_later o along) (is_own ∙ ap (λ l. own_of l sources x) same_dump ∙ ap (λ l. own_of e l x) (same_sources ∙ same_pairs)) in
+    let here : AreAlong e borne x more = subst (AreAlong e borne x) (sym is) r.0 in
+    (subst (λ l. AreAlong l pairs x more) (sym same_dump) (subst (λ l. AreAlong e l x more) (sym same_pairs) here), subst (IsWalkBack e borne from (reverse (map id rest))) (sym is) r.1)
+
+-- where a walk is after some steps
+pub record Walking (elements : List ElementValue) (from at : IdValue) (path : List IdValue) (steps : ℕ) : Type 0 where
+  pub leads : Leads elements from at (reverse path)
+  pub rest : List IdValue
+  pub chain : IsChain (next_pairs elements) at rest
+  pub room : length rest + steps ≤ length elements + 1
+
+pub walking_first : (elements : List ElementValue) (from : IdValue) (rest : List IdValue) → IsChain (next_pairs elements) from rest → length rest ≤ length elements + 1 → Walking elements from from [] 0
+walking_first elements from rest chain room = record { leads = refl; rest = rest; chain = chain; room = omega (arith, room) }
+
+pub walking_on : (elements : List ElementValue) (from at next : IdValue) (path : List IdValue) (steps : ℕ) → Walking elements from at path steps → first_to (next_pairs elements) at ≡ Some next → Walking elements from next (path ++ at ∷ []) (steps + 1)
+walking_on elements from at next path steps w e =
+    let r = chain_on (next_pairs elements) at next w.rest w.chain e in
+    record {
+      leads = subst (Leads elements from next) (sym (back_push path at)) (e, w.leads);
+      rest = r.0;
+      chain = r.1;
+      room = omega (arith, w.room, ap length r.2);
+    }
+
+pub walking_full : (elements : List ElementValue) (from at : IdValue) (path : List IdValue) (steps : ℕ) → Walking elements from at path steps → length elements + 1 ≤ steps → ⊥
+walking_full elements from at path steps w le = omega (arith, w.room, le, some_member (next_pairs elements) at w.rest w.chain)
+
+-- ---- what is found
+
+pub found_first : (elements : List ElementValue) (borne : List (ℕ × ℕ)) (found : List (Option AlongValue)) → ((i : ℕ) → get_or found i None ≡ None) → AreFound elements borne found
+found_first elements borne found none x along e = by (number_of elements x) e
+  where
+    by : (o : Option ℕ) → entry_at found o ≡ Some along → AreAlong elements borne x along
+    by None h = cc
+    by (Some n) h = let k : ◌≡◌ {A = Option AlongValue} None (Some along) = sym (none n) ∙ h in cc
+
+pub found_more : (elements : List ElementValue) (borne : List (ℕ × ℕ)) (found : List (Option AlongValue)) → AreOnes elements → AreFound elements borne found → (x : IdValue) (along : AlongValue) → AreAlong elements borne x along
+    → (n : ℕ) → number_of elements x ≡ Some n → n < length found → AreFound elements borne (set found n (Some along))
+found_more elements borne found ones are x along is n at lt y other e = by (number_of elements y) refl e
+  where
+    by : (o : Option ℕ) → number_of elements y ≡ o → entry_at (set found n (Some along)) o ≡ Some other → AreAlong elements borne y other
+    by None g h = cc
+    by (Some m) g h = elim (cases_lt m n) [
+      | inl less ↦ are y other (ap (entry_at found) g ∙ sym (get_or-set_other found n m (Some along) None (λ same. omega (arith, same, less))) ∙ h)
+      | inr more ↦ elim (cases_lt n m) [
+        | inl less ↦ are y other (ap (entry_at found) g ∙ sym (get_or-set_other found n m (Some along) None (λ same. omega (arith, same, less))) ∙ h)
+        | inr rest ↦
+            let same : m ≡ n = omega (arith, more, rest) in
+            let here : Some along ≡ Some other = sym (get_or-set_same found n (Some along) None lt) ∙ ap (λ k. get_or (set found n (Some along)) k None) (sym same) ∙ h in
+            let what : along ≡ other = cc in
+            let who : x ≡ y = ones x y n at (g ∙ ap (λ k. Some k) same) in
+            subst (λ z. AreAlong elements borne z other) who (subst (AreAlong elements borne x) what is)
+      ]
+    ]
+
+-- ---- first results
+
+first_by_list : (own : List Pair) (xs : List IdValue) → first_by (first_to own) xs ≡ first_of_list own xs
+first_by_list own [] = refl
+first_by_list own (x ∷ xs) = by (first_by_list own xs) (first_to own x)
+  where
+    by : first_by (first_to own) xs ≡ first_of_list own xs → (o : Option IdValue) → or_else o (first_by (first_to own) xs) ≡ elim o as (λ _. Option IdValue) [ Some r ↦ Some r | None ↦ first_of_list own xs ]
+    by rest (Some r) = refl
+    by rest None = rest
+
+pub results_along : (elements : List ElementValue) (borne : List (ℕ × ℕ)) (x : IdValue) (along : AlongValue) → AreAlong elements borne x along → AreResults elements x (numbers_along elements along)
+results_along elements borne x along (xs, chain, is) = each
+  where
+    first : (request : Request) (o : Option IdValue) → o ≡ first_by (own_result elements request) xs → IsResult elements request x (option_and_then (number_of elements) o)
+    first request o e = (o, (xs, chain, e ∙ first_by_list (single_pairs (label_of request) elements) xs), refl)
+
+    each : (request : Request) → IsResult elements request x (result_for request (numbers_along elements along))
+    each Definition = first Definition along.def (ap (λ (a : AlongValue). a.def) is)
+    each References = first References along.refs (ap (λ (a : AlongValue). a.refs) is)
+    each Hover = first Hover along.hover (ap (λ (a : AlongValue). a.hover) is)
+    each Declaration = first Declaration along.decl (ap (λ (a : AlongValue). a.decl) is)
+    each Implementation = first Implementation along.imp (ap (λ (a : AlongValue). a.imp) is)
+
+-- whether a member passes, by the members that do
+pub any_filter : {X : Type 0} (p : X → Bool) (xs : List X) → not (length (filter p xs) == 0) ≡ list_any p xs
+any_filter p [] = refl
+any_filter p (x ∷ xs) = by (any_filter p xs) (p x)
+  where
+    by : not (length (filter p xs) == 0) ≡ list_any p xs → (b : Bool) → not (length (cond b (x ∷ filter p xs) (filter p xs)) == 0) ≡ (b || list_any p xs)
+    by rest true = grind arith
+    by rest false = rest

@@ -1,0 +1,266 @@
+-- The places of results, by numbers and by ids.
+use Rattle.std.proofs.Common.{◌≡◌, ⊎_elim, ◌∙◌, ℕ, ◌+◌, ◌==◌, true, List, [], ◌∷◌, ◌++◌, filter, map, get_or, refl, sym, ap, subst, arith}
+use Rattle.std.specs.Prelude.{◌↔◌, Contains, Option, Some, None, Ok, option_map, slice_get, IsPermutation}
+use Rattle.std.specs.List.{flat_map}
+use Rattle.std.specs.List.Sorted.{IsNonDecreasingBy}
+use Rattle.std.proofs.lemmas.List.Elements.{Contains-append_left, Contains-append_right, Contains-append_cases}
+use Rattle.std.proofs.lemmas.List.Sorted.{Contains-permutation, IsPermutation-sym}
+use Rattle.std.proofs.lemmas.Map.Views.{exact_unsigned_eq}
+use Rattle.positions.specs.Span.{SpanValue}
+use Rattle.lsif.specs.Element.{IdValue, VertexValue, meta_data, project, document, range, result_set, definition_result, reference_result, declaration_result, implementation_result, hover_result, moniker, package_information, event, other_vertex, ItemValue, contains, next, definition, references, declaration, implementation, hover, moniker_edge, package_edge, attach, item, other_edge, ElementValue, vertex, edge, element_id}
+use Rattle.dump.specs.Fault.{IsFaultless}
+use Rattle.dump.specs.Graph.{vertex_at, line_of}
+use Rattle.dump.specs.Places.{PlaceValue, IsAt, IsItem, result_pairs, result_pairs_of, role_of}
+use Rattle.dump.specs.Walks.{Pair, Path}
+use Rattle.dump.specs.declared.role.Role.{Role}
+use Rattle.dump.specs.declared.role.Role.TheVariants.{Definitions, References}
+use Rattle.flatten.specs.declared.items.Items.{Items}
+use Rattle.flatten.specs.Flat.{IsItemRow, ItemRowValue, is_result, number_of}
+use Rattle.flatten.specs.Steps.Items.{AreItems, IsReachedRow, IsRowOf, has_role, is_role, item_pairs_of, pairs_by, row_of, rows_of_role, same_role}
+use Rattle.flatten.specs.Steps.Numbers.{pairs_of}
+use Rattle.flatten.specs.Steps.Places.{place_value}
+use Rattle.flatten.specs.Steps.Tables.{OfOne, container_uri, place_of, place_with, table_of}
+use Rattle.flatten.proofs.Closures.{wider}
+use Rattle.flatten.proofs.Members.{contains_map, contains_one, filter_keeps, filter_source, flat_of, flat_from, if_in, in_if, map_source, not_in_nil, one_contains}
+use Rattle.flatten.proofs.NumberPairs.{AreOnes, HasEnds, HasVertexNumbers, are_numbers, have_numbers, path_on, path_to, result_ends}
+use Rattle.flatten.proofs.RangeRows.{HasContainers, at_of, uri_of_at}
+use Rattle.flatten.proofs.Tables.{table_from, table_to}
+
+-- ---- the rows of what a result leads to
+
+module _ (number : ℕ) (items : Items) where
+  abbrev places : List (Option PlaceValue)
+  places = map (option_map place_value) items.places.items
+
+  -- the row of another result's item in this role
+  record IsRoleRow (role : Role) (other : ℕ) (row : ItemRowValue) : Type 0 where
+    range : ℕ
+    is_number : row.result ≡ number
+    is_role : row.role ≡ role
+    joined : Contains (pairs_by role items) (other, range)
+    placed : get_or places range None ≡ Some row.place
+
+  one_row : (role : Role) (o : Option PlaceValue) (row : ItemRowValue) → Contains (row_of number role o) row → (row.result ≡ number) × (row.role ≡ role) × (o ≡ Some row.place)
+  one_row role None row at = absurd (not_in_nil row at)
+  one_row role (Some place) row at =
+      let this : ItemRowValue = record { result = number; role = role; place = place } in
+      let same : this ≡ row = contains_one this row at in
+      (sym (ap (λ (r : ItemRowValue). r.result) same), sym (ap (λ (r : ItemRowValue). r.role) same), ap (λ (r : ItemRowValue). Some r.place) same)
+
+  row_one : (role : Role) (o : Option PlaceValue) (row : ItemRowValue) → row.result ≡ number → row.role ≡ role → o ≡ Some row.place → Contains (row_of number role o) row
+  row_one role o row n r e =
+      let this : ItemRowValue = record { result = number; role = role; place = row.place } in
+      let same : this ≡ row = λ i. record { result = sym n i; role = sym r i; place = row.place } in
+      subst (λ p. Contains (row_of number role p) row) (sym e) (one_contains this row same)
+
+  role_to : (role : Role) (other : ℕ) (row : ItemRowValue) → Contains (rows_of_role number role items other) row → IsRoleRow role other row
+  role_to role other row at =
+      let f = flat_of (λ (p : ℕ × ℕ). row_of number role (get_or places p.1 None)) (filter (λ (p : ℕ × ℕ). p.0 == other) (pairs_by role items)) row at in
+      let s = filter_source (λ (p : ℕ × ℕ). p.0 == other) (pairs_by role items) f.0 f.1 in
+      let o = one_row role (get_or places f.0.1 None) row f.2 in
+      let same : f.0.0 ≡ other = exact_unsigned_eq f.0.0 other s.1 in
+      record { range = f.0.1; is_number = o.0; is_role = o.1; joined = subst (λ z. Contains (pairs_by role items) (z, f.0.1)) same s.0; placed = o.2 }
+
+  role_from : (role : Role) (other : ℕ) (row : ItemRowValue) → IsRoleRow role other row → Contains (rows_of_role number role items other) row
+  role_from role other row h =
+      flat_from (λ (p : ℕ × ℕ). row_of number role (get_or places p.1 None)) (filter (λ (p : ℕ × ℕ). p.0 == other) (pairs_by role items)) (other, h.range) row
+      (filter_keeps (λ (p : ℕ × ℕ). p.0 == other) (pairs_by role items) (other, h.range) h.joined (grind arith))
+      (row_one role (get_or places h.range None) row h.is_number h.is_role h.placed)
+
+  -- the rows for both roles of one of these
+  abbrev pub IsRowFor : ℕ → ItemRowValue → Type 0
+  IsRowFor other row = Contains (rows_of_role number Definitions items other ++ rows_of_role number References items other) row
+
+  pub reached_rows : (numbers : List ℕ) → ((y : ℕ) → Contains numbers y ↔ Path items.results.items number y) → (row : ItemRowValue) → OfOne IsRowFor numbers row ↔ IsReachedRow number items row
+  reached_rows numbers all row = (to, back)
+    where
+      by_role : (role : Role) (other : ℕ) → Path items.results.items number other → IsRoleRow role other row → IsReachedRow number items row
+      by_role role other path h = record {
+        other = other;
+        range = h.range;
+        is_number = h.is_number;
+        reached = path;
+        joined = subst (λ r. Contains (pairs_by r items) (other, h.range)) (sym h.is_role) h.joined;
+        placed = h.placed;
+      }
+
+      to : OfOne IsRowFor numbers row → IsReachedRow number items row
+      to (other, at, here) =
+          let path = (all other).0 at in
+          ⊎_elim
+          (λ (a : Contains (rows_of_role number Definitions items other) row). by_role Definitions other path (role_to Definitions other row a))
+          (λ (b : Contains (rows_of_role number References items other) row). by_role References other path (role_to References other row b))
+          (Contains-append_cases (rows_of_role number Definitions items other) (rows_of_role number References items other) row here)
+
+      in_role : (role : Role) (other : ℕ) → Contains (rows_of_role number role items other) row → IsRowFor other row
+      in_role Definitions other at = Contains-append_left (rows_of_role number Definitions items other) (rows_of_role number References items other) row at
+      in_role References other at = Contains-append_right (rows_of_role number Definitions items other) (rows_of_role number References items other) row at
+
+      back : IsReachedRow number items row → OfOne IsRowFor numbers row
+      back h = (h.other, (all h.other).1 h.reached, in_role row.role h.other (role_from row.role h.other row (record { range = h.range; is_number = h.is_number; is_role = refl; joined = h.joined; placed = h.placed })))
+
+-- ---- the items of results
+
+role_is : (r s : Role) → same_role r s ≡ true → r ≡ s
+role_is Definitions Definitions e = refl
+role_is References References e = refl
+role_is Definitions References e = cc
+role_is References Definitions e = cc
+
+role_self : (r : Role) → same_role r r ≡ true
+role_self Definitions = refl
+role_self References = refl
+
+has_role_is : (role : Role) (o : Option Role) → has_role role o ≡ true → o ≡ Some role
+has_role_is role None e = cc
+has_role_is role (Some r) e = ap (λ s. Some s) (role_is r role e)
+
+is_has_role : (role : Role) (o : Option Role) → o ≡ Some role → has_role role o ≡ true
+is_has_role role o e = ap (has_role role) e ∙ role_self role
+
+module _ (role : Role) where
+  item_ends : (e : ElementValue) (x y : IdValue) → Contains (item_pairs_of role e) (x, y) → (i : IdValue) × (j : ItemValue) × (e ≡ edge i (item j)) × (j.source ≡ x) × Contains j.targets y × (role_of j.property ≡ Some role)
+  item_ends (edge i (item e)) x y at =
+      let h = in_if (is_role role e.property) (map (λ (to : IdValue). (e.source, to)) e.targets) (x, y) at in
+      let m = map_source (λ (to : IdValue). (e.source, to)) e.targets (x, y) h.1 in
+      (i, e, refl, ap (λ (p : Pair). p.0) m.2, subst (Contains e.targets) (ap (λ (p : Pair). p.1) m.2) m.1, has_role_is role (role_of e.property) h.0)
+  item_ends (edge i (contains from to)) x y at = absurd (not_in_nil (x, y) at)
+  item_ends (edge i (next from to)) x y at = absurd (not_in_nil (x, y) at)
+  item_ends (edge i (definition from to)) x y at = absurd (not_in_nil (x, y) at)
+  item_ends (edge i (references from to)) x y at = absurd (not_in_nil (x, y) at)
+  item_ends (edge i (declaration from to)) x y at = absurd (not_in_nil (x, y) at)
+  item_ends (edge i (implementation from to)) x y at = absurd (not_in_nil (x, y) at)
+  item_ends (edge i (hover from to)) x y at = absurd (not_in_nil (x, y) at)
+  item_ends (edge i (moniker_edge from to)) x y at = absurd (not_in_nil (x, y) at)
+  item_ends (edge i (package_edge from to)) x y at = absurd (not_in_nil (x, y) at)
+  item_ends (edge i (attach from to)) x y at = absurd (not_in_nil (x, y) at)
+  item_ends (edge i (other_edge from to)) x y at = absurd (not_in_nil (x, y) at)
+  item_ends (vertex i v) x y at = absurd (not_in_nil (x, y) at)
+
+  pub item_to : (d : List ElementValue) (x y : IdValue) → Contains (flat_map (item_pairs_of role) d) (x, y) → IsItem (role ∷ []) d x y
+  item_to d x y at =
+      let f = flat_of (item_pairs_of role) d (x, y) at in
+      let e = item_ends f.0 x y f.2 in
+      record { id = e.0; joining = e.1; role = role; is_there = subst (Contains d) e.2 f.1; source = e.3; has_role = e.5; is_asked = one_contains role role refl; target = e.4 }
+
+  pub item_from : (d : List ElementValue) (x y : IdValue) → IsItem (role ∷ []) d x y → Contains (flat_map (item_pairs_of role) d) (x, y)
+  item_from d x y h =
+      let same : h.role ≡ role = sym (contains_one role h.role h.is_asked) in
+      let e = h.joining in
+      let pair : ◌≡◌ {A = Pair} (e.source, y) (x, y) = λ i. (h.source i, y) in
+      flat_from (item_pairs_of role) d (edge h.id (item e)) (x, y) h.is_there
+      (if_in (is_role role e.property) (map (λ (to : IdValue). (e.source, to)) e.targets) (x, y) (is_has_role role (role_of e.property) (h.has_role ∙ ap (λ r. Some r) same))
+      (subst (Contains (map (λ (to : IdValue). (e.source, to)) e.targets)) pair (contains_map (λ (to : IdValue). (e.source, to)) e.targets y h.target)))
+
+-- ---- items in the order of their results
+
+pub each_sorted : (items : Items) → IsNonDecreasingBy (λ p. p.0) items.definitions.items → IsNonDecreasingBy (λ p. p.0) items.references.items → (role : Role) → IsNonDecreasingBy (λ p. p.0) (pairs_by role items)
+each_sorted items a b Definitions = a
+each_sorted items a b References = b
+
+pub each_role : (d : List ElementValue) (items : Items) → IsPermutation (pairs_of (item_pairs_of Definitions) d) items.definitions.items → IsPermutation (pairs_of (item_pairs_of References) d) items.references.items
+    → (role : Role) → IsPermutation (pairs_of (item_pairs_of role) d) (pairs_by role items)
+each_role d items a b Definitions = a
+each_role d items a b References = b
+
+-- the rows of an element that is a result
+pub rows_of_result : (d : List ElementValue) (items : Items) (i : IdValue) (v : VertexValue) (number : ℕ) → is_result (Some v) ≡ true → number_of d i ≡ Some number → (row : ItemRowValue) → IsReachedRow number items row ↔ IsRowOf d items (vertex i v) row
+rows_of_result d items i v number is at row = (λ h. (is, number, at, h), back)
+  where
+    back : IsRowOf d items (vertex i v) row → IsReachedRow number items row
+    back (t, m, f, h) =
+        let e : ◌≡◌ {A = Option ℕ} (Some m) (Some number) = sym f ∙ at in
+        let same : m ≡ number = cc in
+        subst (λ k. IsReachedRow k items row) same h
+
+-- ---- places at numbers
+
+place_is : (span : SpanValue) (o : Option (List ℕ)) (place : PlaceValue) → option_map (place_with span) o ≡ Some place → (o ≡ Some place.uri) × (span ≡ place.span)
+place_is span None place e = cc
+place_is span (Some uri) place e = let same : place_with span uri ≡ place = cc in (ap (λ (p : PlaceValue). Some p.uri) same, ap (λ (p : PlaceValue). p.span) same)
+
+module _ (d : List ElementValue) (free : IsFaultless (map Ok d)) (vertices : (i : IdValue) (v : VertexValue) → vertex_at d i ≡ Some v ↔ Contains d (vertex i v)) (ones : AreOnes d) (has : HasEnds d)
+    (there : (i : IdValue) (v : VertexValue) → vertex_at d i ≡ Some v → (k : ℕ) × (line_of d i ≡ Some k) × (slice_get d k ≡ Some (vertex i v))) (containers : HasContainers d) where
+  lined : HasVertexNumbers d
+  lined i v e = let t = there i v e in (t.0 + 1, ap (option_map (λ k. k + 1)) t.1)
+
+  said_place : (e : ElementValue) (place : PlaceValue) → Contains d e → place_of d e ≡ Some place → IsAt d (element_id e) place
+  said_place (vertex i (range span)) place here h =
+      let p = place_is span (container_uri d i) place h in
+      at_of d containers i place.uri place.span p.0 ((vertices i (range span)).1 here ∙ ap (λ s. Some (range s)) p.1)
+  said_place (vertex i (document u)) place here h = cc
+  said_place (vertex i (meta_data b)) place here h = cc
+  said_place (vertex i project) place here h = cc
+  said_place (vertex i result_set) place here h = cc
+  said_place (vertex i definition_result) place here h = cc
+  said_place (vertex i reference_result) place here h = cc
+  said_place (vertex i declaration_result) place here h = cc
+  said_place (vertex i implementation_result) place here h = cc
+  said_place (vertex i (hover_result t)) place here h = cc
+  said_place (vertex i (moniker m)) place here h = cc
+  said_place (vertex i (package_information p)) place here h = cc
+  said_place (vertex i (event v)) place here h = cc
+  said_place (vertex i other_vertex) place here h = cc
+  said_place (edge i e) place here h = cc
+
+  place_to : (r : IdValue) (n : ℕ) (place : PlaceValue) → number_of d r ≡ Some n → get_or (table_of (place_of d) d) n None ≡ Some place → IsAt d r place
+  place_to r n place at h =
+      let t = table_to (place_of d) d free n place h in
+      subst (λ x. IsAt d x place) (ones (element_id t.0) r n t.2 at) (said_place t.0 place t.1 t.3)
+
+  place_from : (r : IdValue) (n : ℕ) (place : PlaceValue) → number_of d r ≡ Some n → IsAt d r place → get_or (table_of (place_of d) d) n None ≡ Some place
+  place_from r n place at h =
+      table_from (place_of d) d there r (range place.span) n h.span at ∙ ap (option_map (place_with place.span)) (uri_of_at d containers r place h)
+
+  -- ---- the rows of results
+
+  module _ (items : Items) (are : AreItems d items) where
+    row_to : (i : IdValue) (v : VertexValue) (row : ItemRowValue) → Contains d (vertex i v) → IsRowOf d items (vertex i v) row → IsItemRow d row
+    row_to i v row here (result, number, at, h) =
+        let is = (vertices i v).1 here in
+        let joined = are_numbers result_pairs_of d in
+        let items_are = are_numbers (item_pairs_of row.role) d in
+        let path = wider items.results.items (pairs_of result_pairs_of d) (λ q c. Contains-permutation items.results.items (pairs_of result_pairs_of d) q (IsPermutation-sym (pairs_of result_pairs_of d) items.results.items are.results) c) number h.other h.reached in
+        let p = path_on d (result_pairs d) (pairs_of result_pairs_of d) joined ones i number h.other at path in
+        let pair = Contains-permutation (pairs_by row.role items) (pairs_of (item_pairs_of row.role) d) (h.other, h.range) (IsPermutation-sym (pairs_of (item_pairs_of row.role) d) (pairs_by row.role items) (are.each row.role)) h.joined in
+        let t = items_are.to h.other h.range pair in
+        let same : t.0 ≡ p.0 = ones t.0 p.0 h.other t.3 p.1 in
+        let placed : get_or (table_of (place_of d) d) h.range None ≡ Some row.place = subst (λ l. get_or l h.range None ≡ Some row.place) are.places h.placed in
+        record {
+          result = i;
+          at_line = at ∙ ap (λ n. Some n) (sym h.is_number);
+          is_result = ap is_result is ∙ result;
+          is_place = (p.0, p.2, (t.1, item_to row.role d p.0 t.1 (subst (λ z. Contains (flat_map (item_pairs_of row.role) d) (z, t.1)) same t.2), place_to t.1 h.range row.place t.4 placed));
+        }
+
+    result_vertex : (o : Option VertexValue) → is_result o ≡ true → (v : VertexValue) × (o ≡ Some v)
+    result_vertex None e = cc
+    result_vertex (Some v) e = (v, refl)
+
+    row_from : (row : ItemRowValue) → IsItemRow d row → OfOne (IsRowOf d items) d row
+    row_from row h =
+        let v = result_vertex (vertex_at d h.result) h.is_result in
+        let other = h.is_place.0 in
+        let r = h.is_place.2.0 in
+        let its_item = h.is_place.2.1 in
+        let its_place = h.is_place.2.2 in
+        let joined = are_numbers result_pairs_of d in
+        let p = path_to d (result_pairs d) (pairs_of result_pairs_of d) joined (have_numbers result_pairs_of d result_ends has lined) h.result other row.result h.at_line h.is_place.1 in
+        let n = lined r (range row.place.span) its_place.span in
+        let pair = (are_numbers (item_pairs_of row.role) d).from other r p.0 n.0 (item_from row.role d other r its_item) p.1 n.1 in
+        let reached : IsReachedRow row.result items row = record {
+          other = p.0;
+          range = n.0;
+          is_number = refl;
+          reached = wider (pairs_of result_pairs_of d) items.results.items (λ q c. Contains-permutation (pairs_of result_pairs_of d) items.results.items q are.results c) row.result p.0 p.2;
+          joined = Contains-permutation (pairs_of (item_pairs_of row.role) d) (pairs_by row.role items) (p.0, n.0) (are.each row.role) pair;
+          placed = subst (λ l. get_or l n.0 None ≡ Some row.place) (sym are.places) (place_from r n.0 row.place n.1 its_place);
+        } in
+        (vertex h.result v.0, (vertices h.result v.0).0 v.1, (ap is_result (sym v.1) ∙ h.is_result, row.result, h.at_line, reached))
+
+    pub item_rows_are : (row : ItemRowValue) → OfOne (IsRowOf d items) d row ↔ IsItemRow d row
+    item_rows_are row = (λ o. by o.0 o.1 o.2, row_from row)
+      where
+        by : (x : ElementValue) → Contains d x → IsRowOf d items x row → IsItemRow d row
+        by (vertex i v) here h = row_to i v row here h
+        by (edge i e) here h = absurd h

@@ -1,0 +1,132 @@
+-- What vertices have along their chains, as the walk finds it.
+use Rattle.std.specs.Prelude.{◌≡◌, ◌==◌, ℕ, Bool, false, List, [], ◌∷◌, Option, Some, None, map, get_or, option_map, if◌then◌else◌, reverse}
+use Rattle.std.specs.List.{list_any}
+use Rattle.std.specs.List.Sorted.{IsNonDecreasingBy}
+use Rattle.lsif.specs.Element.{IdValue, id_value, ElementValue}
+use Rattle.dump.specs.Requests.{label_of}
+use Rattle.dump.specs.declared.request.Request.TheVariants.{Definition, References, Hover, Declaration, Implementation}
+use Rattle.dump.specs.declared.request.Request.{Request}
+use Rattle.dump.specs.Walks.{IsChain, first_to, next_pairs, single_pairs}
+use Rattle.flatten.specs.Flat.{number_of}
+use Rattle.flatten.specs.declared.chains.Along.{Along}
+use Rattle.flatten.specs.declared.chains.Chains.{Chains}
+
+pub record AlongValue : Type 0 where
+  pub def : Option IdValue
+  pub refs : Option IdValue
+  pub hover : Option IdValue
+  pub decl : Option IdValue
+  pub imp : Option IdValue
+  pub bearer : Option IdValue
+
+abbrev pub along_value : Along → AlongValue
+along_value a = record {
+  def = option_map (λ i. id_value i.now) a.def;
+  refs = option_map (λ i. id_value i.now) a.refs;
+  hover = option_map (λ i. id_value i.now) a.hover;
+  decl = option_map (λ i. id_value i.now) a.decl;
+  imp = option_map (λ i. id_value i.now) a.imp;
+  bearer = option_map (λ i. id_value i.now) a.bearer;
+}
+
+abbrev pub nothing : AlongValue
+nothing = record { def = None; refs = None; hover = None; decl = None; imp = None; bearer = None }
+
+abbrev pub or_else : Option IdValue → Option IdValue → Option IdValue
+or_else (Some x) later = Some x
+or_else None later = later
+
+abbrev pub or_later : AlongValue → AlongValue → AlongValue
+or_later a b = record {
+  def = or_else a.def b.def;
+  refs = or_else a.refs b.refs;
+  hover = or_else a.hover b.hover;
+  decl = or_else a.decl b.decl;
+  imp = or_else a.imp b.imp;
+  bearer = or_else a.bearer b.bearer;
+}
+
+-- a pair of these has the number as its source
+abbrev pub is_source : List (ℕ × ℕ) → Option ℕ → Bool
+is_source pairs (Some n) = list_any (λ p. p.0 == n) pairs
+is_source pairs None = false
+
+-- the vertex is the source of a pair of these
+abbrev pub is_bearing : List ElementValue → List (ℕ × ℕ) → IdValue → Bool
+is_bearing elements borne x = is_source borne (number_of elements x)
+
+abbrev pub own_result : List ElementValue → Request → IdValue → Option IdValue
+own_result elements request x = first_to (single_pairs (label_of request) elements) x
+
+abbrev pub own_bearer : List ElementValue → List (ℕ × ℕ) → IdValue → Option IdValue
+own_bearer elements borne x = if is_bearing elements borne x then Some x else None
+
+-- what the vertex itself has
+abbrev pub own_of : List ElementValue → List (ℕ × ℕ) → IdValue → AlongValue
+own_of elements borne x = record {
+  def = own_result elements Definition x;
+  refs = own_result elements References x;
+  hover = own_result elements Hover x;
+  decl = own_result elements Declaration x;
+  imp = own_result elements Implementation x;
+  bearer = own_bearer elements borne x;
+}
+
+-- what the first member of a list that has something has
+abbrev pub first_by : (IdValue → Option IdValue) → List IdValue → Option IdValue
+first_by own [] = None
+first_by own (x ∷ xs) = or_else (own x) (first_by own xs)
+
+abbrev pub firsts_by : List ElementValue → List (ℕ × ℕ) → List IdValue → AlongValue
+firsts_by elements borne xs = record {
+  def = first_by (own_result elements Definition) xs;
+  refs = first_by (own_result elements References) xs;
+  hover = first_by (own_result elements Hover) xs;
+  decl = first_by (own_result elements Declaration) xs;
+  imp = first_by (own_result elements Implementation) xs;
+  bearer = first_by (own_bearer elements borne) xs;
+}
+
+-- what the vertex has along its chain
+abbrev pub AreAlong : List ElementValue → List (ℕ × ℕ) → IdValue → AlongValue → Type 0
+AreAlong elements borne x along = (xs : List IdValue) × IsChain (next_pairs elements) x xs × (along ≡ firsts_by elements borne xs)
+
+-- ---- what is found
+
+abbrev pub entry_at : List (Option AlongValue) → Option ℕ → Option AlongValue
+entry_at found (Some n) = get_or found n None
+entry_at found None = None
+
+-- what is found of the vertex
+abbrev pub found_at : List ElementValue → List (Option AlongValue) → IdValue → Option AlongValue
+found_at elements found x = entry_at found (number_of elements x)
+
+-- what is found is so
+abbrev pub AreFound : List ElementValue → List (ℕ × ℕ) → List (Option AlongValue) → Type 0
+AreFound elements borne found = (x : IdValue) (along : AlongValue) → found_at elements found x ≡ Some along → AreAlong elements borne x along
+
+-- the pairs are in the order of their sources, and what is found is so
+pub record AreChains (chains : Chains) : Type 0 where
+  pub sorted : IsNonDecreasingBy (λ p. p.0) chains.borne.items
+  pub found : AreFound chains.dump.now.elements chains.borne.items (map (option_map along_value) chains.found.items)
+
+-- ---- a walk
+
+-- what follows the vertex in its chain has this
+abbrev pub IsAfter : List ElementValue → List (ℕ × ℕ) → Option IdValue → AlongValue → Type 0
+IsAfter elements borne (Some y) along = AreAlong elements borne y along
+IsAfter elements borne None along = along ≡ nothing
+
+-- `next` edges lead along these, of which the last stands first, from the first vertex to this one
+abbrev pub Leads : List ElementValue → IdValue → IdValue → List IdValue → Type 0
+Leads elements from at [] = at ≡ from
+Leads elements from at (x ∷ path) = (first_to (next_pairs elements) x ≡ Some at) × Leads elements from x path
+
+-- what those after the path have, of which the last stands first
+abbrev pub IsWalkBack : List ElementValue → List (ℕ × ℕ) → IdValue → List IdValue → AlongValue → Type 0
+IsWalkBack elements borne from [] along = AreAlong elements borne from along
+IsWalkBack elements borne from (x ∷ path) along = IsAfter elements borne (first_to (next_pairs elements) x) along × Leads elements from x path
+
+-- a walk from the vertex over these, and what those after them have
+abbrev pub IsWalk : List ElementValue → List (ℕ × ℕ) → IdValue → List IdValue → AlongValue → Type 0
+IsWalk elements borne from path along = IsWalkBack elements borne from (reverse path) along

@@ -1,0 +1,178 @@
+//! The monikers that vertices bear, and their marks.
+ghost use Rattle.std.specs.Prelude.{◌≡◌, ◌↔◌, ◌++◌, ℕ, IfOk, OnOk, Ok, Contains, map, get_or, option_map, string_bytes};
+ghost use Rattle.std.specs.List.Sorted.{IsNonDecreasingBy};
+ghost use Rattle.lsif.specs.Element.{id_value, element_value, moniker_value, package_value};
+ghost use Rattle.dump.specs.Fault.{IsFaultless};
+ghost use Rattle.dump.specs.Monikers.{attach_pairs_of, package_of};
+ghost use Rattle.flatten.specs.KeyTexts.{key_text, key_value};
+ghost use Rattle.flatten.specs.Steps.Borne.{IsBorne, IsBorneBy, mark_text, mark_value, text_of};
+ghost use Rattle.flatten.specs.Steps.Numbers.{pairs_in, pairs_of};
+ghost use Rattle.flatten.specs.Steps.Tables.{Adds, table_of};
+
+use crate::budget::Budgets;
+use crate::closure::{by_source, closed};
+use crate::fault::FlattenFault;
+use crate::keys::key_text;
+use crate::numbers::number_pair;
+use dump::{CheckedDump, ends_law, line_law};
+use lsif::{Edge, Element, Id, Moniker, MonikerKind, Package, Vertex};
+use std::alloc::{AllocError, Global};
+
+/// Adds the numbers of the two monikers that the element, where it's an `attach` edge, joins: both ways.
+fn add_attached(
+    pairs: &mut Vec<(u32, u32)>,
+    dump: &CheckedDump,
+    element: &Element,
+) -> Result<(), AllocError>
+    ensures { OnOk result (pairs.new.items ≡ pairs.old.items ++ pairs_in attach_pairs_of dump.now.elements (element_value element.now)) }
+{
+    if let Element::Edge(_, Edge::Attach(from, to)) = element {
+        if let Some((from, to)) = number_pair(dump, from, to) {
+            pairs.push((from, to))?;
+            pairs.push((to, from))?;
+        }
+    }
+    Ok(())
+}
+
+/// The numbers of the monikers that `attach` edges join, each edge read both ways.
+fn attached(alloc: Global, dump: &CheckedDump) -> Result<Vec<(u32, u32)>, AllocError>
+    ensures { IfOk result (λ pairs. pairs.items ≡ pairs_of attach_pairs_of dump.now.elements) }
+{
+    let mut pairs = Vec::new(alloc);
+    for element in dump.elements() {
+        add_attached(&mut pairs, dump, element)?;
+    }
+    Ok(pairs)
+}
+
+/// Adds the vertex with each of the monikers.
+fn add_monikers(
+    pairs: &mut Vec<(u32, u32)>,
+    vertex: u32,
+    monikers: &[u32],
+) -> Result<(), AllocError>
+    ensures { OnOk result (pairs.new.items ≡ pairs.old.items ++ map (λ m. (vertex, m)) monikers.now) }
+{
+    for moniker in monikers {
+        pairs.push((vertex, *moniker))?;
+    }
+    Ok(())
+}
+
+/// Adds the numbers of the vertex that the element, where it's a `moniker` edge, leads out of, with those of the monikers near the
+/// one that it leads to.
+fn add_borne(
+    alloc: Global,
+    pairs: &mut Vec<(u32, u32)>,
+    dump: &CheckedDump,
+    attached: &[(u32, u32)],
+    element: &Element,
+    budgets: &mut Budgets,
+) -> Result<(), FlattenFault>
+    requires { IsNonDecreasingBy (λ p. p.0) attached.now }
+    ensures { OnOk result (Adds pairs.old.items (IsBorneBy dump.now.elements attached.now (element_value element.now)) pairs.new.items) }
+{
+    let Element::Edge(_, Edge::Moniker(from, to)) = element else {
+        return Ok(());
+    };
+    let Some((vertex, moniker)) = number_pair(dump, from, to) else {
+        return Ok(());
+    };
+    let near = closed(alloc, moniker, attached, &mut budgets.pairs)?;
+    budgets.rows.take(near.numbers().len())?;
+    add_monikers(pairs, vertex, near.numbers())?;
+    Ok(())
+}
+
+/// The numbers of vertices with those of the monikers that they bear themselves, in the order of the vertices'.
+pub(crate) fn borne(
+    alloc: Global,
+    dump: &CheckedDump,
+    limit: usize,
+) -> Result<Vec<(u32, u32)>, FlattenFault>
+    ensures sorted { IfOk result (λ pairs. IsNonDecreasingBy (λ p. p.0) pairs.items) }
+    ensures borne { IfOk result (λ pairs. (p : ℕ × ℕ) → Contains pairs.items p ↔ IsBorne dump.now.elements p) }
+    ensures faultless { OnOk result (IsFaultless (map Ok dump.now.elements)) }
+{
+    ends_law();
+    line_law();
+    let attached = by_source(alloc, &attached(alloc, dump)?)?;
+    let mut budgets = Budgets::new(limit);
+    let mut pairs = Vec::new(alloc);
+    for element in dump.elements() {
+        add_borne(alloc, &mut pairs, dump, &attached, element, &mut budgets)?;
+    }
+    Ok(by_source(alloc, &pairs)?)
+}
+
+/// The kind of a moniker, and the text of its key.
+#[derive(Drop)]
+pub(crate) struct Mark {
+    pub(crate) kind: MonikerKind,
+    pub(crate) key: String,
+}
+
+/// The package that the moniker's `packageInformation` edge names.
+fn package_of<'a>(dump: &'a CheckedDump, moniker: &Id) -> Option<&'a Package>
+    ensures { option_map (λ p. package_value p.now) result ≡ package_of dump.now.elements (id_value moniker.now) }
+{
+    match dump.vertex_at(dump.package_of(moniker)?) {
+        Some(Vertex::Package(package)) => Some(package),
+        _ => None,
+    }
+}
+
+/// The mark of the moniker of this id.
+fn mark_of(
+    alloc: Global,
+    dump: &CheckedDump,
+    id: &Id,
+    moniker: &Moniker,
+) -> Result<Mark, FlattenFault>
+    ensures { IfOk result (λ mark. mark_value mark ≡ text_of dump.now.elements (id_value id.now) (moniker_value moniker.now)) }
+{
+    let key = key_text(alloc, moniker, package_of(dump, id))?;
+    Ok(Mark {
+        kind: moniker.kind,
+        key,
+    })
+}
+
+/// The mark of the element, where it's a moniker.
+fn mark_in(
+    alloc: Global,
+    dump: &CheckedDump,
+    element: &Element,
+) -> Result<Option<Mark>, FlattenFault>
+    ensures { IfOk result (λ mark. option_map mark_value mark ≡ mark_text dump.now.elements (element_value element.now)) }
+{
+    match element {
+        Element::Vertex(id, Vertex::Moniker(moniker)) => {
+            Ok(Some(mark_of(alloc, dump, id, moniker)?))
+        }
+        _ => Ok(None),
+    }
+}
+
+/// The marks of monikers, each at the moniker's number.
+pub(crate) fn marks(alloc: Global, dump: &CheckedDump) -> Result<Vec<Option<Mark>>, FlattenFault>
+    ensures { IfOk result (λ table. map (option_map mark_value) table.items ≡ table_of (mark_text dump.now.elements) dump.now.elements) }
+{
+    let mut table = Vec::new(alloc);
+    table.push(None)?;
+    for element in dump.elements() {
+        table.push(mark_in(alloc, dump, element)?)?;
+    }
+    Ok(table)
+}
+
+/// The mark of the moniker of this number.
+pub(crate) fn mark_at(marks: &[Option<Mark>], number: u32) -> Option<&Mark>
+    ensures { option_map (λ m. mark_value m.now) result ≡ get_or (map (option_map mark_value) marks.now) number None }
+{
+    match marks.get(number as usize) {
+        Some(mark) => mark.as_ref(),
+        None => None,
+    }
+}

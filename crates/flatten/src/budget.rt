@@ -1,0 +1,50 @@
+//! How many rows or pairs there may still be.
+ghost use Rattle.std.specs.Prelude.{◌≡◌, ◌+◌, OnOk};
+
+use crate::fault::FlattenFault;
+
+/// How many rows of a kind, or pairs that a walk goes over, there may still be.
+#[derive(Drop)]
+pub(crate) struct Budget {
+    left: usize,
+}
+
+impl Budget {
+    pub(crate) fn new(most: usize) -> Budget
+        ensures { result.left ≡ most }
+    {
+        Budget { left: most }
+    }
+
+    /// Takes so many. Where there are too few, that counts as want of memory.
+    pub(crate) fn take(&mut self, count: usize) -> Result<(), FlattenFault>
+        ensures { OnOk result (self.old.left ≡ self.new.left + count) }
+    {
+        match self.left.checked_sub(count) {
+            Some(left) => {
+                self.left = left;
+                Ok(())
+            }
+            None => Err(FlattenFault::Memory),
+        }
+    }
+}
+
+/// How many rows of a kind there may still be, and how many pairs may still be gone over for them.
+#[derive(Drop)]
+pub(crate) struct Budgets {
+    pub(crate) rows: Budget,
+    pub(crate) pairs: Budget,
+}
+
+impl Budgets {
+    pub(crate) fn new(most: usize) -> Budgets
+        ensures rows { result.rows.left ≡ most }
+        ensures pairs { result.pairs.left ≡ most }
+    {
+        Budgets {
+            rows: Budget::new(most),
+            pairs: Budget::new(most),
+        }
+    }
+}

@@ -1,0 +1,56 @@
+//! A checked dump, made flat.
+ghost use Rattle.std.specs.Prelude.{◌≡◌, IfOk};
+ghost use Rattle.flatten.specs.Flat.{IsFlat};
+ghost use Rattle.flatten.specs.Rows.{rows_value};
+
+use crate::borne::{borne, marks};
+use crate::chains::Chains;
+use crate::documents::{document_rows, hover_rows};
+use crate::fault::FlattenFault;
+use crate::items::item_rows;
+use crate::marks::{bearer_rows, mark_rows};
+use crate::ranges::range_rows;
+use crate::rows::Rows;
+use dump::CheckedDump;
+use std::alloc::Global;
+
+/// How many rows of a kind there may be, and how many pairs the walks for them may go over.
+const MOST_ROWS: usize = 4000000;
+
+/// The rows of the dump, where no more than so many of a kind come, and the walks for them go over no more than so many pairs.
+pub(crate) fn flatten_within<'a>(
+    alloc: Global,
+    dump: &'a CheckedDump,
+    limit: usize,
+) -> Result<Rows<'a>, FlattenFault>
+    ensures profile { IfOk result (λ rows. rows.profile ≡ dump.now.profile) }
+    ensures rows { IfOk result (λ rows. IsFlat dump.now.elements (rows_value rows)) }
+{
+    let documents = document_rows(alloc, dump)?;
+    let hovers = hover_rows(alloc, dump)?;
+    let items = item_rows(alloc, dump, limit)?;
+    let table = marks(alloc, dump)?;
+    let mut chains = Chains::new(alloc, dump, borne(alloc, dump, limit)?)?;
+    let ranges = range_rows(alloc, &mut chains)?;
+    let marks = mark_rows(alloc, &mut chains, &table, limit)?;
+    let bearers = bearer_rows(alloc, &mut chains, &table, limit)?;
+    Ok(Rows {
+        profile: dump.profile(),
+        documents,
+        ranges,
+        items,
+        hovers,
+        marks,
+        bearers,
+    })
+}
+
+/// The rows of the dump: what its walks lead to. Where more than 4,000,000 rows of one kind come, counted before those that are
+/// there twice are left out, or the walks over "referenceResults" or `attach` go over more than 4,000,000 pairs, that counts as
+/// want of memory.
+pub fn flatten<'a>(alloc: Global, dump: &'a CheckedDump) -> Result<Rows<'a>, FlattenFault>
+    ensures profile { IfOk result (λ rows. rows.profile ≡ dump.now.profile) }
+    ensures rows { IfOk result (λ rows. IsFlat dump.now.elements (rows_value rows)) }
+{
+    flatten_within(alloc, dump, MOST_ROWS)
+}

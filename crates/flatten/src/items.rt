@@ -1,0 +1,307 @@
+//! The places of results.
+ghost use Rattle.std.specs.Prelude.{◌≡◌, ◌++◌, IfOk, OnOk, Contains, map, option_map};
+ghost use Rattle.std.specs.List.{flat_map};
+ghost use Rattle.lsif.specs.Element.{id_value, id_values, element_value, vertex_value};
+ghost use Rattle.dump.specs.Places.{IsListing, place_cmp, result_pairs_of};
+ghost use Rattle.flatten.specs.Flat.{IsItemRow, is_result, item_cmp, role_index};
+ghost use Rattle.flatten.specs.Rows.{item_value};
+ghost use Rattle.flatten.specs.Steps.Items.{AreItems, AreSorted, IsReachedRow, IsRowOf, is_role, item_pairs_of, row_of, rows_of_pairs, rows_of_role};
+ghost use Rattle.flatten.specs.Steps.Numbers.{numbers_of_pair, pairs_in, pairs_of};
+ghost use Rattle.flatten.specs.Steps.Places.{place_value};
+ghost use Rattle.flatten.specs.Steps.Tables.{Adds};
+
+use crate::budget::{Budget, Budgets};
+use crate::closure::{by_source, closed, pairs_from};
+use crate::fault::FlattenFault;
+use crate::numbers::{number_of, number_pair};
+use crate::places::{Place, place_at, places};
+use crate::rows::ItemRow;
+use dump::{CheckedDump, Role, container_law, ends_law, line_law, role_of, vertex_law};
+use lsif::{Edge, Element, Id, Property, Vertex};
+use std::alloc::{AllocError, Global};
+use std::cmp::Ordering;
+
+/// Adds the numbers of the source with each target.
+fn add_pairs(
+    pairs: &mut Vec<(u32, u32)>,
+    dump: &CheckedDump,
+    source: &Id,
+    targets: &[Id],
+) -> Result<(), AllocError>
+    ensures { OnOk result (pairs.new.items ≡ pairs.old.items ++ flat_map (numbers_of_pair dump.now.elements) (map (λ to. (id_value source.now, to)) (id_values targets.now))) }
+{
+    for target in targets {
+        if let Some(pair) = number_pair(dump, source, target) {
+            pairs.push(pair)?;
+        }
+    }
+    Ok(())
+}
+
+/// Adds the numbers of the results that the element, where it's an `item` edge with "referenceResults", joins.
+fn add_results(
+    pairs: &mut Vec<(u32, u32)>,
+    dump: &CheckedDump,
+    element: &Element,
+) -> Result<(), AllocError>
+    ensures { OnOk result (pairs.new.items ≡ pairs.old.items ++ pairs_in result_pairs_of dump.now.elements (element_value element.now)) }
+{
+    match element {
+        Element::Edge(_, Edge::Item(item))
+            if matches!(item.property, Some(Property::ReferenceResults)) => {
+            add_pairs(pairs, dump, &item.source, &item.targets)
+        }
+        _ => Ok(()),
+    }
+}
+
+/// The numbers of the results that `item` edges with "referenceResults" join.
+fn result_pairs(alloc: Global, dump: &CheckedDump) -> Result<Vec<(u32, u32)>, AllocError>
+    ensures { IfOk result (λ pairs. pairs.items ≡ pairs_of result_pairs_of dump.now.elements) }
+{
+    let mut pairs = Vec::new(alloc);
+    for element in dump.elements() {
+        add_results(&mut pairs, dump, element)?;
+    }
+    Ok(pairs)
+}
+
+/// Whether an `item` edge of this property has ranges of the role.
+fn is_role(role: Role, property: Option<Property>) -> bool
+    ensures { result ≡ is_role role property }
+{
+    role_of(property) == Some(role)
+}
+
+/// Adds the numbers of the result and the ranges that the element, where it's an `item` edge of the role, joins.
+fn add_items(
+    pairs: &mut Vec<(u32, u32)>,
+    dump: &CheckedDump,
+    role: Role,
+    element: &Element,
+) -> Result<(), AllocError>
+    ensures { OnOk result (pairs.new.items ≡ pairs.old.items ++ pairs_in (item_pairs_of role) dump.now.elements (element_value element.now)) }
+{
+    match element {
+        Element::Edge(_, Edge::Item(item)) if is_role(role, item.property) => {
+            add_pairs(pairs, dump, &item.source, &item.targets)
+        }
+        _ => Ok(()),
+    }
+}
+
+/// The numbers of the results and the ranges that `item` edges of the role join.
+fn item_pairs(alloc: Global, dump: &CheckedDump, role: Role) -> Result<Vec<(u32, u32)>, AllocError>
+    ensures { IfOk result (λ pairs. pairs.items ≡ pairs_of (item_pairs_of role) dump.now.elements) }
+{
+    let mut pairs = Vec::new(alloc);
+    for element in dump.elements() {
+        add_items(&mut pairs, dump, role, element)?;
+    }
+    Ok(pairs)
+}
+
+/// The items of results by numbers, and the places of ranges at theirs. The pairs are in the order of their sources.
+#[derive(Drop)]
+struct Items<'a> {
+    results: Vec<(u32, u32)>,
+    definitions: Vec<(u32, u32)>,
+    references: Vec<(u32, u32)>,
+    places: Vec<Option<Place<'a>>>,
+}
+
+/// What the `item` edges of the dump join.
+fn items_of<'a>(alloc: Global, dump: &'a CheckedDump) -> Result<Items<'a>, FlattenFault>
+    ensures { IfOk result (λ items. AreItems dump.now.elements items) }
+{
+    let results = result_pairs(alloc, dump)?;
+    let definitions = item_pairs(alloc, dump, Role::Definitions)?;
+    let references = item_pairs(alloc, dump, Role::References)?;
+    Ok(Items {
+        results: by_source(alloc, &results)?,
+        definitions: by_source(alloc, &definitions)?,
+        references: by_source(alloc, &references)?,
+        places: places(alloc, dump)?,
+    })
+}
+
+/// Adds the row of the place, where there is one.
+fn add_row<'a>(
+    rows: &mut Vec<ItemRow<'a>>,
+    number: u32,
+    role: Role,
+    place: Option<Place<'a>>,
+) -> Result<(), AllocError>
+    ensures { OnOk result (map item_value rows.new.items ≡ map item_value rows.old.items ++ row_of number role (option_map place_value place.entry)) }
+{
+    if let Some(place) = place {
+        rows.push(ItemRow {
+            result: number,
+            role,
+            uri: place.uri,
+            span: place.span,
+        })?;
+    }
+    Ok(())
+}
+
+/// Adds the rows of the places of the targets of these pairs.
+fn add_targets<'a>(
+    rows: &mut Vec<ItemRow<'a>>,
+    places: &[Option<Place<'a>>],
+    number: u32,
+    role: Role,
+    pairs: &[(u32, u32)],
+) -> Result<(), AllocError>
+    ensures { OnOk result (map item_value rows.new.items ≡ map item_value rows.old.items ++ rows_of_pairs number role (map (option_map place_value) places.now) pairs.now) }
+{
+    for pair in pairs {
+        add_row(rows, number, role, place_at(places, pair.1))?;
+    }
+    Ok(())
+}
+
+/// Adds the rows of the result of this number for the items in this role of the other. Each is taken from the budget.
+fn add_role<'a>(
+    rows: &mut Vec<ItemRow<'a>>,
+    items: &Items<'a>,
+    number: u32,
+    role: Role,
+    other: u32,
+    budget: &mut Budget,
+) -> Result<(), FlattenFault>
+    requires { AreSorted items.now }
+    ensures { OnOk result (map item_value rows.new.items ≡ map item_value rows.old.items ++ rows_of_role number role items.now other) }
+{
+    let pairs = match role {
+        Role::Definitions => pairs_from(&items.definitions, other),
+        Role::References => pairs_from(&items.references, other),
+    };
+    budget.take(pairs.len())?;
+    add_targets(rows, &items.places, number, role, pairs)?;
+    Ok(())
+}
+
+/// Adds the rows of the result of this number. It has its own items, and those of the results that it leads to.
+fn add_result<'a>(
+    alloc: Global,
+    rows: &mut Vec<ItemRow<'a>>,
+    items: &Items<'a>,
+    number: u32,
+    budgets: &mut Budgets,
+) -> Result<(), FlattenFault>
+    requires { AreSorted items.now }
+    ensures { OnOk result (Adds (map item_value rows.old.items) (IsReachedRow number items.now) (map item_value rows.new.items)) }
+{
+    let found = closed(alloc, number, &items.results, &mut budgets.pairs)?;
+    for other in found.numbers() {
+        add_role(
+            rows,
+            items,
+            number,
+            Role::Definitions,
+            *other,
+            &mut budgets.rows,
+        )?;
+        add_role(
+            rows,
+            items,
+            number,
+            Role::References,
+            *other,
+            &mut budgets.rows,
+        )?;
+    }
+    Ok(())
+}
+
+/// Whether the vertex is a result that `item` edges leave.
+fn is_result(vertex: &Vertex) -> bool
+    ensures { result ≡ is_result (Some (vertex_value vertex.now)) }
+{
+    matches!(
+        vertex,
+        Vertex::DefinitionResult
+            | Vertex::ReferenceResult
+            | Vertex::DeclarationResult
+            | Vertex::ImplementationResult
+    )
+}
+
+/// Adds the rows of the element, where it's such a result.
+fn add_element<'a>(
+    alloc: Global,
+    rows: &mut Vec<ItemRow<'a>>,
+    dump: &CheckedDump,
+    items: &Items<'a>,
+    element: &Element,
+    budgets: &mut Budgets,
+) -> Result<(), FlattenFault>
+    requires { AreSorted items.now }
+    ensures { OnOk result (Adds (map item_value rows.old.items) (IsRowOf dump.now.elements items.now (element_value element.now)) (map item_value rows.new.items)) }
+{
+    match element {
+        Element::Vertex(id, vertex) if is_result(vertex) => match number_of(dump, id) {
+            Some(number) => add_result(alloc, rows, items, number, budgets),
+            None => Ok(()),
+        },
+        _ => Ok(()),
+    }
+}
+
+/// The place of a role in the order of roles.
+fn role_index(role: Role) -> u32
+    ensures { result ≡ role_index role }
+{
+    match role {
+        Role::Definitions => 0,
+        Role::References => 1,
+    }
+}
+
+/// By uri (its bytes), then start, then end.
+fn place_order(a: &ItemRow<'_>, b: &ItemRow<'_>) -> Ordering
+    ensures { result ≡ place_cmp (item_value a.now).place (item_value b.now).place }
+{
+    let ends = a.span.end().cmp(&b.span.end());
+    let starts = a.span.start().cmp(&b.span.start());
+    a.uri.cmp(b.uri).then(starts.then(ends))
+}
+
+/// By result, then role, then place.
+fn order(a: &ItemRow<'_>, b: &ItemRow<'_>) -> Ordering
+    ensures { result ≡ item_cmp (item_value a.now) (item_value b.now) }
+{
+    let roles = role_index(a.role).cmp(&role_index(b.role));
+    a.result.cmp(&b.result).then(roles.then(place_order(a, b)))
+}
+
+/// Puts the rows in order, each once.
+fn list_rows(rows: &mut Vec<ItemRow<'_>>)
+    ensures { IsListing item_cmp (Contains (map item_value rows.old.items)) (map item_value rows.new.items) }
+{
+    rows.sort_unstable_by(|a, b| order(a, b));
+    rows.dedup();
+}
+
+/// The rows of the places of results: in order, each once.
+pub(crate) fn item_rows<'a>(
+    alloc: Global,
+    dump: &'a CheckedDump,
+    limit: usize,
+) -> Result<Vec<ItemRow<'a>>, FlattenFault>
+    ensures { IfOk result (λ rows. IsListing item_cmp (IsItemRow dump.now.elements) (map item_value rows.items)) }
+{
+    container_law();
+    ends_law();
+    line_law();
+    vertex_law();
+    let items = items_of(alloc, dump)?;
+    let mut budgets = Budgets::new(limit);
+    let mut rows = Vec::new(alloc);
+    for element in dump.elements() {
+        add_element(alloc, &mut rows, dump, &items, element, &mut budgets)?;
+    }
+    list_rows(&mut rows);
+    Ok(rows)
+}

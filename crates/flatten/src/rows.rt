@@ -1,0 +1,97 @@
+//! The rows of a dump.
+use dump::Role;
+use lsif::{MonikerKind, Profile};
+use positions::Span;
+
+/// A document.
+#[derive(Clone, Copy, Debug, PartialEq, Eq, PartialOrd, Ord)]
+pub struct DocRow<'a> {
+    /// Its serialized URL.
+    pub uri: &'a str,
+}
+
+/// A range that a document contains.
+#[derive(Clone, Copy, Debug, PartialEq, Eq)]
+pub struct RangeRow<'a> {
+    /// Its line in the dump, counted from 1.
+    pub line: u32,
+    /// The serialized URL of the document.
+    pub uri: &'a str,
+    /// Its start and its end, which is exclusive.
+    pub span: &'a Span,
+    /// The line of the smallest other nonempty range of the document in which it nests, where it isn't empty itself.
+    pub parent: Option<u32>,
+    /// The numbers of the first results along its chain of `next` edges: of a definition, of references, of a hover, of a
+    /// declaration and of an implementation. A result's number is its line in the dump, counted from 1.
+    pub def: Option<u32>,
+    pub refs: Option<u32>,
+    pub hover: Option<u32>,
+    pub decl: Option<u32>,
+    pub imp: Option<u32>,
+}
+
+/// A place of a result: that of a range that is an item of it, or of a result that it leads to.
+#[derive(Clone, Copy, Debug, PartialEq, Eq)]
+pub struct ItemRow<'a> {
+    /// The result's number.
+    pub result: u32,
+    pub role: Role,
+    /// The serialized URL of the document.
+    pub uri: &'a str,
+    /// The start of the range and its end, which is exclusive.
+    pub span: &'a Span,
+}
+
+/// A hover result.
+#[derive(Clone, Copy, Debug, PartialEq, Eq)]
+pub struct HoverRow<'a> {
+    /// Its number.
+    pub result: u32,
+    /// Compact JSON.
+    pub contents: &'a str,
+}
+
+/// A mark of a range: the kind and the text of the key of a moniker that the range, or another member of its chain, bears.
+#[derive(Debug, PartialEq, Eq, Drop)]
+pub struct MarkRow {
+    /// The range's line, counted from 1.
+    pub range: u32,
+    pub kind: MonikerKind,
+    /// As `key_text` makes it.
+    pub key: String,
+}
+
+/// A mark that a vertex bears itself, with the first results of the vertex.
+#[derive(Debug, PartialEq, Eq, Drop)]
+pub struct BearerRow {
+    /// The vertex's line, counted from 1.
+    pub line: u32,
+    /// As `key_text` makes it.
+    pub key: String,
+    pub kind: MonikerKind,
+    /// The numbers of its first results, as those of a range.
+    pub def: Option<u32>,
+    pub refs: Option<u32>,
+    pub hover: Option<u32>,
+    pub decl: Option<u32>,
+    pub imp: Option<u32>,
+}
+
+/// What a dump says, as rows: those of each kind in order, each once.
+#[derive(Debug, Drop)]
+pub struct Rows<'a> {
+    /// The profile that the dump was read by.
+    pub profile: Profile,
+    /// By uri (its bytes).
+    pub documents: Vec<DocRow<'a>>,
+    /// By line.
+    pub ranges: Vec<RangeRow<'a>>,
+    /// By result, role and place.
+    pub items: Vec<ItemRow<'a>>,
+    /// By result.
+    pub hovers: Vec<HoverRow<'a>>,
+    /// By range, kind and key.
+    pub marks: Vec<MarkRow>,
+    /// By line, kind and key.
+    pub bearers: Vec<BearerRow>,
+}
