@@ -86,11 +86,11 @@ def url_of(call: argparse.Namespace, maps: list[tuple[str, str]]) -> str:
 
 
 def show(reply: dict[str, Any], maps: list[tuple[str, str]], utf16: bool) -> int:
-    """Prints the reply of an answered query; answers 1 where it's empty."""
+    """Prints the reply of an answered query, a place of several projects once; answers 1 where it's empty."""
     if "contents" in reply:
         lines = [] if reply["contents"] is None else [hover_text(reply["contents"])]
     else:
-        lines = [place_line(place, maps, utf16) for place in reply["places"]]
+        lines = list(dict.fromkeys(place_line(place, maps, utf16) for place in reply["places"]))
     for line in lines:
         print(line)
     return 0 if lines else 1

@@ -98,15 +98,15 @@ class Ask(unittest.TestCase):
                          "end": {"line": 1, "character": character}}
                 asked, said = self.asked([*words, "http://127.0.0.1:1", "app", "definition", file.name, "2", str(column)], place)
                 self.assertEqual(asked.rsplit("&", 2)[1:], ["line=1", f"character={character}"])
-                self.assertEqual(said.rsplit(":", 2)[1:], ["2", f"{column}\n"])
+                self.assertEqual((said.count("\n"), said.rsplit(":", 2)[1:]), (1, ["2", f"{column}\n"]))
             for words, column in ([], 7), (["--utf16"], 8), ([], 0):
                 with redirect_stderr(io.StringIO()) as said:
                     self.assertEqual(ask.main([*words, "http://127.0.0.1:1", "app", "hover", file.name, "2", str(column)]), 2)
                 self.assertIn(f"has no line 2 with a column {column}\n", said.getvalue())
 
     def asked(self, words: list[str], place: dict[str, Any]) -> tuple[str, str]:
-        """The address that was asked, and what was printed of an answer with one place."""
-        answer = curl.Answer(0, 200, json.dumps({"places": [place]}).encode(), "")
+        """The address that was asked, and what was printed of an answer with one place, which two projects have."""
+        answer = curl.Answer(0, 200, json.dumps({"places": [place, {**place, "project": "other"}]}).encode(), "")
         with mock.patch.object(ask, "request", return_value=answer) as request, redirect_stdout(io.StringIO()) as said:
             self.assertEqual(ask.main(words), 0)
         return request.call_args.args[0], said.getvalue()
