@@ -195,7 +195,7 @@ def way_back(dump: Dump, line: int, element: Element) -> list[str]:
     steps = {edge["outV"]: (number, edge["inV"]) for number, edge in dump.before(line, "edge", "next")}
     at, notes = element.get("inV"), []
     while at != element.get("outV") and at in steps:
-        number, at = steps[at]
+        number, at = steps.pop(at)
         notes.append(dump.shown(number))
     return (notes or [""]) if at == element.get("outV") else []
 

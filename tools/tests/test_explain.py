@@ -145,6 +145,7 @@ class Explain(unittest.TestCase):
 
     def test_what_is_refused(self) -> None:
         whole = "\n".join(BASE)
+        rings = [META, *(vertex(own, "resultSet") for own in (2, 3, 4)), edge(5, "next", 2, 3), edge(6, "next", 3, 2), edge(7, "next", 4, 2)]
         for body, fault, message in (
                 (whole, "ok 11 elements", "not a fault of a dump, `line N: CODE text`: `ok 11 elements`"),
                 (whole, "line 3: T10 names descend", "not a fault of a dump, `line N: CODE text`: `line 3: T10 names descend`"),
@@ -155,6 +156,7 @@ class Explain(unittest.TestCase):
                 ("", "line 1: L02 not JSON", "FILE has 0 lines, and no line 1"),
                 ("# codenav\n\nA server\n", "line 3: L09 vertex not emitted before", "FILE, line 1: not JSON"),
                 (whole + "\n{}", "line 3: E01 range in no document", "FILE, line 12: no element with an id"),
+                ("\n".join(rings), "line 7: L14 next closes a cycle", "FILE, line 7: L14 isn't its fault; is it the dump that was checked?"),
                 (f"[{META}]", "line 1: L06 metaData missing, wrong or repeated", "FILE, line 1: a JSON array; a dump has one element a line"),
                 *((whole, f"line 11: {code} its text", f"FILE, line 11: {code} isn't its fault; is it the dump that was checked?")
                   for code in sorted(CODES - {"L01", "L02", "L03", "L05", "L06", "L08", "L10", "L20"}))):
