@@ -56,6 +56,26 @@ class Prepare(unittest.TestCase):
         rows[5], rows[6] = rows[5].replace("[1]", '["1"]'), rows[6].replace(",1]", "]")
         self.assertEqual((status, body), (0, "\r\n".join(rows[:3] + rows[4:]).encode()))
 
+    def test_equal_ranges(self) -> None:
+        """Two meanings of one name, each with its own result set: items that name the second range, the first and the second, or both in one."""
+        form = '{"id":%d,"type":"edge","label":"item","outV":%d,"inVs":%s,"shard":2,"property":"%s"}'
+        for items in (("S { x }", [(9, [6], "references"), (10, [6], "references")], [[3], [3]]),
+                      ("extern crate x", [(9, [3], "definitions"), (10, [6], "references"), (10, [6], "definitions")], [[3], [3], [3]]),
+                      ("{x}", [(9, [3, 6], "references"), (10, [6, 3], "references")], [[3], [3]])):
+            span = '{"id":%d,"type":"vertex","label":"range","start":{"line":0,"character":4},"end":{"line":0,"character":5}}'
+            rows = ['{"id":1,"type":"vertex","label":"metaData","version":"0.6.0"}', '{"id":2,"type":"vertex","label":"document","uri":"file:///a.rs"}',
+                    span % 3, '{"id":4,"type":"vertex","label":"resultSet"}', '{"id":5,"type":"edge","label":"next","outV":3,"inV":4}',
+                    span % 6, '{"id":7,"type":"vertex","label":"resultSet"}', '{"id":8,"type":"edge","label":"next","outV":6,"inV":7}',
+                    *('{"id":%d,"type":"vertex","label":"referenceResult"}' % own for own in (9, 10))]
+            before = [form % (own, out, json.dumps(into), which) for own, (out, into, which) in enumerate(items[1], 11)]
+            after = [form % (own, out, json.dumps(into), which) for own, ((out, _, which), into) in enumerate(zip(items[1], items[2]), 11)]
+            contains = '{"id":20,"type":"edge","label":"contains","outV":2,"inVs":%s}'
+            status, body, said = self.prepared("\n".join([*rows, *before, contains % "[3,6]"]).encode(), "--report")
+            self.assertEqual((status, (body or b"").decode().replace(" ", "").splitlines()),
+                             (0, [line.replace(" ", "") for line in [*rows[:5], rows[6], *rows[8:], *after, contains % "[3]"]]), items[0])
+            self.assertIn("equal ranges merged 1 of 2; elements", said)
+            self.assertIn("merged: file:///a.rs line 0 character 4: range 6 into 3", said)
+
     def test_input_that_is_no_dump(self) -> None:
         for body in (b"", b"hello\n", b"[]\n", b"{}\n", b'{"id":1,"type":"vertex","label":"document"}\n', b"\xff\n"):
             status, out, said = self.prepared(body)
