@@ -55,12 +55,12 @@ def path_of(uri: str, maps: list[tuple[str, str]]) -> str:
     return path if inside.startswith(os.pardir) else inside
 
 
-def place_line(place: dict[str, Any], maps: list[tuple[str, str]]) -> str:
-    """`path:line:column` of a place, from 1 and in characters where its file can be read."""
+def place_line(place: dict[str, Any], maps: list[tuple[str, str]], utf16: bool) -> str:
+    """`path:line:column` of a place, from 1; with `utf16`, or where its file can't be read, in UTF-16 code units, else in characters."""
     path, start = path_of(place["uri"], maps), place["start"]
     column = start["character"]
     try:
-        column = characters(line_of(path, start["line"] + 1) or "", column)
+        column = column if utf16 else characters(line_of(path, start["line"] + 1) or "", column)
     except (OSError, UnicodeDecodeError):
         pass
     return f"{path}:{start['line'] + 1}:{column + 1}"
@@ -78,18 +78,19 @@ def url_of(call: argparse.Namespace, maps: list[tuple[str, str]]) -> str:
     if not PROJECT.fullmatch(call.project):
         raise ValueError("a project is 1 to 64 characters of a-z 0-9 _ -")
     text = line_of(call.file, call.line)
-    if text is None or not 1 <= call.column <= len(text) + 1:
+    if text is None or not 1 <= call.column <= (units(text) if call.utf16 else len(text)) + 1:
         raise ValueError(f"{call.file} has no line {call.line} with a column {call.column}")
-    asked = {"uri": uri_of(call.file, maps), "line": call.line - 1, "character": units(text[:call.column - 1])}
+    character = call.column - 1 if call.utf16 else units(text[:call.column - 1])
+    asked = {"uri": uri_of(call.file, maps), "line": call.line - 1, "character": character}
     return f"{call.url.rstrip('/')}/projects/{call.project}/{call.what}?{urlencode(asked)}"
 
 
-def show(reply: dict[str, Any], maps: list[tuple[str, str]]) -> int:
-    """Prints the reply of an answered query; answers 1 where it's empty."""
+def show(reply: dict[str, Any], maps: list[tuple[str, str]], utf16: bool) -> int:
+    """Prints the reply of an answered query, a place of several projects once; answers 1 where it's empty."""
     if "contents" in reply:
         lines = [] if reply["contents"] is None else [hover_text(reply["contents"])]
     else:
-        lines = [place_line(place, maps) for place in reply["places"]]
+        lines = list(dict.fromkeys(place_line(place, maps, utf16) for place in reply["places"]))
     for line in lines:
         print(line)
     return 0 if lines else 1
@@ -99,6 +100,7 @@ def main(words: Optional[list[str]] = None) -> int:
     """Reads the command line; answers 0 with an answer, 1 with an empty one, 2 at a fault."""
     parser = argparse.ArgumentParser(prog="ask", description=__doc__)
     parser.add_argument("--map", action="append", default=[], metavar="URI=FOLDER", help="documents below URI are the files of FOLDER")
+    parser.add_argument("--utf16", action="store_true", help="COLUMN and the columns printed count UTF-16 code units, as those of VS Code do")
     parser.add_argument("url", metavar="URL")
     parser.add_argument("project", metavar="PROJECT")
     parser.add_argument("what", choices=["definition", "references", "hover"])
@@ -114,7 +116,7 @@ def main(words: Optional[list[str]] = None) -> int:
         reply = json.loads(answer.body)
         if answer.status != 200:
             raise ValueError(f"{reply['fault']} {reply['text']}: {uri_of(call.file, maps)}")
-        return show(reply, maps)
+        return show(reply, maps, call.utf16)
     except OSError as fault:
         message = f"{fault.filename}: {fault.strerror}"
     except (ValueError, KeyError) as fault:

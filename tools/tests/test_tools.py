@@ -6,9 +6,11 @@ import os
 import subprocess
 import tempfile
 import unittest
-from contextlib import redirect_stderr
+from contextlib import redirect_stderr, redirect_stdout
+from typing import Any
+from unittest import mock
 
-from navtools import ask, prepare, upload
+from navtools import ask, curl, prepare, upload
 
 TOP = os.path.dirname(os.path.dirname(os.path.dirname(os.path.abspath(__file__))))
 RAW = os.path.join(TOP, "demo", "crate.raw.lsif")
@@ -54,10 +56,43 @@ class Prepare(unittest.TestCase):
         rows[5], rows[6] = rows[5].replace("[1]", '["1"]'), rows[6].replace(",1]", "]")
         self.assertEqual((status, body), (0, "\r\n".join(rows[:3] + rows[4:]).encode()))
 
+    def test_equal_ranges(self) -> None:
+        """Two meanings of one name, each with its own result set: items that name the second range, the first and the second, or both in one."""
+        form = '{"id":%d,"type":"edge","label":"item","outV":%d,"inVs":%s,"shard":2,"property":"%s"}'
+        for items in (("S { x }", [(9, [6], "references"), (10, [6], "references")], [[3], [3]]),
+                      ("extern crate x", [(9, [3], "definitions"), (10, [6], "references"), (10, [6], "definitions")], [[3], [3], [3]]),
+                      ("{x}", [(9, [3, 6], "references"), (10, [6, 3], "references")], [[3], [3]])):
+            span = '{"id":%d,"type":"vertex","label":"range","start":{"line":0,"character":4},"end":{"line":0,"character":5}}'
+            rows = ['{"id":1,"type":"vertex","label":"metaData","version":"0.6.0"}', '{"id":2,"type":"vertex","label":"document","uri":"file:///a.rs"}',
+                    span % 3, '{"id":4,"type":"vertex","label":"resultSet"}', '{"id":5,"type":"edge","label":"next","outV":3,"inV":4}',
+                    span % 6, '{"id":7,"type":"vertex","label":"resultSet"}', '{"id":8,"type":"edge","label":"next","outV":6,"inV":7}',
+                    *('{"id":%d,"type":"vertex","label":"referenceResult"}' % own for own in (9, 10))]
+            before = [form % (own, out, json.dumps(into), which) for own, (out, into, which) in enumerate(items[1], 11)]
+            after = [form % (own, out, json.dumps(into), which) for own, ((out, _, which), into) in enumerate(zip(items[1], items[2]), 11)]
+            contains = '{"id":20,"type":"edge","label":"contains","outV":2,"inVs":%s}'
+            status, body, said = self.prepared("\n".join([*rows, *before, contains % "[3,6]"]).encode(), "--report")
+            self.assertEqual((status, (body or b"").decode().replace(" ", "").splitlines()),
+                             (0, [line.replace(" ", "") for line in [*rows[:5], rows[6], *rows[8:], *after, contains % "[3]"]]), items[0])
+            self.assertIn("equal ranges merged 1 of 2; elements", said)
+            self.assertIn("merged: file:///a.rs line 0 character 4: range 6 into 3", said)
+
     def test_input_that_is_no_dump(self) -> None:
         for body in (b"", b"hello\n", b"[]\n", b"{}\n", b'{"id":1,"type":"vertex","label":"document"}\n', b"\xff\n"):
             status, out, said = self.prepared(body)
             self.assertEqual((status, out, said.count("\n")), (2, None, 1))
+
+    def test_over_the_limits(self) -> None:
+        line = b'{"id":%d,"type":"vertex","label":"note","x":"%s"}\n'
+        long, short = b"a" * (1_048_577 - len(line % (10, b"")) + 1), b""
+        rows = [b'{"id":1,"type":"vertex","label":"metaData","version":"0.6.0"}\n']
+        rows += [line % (number, long if 10 <= number < 42 else short) for number in range(2, 100_002)]
+        for body, over in ((b"".join(rows), ["100001 elements, the server takes 100000 (L20)", f"{sum(map(len, rows))} bytes, the server takes 33554432 (H04)",
+                                             "1048577 bytes in the longest line, the server takes 1048576 (L01)"]),
+                           (b"".join([rows[0], *rows[20:41]]), ["1048577 bytes in the longest line, the server takes 1048576 (L01)"]),
+                           (b"".join(rows[:9] + rows[42:]), [])):
+            status, out, said = self.prepared(body)
+            self.assertEqual((status, out == body), (0, True))
+            self.assertEqual([text.partition("limits: ")[2] for text in said.splitlines()[1:]], over)
 
     def test_a_broken_pipe(self) -> None:
         tool = os.path.join(TOP, "tools", "prepare-lsif")
@@ -67,20 +102,82 @@ class Prepare(unittest.TestCase):
         self.assertNotIn(b"Traceback", said)
 
 
-class Others(unittest.TestCase):
+class Ask(unittest.TestCase):
+    TEXT = "e\u0301 \U0001f600x"
+
     def test_columns(self) -> None:
-        text = "e\u0301 \U0001f600x"
-        self.assertEqual([ask.units(text[:n]) for n in range(6)], [0, 1, 2, 3, 5, 6])
-        self.assertEqual([ask.characters(text, n) for n in (0, 1, 2, 3, 5, 6, 8)], [0, 1, 2, 3, 4, 5, 7])
+        self.assertEqual([ask.units(self.TEXT[:n]) for n in range(6)], [0, 1, 2, 3, 5, 6])
+        self.assertEqual([ask.characters(self.TEXT, n) for n in (0, 1, 2, 3, 5, 6, 8)], [0, 1, 2, 3, 4, 5, 7])
+
+    def test_columns_of_a_file(self) -> None:
+        with tempfile.NamedTemporaryFile("w", encoding="utf-8", newline="") as file:
+            file.write(f"first\r\n{self.TEXT}\r\n")
+            file.flush()
+            for words, column, character in ([], 4, 3), ([], 5, 5), ([], 6, 6), (["--utf16"], 6, 5), (["--utf16"], 7, 6):
+                place = {"project": "app", "uri": ask.uri_of(file.name, []), "start": {"line": 1, "character": character},
+                         "end": {"line": 1, "character": character}}
+                asked, said = self.asked([*words, "http://127.0.0.1:1", "app", "definition", file.name, "2", str(column)], place)
+                self.assertEqual(asked.rsplit("&", 2)[1:], ["line=1", f"character={character}"])
+                self.assertEqual((said.count("\n"), said.rsplit(":", 2)[1:]), (1, ["2", f"{column}\n"]))
+            for words, column in ([], 7), (["--utf16"], 8), ([], 0):
+                with redirect_stderr(io.StringIO()) as said:
+                    self.assertEqual(ask.main([*words, "http://127.0.0.1:1", "app", "hover", file.name, "2", str(column)]), 2)
+                self.assertIn(f"has no line 2 with a column {column}\n", said.getvalue())
+
+    def asked(self, words: list[str], place: dict[str, Any]) -> tuple[str, str]:
+        """The address that was asked, and what was printed of an answer with one place, which two projects have."""
+        answer = curl.Answer(0, 200, json.dumps({"places": [place, {**place, "project": "other"}]}).encode(), "")
+        with mock.patch.object(ask, "request", return_value=answer) as request, redirect_stdout(io.StringIO()) as said:
+            self.assertEqual(ask.main(words), 0)
+        return request.call_args.args[0], said.getvalue()
 
     def test_addresses(self) -> None:
         self.assertEqual(ask.uri_of("/a b/c+é.rs", []), "file:///a%20b/c+%C3%A9.rs")
         maps = [("file:///src/x", "/tmp/x")]
         self.assertEqual((ask.uri_of("/tmp/x/a.rs", maps), ask.path_of("file:///src/x/a.rs", maps)), ("file:///src/x/a.rs", "/tmp/x/a.rs"))
 
+
+class Upload(unittest.TestCase):
     def test_the_key(self) -> None:
         with tempfile.NamedTemporaryFile() as file:
             self.assertEqual(upload.key_of(file.name), "e3b0c44298fc1c149afbf4c8996fb924")
+            file.write(b"abc")
+            file.flush()
+            self.assertEqual([upload.key_of(file.name) for _ in range(2)], ["ba7816bf8f01cfea414140de5dae2223"] * 2)
+
+    def uploaded(self, words: list[str], *ends: tuple[int, int]) -> tuple[int, list[list[str]], list[float]]:
+        """The status of an upload of `abc` whose requests end so, by curl's status and the reply's; the calls of curl, and the waits."""
+        done = [subprocess.CompletedProcess([], status, b"{}\n%03d" % code, b"no answer") for status, code in ends]
+        with tempfile.NamedTemporaryFile() as file, mock.patch("subprocess.run", side_effect=done) as run, mock.patch("time.sleep") as sleep, \
+                redirect_stdout(io.StringIO()), redirect_stderr(io.StringIO()):
+            file.write(b"abc")
+            file.flush()
+            status = upload.main("tags", [*words, "http://127.0.0.1:1/", "app", file.name])
+            calls = [[word.replace(file.name, "FILE") for word in call.args[0]] for call in run.call_args_list]
+        return status, calls, [call.args[0] for call in sleep.call_args_list]
+
+    def test_one_request(self) -> None:
+        status, (call,), waits = self.uploaded([], (0, 200))
+        self.assertEqual((status, call[0], waits), (0, "curl", []))
+        self.assertEqual(call[-5:], ["--header", "Expect:", "--upload-file", "FILE",
+                                     "http://127.0.0.1:1/projects/app/tags?key=ba7816bf8f01cfea414140de5dae2223"])
+        self.assertEqual(self.uploaded(["--key", "k1"], (0, 200))[1][0][-1], "http://127.0.0.1:1/projects/app/tags?key=k1")
+
+    def test_sending_again(self) -> None:
+        for end in (7, 0), (52, 0), (56, 0), (28, 0), (0, 503):
+            self.assertEqual([len(part) for part in self.uploaded([], end)[1:]], [1, 0])
+            status, calls, waits = self.uploaded(["--retry"], end, end, (0, 200))
+            self.assertEqual((status, len(calls), waits), (0, 3, [0.2, 0.4]))
+            self.assertEqual(calls[0], calls[2])
+        self.assertEqual(self.uploaded(["--retry"], *[(7, 0)] * 6)[0], 2)
+        self.assertEqual(self.uploaded(["--retry"], *[(0, 503)] * 6)[0], 1)
+        for end, status in ((0, 422), 1), ((6, 0), 2), ((0, 413), 1):
+            self.assertEqual((self.uploaded(["--retry"], end)[0], len(self.uploaded(["--retry"], end)[1])), (status, 1))
+
+    def test_what_is_refused(self) -> None:
+        for words in ["http://127.0.0.1:1", "No Project", RAW], ["http://127.0.0.1:1", "app", "no/file"]:
+            with redirect_stderr(io.StringIO()) as said:
+                self.assertEqual((upload.main("lsif", words), said.getvalue().count("\n")), (2, 1))
 
 
 if __name__ == "__main__":

@@ -1,0 +1,151 @@
+"""Tries the whole way from a dump to an answer: prepares the dump of the demo crate, starts a server, uploads twice, asks for a
+definition, references and a hover, uploads tags and asks for a name, and removes it all. It prints each call with its output.
+"""
+
+import argparse
+import os
+import shlex
+import socket
+import subprocess
+import sys
+import tempfile
+from dataclasses import dataclass
+from typing import Optional
+
+TOP = os.path.dirname(os.path.dirname(os.path.dirname(os.path.abspath(__file__))))
+DUMP, TAGS = "demo/crate.raw.lsif", "demo/crate.tags"
+MAP = ["--map", "file:///src/tr/crate=demo/crate"]
+DEFINITION = ["definition", "demo/crate/src/lib.rs", "18", "12"]
+AT_DEFINITION = ["demo/crate/src/scale.rs", "4", "8"]
+HOVER = """
+```rust
+temperature::scale
+```
+
+```rust
+pub fn fahrenheit(celsius: i32) -> i32
+```
+
+---
+
+Degrees Fahrenheit of degrees Celsius, rounded towards zero."""
+TAG = ('{"tags":[{"address":"/^pub fn is_warm(reading: &Reading) -> bool {$/","fields":[],"file":"src/lib.rs","kind":"f","line":4,'
+       '"name":"is_warm","project":"temperature"}]}')
+
+
+class Failed(Exception):
+    """The trial can't go on; the text is the one line to print."""
+
+
+@dataclass(frozen=True)
+class Step:
+    """A call of one request, and the output and the status that it should have."""
+
+    words: list[str]
+    output: str
+    status: int = 0
+
+
+def steps(url: str, dump: str) -> list[Step]:
+    """The calls, for a server at an address and a prepared dump."""
+    with open(dump, "rb") as lines:
+        accepted = f'{{"accepted":"lsif","count":{sum(1 for _ in lines)}}}'
+    with open(os.path.join(TOP, TAGS), "rb") as lines:
+        tagged = f'{{"accepted":"tags","count":{sum(1 for _ in lines)}}}'
+    ask, curl = ["tools/ask", *MAP, url, "temperature"], ["curl", "--silent", "--noproxy", "*"]
+    upload = ["tools/upload-lsif", "--retry", url, "temperature", dump]
+    return [
+        Step(upload, accepted),
+        Step(upload, accepted),
+        Step([*ask, *DEFINITION], ":".join(AT_DEFINITION)),
+        Step([*ask, "references", *AT_DEFINITION], ":".join(DEFINITION[1:]) + "\n" + ":".join(AT_DEFINITION)),
+        Step([*ask, "hover", *AT_DEFINITION], HOVER),
+        Step(["tools/upload-tags", "--retry", url, "temperature", TAGS], tagged),
+        Step([*curl, f"{url}/names?name=is_warm"], TAG),
+        Step([*curl, "--request", "DELETE", f"{url}/projects/temperature?key=removed"], '{"removed":true}'),
+        Step(upload, accepted),
+        Step([*ask, *DEFINITION], "ask: D01 project has no dump: file:///src/tr/crate/src/lib.rs", 2),
+    ]
+
+
+def run(words: list[str]) -> tuple[str, int]:
+    """Makes a call from the top of the clone and prints it with its output."""
+    print(f"$ {shlex.join(words)}", flush=True)
+    done = subprocess.run(words, cwd=TOP, stdout=subprocess.PIPE, stderr=subprocess.STDOUT, check=False)
+    output = done.stdout.decode(errors="replace").removesuffix("\n")
+    print(output, flush=True)
+    return output, done.returncode
+
+
+def free_port() -> int:
+    """A port of this machine that nobody listens on now."""
+    with socket.socket() as one:
+        one.bind(("127.0.0.1", 0))
+        port: int = one.getsockname()[1]
+    return port
+
+
+def started(program: str, port: int, requests: int) -> subprocess.Popen[bytes]:
+    """A server that has said that it listens; it ends by itself after so many requests."""
+    words = [program, "serve", ":memory:", "--port", str(port), "--requests", str(requests)]
+    print(f"$ {shlex.join(words)} &", flush=True)
+    server = subprocess.Popen(words, stdout=subprocess.PIPE)
+    assert server.stdout is not None
+    line = server.stdout.readline().decode(errors="replace").rstrip("\n")
+    if line != f"listening on 127.0.0.1:{port}":
+        ended(server)
+        raise Failed(f"the server didn't start: {line}")
+    print(line, flush=True)
+    return server
+
+
+def ended(server: subprocess.Popen[bytes]) -> None:
+    """Ends a server that still runs."""
+    if server.poll() is None:
+        server.terminate()
+        server.wait()
+
+
+def trial(program: str, folder: str) -> int:
+    """The calls from the first to the last; answers the number of those that answered as they should."""
+    dump = os.path.join(folder, "crate.lsif")
+    output, status = run(["tools/prepare-lsif", DUMP, dump])
+    if status != 0:
+        raise Failed(f"prepare-lsif ended with status {status}")
+    port = free_port()
+    todo = steps(f"http://127.0.0.1:{port}", dump)
+    server = started(program, port, len(todo))
+    try:
+        for step in todo:
+            output, status = run(step.words)
+            if (output, status) != (step.output, step.status):
+                raise Failed(f"that should have been, with status {step.status}: {step.output}")
+        if server.wait(60) != 0:
+            raise Failed(f"the server ended with status {server.returncode}")
+    except subprocess.TimeoutExpired:
+        raise Failed("the server went on after its last request") from None
+    finally:
+        ended(server)
+    return len(todo)
+
+
+def main(words: Optional[list[str]] = None) -> int:
+    """Answers 0 exactly where each answer was as expected."""
+    parser = argparse.ArgumentParser(prog="try-it", description=__doc__)
+    parser.add_argument("program", metavar="PROGRAM", nargs="?", default=os.path.join(TOP, "codenav"),
+                        help="the built program; without it the one of this clone, which is built first where it isn't yet")
+    call = parser.parse_args(words)
+    try:
+        program = os.path.abspath(call.program)
+        if subprocess.run([program, "--version"], stdin=subprocess.DEVNULL, check=False).returncode != 0:
+            raise Failed(f"{call.program} doesn't run")
+        with tempfile.TemporaryDirectory() as folder:
+            count = trial(program, folder)
+    except Failed as fault:
+        print(f"try-it: {fault}", file=sys.stderr)
+        return 1
+    except OSError as fault:
+        print(f"try-it: {fault.filename}: {fault.strerror}", file=sys.stderr)
+        return 1
+    print(f"try-it: {count} answers, each as expected; the server ended")
+    return 0
