@@ -57,11 +57,12 @@ class Prepare(unittest.TestCase):
         self.assertEqual((status, body), (0, "\r\n".join(rows[:3] + rows[4:]).encode()))
 
     def test_equal_ranges(self) -> None:
-        """Two meanings of one name, each with its own result set: items that name the second range, the first and the second, or both in one."""
+        """Two meanings of one name, as in `extern crate x` and `S { x }`, each with its own result set: items that name the second range, the first
+        and the second, or both in one edge."""
         form = '{"id":%d,"type":"edge","label":"item","outV":%d,"inVs":%s,"shard":2,"property":"%s"}'
-        for items in (("S { x }", [(9, [6], "references"), (10, [6], "references")], [[3], [3]]),
-                      ("extern crate x", [(9, [3], "definitions"), (10, [6], "references"), (10, [6], "definitions")], [[3], [3], [3]]),
-                      ("{x}", [(9, [3, 6], "references"), (10, [6, 3], "references")], [[3], [3]])):
+        for items in (("the second range", [(9, [6], "references"), (10, [6], "references")], [[3], [3]]),
+                      ("the first and the second", [(9, [3], "definitions"), (10, [6], "references"), (10, [6], "definitions")], [[3], [3], [3]]),
+                      ("both in one edge", [(9, [3, 6], "references"), (10, [6, 3], "references")], [[3], [3]])):
             span = '{"id":%d,"type":"vertex","label":"range","start":{"line":0,"character":4},"end":{"line":0,"character":5}}'
             rows = ['{"id":1,"type":"vertex","label":"metaData","version":"0.6.0"}', '{"id":2,"type":"vertex","label":"document","uri":"file:///a.rs"}',
                     span % 3, '{"id":4,"type":"vertex","label":"resultSet"}', '{"id":5,"type":"edge","label":"next","outV":3,"inV":4}',
