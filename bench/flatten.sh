@@ -21,17 +21,6 @@ use std::rt::{Clock, Files};
 use std::time::Instant;
 use std::{fs, io};
 
-fn main(rt: HostRuntime) -> ExitCode {
-    match run(&rt) {
-        Ok(()) => ExitCode::from(0),
-        Err(_) => ExitCode::from(1),
-    }
-}
-
-fn bad() -> io::Error {
-    io::Error::from(io::ErrorKind::InvalidData)
-}
-
 fn check(alloc: Global, body: &[u8]) -> io::Result<CheckedDump> {
     let mut checker = Checker::new(alloc, Profile::One);
     for line in body.split(|byte| *byte == b'\n') {

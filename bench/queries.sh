@@ -20,17 +20,6 @@ use std::rt::{Clock, Files};
 use std::time::Instant;
 use std::{fs, io};
 
-fn main(rt: HostRuntime) -> ExitCode {
-    match run(&rt) {
-        Ok(()) => ExitCode::from(0),
-        Err(_) => ExitCode::from(1),
-    }
-}
-
-fn bad() -> io::Error {
-    io::Error::from(io::ErrorKind::InvalidData)
-}
-
 fn number(text: &str) -> io::Result<u32> {
     text.parse::<u32>().map_err(|_| bad())
 }

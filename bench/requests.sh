@@ -26,17 +26,6 @@ use std::rt::{Clock, Files};
 use std::time::Instant;
 use std::{fs, io};
 
-fn main(rt: HostRuntime) -> ExitCode {
-    match run(&rt) {
-        Ok(()) => ExitCode::from(0),
-        Err(_) => ExitCode::from(1),
-    }
-}
-
-fn bad() -> io::Error {
-    io::Error::from(io::ErrorKind::InvalidData)
-}
-
 fn project(alloc: Global) -> io::Result<ProjectName> {
     ProjectName::read(alloc, "app")?.ok_or(bad())
 }

@@ -4,12 +4,26 @@ top=$(cd "$(dirname "${BASH_SOURCE[0]}")/.." && pwd)
 folder=$(mktemp -d)
 trap 'rm -rf "$folder"' EXIT
 
-# Builds and proves a program of this name, whose main.rt is on the standard input, over these crates of the repository, in a
-# copy. Sets `built` to the program.
+# What ends the main.rt of each program: `main`, which calls its `run`, and the error for what it can't do.
+program_end='
+fn main(rt: HostRuntime) -> ExitCode {
+    match run(&rt) {
+        Ok(()) => ExitCode::from(0),
+        Err(_) => ExitCode::from(1),
+    }
+}
+
+fn bad() -> io::Error {
+    io::Error::from(io::ErrorKind::InvalidData)
+}
+'
+
+# Builds and proves a program of this name, whose main.rt is on the standard input but for its end, over these crates of the
+# repository, in a copy. Sets `built` to the program.
 build_program() {
     local name=$1 crates=$2 home=$folder/crates/$1 crate
     mkdir -p "$home/src" "$home/data"
-    cat >"$home/src/main.rt"
+    { cat; echo "$program_end"; } >"$home/src/main.rt"
     for crate in positions lsif dump flatten tags desk; do
         cp -r "$top/crates/$crate" "$folder/crates/"
         grep "^$crate:" "$top/crates.txt" >>"$folder/crates.txt"

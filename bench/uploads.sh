@@ -22,17 +22,6 @@ use std::rt::{Clock, Files};
 use std::time::Instant;
 use std::{fs, io};
 
-fn main(rt: HostRuntime) -> ExitCode {
-    match run(&rt) {
-        Ok(()) => ExitCode::from(0),
-        Err(_) => ExitCode::from(1),
-    }
-}
-
-fn bad() -> io::Error {
-    io::Error::from(io::ErrorKind::InvalidData)
-}
-
 fn begin(alloc: Global, kind: &str) -> io::Result<Upload> {
     let project = ProjectName::read(alloc, "app")?.ok_or(bad())?;
     let key = Key::read(alloc, "k")?.ok_or(bad())?;
