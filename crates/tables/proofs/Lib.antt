@@ -1,0 +1,10 @@
+pub mod Batches
+pub mod Crashes
+pub mod Creations
+pub mod Cuts
+pub mod Definitions
+pub mod Fill
+pub mod Insert
+pub mod Select
+pub mod Versions
+pub mod Whole

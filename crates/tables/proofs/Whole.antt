@@ -1,0 +1,163 @@
+-- The batches: format 2 from nothing, and format 2 from format 1.
+use Rattle.std.proofs.Common.{◌≡◌, ◌≢◌, inl, inr, refl, sym, ap, ◌∙◌, subst, ℕ, pos, List, [], ◌∷◌, true, false, length, Some, Ok, Err, Result, OnOk, nat_lt, if◌then◌else◌, true≢false, subst₂, ◌↔◌, ℤ, arith}
+use Rattle.std.specs.List.{AllByRecursion}
+use Rattle.sqlite_schema.specs.declared.schema.Table.{Table}
+use Rattle.sqlite_schema.specs.Names.{same_name}
+use Rattle.sqlite_schema.specs.declared.command.Command.TheVariants.{Insert}
+use Rattle.sqlite_schema.specs.declared.command.Source.TheVariants.{Values}
+use Rattle.sqlite_schema.specs.declared.schema.Keys.TheVariants.{Enforced}
+use Rattle.sqlite_value.specs.Order.{Row}
+use Rattle.sqlite_value.specs.declared.value.Value.TheVariants.{Null, Int}
+use Rattle.sqlite_sql.specs.Term.{lit}
+use Rattle.sqlite_rules.specs.Action.{works}
+use Rattle.sqlite_rules.specs.Lists.{Has}
+use Rattle.sqlite_rules.proofs.ListLemmas.{all_has, all_from, has_left}
+use Rattle.sqlite_tied.specs.Compute.{everything}
+use Rattle.sqlite_trees.specs.Tree.{Trees}
+use Rattle.sqlite_trees.specs.declared.store.Store.{Ghosts}
+use Rattle.sqlite.specs.declared.error.Error.{Error}
+use Rattle.sqlite.specs.Effect.{Database}
+use Rattle.sqlite.specs.Listing.{understood, listing_schema}
+use Rattle.sqlite.specs.Held.{Held, state}
+use Rattle.sqlite.specs.State.{State, ExecutesIn}
+use Rattle.sqlite.specs.Batch.{ExecutesAllInside}
+use Rattle.sqlite.proofs.Callers.{IsPlain, command_of}
+use Rattle.tables.specs.Steps.Texts.{version_text, rest0, rest15, upgrade0, upgrade5, upgrade6, set_version}
+use Rattle.tables.specs.Schema.{empty_schema, schema_one, schema_two, format, slot, part_profile, more}
+use Rattle.tables.specs.Steps.Kept.{IsKept, no_rows}
+use Rattle.tables.specs.Databases.{IsMade, IsFormatOne, IsUpgraded, WasUpgraded, AreNumbered, chosen, dump_tests, profile_shown, version_row}
+use Rattle.tables.proofs.Insert.{inserts}
+use Rattle.tables.proofs.Batches.{IsSilent, Script, done, next, also, runs, peel, from_batch}
+use Rattle.tables.proofs.Creations.{stage0, stage10, stage15, makes_one, makes_two, format_makes, slot_makes, keyed_makes, document_makes, range_row_makes, item_makes, hover_makes, mark_makes, bearer_makes, tag_makes, range_by_start_makes, bearer_by_key_makes, tag_by_name_makes, part_profile_makes, more_makes}
+use Rattle.tables.proofs.Cuts.{cut0, cut1, cut2, cut3, cut4, cut5, cut6, cut7, cut8, cut9, cut10, cut11, cut12, cut13, cut14, cut15, upgrade_cut0, upgrade_cut1, upgrade_cut2, upgrade_cut3, upgrade_cut4, upgrade_cut5, upgrade_cut6}
+use Rattle.tables.proofs.Fill.{fill_text, cast_null, cast_int, Filled, Risen, fills, profiles, rises}
+
+-- ---- from nothing
+
+script : Script no_rows rest0 stage0 rest15 stage15
+script =
+    next _ _ _ _ _ _ _ cut0 format_makes refl (
+    next _ _ _ _ _ _ _ cut1 slot_makes refl (
+    next _ _ _ _ _ _ _ cut2 keyed_makes refl (
+    next _ _ _ _ _ _ _ cut3 document_makes refl (
+    next _ _ _ _ _ _ _ cut4 range_row_makes refl (
+    next _ _ _ _ _ _ _ cut5 item_makes refl (
+    next _ _ _ _ _ _ _ cut6 hover_makes refl (
+    next _ _ _ _ _ _ _ cut7 mark_makes refl (
+    next _ _ _ _ _ _ _ cut8 bearer_makes refl (
+    next _ _ _ _ _ _ _ cut9 tag_makes refl (
+    also _ _ _ _ _ _ _ _ _ cut10 range_by_start_makes (
+    also _ _ _ _ _ _ _ _ _ cut11 bearer_by_key_makes (
+    also _ _ _ _ _ _ _ _ _ cut12 tag_by_name_makes (
+    next _ _ _ _ _ _ _ cut13 part_profile_makes refl (
+    next _ _ _ _ _ _ _ cut14 more_makes refl (
+    done _ _)))))))))))))))
+
+insert_is : command_of (understood schema_two version_text) ≡ Insert 0 (Values (lit (Int (pos 2)) ∷ lit Null ∷ []) 2)
+unfolding understood everything
+insert_is = refl
+
+insert_quiet : IsPlain (understood schema_two version_text) × IsSilent (understood schema_two version_text)
+unfolding understood everything listing_schema
+insert_quiet = ((refl, refl), (refl, refl))
+
+quiet : (row : Row) → works schema_two Enforced 0 0 [] (row ∷ []) ≡ []
+unfolding same_name
+quiet row = refl
+
+filled : (old new : State) (count : ℕ) → IsKept schema_two no_rows old.now → ExecutesIn false version_text [] old new (Ok count) → IsMade new.now
+filled old new count bare h =
+    let it = inserts schema_two version_text [] 0 format (lit (Int (pos 2)) ∷ lit Null ∷ []) 2 insert_is insert_quiet.0 refl (λ p. refl) quiet old new count bare.schema_is h in
+    record {
+      schema_is = it.schema_is;
+      version = it.applies.rows ∙ rw (bare.rows.0, cast_null, cast_int (pos 2));
+      others = still old.now.trees new.now.trees schema_two.tables bare.rows it.applies.tables;
+    }
+  where
+    still : (a b : Trees) (tables : List Table) → AllByRecursion (λ t. a t.tree ≡ []) tables → AllByRecursion (λ t. t.tree ≢ 0 → b t.tree ≡ a t.tree) tables → AllByRecursion (λ t. t.tree ≢ 0 → b t.tree ≡ []) tables
+    still a b [] p q = tt
+    still a b (t ∷ ts) p q = (λ other. q.0 other ∙ p.0, still a b ts p.1 q.1)
+
+pub made : {S : Type 0} (g : Ghosts S) (old new : Held S) → (state g old).now.schema ≡ empty_schema → ExecutesAllInside g 0 rest0 old new (Ok tt) → IsMade (state g new).now
+unfolding ExecutesAllInside
+made g old new blank h =
+    let tables = runs g (Some 0) no_rows (length rest0) rest0 rest15 stage0 stage15 script old new (record { schema_is = blank; rows = tt }) h in
+    let last = peel g (Some 0) tables.1 rest15 version_text [] cut15 tables.0 new tables.3 in
+    let bare = subst (λ s. IsKept s no_rows (state g tables.0).now) makes_two tables.2 in
+    subst (λ x. IsMade (state g x).now) (sym last.4.1) (filled (state g tables.0) (state g last.0) last.1 bare (from_batch version_text [] (state g tables.0) (state g last.0) schema_two last.1 bare.schema_is insert_quiet.1 last.3.runs))
+
+pub made_ok : {S : Type 0} (g : Ghosts S) (old new : Held S) (r : Result (Unit {0}) Error) → (state g old).now.schema ≡ empty_schema → ExecutesAllInside g 0 rest0 old new r → OnOk r (IsMade (state g new).now)
+made_ok g old new (Err e) blank h = tt
+made_ok g old new (Ok tt) blank h = made g old new blank h
+
+-- ---- from format 1
+
+-- what the trees hold before the rows of profiles: those of format 1 as they were, and the new ones nothing
+abbrev older : Trees → Trees
+older db t = if nat_lt t 19 then db t else []
+
+growth : (db : Trees) → Script (older db) upgrade0 stage10 upgrade5 stage15
+growth db =
+    also _ _ _ _ _ _ _ _ _ upgrade_cut0 range_by_start_makes (
+    also _ _ _ _ _ _ _ _ _ upgrade_cut1 bearer_by_key_makes (
+    also _ _ _ _ _ _ _ _ _ upgrade_cut2 tag_by_name_makes (
+    next _ _ _ _ _ _ _ upgrade_cut3 part_profile_makes refl (
+    next _ _ _ _ _ _ _ upgrade_cut4 more_makes refl (
+    done _ _)))))
+
+all_old : AllByRecursion (λ t. nat_lt t.tree 19 ≡ true) schema_one.tables
+all_old = (refl, (refl, (refl, (refl, (refl, (refl, (refl, (refl, (refl, (refl, tt))))))))))
+
+older_is : (db : Trees) (t : ℕ) → nat_lt t 19 ≡ true → older db t ≡ db t
+older_is db t low = rw low refl
+
+as_before : (db : Database) → db.schema ≡ schema_one → IsKept schema_one (older db.trees) db
+as_before db has = record { schema_is = has; rows = all_from (λ t. db.trees t.tree ≡ older db.trees t.tree) schema_one.tables (λ t there. sym (older_is db.trees t.tree (all_has (λ t. nat_lt t.tree 19 ≡ true) schema_one.tables t all_old there))) }
+
+in_both : (t : Table) → Has schema_one.tables t → Has schema_two.tables t
+in_both t = has_left schema_one.tables (part_profile ∷ more ∷ []) t
+
+is_not : (t n : ℕ) → nat_lt t 19 ≡ true → nat_lt n 19 ≡ false → t ≢ n
+is_not t n low high same = true≢false (sym low ∙ ap (λ x. nat_lt x 19) same ∙ high)
+
+after_all : (was mid late end : Database) → IsKept schema_two (older was.trees) mid → Filled mid late → Risen late end → WasUpgraded was.trees end.trees
+after_all was mid late end grown put risen =
+    let fill = all_has (λ t. t.tree ≢ 22 → late.trees t.tree ≡ mid.trees t.tree) schema_two.tables in
+    let last = all_has (λ t. t.tree ≢ 0 → end.trees t.tree ≡ late.trees t.tree) schema_two.tables in
+    let kept = all_has (λ t. mid.trees t.tree ≡ older was.trees t.tree) schema_two.tables in
+    let slots : mid.trees 1 ≡ was.trees 1 = kept slot grown.rows (inr (inl refl)) in
+    let blank : mid.trees 22 ≡ [] = kept part_profile grown.rows (inr (inr (inr (inr (inr (inr (inr (inr (inr (inr (inl refl))))))))))) in
+    let profiles_stay : end.trees 22 ≡ late.trees 22 = last part_profile risen.others (inr (inr (inr (inr (inr (inr (inr (inr (inr (inr (inl refl))))))))))) (λ e. is_not 0 22 refl refl (sym e)) in
+    let has_more : Has schema_two.tables more = inr (inr (inr (inr (inr (inr (inr (inr (inr (inr (inr (inl refl))))))))))) in
+    record {
+      version = risen.version;
+      others = all_from (λ t. t.tree ≢ 0 → end.trees t.tree ≡ was.trees t.tree) schema_one.tables (λ t there other.
+          let low = all_has (λ t. nat_lt t.tree 19 ≡ true) schema_one.tables t all_old there in
+          last t risen.others (in_both t there) other ∙ fill t put.applies.tables (in_both t there) (is_not t.tree 22 low refl) ∙ kept t grown.rows (in_both t there) ∙ older_is was.trees t.tree low);
+      profiles = λ ids row. subst₂ (λ (rows profile : List Row). ((id : ℤ) × Has profile (Int id ∷ row)) ↔ Has (chosen dump_tests profile_shown [] rows) row) slots (sym profiles_stay)
+          (profiles mid late blank put (subst AreNumbered (sym slots) ids) row);
+      more = last more risen.others has_more (λ e. is_not 0 24 refl refl (sym e)) ∙ fill more put.applies.tables has_more (λ e. absurd (omega (arith, e))) ∙ kept more grown.rows has_more;
+    }
+
+pub upgraded : {S : Type 0} (g : Ghosts S) (old new : Held S) → IsFormatOne (state g old).now → ExecutesAllInside g 0 upgrade0 old new (Ok tt) → IsUpgraded (state g old).now (state g new).now
+unfolding ExecutesAllInside
+upgraded g old new is h =
+    let was = (state g old).now in
+    let start = subst (λ s. IsKept s (older was.trees) was) (sym makes_one) (as_before was is.schema_is) in
+    let tables = runs g (Some 0) (older was.trees) (length upgrade0) upgrade0 upgrade5 stage10 stage15 (growth was.trees) old new start h in
+    let grown = subst (λ s. IsKept s (older was.trees) (state g tables.0).now) makes_two tables.2 in
+    let fill = peel g (Some 0) tables.1 upgrade5 fill_text upgrade6 upgrade_cut5 tables.0 new tables.3 in
+    let put = fills (state g tables.0) (state g fill.0) fill.1 grown.schema_is fill.3.runs in
+    let last = peel g (Some 0) fill.2 upgrade6 set_version [] upgrade_cut6 fill.0 new fill.4 in
+    let mid = (state g tables.0).now in
+    let late = (state g fill.0).now in
+    let format_is : late.trees 0 ≡ version_row 1 = all_has (λ t. t.tree ≢ 22 → late.trees t.tree ≡ mid.trees t.tree) schema_two.tables format put.applies.tables (inl refl) (is_not 0 22 refl refl) ∙ grown.rows.0 ∙ is.version in
+    let risen = rises (state g fill.0) (state g last.0) last.1 put.schema_is format_is last.3.runs in
+    subst (λ x. IsUpgraded was (state g x).now) (sym last.4.1) (record {
+      schema_is = risen.schema_is;
+      rows = after_all was mid late (state g last.0).now grown put risen;
+    })
+
+pub upgraded_ok : {S : Type 0} (g : Ghosts S) (old new : Held S) (r : Result (Unit {0}) Error) → IsFormatOne (state g old).now → ExecutesAllInside g 0 upgrade0 old new r → OnOk r (IsUpgraded (state g old).now (state g new).now)
+upgraded_ok g old new (Err e) is h = tt
+upgraded_ok g old new (Ok tt) is h = upgraded g old new is h

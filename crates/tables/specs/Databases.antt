@@ -1,0 +1,68 @@
+-- A database with the tables of a format.
+use Rattle.std.specs.Prelude.{◌≡◌, ◌≢◌, ◌↔◌, ℕ, ℤ, pos, List, [], ◌∷◌, map, filter}
+use Rattle.std.specs.List.{AllByRecursion, list_all}
+use Rattle.sqlite_value.specs.declared.value.Value.TheVariants.{Null, Int}
+use Rattle.sqlite_value.specs.Order.{Row}
+use Rattle.sqlite_value.specs.declared.keys.Collation.TheVariants.{Binary}
+use Rattle.sqlite_sql.specs.declared.ops.BinaryOp.TheVariants.{Compare}
+use Rattle.sqlite_sql.specs.declared.ops.CompareOp.TheVariants.{Eq}
+use Rattle.sqlite_sql.specs.Term.{Term, eval_all, holds, lit, col, op2}
+use Rattle.sqlite_rules.specs.Lists.{Has}
+use Rattle.sqlite.specs.Effect.{Database}
+use Rattle.sqlite_trees.specs.Tree.{Trees, rowid}
+use Rattle.tables.specs.Schema.{schema_one, schema_two}
+
+-- the rows that pass the tests, and what is shown of each
+abbrev pub chosen : List Term → List Term → Row → List Row → List Row
+chosen tests shown params rows = map (λ r. eval_all shown (params ∷ r ∷ [])) (filter (λ r. list_all (holds (params ∷ r ∷ [])) tests) rows)
+
+-- the one row of the table of versions: a key's own column is kept as NULL
+abbrev pub version_row : ℕ → List Row
+version_row n = (Int (pos n) ∷ Null ∷ []) ∷ []
+
+-- the tables of format 2, of which `format` alone has a row
+pub record IsMade (db : Database) : Type 0 where
+  pub schema_is : db.schema ≡ schema_two
+  pub version : db.trees 0 ≡ version_row 2
+  pub others : AllByRecursion (λ t. t.tree ≢ 0 → db.trees t.tree ≡ []) schema_two.tables
+
+-- the tables of format 1, or 2, with one row of that version
+pub record IsFormatOne (db : Database) : Type 0 where
+  pub schema_is : db.schema ≡ schema_one
+  pub version : db.trees 0 ≡ version_row 1
+
+pub record IsFormatTwo (db : Database) : Type 0 where
+  pub schema_is : db.schema ≡ schema_two
+  pub version : db.trees 0 ≡ version_row 2
+
+-- the table in this tree has a row with these columns
+abbrev pub Holds : Trees → ℕ → Row → Type 0
+Holds db tree values = (id : ℤ) × Has (db tree) (Int id ∷ values)
+
+-- each row has a number
+abbrev pub AreNumbered : List Row → Type 0
+AreNumbered rows = (row : Row) → Has rows row → (id : ℤ) × (rowid row ≡ Int id)
+
+-- `part = 1`, asked of a row of `slot`: it is the slot of a dump
+abbrev pub dump_tests : List Term
+dump_tests = op2 (Compare Eq Binary) (col 1 3) (lit (Int (pos 1))) ∷ []
+
+-- `id, 1`: what a row of `part_profile` has of such a slot
+abbrev pub profile_shown : List Term
+profile_shown = col 1 0 ∷ lit (Int (pos 1)) ∷ []
+
+-- Format 2 stands where format 1 stood: each of its tables but the versions has its rows; the rows of `part_profile` are those of
+-- `SELECT id, 1 FROM slot WHERE part = 1`, so each dump has profile 1; and `more` has no row.
+pub record WasUpgraded (old new : Trees) : Type 0 where
+  pub version : new 0 ≡ version_row 2
+  pub others : AllByRecursion (λ t. t.tree ≢ 0 → new t.tree ≡ old t.tree) schema_one.tables
+  pub profiles : AreNumbered (old 1) → (row : Row) → Holds new 22 row ↔ Has (chosen dump_tests profile_shown [] (old 1)) row
+  pub more : new 24 ≡ []
+
+pub record IsUpgraded (old new : Database) : Type 0 where
+  pub schema_is : new.schema ≡ schema_two
+  pub rows : WasUpgraded old.trees new.trees
+
+-- a database that `make` made, as a crash finds it
+abbrev pub WasMade : Trees → Type 0
+WasMade db = (db 0 ≡ version_row 2) × AllByRecursion (λ t. t.tree ≢ 0 → db t.tree ≡ []) schema_two.tables

@@ -1,0 +1,133 @@
+-- The texts of SQL.
+use Rattle.std.specs.Prelude.{codes, ℕ, List, ◌++◌}
+
+abbrev pub format_text : List ℕ
+format_text = codes "CREATE TABLE format (version INTEGER PRIMARY KEY) STRICT"
+
+abbrev pub slot_text : List ℕ
+slot_text = codes "CREATE TABLE slot (id INTEGER PRIMARY KEY, project TEXT NOT NULL, part INTEGER NOT NULL, UNIQUE (project, part)) STRICT"
+
+abbrev pub keyed_text : List ℕ
+keyed_text = codes "CREATE TABLE keyed (project TEXT NOT NULL, cmdkey TEXT NOT NULL, reply TEXT NOT NULL, PRIMARY KEY (project, cmdkey)) STRICT"
+
+abbrev pub document_text : List ℕ
+document_text = codes "CREATE TABLE document (slot INTEGER NOT NULL REFERENCES slot ON DELETE CASCADE, uri TEXT NOT NULL, PRIMARY KEY (slot, uri)) STRICT"
+
+abbrev pub range_row_text : List ℕ
+range_row_text = codes "CREATE TABLE range_row (slot INTEGER NOT NULL REFERENCES slot ON DELETE CASCADE, line INTEGER NOT NULL, uri TEXT NOT NULL, first INTEGER NOT NULL, last INTEGER NOT NULL, parent INTEGER, def INTEGER, refs INTEGER, hover INTEGER, PRIMARY KEY (slot, line)) STRICT"
+
+abbrev pub item_text : List ℕ
+item_text = codes "CREATE TABLE item (slot INTEGER NOT NULL REFERENCES slot ON DELETE CASCADE, result INTEGER NOT NULL, role INTEGER NOT NULL, uri TEXT NOT NULL, first INTEGER NOT NULL, last INTEGER NOT NULL, PRIMARY KEY (slot, result, role, uri, first, last)) STRICT"
+
+abbrev pub hover_text : List ℕ
+hover_text = codes "CREATE TABLE hover (slot INTEGER NOT NULL REFERENCES slot ON DELETE CASCADE, result INTEGER NOT NULL, contents TEXT NOT NULL, PRIMARY KEY (slot, result)) STRICT"
+
+abbrev pub mark_text : List ℕ
+mark_text = codes "CREATE TABLE mark (slot INTEGER NOT NULL REFERENCES slot ON DELETE CASCADE, line INTEGER NOT NULL, kind INTEGER NOT NULL, keytext TEXT NOT NULL, PRIMARY KEY (slot, line, kind, keytext)) STRICT"
+
+abbrev pub bearer_text : List ℕ
+bearer_text = codes "CREATE TABLE bearer (slot INTEGER NOT NULL REFERENCES slot ON DELETE CASCADE, line INTEGER NOT NULL, keytext TEXT NOT NULL, kind INTEGER NOT NULL, def INTEGER, refs INTEGER, hover INTEGER, PRIMARY KEY (slot, line, keytext, kind)) STRICT"
+
+abbrev pub tag_text : List ℕ
+tag_text = codes "CREATE TABLE tag (slot INTEGER NOT NULL REFERENCES slot ON DELETE CASCADE, line INTEGER NOT NULL, name TEXT NOT NULL, file TEXT NOT NULL, address TEXT NOT NULL, kind TEXT, fields TEXT NOT NULL, PRIMARY KEY (slot, line)) STRICT"
+
+abbrev pub range_by_start_text : List ℕ
+range_by_start_text = codes "CREATE INDEX range_by_start ON range_row (slot, uri, first, last DESC)"
+
+abbrev pub bearer_by_key_text : List ℕ
+bearer_by_key_text = codes "CREATE INDEX bearer_by_key ON bearer (keytext, kind)"
+
+abbrev pub tag_by_name_text : List ℕ
+tag_by_name_text = codes "CREATE INDEX tag_by_name ON tag (name, slot, line)"
+
+abbrev pub part_profile_text : List ℕ
+part_profile_text = codes "CREATE TABLE part_profile (slot INTEGER NOT NULL REFERENCES slot ON DELETE CASCADE, profile INTEGER NOT NULL, UNIQUE (slot)) STRICT"
+
+abbrev pub more_text : List ℕ
+more_text = codes "CREATE TABLE more (slot INTEGER NOT NULL REFERENCES slot ON DELETE CASCADE, line INTEGER NOT NULL, decl INTEGER, imp INTEGER, PRIMARY KEY (slot, line)) STRICT"
+
+abbrev pub select_version : List ℕ
+select_version = codes "SELECT version FROM format"
+
+abbrev pub fill_profiles : List ℕ
+fill_profiles = codes "INSERT INTO part_profile (slot, profile) SELECT id, 1 FROM slot WHERE part = 1"
+
+abbrev pub set_version : List ℕ
+set_version = codes "UPDATE format SET version = 2"
+
+abbrev pub semicolon : List ℕ
+semicolon = codes ";"
+
+abbrev pub version_text : List ℕ
+version_text = codes "INSERT INTO format (version) VALUES (2)"
+
+-- what is left of the batch of format 2 from each of its statements on
+abbrev pub rest15 : List ℕ
+rest15 = version_text
+
+abbrev pub rest14 : List ℕ
+rest14 = (more_text ++ semicolon) ++ rest15
+
+abbrev pub rest13 : List ℕ
+rest13 = (part_profile_text ++ semicolon) ++ rest14
+
+abbrev pub rest12 : List ℕ
+rest12 = (tag_by_name_text ++ semicolon) ++ rest13
+
+abbrev pub rest11 : List ℕ
+rest11 = (bearer_by_key_text ++ semicolon) ++ rest12
+
+abbrev pub rest10 : List ℕ
+rest10 = (range_by_start_text ++ semicolon) ++ rest11
+
+abbrev pub rest9 : List ℕ
+rest9 = (tag_text ++ semicolon) ++ rest10
+
+abbrev pub rest8 : List ℕ
+rest8 = (bearer_text ++ semicolon) ++ rest9
+
+abbrev pub rest7 : List ℕ
+rest7 = (mark_text ++ semicolon) ++ rest8
+
+abbrev pub rest6 : List ℕ
+rest6 = (hover_text ++ semicolon) ++ rest7
+
+abbrev pub rest5 : List ℕ
+rest5 = (item_text ++ semicolon) ++ rest6
+
+abbrev pub rest4 : List ℕ
+rest4 = (range_row_text ++ semicolon) ++ rest5
+
+abbrev pub rest3 : List ℕ
+rest3 = (document_text ++ semicolon) ++ rest4
+
+abbrev pub rest2 : List ℕ
+rest2 = (keyed_text ++ semicolon) ++ rest3
+
+abbrev pub rest1 : List ℕ
+rest1 = (slot_text ++ semicolon) ++ rest2
+
+abbrev pub rest0 : List ℕ
+rest0 = (format_text ++ semicolon) ++ rest1
+
+-- and of the batch that makes format 2 of format 1
+abbrev pub upgrade6 : List ℕ
+upgrade6 = set_version
+
+abbrev pub upgrade5 : List ℕ
+upgrade5 = (fill_profiles ++ semicolon) ++ upgrade6
+
+abbrev pub upgrade4 : List ℕ
+upgrade4 = (more_text ++ semicolon) ++ upgrade5
+
+abbrev pub upgrade3 : List ℕ
+upgrade3 = (part_profile_text ++ semicolon) ++ upgrade4
+
+abbrev pub upgrade2 : List ℕ
+upgrade2 = (tag_by_name_text ++ semicolon) ++ upgrade3
+
+abbrev pub upgrade1 : List ℕ
+upgrade1 = (bearer_by_key_text ++ semicolon) ++ upgrade2
+
+abbrev pub upgrade0 : List ℕ
+upgrade0 = (range_by_start_text ++ semicolon) ++ upgrade1

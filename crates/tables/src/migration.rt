@@ -1,0 +1,77 @@
+//! The way from format 1 to format 2.
+ghost use Rattle.std.specs.Prelude.{◌≡◌, ◌≢◌, ◌⊎◌, true, false, IsTrue, IfOk, IfErr, OnOk, OnErr};
+ghost use Rattle.sqlite.specs.State.{HasCleanDisk, Survives, KeepsCommit, IsUnchanged};
+ghost use Rattle.sqlite.specs.Held.{state};
+ghost use Rattle.tables.specs.Schema.{empty_schema};
+ghost use Rattle.tables.specs.Databases.{IsFormatOne, IsFormatTwo, IsUpgraded, WasUpgraded};
+
+use crate::fault::{TablesFault, fault_of};
+use crate::format::{Format, find_format};
+use crate::tables::Tables;
+use sqlite::{Alter, Connection, Error, Transaction};
+
+/// The statements that make format 2 of format 1, within a transaction.
+fn upgrade_tables<S: Alter>(tx: &mut Transaction<'_, S>) -> Result<(), Error>
+    ensures same_reference { tx.new.conn.ghost_name ≡ tx.old.conn.ghost_name }
+    ensures made { IsFormatOne (state S.Store tx.old.conn.now).now → HasCleanDisk (state S.Store tx.new.conn.now) → OnOk result (IsUpgraded (state S.Store tx.old.conn.now).now (state S.Store tx.new.conn.now).now) }
+    ensures inside { HasCleanDisk (state S.Store tx.new.conn.now) → OnOk result ((state S.Store tx.new.conn.now).in_transaction ≡ (state S.Store tx.old.conn.now).in_transaction) }
+    ensures kept { HasCleanDisk (state S.Store tx.new.conn.now) → KeepsCommit (state S.Store tx.old.conn.now) (state S.Store tx.new.conn.now) }
+    ensures survives { Survives (state S.Store tx.old.conn.now) (state S.Store tx.new.conn.now) (λ _. ⊥) }
+{
+    tx.execute_batch(
+        "CREATE INDEX range_by_start ON range_row (slot, uri, first, last DESC);\
+         CREATE INDEX bearer_by_key ON bearer (keytext, kind);\
+         CREATE INDEX tag_by_name ON tag (name, slot, line);\
+         CREATE TABLE part_profile (slot INTEGER NOT NULL REFERENCES slot ON DELETE CASCADE, profile INTEGER NOT NULL, UNIQUE (slot)) STRICT;\
+         CREATE TABLE more (slot INTEGER NOT NULL REFERENCES slot ON DELETE CASCADE, line INTEGER NOT NULL, decl INTEGER, imp INTEGER, PRIMARY KEY (slot, line)) STRICT;\
+         INSERT INTO part_profile (slot, profile) SELECT id, 1 FROM slot WHERE part = 1;\
+         UPDATE format SET version = 2",
+    )
+}
+
+/// Makes format 2 of format 1 in one transaction.
+fn upgrade<S: Alter>(conn: &mut Connection<S>) -> Result<(), Error>
+    requires mode { conn.old.in_transaction ≡ false }
+    ensures made { IsFormatOne (state S.Store conn.old).now → HasCleanDisk (state S.Store conn.new) → OnOk result (IsUpgraded (state S.Store conn.old).now (state S.Store conn.new).now × ((state S.Store conn.new).committed ≡ (state S.Store conn.new).now)) }
+    ensures mode { conn.new.in_transaction ≡ false }
+    ensures same { HasCleanDisk (state S.Store conn.new) → IsTrue (state S.Store conn.new).is_open
+        → OnErr result (((state S.Store conn.new).now ≡ (state S.Store conn.old).committed) × ((state S.Store conn.new).committed ≡ (state S.Store conn.old).committed)) }
+    ensures clean { HasCleanDisk (state S.Store conn.new) → HasCleanDisk (state S.Store conn.old) }
+    ensures crash { IsFormatOne (state S.Store conn.old).now → Survives (state S.Store conn.old) (state S.Store conn.new) (WasUpgraded (state S.Store conn.old).now.trees) }
+{
+    let mut tx = conn.transaction();
+    upgrade_tables(&mut tx)?;
+    tx.commit()
+}
+
+/// The tables of format 2 in a database, made of those of format 1 in one transaction where it has these: and whether it had. Each row is kept, and each
+/// dump gets profile 1.
+///
+/// With each fault the connection comes back, and nothing was made. It's `Foreign` where nothing has the name of one of the tables, or where `format`
+/// doesn't read as one row of version 1 or 2; and `Memory` or `Refused` where the store refuses.
+pub fn migrate<S: Alter>(
+    mut conn: Connection<S>,
+) -> Result<(Tables<S>, bool), (TablesFault, Connection<S>)>
+    requires { conn.in_transaction ≡ false }
+    ensures old { IsFormatOne (state S.Store conn).now → IfOk result (λ r. HasCleanDisk (state S.Store r.0) → (r.1 ≡ true) × IsUpgraded (state S.Store conn).now (state S.Store r.0).now × ((state S.Store r.0).committed ≡ (state S.Store r.0).now)) }
+    ensures known { IsFormatTwo (state S.Store conn).now → IfOk result (λ r. HasCleanDisk (state S.Store r.0) → (r.1 ≡ false) × IsUnchanged (state S.Store conn) (state S.Store r.0)) }
+    ensures fresh { (state S.Store conn).now.schema ≡ empty_schema → IfErr result (λ e. (e.0 ≡ TablesFault.Foreign) × (e.1 ≡ conn)) × IfOk result (λ _. ⊥) }
+    ensures foreign { IsFormatOne (state S.Store conn).now ⊎ IsFormatTwo (state S.Store conn).now → IfErr result (λ e. HasCleanDisk (state S.Store e.1) → e.0 ≢ TablesFault.Foreign) }
+    ensures back { IsFormatOne (state S.Store conn).now ⊎ IsFormatTwo (state S.Store conn).now → IfErr result (λ e. HasCleanDisk (state S.Store e.1) → IsTrue (state S.Store e.1).is_open
+        → ((state S.Store e.1).committed ≡ (state S.Store conn).committed) × (((state S.Store e.1).now ≡ (state S.Store conn).now) ⊎ ((state S.Store e.1).now ≡ (state S.Store conn).committed))) }
+    ensures mode { IfErr result (λ e. e.1.in_transaction ≡ false) }
+    ensures stays { IsFormatTwo (state S.Store conn).now → IfOk result (λ r. HasCleanDisk (state S.Store r.0) → Survives (state S.Store conn) (state S.Store r.0) (λ _. ⊥)) × IfErr result (λ e. HasCleanDisk (state S.Store e.1) → Survives (state S.Store conn) (state S.Store e.1) (λ _. ⊥)) }
+    ensures crash { IsFormatOne (state S.Store conn).now → IfOk result (λ r. HasCleanDisk (state S.Store r.0) → Survives (state S.Store conn) (state S.Store r.0) (WasUpgraded (state S.Store conn).now.trees)) }
+    ensures whole { IsFormatOne (state S.Store conn).now → IfOk result (λ r. HasCleanDisk (state S.Store r.0) → IsFormatTwo (state S.Store r.0).now) }
+    ensures stopped { IsFormatOne (state S.Store conn).now → IfErr result (λ e. HasCleanDisk (state S.Store e.1) → Survives (state S.Store conn) (state S.Store e.1) (WasUpgraded (state S.Store conn).now.trees)) }
+{
+    match find_format(&mut conn) {
+        Ok(Format::One) => match upgrade(&mut conn) {
+            Ok(()) => Ok((Tables { conn }, true)),
+            Err(error) => Err((fault_of(error), conn)),
+        },
+        Ok(Format::Two) => Ok((Tables { conn }, false)),
+        Ok(_) => Err((TablesFault::Foreign, conn)),
+        Err(error) => Err((fault_of(error), conn)),
+    }
+}

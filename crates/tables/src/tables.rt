@@ -1,0 +1,116 @@
+//! The tables of the index.
+ghost use Rattle.std.specs.Prelude.{◌≡◌, ◌≢◌, ◌⊎◌, false, IsTrue, IfOk, IfErr, OnOk, OnErr};
+ghost use Rattle.sqlite.specs.State.{HasCleanDisk, Survives, KeepsCommit, IsUnchanged};
+ghost use Rattle.sqlite.specs.Held.{state};
+ghost use Rattle.tables.specs.Schema.{empty_schema};
+ghost use Rattle.tables.specs.Databases.{IsMade, WasMade, IsFormatOne, IsFormatTwo};
+
+use crate::fault::{TablesFault, fault_of};
+use crate::format::{Format, find_format};
+use sqlite::{Alter, Connection, Error, Transaction};
+use std::marker::Model;
+
+/// The tables of format 2, in a connection that is in no transaction.
+#[derive(Drop)]
+pub struct Tables<S: Alter> {
+    pub(crate) conn: Connection<S>,
+}
+
+impl<S: Alter> Model for Tables<S> {
+    ghost use Rattle.std.specs.Prelude.{◌≡◌, false};
+    ghost use Rattle.sqlite.specs.Held.{Held, held_code};
+
+    ghost Value = { Held S };
+
+    ghost coded = { held_code S.code };
+
+    ghost view = { λ t. t.conn };
+
+    ghost invariant = { λ t. t.conn.in_transaction ≡ false };
+}
+
+/// The statements that make the tables of format 2, within a transaction.
+fn make_tables<S: Alter>(tx: &mut Transaction<'_, S>) -> Result<(), Error>
+    ensures same_reference { tx.new.conn.ghost_name ≡ tx.old.conn.ghost_name }
+    ensures made { (state S.Store tx.old.conn.now).now.schema ≡ empty_schema → HasCleanDisk (state S.Store tx.new.conn.now) → OnOk result (IsMade (state S.Store tx.new.conn.now).now) }
+    ensures inside { HasCleanDisk (state S.Store tx.new.conn.now) → OnOk result ((state S.Store tx.new.conn.now).in_transaction ≡ (state S.Store tx.old.conn.now).in_transaction) }
+    ensures kept { HasCleanDisk (state S.Store tx.new.conn.now) → KeepsCommit (state S.Store tx.old.conn.now) (state S.Store tx.new.conn.now) }
+    ensures survives { Survives (state S.Store tx.old.conn.now) (state S.Store tx.new.conn.now) (λ _. ⊥) }
+{
+    tx.execute_batch(
+        "CREATE TABLE format (version INTEGER PRIMARY KEY) STRICT;\
+         CREATE TABLE slot (id INTEGER PRIMARY KEY, project TEXT NOT NULL, part INTEGER NOT NULL, UNIQUE (project, part)) STRICT;\
+         CREATE TABLE keyed (project TEXT NOT NULL, cmdkey TEXT NOT NULL, reply TEXT NOT NULL, PRIMARY KEY (project, cmdkey)) STRICT;\
+         CREATE TABLE document (slot INTEGER NOT NULL REFERENCES slot ON DELETE CASCADE, uri TEXT NOT NULL, PRIMARY KEY (slot, uri)) STRICT;\
+         CREATE TABLE range_row (slot INTEGER NOT NULL REFERENCES slot ON DELETE CASCADE, line INTEGER NOT NULL, uri TEXT NOT NULL, first INTEGER NOT NULL, last INTEGER NOT NULL, parent INTEGER, def INTEGER, refs INTEGER, hover INTEGER, PRIMARY KEY (slot, line)) STRICT;\
+         CREATE TABLE item (slot INTEGER NOT NULL REFERENCES slot ON DELETE CASCADE, result INTEGER NOT NULL, role INTEGER NOT NULL, uri TEXT NOT NULL, first INTEGER NOT NULL, last INTEGER NOT NULL, PRIMARY KEY (slot, result, role, uri, first, last)) STRICT;\
+         CREATE TABLE hover (slot INTEGER NOT NULL REFERENCES slot ON DELETE CASCADE, result INTEGER NOT NULL, contents TEXT NOT NULL, PRIMARY KEY (slot, result)) STRICT;\
+         CREATE TABLE mark (slot INTEGER NOT NULL REFERENCES slot ON DELETE CASCADE, line INTEGER NOT NULL, kind INTEGER NOT NULL, keytext TEXT NOT NULL, PRIMARY KEY (slot, line, kind, keytext)) STRICT;\
+         CREATE TABLE bearer (slot INTEGER NOT NULL REFERENCES slot ON DELETE CASCADE, line INTEGER NOT NULL, keytext TEXT NOT NULL, kind INTEGER NOT NULL, def INTEGER, refs INTEGER, hover INTEGER, PRIMARY KEY (slot, line, keytext, kind)) STRICT;\
+         CREATE TABLE tag (slot INTEGER NOT NULL REFERENCES slot ON DELETE CASCADE, line INTEGER NOT NULL, name TEXT NOT NULL, file TEXT NOT NULL, address TEXT NOT NULL, kind TEXT, fields TEXT NOT NULL, PRIMARY KEY (slot, line)) STRICT;\
+         CREATE INDEX range_by_start ON range_row (slot, uri, first, last DESC);\
+         CREATE INDEX bearer_by_key ON bearer (keytext, kind);\
+         CREATE INDEX tag_by_name ON tag (name, slot, line);\
+         CREATE TABLE part_profile (slot INTEGER NOT NULL REFERENCES slot ON DELETE CASCADE, profile INTEGER NOT NULL, UNIQUE (slot)) STRICT;\
+         CREATE TABLE more (slot INTEGER NOT NULL REFERENCES slot ON DELETE CASCADE, line INTEGER NOT NULL, decl INTEGER, imp INTEGER, PRIMARY KEY (slot, line)) STRICT;\
+         INSERT INTO format (version) VALUES (2)",
+    )
+}
+
+/// Makes the tables of format 2 in one transaction.
+fn make<S: Alter>(conn: &mut Connection<S>) -> Result<(), Error>
+    requires mode { conn.old.in_transaction ≡ false }
+    ensures made { (state S.Store conn.old).now.schema ≡ empty_schema → HasCleanDisk (state S.Store conn.new) → OnOk result (IsMade (state S.Store conn.new).now × ((state S.Store conn.new).committed ≡ (state S.Store conn.new).now)) }
+    ensures mode { conn.new.in_transaction ≡ false }
+    ensures same { HasCleanDisk (state S.Store conn.new) → IsTrue (state S.Store conn.new).is_open
+        → OnErr result (((state S.Store conn.new).now ≡ (state S.Store conn.old).committed) × ((state S.Store conn.new).committed ≡ (state S.Store conn.old).committed)) }
+    ensures clean { HasCleanDisk (state S.Store conn.new) → HasCleanDisk (state S.Store conn.old) }
+    ensures crash { (state S.Store conn.old).now.schema ≡ empty_schema → Survives (state S.Store conn.old) (state S.Store conn.new) WasMade }
+{
+    let mut tx = conn.transaction();
+    make_tables(&mut tx)?;
+    tx.commit()
+}
+
+impl<S: Alter> Tables<S> {
+    /// The tables of format 2 in a database: found, or made in one transaction where nothing has the name of one of them, in any case of letters. What
+    /// else the database has doesn't count.
+    ///
+    /// With each fault the connection comes back. It's `OldFormat` where the tables are of format 1, which `migrate` upgrades; `Foreign` where something
+    /// has such a name, and `format` doesn't read as one row of version 1 or 2; and `Memory` or `Refused` where the store refuses: then no table was made.
+    pub fn open(mut conn: Connection<S>) -> Result<Tables<S>, (TablesFault, Connection<S>)>
+        requires { conn.in_transaction ≡ false }
+        ensures fresh { (state S.Store conn).now.schema ≡ empty_schema → IfOk result (λ c. HasCleanDisk (state S.Store c) → IsMade (state S.Store c).now × ((state S.Store c).committed ≡ (state S.Store c).now)) }
+        ensures known { IsFormatTwo (state S.Store conn).now → IfOk result (λ c. HasCleanDisk (state S.Store c) → IsUnchanged (state S.Store conn) (state S.Store c)) }
+        ensures never { IsFormatOne (state S.Store conn).now → IfOk result (λ c. HasCleanDisk (state S.Store c) → ⊥) }
+        ensures foreign { (state S.Store conn).now.schema ≡ empty_schema ⊎ (IsFormatOne (state S.Store conn).now ⊎ IsFormatTwo (state S.Store conn).now) → IfErr result (λ e. HasCleanDisk (state S.Store e.1) → e.0 ≢ TablesFault.Foreign) }
+        ensures newer { (state S.Store conn).now.schema ≡ empty_schema ⊎ IsFormatTwo (state S.Store conn).now → IfErr result (λ e. HasCleanDisk (state S.Store e.1) → e.0 ≢ TablesFault.OldFormat) }
+        ensures back { (state S.Store conn).now.schema ≡ empty_schema → IfErr result (λ e. HasCleanDisk (state S.Store e.1) → IsTrue (state S.Store e.1).is_open
+            → ((state S.Store e.1).now ≡ (state S.Store conn).committed) × ((state S.Store e.1).committed ≡ (state S.Store conn).committed)) }
+        ensures same { IsFormatOne (state S.Store conn).now ⊎ IsFormatTwo (state S.Store conn).now → IfErr result (λ e. HasCleanDisk (state S.Store e.1) → IsTrue (state S.Store e.1).is_open
+            → ((state S.Store e.1).committed ≡ (state S.Store conn).committed) × (((state S.Store e.1).now ≡ (state S.Store conn).now) ⊎ ((state S.Store e.1).now ≡ (state S.Store conn).committed))) }
+        ensures unread { IsFormatOne (state S.Store conn).now → IfErr result (λ e. HasCleanDisk (state S.Store e.1) → e.0 ≡ TablesFault.OldFormat → IsUnchanged (state S.Store conn) (state S.Store e.1)) }
+        ensures mode { IfErr result (λ e. e.1.in_transaction ≡ false) }
+        ensures left { (state S.Store conn).now.schema ≡ empty_schema → IfOk result (λ c. Survives (state S.Store conn) (state S.Store c) WasMade) × IfErr result (λ e. Survives (state S.Store conn) (state S.Store e.1) WasMade) }
+        ensures stays { IsFormatTwo (state S.Store conn).now → IfOk result (λ c. HasCleanDisk (state S.Store c) → Survives (state S.Store conn) (state S.Store c) (λ _. ⊥)) × IfErr result (λ e. HasCleanDisk (state S.Store e.1) → Survives (state S.Store conn) (state S.Store e.1) (λ _. ⊥)) }
+    {
+        match find_format(&mut conn) {
+            Ok(Format::Absent) => match make(&mut conn) {
+                Ok(()) => Ok(Tables { conn }),
+                Err(error) => Err((fault_of(error), conn)),
+            },
+            Ok(Format::Two) => Ok(Tables { conn }),
+            Ok(Format::One) => Err((TablesFault::OldFormat, conn)),
+            Ok(Format::Unknown) => Err((TablesFault::Foreign, conn)),
+            Err(error) => Err((fault_of(error), conn)),
+        }
+    }
+
+    /// The connection of the tables, in no transaction, for other use or another opening.
+    pub fn into_connection(self) -> Connection<S>
+        ensures same { result ≡ self }
+        ensures mode { result.in_transaction ≡ false }
+    {
+        self.conn
+    }
+}
