@@ -1,6 +1,6 @@
 -- What `codenav replay` answers a stream.
 use Rattle.std.specs.Prelude.{ℕ, List, Option, Result}
-use Rattle.desk.specs.Machine.{State, nothing}
+use Rattle.tables.specs.State.{State, nothing}
 use Rattle.lsif.specs.Streams.{Output}
 use Rattle.http_edge.specs.Replies.{AnswerValue}
 use Rattle.http_edge.specs.Requests.{MessageValue}

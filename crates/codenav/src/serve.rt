@@ -1,6 +1,6 @@
 //! `codenav serve`: the replies to the requests of connections.
 ghost use Rattle.std.specs.Prelude.{◌≡◌, ◌+◌, ◌-◌, ◌^◌, ◌<◌, List, Err, IfErr, length};
-ghost use Rattle.desk.specs.Machine.{State, nothing};
+ghost use Rattle.tables.specs.State.{State, nothing};
 ghost use Rattle.lsif.specs.Streams.{CanCount};
 ghost use Rattle.http_edge.specs.Serving.{CountsRead, CountsWrite, Serves, left_by};
 ghost use Rattle.http_edge.specs.declared.serve.ServeFault.TheVariants as serve_fault;

@@ -16,7 +16,8 @@ use Rattle.desk.specs.declared.code.Code.TheVariants.{D01}
 use Rattle.desk.specs.Answers.{Answers, no_dump}
 use Rattle.desk.specs.Joins.{IsJoined}
 use Rattle.desk.specs.Judging.{judged}
-use Rattle.desk.specs.Machine.{Accepted, State, nothing, outcome_by, reply_by, after_by, reply_of, reply_to, after}
+use Rattle.desk.specs.Machine.{outcome_by, reply_by, after_by, reply_of, reply_to, after}
+use Rattle.tables.specs.State.{Accepted, State, nothing}
 use Rattle.desk.specs.Reply.{ReplyValue, refused}
 use Rattle.desk.specs.Requests.{CommandValue, DocumentPositionValue, definition}
 use Rattle.desk.specs.Uploads.{BodyValue, StandsFor, no_dump_line}

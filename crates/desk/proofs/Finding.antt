@@ -19,7 +19,7 @@ use Rattle.dump.specs.Requests.{IsFirst, here, later, Pick, RangeValue, Speaks}
 use Rattle.flatten.specs.KeyTexts.{key_text}
 use Rattle.desk.specs.Answers.{HasPlace}
 use Rattle.desk.specs.Joins.{IsJoined}
-use Rattle.desk.specs.Machine.{State}
+use Rattle.tables.specs.State.{State}
 use Rattle.desk.specs.Reply.{FoundPlace}
 use Rattle.desk.specs.Steps.Found.{AreFaultlessElsewhere, IsFaultlessElsewhere, IsPlaceThere, IsPlaceElsewhere, IsPlaceOfOthers}
 use Rattle.desk.specs.Steps.Keys.{BearsFound, IsKeyOf}

@@ -21,7 +21,7 @@ use Rattle.dump.specs.Progress.{DumpValue}
 use Rattle.dump.specs.Requests.{First}
 use Rattle.desk.specs.Answers.{text_cmp, HasContents, HasJoinedContents, IsAtOrBefore, HoversAt, joined, bare}
 use Rattle.desk.specs.Joins.{IsJoined}
-use Rattle.desk.specs.Machine.{State}
+use Rattle.tables.specs.State.{State}
 use Rattle.desk.specs.declared.project.Project.{Project}
 use Rattle.desk.specs.Steps.Hovers.{IsFirstAnswer, HasFound, IsLeastFound, IsFoundBy, itself, elsewhere, IsFoundIn}
 use Rattle.desk.specs.Steps.Keys.{BearsFound, IsKeyOf}

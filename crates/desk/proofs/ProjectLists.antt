@@ -8,7 +8,7 @@ use Rattle.std.specs.String.{string_cmp}
 use Rattle.std.specs.declared.cmp.Ordering.TheVariants.{Less}
 use Rattle.dump.specs.Places.{IsListing}
 use Rattle.desk.specs.Answers.{text_cmp, IsProject, project_cmp}
-use Rattle.desk.specs.Machine.{State}
+use Rattle.tables.specs.State.{State}
 use Rattle.desk.specs.Reply.{ProjectValue}
 use Rattle.desk.specs.Steps.Listed.{projects_of}
 use Rattle.desk.specs.Steps.Plain.{Stands}

@@ -4,7 +4,7 @@ use Rattle.dump.specs.Places.{HasDocument}
 use Rattle.dump.specs.Progress.{DumpValue}
 use Rattle.desk.specs.Answers.{AnswersAt, no_dump, no_such_document, answered}
 use Rattle.desk.specs.declared.code.Code.TheVariants.{D01, D02}
-use Rattle.desk.specs.Machine.{State}
+use Rattle.tables.specs.State.{State}
 use Rattle.desk.specs.Reply.{ReplyValue, refused}
 use Rattle.desk.specs.Requests.{DocumentPositionValue}
 

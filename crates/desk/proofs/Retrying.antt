@@ -3,8 +3,9 @@ use Rattle.std.proofs.Common.{◌≡◌, ◌⊎◌, inl, inr, Bool, true, false,
 use Rattle.std.specs.Prelude.{ℕ, Option, Some, None, is_some, Result, Ok, Err, All, Contains, bytes_eq}
 use Rattle.std.proofs.lemmas.List.Elements.{All-push, All-weaker, All-contains, All-cons, All-nil}
 use Rattle.std.proofs.lemmas.List.{map-append}
-use Rattle.desk.specs.Judging.{Change, judged}
-use Rattle.desk.specs.Machine.{Accepted, State, nothing, dump_after, tags_after, accepted, reply_of, outcome_by, reply_by, after_by, after, is_new_by, is_new}
+use Rattle.desk.specs.Judging.{judged}
+use Rattle.tables.specs.State.{Change, Accepted, State, nothing, dump_after, tags_after, accepted}
+use Rattle.desk.specs.Machine.{reply_of, outcome_by, reply_by, after_by, after, is_new_by, is_new}
 use Rattle.desk.specs.Reply.{ReplyValue, is_refusal}
 use Rattle.desk.specs.Requests.{CommandValue, RequestValue, command, query}
 use Rattle.desk.specs.Runs.{MayReply, moved, left, Run, left_by}

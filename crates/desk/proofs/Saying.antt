@@ -24,7 +24,8 @@ use Rattle.tags.specs.Steps.Readings.{reading_of, readings_of}
 use Rattle.tags.specs.Values.{TagValue}
 use Rattle.tags.specs.declared.code.Code.{Code}
 use Rattle.tags.specs.declared.code.LineFault as tags_fault
-use Rattle.desk.specs.Judging.{Change, dump_at_end, dump_change, tags_change, judged, judged_dump, judged_tags}
+use Rattle.desk.specs.Judging.{dump_at_end, dump_change, tags_change, judged, judged_dump, judged_tags}
+use Rattle.tables.specs.State.{Change}
 use Rattle.desk.specs.Reply.{ReplyValue}
 use Rattle.desk.specs.Uploads.{TakenLines, dump_lines, tags_lines, action_of, settled, IsCut}
 use Rattle.desk.specs.Steps.Uploads.{HasState, IsRunning, Judges, Rises, Says, StandsBy, Took, TookBody, body_value, is_out_of_memory, next, said}

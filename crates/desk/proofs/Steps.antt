@@ -1,7 +1,7 @@
 -- A run that goes on by one request.
 use Rattle.std.proofs.Common.{◌≡◌, ◌∙◌, ℕ, ◌+◌, ◌<◌, List, [], ◌∷◌, ◌++◌, length, take, get_or, sym, ap, subst}
 use Rattle.std.proofs.lemmas.List.{map-append, take_more}
-use Rattle.desk.specs.Machine.{State}
+use Rattle.tables.specs.State.{State}
 use Rattle.desk.specs.Reply.{ReplyValue}
 use Rattle.desk.specs.Requests.{RequestValue, request_value, request_values}
 use Rattle.desk.specs.Runs.{MayReply, moved, Run, left, left_by}

@@ -22,7 +22,7 @@ use Rattle.tags.specs.Values.{TagValue}
 use Rattle.dump.specs.Places.{IsListing}
 use Rattle.desk.specs.Answers.{text_cmp, IsAsked, IsTag, BeginsWith, line_cmp, name_cmp}
 use Rattle.desk.specs.Found.{tag_found}
-use Rattle.desk.specs.Machine.{State}
+use Rattle.tables.specs.State.{State}
 use Rattle.desk.specs.Reply.{FoundTag}
 use Rattle.desk.specs.Steps.Listed.{is_asked, tags_so, project_tags, tags_of, by_value, TagsRise, AllRise}
 use Rattle.desk.specs.Steps.Plain.{Stands}

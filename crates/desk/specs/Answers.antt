@@ -16,7 +16,7 @@ use Rattle.dump.specs.Requests.{First, Pick, RangeValue}
 use Rattle.tags.specs.Values.{TagValue}
 use Rattle.desk.specs.declared.code.Code.TheVariants.{D01, D02}
 use Rattle.desk.specs.Joins.{IsJoined}
-use Rattle.desk.specs.Machine.{State}
+use Rattle.tables.specs.State.{State}
 use Rattle.desk.specs.Reply.{ReplyValue, FoundPlace, FoundTag, ProjectValue, refused, places_found, hover_found, tags_found, projects_found, profile_found}
 use Rattle.desk.specs.Requests.{DocumentPositionValue, QueryValue, definition, references, hover, declaration, implementation, names, prefix, projects, profile}
 

@@ -6,7 +6,7 @@ use Rattle.dump.specs.declared.request.Request.{Request}
 use Rattle.dump.specs.Monikers.{MarkValue, Bears, Marks}
 use Rattle.dump.specs.Progress.{DumpValue}
 use Rattle.dump.specs.Requests.{follows, finds}
-use Rattle.desk.specs.Machine.{State}
+use Rattle.tables.specs.State.{State}
 
 -- the vertex y of another project is joined to the range r of this project's dump: a mark of the range has the key of a mark that
 -- y bears

@@ -7,6 +7,7 @@ use Rattle.dump.specs.Progress.{DumpValue, Progress, running, stopped, progress,
 use Rattle.tags.specs.Judging as texts
 use Rattle.tags.specs.Values.{TagValue}
 use Rattle.tags.specs.declared.code.LineFault as tags
+use Rattle.tables.specs.State.{Change, set_dump, set_tags, clear}
 use Rattle.desk.specs.Reply.{ReplyValue, dump_refused, tags_refused}
 use Rattle.desk.specs.Requests.{ActionValue, put_dump, put_tags, remove}
 
@@ -31,12 +32,6 @@ abbrev pub judged_tags : List ℕ → Result (List TagValue) tags.LineFault
 judged_tags body = texts.judged body
 
 -- ---- commands
-
--- what an accepted command does to a project: it has this dump, or these tags, from then on; or neither
-pub data Change : Type 0 where
-  set_dump : DumpValue → Change
-  set_tags : List TagValue → Change
-  clear : Change
 
 abbrev pub dump_change : Result DumpValue dumps.LineFault → Result Change ReplyValue
 dump_change (Ok dump) = Ok (set_dump dump)

@@ -12,6 +12,7 @@ use Rattle.dump.specs.Places.{PlaceValue}
 use Rattle.tags.specs.Codes as tag_lines
 use Rattle.tags.specs.Values.{FieldValue, TagValue}
 use Rattle.tags.specs.declared.code.LineFault as tags
+use Rattle.tables.specs.State.{count_data, removed_data}
 use Rattle.desk.specs.declared.code.Code.{Code}
 use Rattle.desk.specs.declared.code.Code.TheVariants.{D01, D02, D03, S01, S02}
 
@@ -63,9 +64,6 @@ is_refusal r = r.status == 503
 abbrev pub written : ℕ → Data → ReplyValue
 written status body = record { status = status; body = compact_text body }
 
-abbrev pub count_data : List ℕ → ℕ → Data
-count_data part n = object (member (codes "accepted") (string part) (member (codes "count") (number (unsigned n)) no_members))
-
 -- a dump of so many elements was accepted
 abbrev pub dump_accepted : ℕ → ReplyValue
 dump_accepted n = written 200 (count_data (codes "lsif") n)
@@ -73,9 +71,6 @@ dump_accepted n = written 200 (count_data (codes "lsif") n)
 -- so many tags were accepted
 abbrev pub tags_accepted : ℕ → ReplyValue
 tags_accepted n = written 200 (count_data (codes "tags") n)
-
-abbrev pub removed_data : Bool → Data
-removed_data b = object (member (codes "removed") (boolean b) no_members)
 
 -- whether the project had a part
 abbrev pub removed : Bool → ReplyValue

@@ -2,8 +2,9 @@
 use Rattle.std.specs.Prelude.{◌≡◌, ◌&&◌, ◌||◌, ℕ, Bool, true, false, bytes_eq, List, [], ◌∷◌, ◌++◌, map, if◌then◌else◌, Option, Some, None, Result, Ok, Err, Contains}
 use Rattle.dump.specs.Progress.{DumpValue}
 use Rattle.tags.specs.Values.{TagValue}
-use Rattle.desk.specs.Judging.{Change, judged}
-use Rattle.desk.specs.Machine.{Accepted, State, nothing, dump_after, tags_after, accepted, after, is_new}
+use Rattle.desk.specs.Judging.{judged}
+use Rattle.tables.specs.State.{Change, Accepted, State, nothing, dump_after, tags_after, accepted}
+use Rattle.desk.specs.Machine.{after, is_new}
 use Rattle.desk.specs.Reply.{ReplyValue, is_refusal}
 use Rattle.desk.specs.Requests.{CommandValue, RequestValue, command, query}
 use Rattle.desk.specs.Runs.{MayReply}

@@ -1,7 +1,8 @@
 -- Runs of the machine, with refusals in between, because memory ran out or the store refused; and what a stop may leave.
 use Rattle.std.specs.Prelude.{◌≡◌, ◌⊎◌, List, [], ◌∷◌, ◌++◌, if◌then◌else◌}
 use Rattle.desk.specs.Answers.{Answers}
-use Rattle.desk.specs.Machine.{State, reply_to, after, is_new}
+use Rattle.desk.specs.Machine.{reply_to, after, is_new}
+use Rattle.tables.specs.State.{State}
 use Rattle.desk.specs.Reply.{ReplyValue, out_of_memory, store_refused, is_refusal}
 use Rattle.desk.specs.Requests.{RequestValue, command, query}
 

@@ -7,7 +7,7 @@ ghost use Rattle.lsif.specs.Element.{id_value};
 ghost use Rattle.dump.specs.Graph.{line_of};
 ghost use Rattle.desk.specs.Answers.{AnswersPlaces, HasPlace};
 ghost use Rattle.desk.specs.Found.{place_found};
-ghost use Rattle.desk.specs.Machine.{State};
+ghost use Rattle.tables.specs.State.{State};
 ghost use Rattle.desk.specs.Reply.{FoundPlace as FoundValue, places_found};
 ghost use Rattle.desk.specs.Requests.{at_value};
 ghost use Rattle.desk.specs.Steps.Found.{AreFaultlessElsewhere, IsFaultlessElsewhere, IsPlaceElsewhere, IsPlaceOfOthers, IsPlaceThere};

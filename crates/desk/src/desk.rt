@@ -7,7 +7,7 @@ use crate::upload::Upload;
 /// the machine's next state; or it is a refusal, S01 or S02, and nothing changed.
 pub trait Desk {
     ghost use Rattle.std.specs.Prelude.{◌≡◌, ℕ, true, List, [], ◌∷◌, ◌++◌};
-    ghost use Rattle.desk.specs.Machine.{State};
+    ghost use Rattle.tables.specs.State.{State};
     ghost use Rattle.desk.specs.Reply.{out_of_memory};
     ghost use Rattle.desk.specs.Requests as requests;
     ghost use Rattle.desk.specs.Runs.{MayReply, moved, left};

@@ -7,7 +7,7 @@ ghost use Rattle.lsif.specs.Element.{id_value};
 ghost use Rattle.dump.specs.Fault.{IsFaultless};
 ghost use Rattle.dump.specs.Graph.{vertex_at};
 ghost use Rattle.desk.specs.Answers.{AnswersHover};
-ghost use Rattle.desk.specs.Machine.{State};
+ghost use Rattle.tables.specs.State.{State};
 ghost use Rattle.desk.specs.Reply.{hover_found};
 ghost use Rattle.desk.specs.Requests.{at_value};
 ghost use Rattle.desk.specs.Steps.Hovers.{IsContents, IsContentsAt, IsFirstAnswer, IsFoundBy, IsFoundIn, contents_of};

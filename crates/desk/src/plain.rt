@@ -1,7 +1,8 @@
 //! A desk that keeps what it accepted in memory.
 ghost use Rattle.std.specs.Prelude.{◌≡◌, ◌&&◌, ℕ, true, List, IfOk, OnOk, OnErr, Some, None, is_err, is_some, option_map, bytes_eq, string_bytes, if◌then◌else◌};
 ghost use Rattle.desk.specs.Answers.{Answers, AnswersAt, AnswersPlaces, AnswersHover, reference_roles};
-ghost use Rattle.desk.specs.Machine.{State, nothing, accepted, changed, after, dump_after, tags_after, reply_of, reply_to};
+ghost use Rattle.desk.specs.Machine.{after, reply_of, reply_to};
+ghost use Rattle.tables.specs.State.{State, nothing, accepted, changed, dump_after, tags_after};
 ghost use Rattle.desk.specs.Requests.{CommandValue, at_value, command_value, query_value};
 ghost use Rattle.desk.specs.Requests as queries;
 ghost use Rattle.desk.specs.Steps.Plain.{Concludes, accepted_value, change_value, dump_in, tags_in, kept_in, Stands};

@@ -3,7 +3,8 @@ ghost use Rattle.std.specs.Prelude.{◌≡◌, ℕ, List, [], IfOk, OnOk, OnErr,
 ghost use Rattle.std.specs.HashMap.{get_by_text};
 ghost use Rattle.desk.specs.Judging.{judged};
 ghost use Rattle.desk.specs.Uploads.{StandsFor, action_of};
-ghost use Rattle.desk.specs.Machine.{accepted, dump_after, reply_of, tags_after};
+ghost use Rattle.desk.specs.Machine.{reply_of};
+ghost use Rattle.tables.specs.State.{accepted, dump_after, tags_after};
 ghost use Rattle.desk.specs.Requests.{command_value};
 ghost use Rattle.desk.specs.Steps.Plain.{accepted_value, change_value, said_value};
 

@@ -1,6 +1,6 @@
 //! Requests that are served one after another.
 ghost use Rattle.std.specs.Prelude.{◌≡◌, List, IfOk, OnErr};
-ghost use Rattle.desk.specs.Machine.{State};
+ghost use Rattle.tables.specs.State.{State};
 ghost use Rattle.desk.specs.Requests.{request_value, request_values};
 ghost use Rattle.desk.specs.Runs.{MayReply, moved, Run, left, left_by};
 

@@ -1,6 +1,7 @@
 -- Runs that go on by one message, and what surely comes first.
 use Rattle.std.proofs.Common.{◌≡◌, ℕ, ◌-◌, ◌<◌, inl, inr, List, [], ◌∷◌, ◌++◌, length, Option, None, refl, sym, ◌∙◌, ap, arith, append_assoc, append-nil, subst, suc}
-use Rattle.desk.specs.Machine.{State, after}
+use Rattle.desk.specs.Machine.{after}
+use Rattle.tables.specs.State.{State}
 use Rattle.desk.specs.Reply.{out_of_memory}
 use Rattle.desk.specs.Requests.{command, query}
 use Rattle.http_edge.specs.Messages.{Settles, BeginsEach}

@@ -2,7 +2,7 @@
 use Rattle.std.specs.Prelude.{◌≡◌, ◌≢◌, ℕ, ◌+◌, ◌⊎◌, List, [], ◌∷◌, ◌++◌, length, Option, Some, None, Result, Ok, Err, ⊤}
 use Rattle.lsif.specs.Streams.{Output, Moves, AtEnd, SameCounts, OneFailure, OneZeroWrite}
 use Rattle.http_edge.specs.Requests.{MessageValue, request, refused}
-use Rattle.desk.specs.Machine.{State}
+use Rattle.tables.specs.State.{State}
 use Rattle.desk.specs.Reply.{out_of_memory}
 use Rattle.desk.specs.Runs.{MayReply, moved, left}
 use Rattle.lsif.specs.Sending.{Writes, WritesTo}

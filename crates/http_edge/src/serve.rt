@@ -1,6 +1,6 @@
 //! Serves a stream.
 ghost use Rattle.std.specs.Prelude.{◌≡◌, ◌≢◌, ℕ, ◌-◌, ◌^◌, ◌<◌, ◌≤◌, List, [], Err, length};
-ghost use Rattle.desk.specs.Machine.{State};
+ghost use Rattle.tables.specs.State.{State};
 ghost use Rattle.lsif.specs.Sending.{CountsSending, Sends};
 ghost use Rattle.lsif.specs.Streams.{CanCount};
 ghost use Rattle.http_edge.specs.Messages.{ends};

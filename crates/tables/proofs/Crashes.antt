@@ -15,3 +15,7 @@ migrates a b c is same first next =
     let now = same.0.now_is in
     let later : Survives b c (WasUpgraded a.now.trees) = subst (λ (d : Database). Survives b c (WasUpgraded d.trees)) now (next (subst IsFormatOne (sym now) is)) in
     survives_then a b c (λ _. ⊥) (WasUpgraded a.now.trees) (WasUpgraded a.now.trees) (λ _ db none. absurd none) (λ _ db it. it) first later
+
+-- what is left is said otherwise
+pub implied : (a b : State) (P Q : Trees → Type 0) → ((db : Trees) → P db → Q db) → Survives a b P → Survives a b Q
+implied a b P Q says s = record { clean = s.clean; shield = s.shield; counts = s.counts; limit = s.limit; closes = s.closes; crash = λ good db left. elim (s.crash good db left) [ inl was ↦ inl was | inr it ↦ inr (says db it) ] }

@@ -17,7 +17,7 @@ use Rattle.sqlite_schema.specs.declared.schema.Kind.TheVariants.{Integer}
 use Rattle.sqlite_schema.specs.declared.schema.Keys.TheVariants.{Enforced}
 use Rattle.sqlite_schema.specs.declared.command.Source.TheVariants.{Query}
 use Rattle.sqlite_schema.specs.declared.command.Command.TheVariants.{Insert, Update}
-use Rattle.sqlite_trees.specs.Tree.{Trees, put_row}
+use Rattle.sqlite_trees.specs.Tree.{Trees, put_row, rowid}
 use Rattle.sqlite_rules.specs.Lists.{Has}
 use Rattle.sqlite_rules.specs.Cast.{cast, cast_row}
 use Rattle.sqlite_rules.specs.Edit.{Edit, edit_of, edited, numbered, with_rowid, Applies, taken_by}
@@ -35,8 +35,9 @@ use Rattle.sqlite.specs.State.{State, ExecutesIn}
 use Rattle.sqlite.proofs.Callers.{IsPlain, command_of, statement_of, runs_as, one_step, one_permutation}
 use Rattle.tables.specs.Steps.Texts.{fill_profiles, set_version, semicolon}
 use Rattle.tables.specs.Schema.{schema_two, part_profile, format}
-use Rattle.tables.specs.Databases.{chosen, dump_tests, profile_shown, version_row, Holds, AreNumbered}
+use Rattle.tables.specs.Databases.{chosen, dump_tests, profile_shown, version_row, Holds, AreNumbered, IsOrdered}
 use Rattle.tables.proofs.Insert.{went, same_value, concluded, plain_mode}
+use Rattle.tables.proofs.Puts.{ordered_all}
 use Rattle.tables.proofs.Select.{one_table, collated_table, answers, passing}
 use Rattle.tables.proofs.Batches.{IsSilent, from_batch}
 
@@ -209,6 +210,14 @@ profiles old new blank it ids row =
           let put = numbered_has (old.trees 22) list row listed in
           (put.0, rw it.applies.rows (put_all_adds (numbered Chosen (old.trees 22) list) (old.trees 22) (Int put.0 ∷ row) it.applies.fresh put.1))),
     )
+
+pub profiles_ordered : (old new : Database) → old.trees 22 ≡ [] → Filled old new → AreNumbered (old.trees 1) → IsOrdered (new.trees 22)
+profiles_ordered old new blank it ids =
+    let list = map (λ s. cast_row part_profile (drop 0 s)) it.sources in
+    let null = all_null old.trees it.sources it.same ids in
+    subst IsOrdered (sym it.applies.rows) (ordered_all (numbered Chosen (old.trees 22) list) (old.trees 22)
+    (λ row h. let from = numbered_from (old.trees 22) list row null h in (from.2, ap rowid from.3))
+    (subst IsOrdered (sym blank) (record { rises = tt; numbered = λ row none. absurd none })))
 
 -- ---- UPDATE
 

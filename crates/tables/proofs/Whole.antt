@@ -25,12 +25,12 @@ use Rattle.sqlite.proofs.Callers.{IsPlain, command_of}
 use Rattle.tables.specs.Steps.Texts.{version_text, rest0, rest15, upgrade0, upgrade5, upgrade6, set_version}
 use Rattle.tables.specs.Schema.{empty_schema, schema_one, schema_two, format, slot, part_profile, more}
 use Rattle.tables.specs.Steps.Kept.{IsKept, no_rows}
-use Rattle.tables.specs.Databases.{IsMade, IsFormatOne, IsUpgraded, WasUpgraded, AreNumbered, chosen, dump_tests, profile_shown, version_row}
+use Rattle.tables.specs.Databases.{IsMade, IsFormatOne, IsUpgraded, WasUpgraded, AreNumbered, IsOrdered, chosen, dump_tests, profile_shown, version_row}
 use Rattle.tables.proofs.Insert.{inserts}
 use Rattle.tables.proofs.Batches.{IsSilent, Script, done, next, also, runs, peel, from_batch}
 use Rattle.tables.proofs.Creations.{stage0, stage10, stage15, makes_one, makes_two, format_makes, slot_makes, keyed_makes, document_makes, range_row_makes, item_makes, hover_makes, mark_makes, bearer_makes, tag_makes, range_by_start_makes, bearer_by_key_makes, tag_by_name_makes, part_profile_makes, more_makes}
 use Rattle.tables.proofs.Cuts.{cut0, cut1, cut2, cut3, cut4, cut5, cut6, cut7, cut8, cut9, cut10, cut11, cut12, cut13, cut14, cut15, upgrade_cut0, upgrade_cut1, upgrade_cut2, upgrade_cut3, upgrade_cut4, upgrade_cut5, upgrade_cut6}
-use Rattle.tables.proofs.Fill.{fill_text, cast_null, cast_int, Filled, Risen, fills, profiles, rises}
+use Rattle.tables.proofs.Fill.{fill_text, cast_null, cast_int, Filled, Risen, fills, profiles, profiles_ordered, rises}
 
 -- ---- from nothing
 
@@ -136,6 +136,7 @@ after_all was mid late end grown put risen =
           last t risen.others (in_both t there) other ∙ fill t put.applies.tables (in_both t there) (is_not t.tree 22 low refl) ∙ kept t grown.rows (in_both t there) ∙ older_is was.trees t.tree low);
       profiles = λ ids row. subst₂ (λ (rows profile : List Row). ((id : ℤ) × Has profile (Int id ∷ row)) ↔ Has (chosen dump_tests profile_shown [] rows) row) slots (sym profiles_stay)
           (profiles mid late blank put (subst AreNumbered (sym slots) ids) row);
+      ordered = λ ids. subst IsOrdered (sym profiles_stay) (profiles_ordered mid late blank put (subst AreNumbered (sym slots) ids));
       more = last more risen.others has_more (λ e. is_not 0 24 refl refl (sym e)) ∙ fill more put.applies.tables has_more (λ e. absurd (omega (arith, e))) ∙ kept more grown.rows has_more;
     }
 

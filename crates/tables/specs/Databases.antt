@@ -9,7 +9,9 @@ use Rattle.sqlite_sql.specs.declared.ops.CompareOp.TheVariants.{Eq}
 use Rattle.sqlite_sql.specs.Term.{Term, eval_all, holds, lit, col, op2}
 use Rattle.sqlite_rules.specs.Lists.{Has}
 use Rattle.sqlite.specs.Effect.{Database}
-use Rattle.sqlite_trees.specs.Tree.{Trees, rowid}
+use Rattle.sqlite_schema.specs.declared.schema.Schema.{Schema}
+use Rattle.sqlite_schema.specs.declared.schema.Table.{Table}
+use Rattle.sqlite_trees.specs.Tree.{Trees, IsTable, rowid}
 use Rattle.tables.specs.Schema.{schema_one, schema_two}
 
 -- the rows that pass the tests, and what is shown of each
@@ -43,6 +45,14 @@ Holds db tree values = (id : ℤ) × Has (db tree) (Int id ∷ values)
 abbrev pub AreNumbered : List Row → Type 0
 AreNumbered rows = (row : Row) → Has rows row → (id : ℤ) × (rowid row ≡ Int id)
 
+-- the rowids rise, and each is a number
+pub record IsOrdered (rows : List Row) : Type 0 where
+  pub rises : IsTable rows
+  pub numbered : (row : Row) → Has rows row → (id : ℤ) × (rowid row ≡ Int id)
+
+abbrev pub AllOrdered : Schema → Trees → Type 0
+AllOrdered schema db = (t : Table) → Has schema.tables t → IsOrdered (db t.tree)
+
 -- `part = 1`, asked of a row of `slot`: it is the slot of a dump
 abbrev pub dump_tests : List Term
 dump_tests = op2 (Compare Eq Binary) (col 1 3) (lit (Int (pos 1))) ∷ []
@@ -57,6 +67,7 @@ pub record WasUpgraded (old new : Trees) : Type 0 where
   pub version : new 0 ≡ version_row 2
   pub others : AllByRecursion (λ t. t.tree ≢ 0 → new t.tree ≡ old t.tree) schema_one.tables
   pub profiles : AreNumbered (old 1) → (row : Row) → Holds new 22 row ↔ Has (chosen dump_tests profile_shown [] (old 1)) row
+  pub ordered : AreNumbered (old 1) → IsOrdered (new 22)
   pub more : new 24 ≡ []
 
 pub record IsUpgraded (old new : Database) : Type 0 where

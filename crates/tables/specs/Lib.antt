@@ -1,5 +1,10 @@
+pub mod Columns
+pub mod Contents
 pub mod Databases
 pub mod Fault
 pub mod MemoryDisk
+pub mod Parts
 pub mod Schema
+pub mod Stands
+pub mod State
 pub mod Steps

@@ -3,6 +3,8 @@ ghost use Rattle.std.specs.Prelude.{◌≡◌, ◌≢◌, ◌⊎◌, true, false
 ghost use Rattle.sqlite.specs.State.{HasCleanDisk, Survives, KeepsCommit, IsUnchanged};
 ghost use Rattle.sqlite.specs.Held.{state};
 ghost use Rattle.tables.specs.Schema.{empty_schema};
+ghost use Rattle.tables.specs.Stands.{Rests, RestsOne, StandsFor};
+ghost use Rattle.tables.specs.State.{State};
 ghost use Rattle.tables.specs.Databases.{IsFormatOne, IsFormatTwo, IsUpgraded, WasUpgraded};
 
 use crate::fault::{TablesFault, fault_of};
@@ -53,6 +55,7 @@ pub fn migrate<S: Alter>(
     mut conn: Connection<S>,
 ) -> Result<(Tables<S>, bool), (TablesFault, Connection<S>)>
     requires { conn.in_transaction ≡ false }
+    ensures stands { (m : State) → RestsOne (state S.Store conn) m → IfOk result (λ r. HasCleanDisk (state S.Store r.0) → (r.1 ≡ true) × Rests (state S.Store r.0) m) }
     ensures old { IsFormatOne (state S.Store conn).now → IfOk result (λ r. HasCleanDisk (state S.Store r.0) → (r.1 ≡ true) × IsUpgraded (state S.Store conn).now (state S.Store r.0).now × ((state S.Store r.0).committed ≡ (state S.Store r.0).now)) }
     ensures known { IsFormatTwo (state S.Store conn).now → IfOk result (λ r. HasCleanDisk (state S.Store r.0) → (r.1 ≡ false) × IsUnchanged (state S.Store conn) (state S.Store r.0)) }
     ensures fresh { (state S.Store conn).now.schema ≡ empty_schema → IfErr result (λ e. (e.0 ≡ TablesFault.Foreign) × (e.1 ≡ conn)) × IfOk result (λ _. ⊥) }
@@ -62,6 +65,7 @@ pub fn migrate<S: Alter>(
     ensures mode { IfErr result (λ e. e.1.in_transaction ≡ false) }
     ensures stays { IsFormatTwo (state S.Store conn).now → IfOk result (λ r. HasCleanDisk (state S.Store r.0) → Survives (state S.Store conn) (state S.Store r.0) (λ _. ⊥)) × IfErr result (λ e. HasCleanDisk (state S.Store e.1) → Survives (state S.Store conn) (state S.Store e.1) (λ _. ⊥)) }
     ensures crash { IsFormatOne (state S.Store conn).now → IfOk result (λ r. HasCleanDisk (state S.Store r.0) → Survives (state S.Store conn) (state S.Store r.0) (WasUpgraded (state S.Store conn).now.trees)) }
+    ensures left { (m : State) → RestsOne (state S.Store conn) m → IfOk result (λ r. HasCleanDisk (state S.Store r.0) → Survives (state S.Store conn) (state S.Store r.0) (λ db. StandsFor db m)) × IfErr result (λ e. HasCleanDisk (state S.Store e.1) → Survives (state S.Store conn) (state S.Store e.1) (λ db. StandsFor db m)) }
     ensures whole { IsFormatOne (state S.Store conn).now → IfOk result (λ r. HasCleanDisk (state S.Store r.0) → IsFormatTwo (state S.Store r.0).now) }
     ensures stopped { IsFormatOne (state S.Store conn).now → IfErr result (λ e. HasCleanDisk (state S.Store e.1) → Survives (state S.Store conn) (state S.Store e.1) (WasUpgraded (state S.Store conn).now.trees)) }
 {

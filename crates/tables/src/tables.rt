@@ -4,6 +4,8 @@ ghost use Rattle.sqlite.specs.State.{HasCleanDisk, Survives, KeepsCommit, IsUnch
 ghost use Rattle.sqlite.specs.Held.{state};
 ghost use Rattle.tables.specs.Schema.{empty_schema};
 ghost use Rattle.tables.specs.Databases.{IsMade, WasMade, IsFormatOne, IsFormatTwo};
+ghost use Rattle.tables.specs.Stands.{Rests, StandsFor};
+ghost use Rattle.tables.specs.State.{State, nothing};
 
 use crate::fault::{TablesFault, fault_of};
 use crate::format::{Format, find_format};
@@ -80,7 +82,8 @@ impl<S: Alter> Tables<S> {
     /// has such a name, and `format` doesn't read as one row of version 1 or 2; and `Memory` or `Refused` where the store refuses: then no table was made.
     pub fn open(mut conn: Connection<S>) -> Result<Tables<S>, (TablesFault, Connection<S>)>
         requires { conn.in_transaction ≡ false }
-        ensures fresh { (state S.Store conn).now.schema ≡ empty_schema → IfOk result (λ c. HasCleanDisk (state S.Store c) → IsMade (state S.Store c).now × ((state S.Store c).committed ≡ (state S.Store c).now)) }
+        ensures fresh { (state S.Store conn).now.schema ≡ empty_schema → IfOk result (λ c. HasCleanDisk (state S.Store c) → Rests (state S.Store c) nothing) }
+        ensures stands { (m : State) → Rests (state S.Store conn) m → IfOk result (λ c. HasCleanDisk (state S.Store c) → Rests (state S.Store c) m) × IfErr result (λ e. HasCleanDisk (state S.Store e.1) → (e.0 ≢ TablesFault.Foreign) × (e.0 ≢ TablesFault.OldFormat)) }
         ensures known { IsFormatTwo (state S.Store conn).now → IfOk result (λ c. HasCleanDisk (state S.Store c) → IsUnchanged (state S.Store conn) (state S.Store c)) }
         ensures never { IsFormatOne (state S.Store conn).now → IfOk result (λ c. HasCleanDisk (state S.Store c) → ⊥) }
         ensures foreign { (state S.Store conn).now.schema ≡ empty_schema ⊎ (IsFormatOne (state S.Store conn).now ⊎ IsFormatTwo (state S.Store conn).now) → IfErr result (λ e. HasCleanDisk (state S.Store e.1) → e.0 ≢ TablesFault.Foreign) }
@@ -91,7 +94,7 @@ impl<S: Alter> Tables<S> {
             → ((state S.Store e.1).committed ≡ (state S.Store conn).committed) × (((state S.Store e.1).now ≡ (state S.Store conn).now) ⊎ ((state S.Store e.1).now ≡ (state S.Store conn).committed))) }
         ensures unread { IsFormatOne (state S.Store conn).now → IfErr result (λ e. HasCleanDisk (state S.Store e.1) → e.0 ≡ TablesFault.OldFormat → IsUnchanged (state S.Store conn) (state S.Store e.1)) }
         ensures mode { IfErr result (λ e. e.1.in_transaction ≡ false) }
-        ensures left { (state S.Store conn).now.schema ≡ empty_schema → IfOk result (λ c. Survives (state S.Store conn) (state S.Store c) WasMade) × IfErr result (λ e. Survives (state S.Store conn) (state S.Store e.1) WasMade) }
+        ensures left { (state S.Store conn).now.schema ≡ empty_schema → IfOk result (λ c. Survives (state S.Store conn) (state S.Store c) (λ db. StandsFor db nothing)) × IfErr result (λ e. Survives (state S.Store conn) (state S.Store e.1) (λ db. StandsFor db nothing)) }
         ensures stays { IsFormatTwo (state S.Store conn).now → IfOk result (λ c. HasCleanDisk (state S.Store c) → Survives (state S.Store conn) (state S.Store c) (λ _. ⊥)) × IfErr result (λ e. HasCleanDisk (state S.Store e.1) → Survives (state S.Store conn) (state S.Store e.1) (λ _. ⊥)) }
     {
         match find_format(&mut conn) {

@@ -5,8 +5,8 @@ use Rattle.std.specs.BTreeMap.{BTreeMap}
 use Rattle.std.specs.HashMap as hash
 use Rattle.dump.specs.Progress.{DumpValue}
 use Rattle.tags.specs.Values.{TagValue}
-use Rattle.desk.specs.Judging.{Change, set_dump, set_tags, clear, judged}
-use Rattle.desk.specs.Machine.{Accepted, dump_put, tags_put, parts_removed, State}
+use Rattle.desk.specs.Judging.{judged}
+use Rattle.tables.specs.State.{Change, set_dump, set_tags, clear, Accepted, dump_put, tags_put, parts_removed, State}
 use Rattle.desk.specs.Reply.{ReplyValue}
 use Rattle.desk.specs.Requests.{CommandValue}
 use Rattle.desk.specs.declared.project.Accepted as made

@@ -9,7 +9,8 @@ use Rattle.tags.specs.States as tags
 use Rattle.tags.specs.States.{listed}
 use Rattle.tags.specs.Judging.{judged_at, lines_rise}
 use Rattle.tags.specs.Steps.Readings.{reading_of}
-use Rattle.desk.specs.Judging.{Change, dump_at_end, dump_change, tags_change}
+use Rattle.desk.specs.Judging.{dump_at_end, dump_change, tags_change}
+use Rattle.tables.specs.State.{Change}
 use Rattle.desk.specs.Reply.{ReplyValue}
 use Rattle.desk.specs.Uploads.{BodyValue, TakenLines, dump_lines, tags_lines, no_dump_line, no_tags_line, longest_of, settled, IsCut}
 use Rattle.desk.specs.declared.line_reader.ReadingState.{ReadingState}

@@ -15,7 +15,7 @@ ghost use Rattle.dump.specs.Requests.{finds};
 ghost use Rattle.dump.specs.Walks.{IsChain, next_pairs};
 ghost use Rattle.flatten.specs.KeyTexts.{key_text};
 ghost use Rattle.desk.specs.Joins.{IsJoined};
-ghost use Rattle.desk.specs.Machine.{State};
+ghost use Rattle.tables.specs.State.{State};
 ghost use Rattle.desk.specs.Steps.Keys.{BearsFound, IsKeyOf, IsMarking, IsSought, bound_in, bound_of, is_sought, keys_in, lines_of, sought_in, text_of};
 ghost use Rattle.desk.specs.Steps.Lines.{one_or_none};
 ghost use Rattle.desk.specs.Steps.Places.{is_line_in};

@@ -1,7 +1,7 @@
 -- What the program's calls read and give while a stream is served.
 use Rattle.std.specs.Prelude.{◌≡◌, ◌≢◌, ℕ, ◌<◌, ◌≤◌, ◌⊎◌, Bool, true, false, List, [], ◌++◌, length, drop, Option, Some, None, Result, Ok, Err}
 use Rattle.std.specs.declared.alloc.AllocError.{AllocError}
-use Rattle.desk.specs.Machine.{State}
+use Rattle.tables.specs.State.{State}
 use Rattle.desk.specs.Requests.{command, request_value}
 use Rattle.desk.specs.Uploads.{StandsFor, command_of}
 use Rattle.lsif.specs.Streams.{Moves, AtEnd}

@@ -131,3 +131,44 @@ upgrade1 = (bearer_by_key_text ++ semicolon) ++ upgrade2
 
 abbrev pub upgrade0 : List ℕ
 upgrade0 = (range_by_start_text ++ semicolon) ++ upgrade1
+
+-- ---- of a transaction
+
+abbrev pub delete_slot : List ℕ
+delete_slot = codes "DELETE FROM slot WHERE project = ?1 AND part = ?2"
+
+abbrev pub insert_slot : List ℕ
+insert_slot = codes "INSERT INTO slot (project, part) VALUES (?1, ?2)"
+
+abbrev pub insert_keyed : List ℕ
+insert_keyed = codes "INSERT INTO keyed (project, cmdkey, reply) VALUES (?1, ?2, ?3)"
+
+abbrev pub insert_document : List ℕ
+insert_document = codes "INSERT INTO document (slot, uri) VALUES (?1, ?2)"
+
+abbrev pub insert_range_row : List ℕ
+insert_range_row = codes "INSERT INTO range_row (slot, line, uri, first, last, parent, def, refs, hover) VALUES (?1, ?2, ?3, ?4, ?5, ?6, ?7, ?8, ?9)"
+
+abbrev pub insert_item : List ℕ
+insert_item = codes "INSERT INTO item (slot, result, role, uri, first, last) VALUES (?1, ?2, ?3, ?4, ?5, ?6)"
+
+abbrev pub insert_hover : List ℕ
+insert_hover = codes "INSERT INTO hover (slot, result, contents) VALUES (?1, ?2, ?3)"
+
+abbrev pub insert_mark : List ℕ
+insert_mark = codes "INSERT INTO mark (slot, line, kind, keytext) VALUES (?1, ?2, ?3, ?4)"
+
+abbrev pub insert_bearer : List ℕ
+insert_bearer = codes "INSERT INTO bearer (slot, line, keytext, kind, def, refs, hover) VALUES (?1, ?2, ?3, ?4, ?5, ?6, ?7)"
+
+abbrev pub insert_part_profile : List ℕ
+insert_part_profile = codes "INSERT INTO part_profile (slot, profile) VALUES (?1, ?2)"
+
+abbrev pub insert_more : List ℕ
+insert_more = codes "INSERT INTO more (slot, line, decl, imp) VALUES (?1, ?2, ?3, ?4)"
+
+abbrev pub insert_tag : List ℕ
+insert_tag = codes "INSERT INTO tag (slot, line, name, file, address, kind, fields) VALUES (?1, ?2, ?3, ?4, ?5, ?6, ?7)"
+
+abbrev pub select_reply : List ℕ
+select_reply = codes "SELECT reply FROM keyed WHERE project = ?1 AND cmdkey = ?2"

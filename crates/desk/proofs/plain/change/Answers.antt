@@ -3,7 +3,7 @@ use Rattle.std.specs.Prelude.{option_and_then, option_map, bytes_eq, string_byte
 use Rattle.std.specs.BTreeMap.{get_by_text}
 use Rattle.std.specs.HashMap as hash
 use Rattle.std.proofs.lemmas.Map.Text.{text_keys}
-use Rattle.desk.specs.Machine.{Accepted, dump_after, tags_after}
+use Rattle.tables.specs.State.{Accepted, dump_after, tags_after}
 use Rattle.desk.specs.Steps.Plain.{accepted_value, change_value}
 use Rattle.desk.specs.declared.project.Project.{Project}
 use Rattle.desk.proofs.Changing.{on_ok, on_err, IsChanged, fields, same, both, chosen}

@@ -1,5 +1,5 @@
 use Rattle.std.proofs.Common.{◌≡◌, ◌≤◌, List, length, take, vec_len, vec_capacity}
-use Rattle.desk.specs.Machine.{State}
+use Rattle.tables.specs.State.{State}
 use Rattle.desk.specs.Requests.{request_values}
 use Rattle.desk.specs.Runs.{Run, left_by}
 use Rattle.desk.proofs.running.run.Given as goal

@@ -1,9 +1,59 @@
-use Rattle.std.proofs.Common.{rules, inl}
+use Rattle.std.proofs.Common.{rules, ◌≡◌, inl, refl, sym, subst}
+use Rattle.sqlite.specs.Effect.{Database}
 use Rattle.sqlite.specs.Held.{state}
-use Rattle.tables.proofs.Crashes.{migrates}
+use Rattle.tables.specs.Databases.{IsFormatOne, IsUpgraded, WasUpgraded}
+use Rattle.tables.specs.Stands.{StandsFor}
+use Rattle.tables.proofs.Crashes.{migrates, implied, weaker}
+use Rattle.tables.proofs.Upgrades.{rests_one, rests_upgraded, stands_upgraded}
 use Rattle.tables.proofs.migration.migrate.Goals as goal
 
 pub returns-in-Ok-upgrade-clause-crash : goal.returns-in-Ok-upgrade-clause-crash
 returns-in-Ok-upgrade-clause-crash g c is clean =
     let found = c.find_format.ensures.old (c.upgrade.ensures.clean clean) is in
     migrates (state g.S.Store c.args.conn) (state g.S.Store c.find_format.new.conn) (state g.S.Store c.upgrade.new.conn) is (search (found, rules)) (c.find_format.ensures.crash (inl is)) c.upgrade.ensures.crash
+
+pub returns-in-Ok-upgrade-clause-stands : goal.returns-in-Ok-upgrade-clause-stands
+returns-in-Ok-upgrade-clause-stands g c m is clean =
+    let one = rests_one _ m is in
+    let same = (c.in-Ok-One.ensures.old (c.upgrade.ensures.clean clean) one).1.0.now_is in
+    let made = c.in-Ok-upgrade.ensures.made (subst IsFormatOne (sym same) one) clean in
+    (refl, rests_upgraded (state g.S.Store c.args.conn) (state g.S.Store c.upgrade.new.conn) m is (subst (λ (d : Database). IsUpgraded d (state g.S.Store c.upgrade.new.conn).now) same made.0) made.1)
+
+pub returns-in-Ok-upgrade-clause-left : goal.returns-in-Ok-upgrade-clause-left
+returns-in-Ok-upgrade-clause-left g c m is = (
+  (λ clean.
+      let one = rests_one _ m is in
+      let found = c.find_format.ensures.old (c.upgrade.ensures.clean clean) one in
+      implied _ _ (WasUpgraded (state g.S.Store c.args.conn).now.trees) (λ db. StandsFor db m) (stands_upgraded (state g.S.Store c.args.conn).now.trees m is.stands)
+      (migrates (state g.S.Store c.args.conn) (state g.S.Store c.find_format.new.conn) (state g.S.Store c.upgrade.new.conn) one (search (found, rules)) (c.find_format.ensures.crash (inl one)) c.upgrade.ensures.crash)),
+  tt,
+)
+
+pub returns-in-Err-upgrade-clause-left : goal.returns-in-Err-upgrade-clause-left
+returns-in-Err-upgrade-clause-left g c m is = (
+  tt,
+  (λ clean.
+      let one = rests_one _ m is in
+      let found = c.find_format.ensures.old (c.upgrade.ensures.clean clean) one in
+      implied _ _ (WasUpgraded (state g.S.Store c.args.conn).now.trees) (λ db. StandsFor db m) (stands_upgraded (state g.S.Store c.args.conn).now.trees m is.stands)
+      (migrates (state g.S.Store c.args.conn) (state g.S.Store c.find_format.new.conn) (state g.S.Store c.upgrade.new.conn) one (search (found, rules)) (c.find_format.ensures.crash (inl one)) c.upgrade.ensures.crash)),
+)
+
+pub returns-in-Ok-Two-clause-stands : goal.returns-in-Ok-Two-clause-stands
+returns-in-Ok-Two-clause-stands g c m is clean =
+    let found = c.find_format.ensures.old clean (rests_one _ m is) in
+    absurd (search (found, rules))
+
+pub returns-in-Ok-Two-clause-left : goal.returns-in-Ok-Two-clause-left
+returns-in-Ok-Two-clause-left g c m is = (
+  (λ clean.
+      let found = c.find_format.ensures.old clean (rests_one _ m is) in
+      absurd (search (found, rules))),
+  tt,
+)
+
+pub returns-in-Ok-clause-left : goal.returns-in-Ok-clause-left
+returns-in-Ok-clause-left g c m is = (tt, (λ clean. weaker _ _ (λ db. StandsFor db m) (c.find_format.ensures.crash (inl (rests_one _ m is)))))
+
+pub returns-in-Err-clause-left : goal.returns-in-Err-clause-left
+returns-in-Err-clause-left g c m is = (tt, (λ clean. weaker _ _ (λ db. StandsFor db m) (c.find_format.ensures.crash (inl (rests_one _ m is)))))

@@ -1,0 +1,21 @@
+use Rattle.std.proofs.Common.{rules, ◌≡◌, to_z, of_z, w64, ◌∙◌, refl, to_z-of_z, inl, inr, subst, sym}
+use Rattle.std.proofs.lemmas.Bool.{cases_Bool}
+use Rattle.sqlite.specs.State.{KeepsCommit}
+use Rattle.sqlite.specs.Held.{state}
+use Rattle.flatten.specs.Rows.{range_value}
+use Rattle.tables.proofs.Puts.{as_params, inside_keeps, commit_same}
+use Rattle.tables.proofs.Inserts.{bound_optional, optional_is, range_row_put}
+use Rattle.tables.proofs.dump_rows.RangeRowPartRow.insert.Goals as goal
+
+pub returns-clause-put : goal.returns-clause-put
+returns-clause-put g c clean inside has =
+    let first : to_z w64 (of_z w64 c.pack-first.result) ≡ c.pack-first.result = search rules in
+    let last : to_z w64 (of_z w64 c.pack-last.result) ≡ c.pack-last.result = search rules in
+    range_row_put c.args.slot (range_value c.args.self.now) (state g.S.Store c.args.tx.now.conn.now) (state g.S.Store c.execute.new.self.conn.now) c.execute.result has inside
+    (as_params _ _ _ _ _ _ (c.execute.ensures.runs clean inside) (rw (c.params-to_sql.ensures, c.params-to_sql-2.ensures, c.params-to_sql-3.ensures, c.params-to_sql-4.ensures, c.params-to_sql-5.ensures, c.params-to_sql-6.ensures ∙ optional_is _ (λ n. refl) _, c.params-to_sql-7.ensures ∙ optional_is _ (λ n. refl) _, c.params-to_sql-8.ensures ∙ optional_is _ (λ n. refl) _, c.params-to_sql-9.ensures ∙ optional_is _ (λ n. refl) _, to_z-of_z c.ranges.slot, first, last, c.pack-first.ensures.value, c.pack-last.ensures.value, bound_optional c.args.self.now.parent, bound_optional c.args.self.now.def, bound_optional c.args.self.now.refs, bound_optional c.args.self.now.hover, c.start.ensures, c.end.ensures) refl))
+
+pub returns-clause-kept : goal.returns-clause-kept
+returns-clause-kept g c clean = elim (cases_Bool c.args.tx.now.conn.now.in_transaction) [
+  | inl inside ↦ inside_keeps _ _ _ _ _ (c.execute.ensures.runs clean inside)
+  | inr ended ↦ subst (λ h. KeepsCommit (state g.S.Store c.args.tx.now.conn.now) (state g.S.Store h)) (sym (c.execute.ensures.ended ended).1) (commit_same (state g.S.Store c.args.tx.now.conn.now))
+]

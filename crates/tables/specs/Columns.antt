@@ -1,0 +1,103 @@
+-- What the rows of a part have behind the id of its slot.
+use Rattle.std.specs.Prelude.{◌++◌, ◌==◌, ℕ, pos, List, [], ◌∷◌, map, Option, Some, None, if◌then◌else◌}
+use Rattle.std.specs.List.{flat_map}
+use Rattle.sqlite_value.specs.declared.value.Value.{Value}
+use Rattle.sqlite_value.specs.declared.value.Value.TheVariants.{Int, Text, Null}
+use Rattle.sqlite_value.specs.Order.{Row}
+use Rattle.sqlite.specs.Values.{or_null}
+use Rattle.positions.specs.Position.{PositionValue, packed_of}
+use Rattle.lsif.specs.declared.element.Profile.{Profile}
+use Rattle.lsif.specs.declared.element.Profile.TheVariants.{One, Two}
+use Rattle.serde_json.specs.Data.{Data, string, array, item, no_items}
+use Rattle.serde_json.specs.View.{items_of}
+use Rattle.serde_json.specs.Written.{compact_text}
+use Rattle.tags.specs.Values.{FieldValue, TagValue}
+use Rattle.flatten.specs.Flat.{RangeRowValue, ItemRowValue, HoverRowValue, MarkRowValue, BearerRowValue, RowsValue, role_index, kind_index}
+
+abbrev pub number : ℕ → Value
+number n = Int (pos n)
+
+-- NULL where there is none
+abbrev pub optional : Option ℕ → Value
+optional = or_null number
+
+abbrev pub position : PositionValue → Value
+position p = number (packed_of p)
+
+abbrev pub document_columns : List ℕ → Row
+document_columns uri = Text uri ∷ []
+
+abbrev pub range_columns : RangeRowValue → Row
+range_columns r =
+    number r.line ∷ Text r.place.uri ∷ position r.place.span.start ∷ position r.place.span.«end» ∷ optional r.parent
+    ∷ optional r.results.definition ∷ optional r.results.references ∷ optional r.results.hover ∷ []
+
+abbrev pub item_columns : ItemRowValue → Row
+item_columns i = number i.result ∷ number (role_index i.role) ∷ Text i.place.uri ∷ position i.place.span.start ∷ position i.place.span.«end» ∷ []
+
+abbrev pub hover_columns : HoverRowValue → Row
+hover_columns h = number h.result ∷ Text h.contents ∷ []
+
+abbrev pub mark_columns : MarkRowValue → Row
+mark_columns m = number m.range ∷ number (kind_index m.kind) ∷ Text m.key ∷ []
+
+abbrev pub bearer_columns : BearerRowValue → Row
+bearer_columns b = number b.line ∷ Text b.key ∷ number (kind_index b.kind) ∷ optional b.results.definition ∷ optional b.results.references ∷ optional b.results.hover ∷ []
+
+abbrev pub profile_number : Profile → ℕ
+profile_number One = 1
+profile_number Two = 2
+
+abbrev pub profile_columns : Profile → Row
+profile_columns profile = number (profile_number profile) ∷ []
+
+-- what `more` has of a line: a row where there is a declaration or an implementation
+abbrev pub more_columns : ℕ → Option ℕ → Option ℕ → List Row
+more_columns line None None = []
+more_columns line (Some declaration) implementation = (number line ∷ number declaration ∷ optional implementation ∷ []) ∷ []
+more_columns line None (Some implementation) = (number line ∷ Null ∷ number implementation ∷ []) ∷ []
+
+abbrev pub range_more : RangeRowValue → List Row
+range_more r = more_columns r.line r.results.declaration r.results.implementation
+
+abbrev pub bearer_more : BearerRowValue → List Row
+bearer_more b = more_columns b.line b.results.declaration b.results.implementation
+
+-- those of the ranges and of the bearers
+abbrev pub more_rows : RowsValue → List Row
+more_rows flat = flat_map range_more flat.ranges ++ flat_map bearer_more flat.bearers
+
+-- ---- the rows of a part, table by table
+
+-- rows for one table, beside those for others
+abbrev pub laid : ℕ → List Row → (ℕ → List Row) → ℕ → List Row
+laid tree list rows t = if t == tree then list else rows t
+
+-- what a part has in no table
+abbrev pub nowhere : ℕ → List Row
+nowhere t = []
+
+-- those of a dump: of `document`, `range_row`, `item`, `hover`, `mark`, `bearer`, `part_profile` and `more`
+abbrev pub dump_rows : Profile → RowsValue → ℕ → List Row
+dump_rows profile flat =
+    laid 24 (more_rows flat) (laid 22 (profile_columns profile ∷ []) (laid 15 (map bearer_columns flat.bearers) (laid 13 (map mark_columns flat.marks)
+    (laid 11 (map hover_columns flat.hovers) (laid 9 (map item_columns flat.items) (laid 7 (map range_columns flat.ranges) (laid 5 (map document_columns flat.documents) nowhere)))))))
+
+-- ---- tags
+
+abbrev pub optional_text : Option (List ℕ) → Value
+optional_text = or_null Text
+
+abbrev pub field_data : FieldValue → Data
+field_data f = array (item (string f.name) (item (string f.value) no_items))
+
+-- the fields as compact JSON (RFC 8259): an array with a pair of the name and the value of each
+abbrev pub fields_text : List FieldValue → List ℕ
+fields_text fields = compact_text (array (items_of (map field_data fields)))
+
+abbrev pub tag_columns : TagValue → Row
+tag_columns t = number t.line ∷ Text t.name ∷ Text t.file ∷ Text t.address ∷ optional_text t.kind ∷ Text (fields_text t.fields) ∷ []
+
+-- the rows of tags, all in `tag`
+abbrev pub tag_rows : List TagValue → ℕ → List Row
+tag_rows tags = laid 17 (map tag_columns tags) nowhere

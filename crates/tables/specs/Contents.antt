@@ -1,0 +1,92 @@
+-- What the tables hold: the rows of each part that is there, and the kept replies.
+use Rattle.std.specs.Prelude.{◌≡◌, ◌↔◌, ◌&&◌, ℕ, ℤ, pos, Bool, List, [], ◌∷◌, Option, Some, if◌then◌else◌}
+use Rattle.std.specs.Ordering.{is_eq, int_cmp, nat_cmp}
+use Rattle.std.specs.Cmp.Lexicographic.{slice_cmp}
+use Rattle.sqlite_value.specs.Order.{Row}
+use Rattle.sqlite_value.specs.declared.value.Value.TheVariants.{Int, Text, Null}
+use Rattle.sqlite_trees.specs.Tree.{Trees}
+use Rattle.sqlite_rules.specs.Lists.{Has}
+use Rattle.sqlite_schema.specs.declared.schema.Schema.{Schema}
+use Rattle.tables.specs.Schema.{schema_one, schema_two}
+use Rattle.tables.specs.Databases.{Holds, AllOrdered}
+
+-- for each project and kind of part (1 is a dump, 2 tags) nothing, or for each table the part's rows without the id of its slot
+abbrev pub Contents : Type 0
+Contents = List ℕ → ℤ → Option (ℕ → List Row)
+
+-- for each project and key nothing, or the text of the kept reply
+abbrev pub Replies : Type 0
+Replies = List ℕ → List ℕ → Option (List ℕ)
+
+-- a key's own column is kept as NULL
+abbrev pub slot_row : ℤ → List ℕ → ℤ → Row
+slot_row id project part = Int id ∷ Null ∷ Text project ∷ Int part ∷ []
+
+-- the row is the slot of a part that is there
+pub record IsSlot (parts : Contents) (row : Row) : Type 0 where
+  pub id : ℤ
+  pub project : List ℕ
+  pub part : ℤ
+  pub rows : ℕ → List Row
+  pub has : parts project part ≡ Some rows
+  pub is : row ≡ slot_row id project part
+
+-- the row is one that a part has in this table, with the id of its slot before it
+pub record IsOwned (db : Trees) (parts : Contents) (tree : ℕ) (row : Row) : Type 0 where
+  pub id : ℤ
+  pub project : List ℕ
+  pub part : ℤ
+  pub rows : ℕ → List Row
+  pub values : Row
+  pub slot : Has (db 1) (slot_row id project part)
+  pub has : parts project part ≡ Some rows
+  pub listed : Has (rows tree) values
+  pub is : row ≡ Int id ∷ values
+
+pub record IsReply (replies : Replies) (row : Row) : Type 0 where
+  pub project : List ℕ
+  pub key : List ℕ
+  pub reply : List ℕ
+  pub has : replies project key ≡ Some reply
+  pub is : row ≡ Text project ∷ Text key ∷ Text reply ∷ []
+
+-- the tables whose rows belong to a slot, in format 2
+abbrev pub owned : List ℕ
+owned = 5 ∷ 7 ∷ 9 ∷ 11 ∷ 13 ∷ 15 ∷ 17 ∷ 22 ∷ 24 ∷ []
+
+-- those of format 1
+abbrev pub owned_one : List ℕ
+owned_one = 5 ∷ 7 ∷ 9 ∷ 11 ∷ 13 ∷ 15 ∷ 17 ∷ []
+
+-- The tables are of the format of this schema and number: they have one slot for each part that is there, in each other table the rows of the
+-- parts and no more, and the kept replies.
+pub record KeepsIn (schema : Schema) (number : ℕ) (owners : List ℕ) (db : Trees) (parts : Contents) (replies : Replies) : Type 0 where
+  pub ordered : AllOrdered schema db
+  pub version : (row : Row) → Has (db 0) row ↔ (row ≡ Int (pos number) ∷ Null ∷ [])
+  pub slots : (row : Row) → Has (db 1) row → IsSlot parts row
+  pub there : (project : List ℕ) (part : ℤ) (rows : ℕ → List Row) → parts project part ≡ Some rows → (id : ℤ) × Has (db 1) (slot_row id project part)
+  pub single : (a b : ℤ) (project : List ℕ) (part : ℤ) → Has (db 1) (slot_row a project part) → Has (db 1) (slot_row b project part) → a ≡ b
+  pub keyed : (row : Row) → Holds db 3 row ↔ IsReply replies row
+  pub children : (tree : ℕ) → Has owners tree → (row : Row) → Holds db tree row ↔ IsOwned db parts tree row
+
+abbrev pub Keeps : Trees → Contents → Replies → Type 0
+Keeps = KeepsIn schema_two 2 owned
+
+abbrev pub KeepsOne : Trees → Contents → Replies → Type 0
+KeepsOne = KeepsIn schema_one 1 owned_one
+
+-- ---- changes
+
+abbrev pub same_text : List ℕ → List ℕ → Bool
+same_text a b = is_eq (slice_cmp nat_cmp a b)
+
+abbrev pub is_at : List ℕ → ℤ → List ℕ → ℤ → Bool
+is_at project part p k = same_text p project && (is_eq (int_cmp k part) && Bool.true)
+
+-- one part is replaced, or gone
+abbrev pub changed : Contents → List ℕ → ℤ → Option (ℕ → List Row) → Contents
+changed parts project part rows p k = if is_at project part p k then rows else parts p k
+
+-- one reply is kept
+abbrev pub kept : Replies → List ℕ → List ℕ → List ℕ → Replies
+kept replies project key reply p k = if same_text p project && (same_text k key && Bool.true) then Some reply else replies p k

@@ -1,0 +1,77 @@
+-- Which states of the index the tables stand for.
+use Rattle.std.specs.Prelude.{◌≡◌, ◌≢◌, ⊤, ℕ, ℤ, pos, List, [], map, Option, Some, None, option_map, Ok}
+use Rattle.sqlite_value.specs.Order.{Row}
+use Rattle.sqlite_trees.specs.Tree.{Trees}
+use Rattle.sqlite.specs.State as sqlite
+use Rattle.lsif.specs.declared.element.Profile.TheVariants.{One}
+use Rattle.dump.specs.Fault.{IsFaultless}
+use Rattle.dump.specs.Progress.{DumpValue}
+use Rattle.tags.specs.Values.{TagValue}
+use Rattle.flatten.specs.Flat.{RowsValue, IsFlat}
+use Rattle.tables.specs.Columns.{dump_rows, tag_rows}
+use Rattle.tables.specs.Contents.{Contents, Replies, Keeps, KeepsOne}
+use Rattle.tables.specs.Schema.{schema_one, schema_two}
+use Rattle.tables.specs.State.{State, Change, accepted_text, text_after}
+
+-- the dump has no fault, and these are the rows that its walks lead to
+pub record IsDump (dump : DumpValue) (rows : ℕ → List Row) : Type 0 where
+  pub faultless : IsFaultless (map Ok dump.elements)
+  pub flat : RowsValue
+  pub is_flat : IsFlat dump.elements flat
+  pub are_rows : rows ≡ dump_rows dump.profile flat
+
+abbrev pub AreTags : List TagValue → (ℕ → List Row) → Type 0
+AreTags tags rows = rows ≡ tag_rows tags
+
+-- nothing for nothing, and rows of it for something
+abbrev pub Each : {X : Type 0} → (X → (ℕ → List Row) → Type 0) → Option X → Option (ℕ → List Row) → Type 0
+Each HasRows None None = ⊤
+Each HasRows None (Some rows) = ⊥
+Each HasRows (Some x) None = ⊥
+Each HasRows (Some x) (Some rows) = HasRows x rows
+
+-- the texts of the kept replies
+abbrev pub replies_of : State → Replies
+replies_of m project key = option_map accepted_text (m.kept project key)
+
+-- The tables keep rows for each part, which are those of the state's dumps and tags, and its replies: rows as a format keeps them.
+pub record StandsIn (KeepsRows : Trees → Contents → Replies → Type 0) (IsDumpOf : DumpValue → (ℕ → List Row) → Type 0) (db : Trees) (m : State) : Type 0 where
+  pub parts : Contents
+  pub keeps : KeepsRows db parts (replies_of m)
+  pub dumps : (project : List ℕ) → Each IsDumpOf (m.dump project) (parts project (pos 1))
+  pub tags : (project : List ℕ) → Each AreTags (m.tags project) (parts project (pos 2))
+  pub others : (project : List ℕ) (part : ℤ) → part ≢ pos 1 → part ≢ pos 2 → parts project part ≡ None
+
+abbrev pub StandsFor : Trees → State → Type 0
+StandsFor = StandsIn Keeps IsDump
+
+-- between calls the tables show what is committed, and stand for the state
+pub record Rests (s : sqlite.State) (m : State) : Type 0 where
+  pub schema_is : s.now.schema ≡ schema_two
+  pub settled : s.committed ≡ s.now
+  pub stands : StandsFor s.now.trees m
+
+-- ---- format 1
+
+-- the dump is of profile 1, and nothing in it has a declaration or an implementation: format 1 has no place for these
+pub record IsDumpOne (dump : DumpValue) (rows : ℕ → List Row) : Type 0 where
+  pub is_dump : IsDump dump rows
+  pub by_one : dump.profile ≡ One
+  pub none_more : rows 24 ≡ []
+
+-- tables of format 1 show what is committed, and stand for the state
+pub record RestsOne (s : sqlite.State) (m : State) : Type 0 where
+  pub schema_is : s.now.schema ≡ schema_one
+  pub settled : s.committed ≡ s.now
+  pub stands : StandsIn KeepsOne IsDumpOne s.now.trees m
+
+-- ---- changes
+
+-- the key isn't kept yet, and this is the text of the reply to the change
+pub record IsNew (m : State) (project key reply : List ℕ) (change : Change) : Type 0 where
+  pub unkept : m.kept project key ≡ None
+  pub text : reply ≡ text_after m project change
+
+-- what is shown and what is committed are as before
+abbrev pub IsAsBefore : sqlite.State → sqlite.State → Type 0
+IsAsBefore old new = (new.now ≡ old.now) × (new.committed ≡ old.committed)

@@ -1,0 +1,274 @@
+//! The changes of the index, each one transaction.
+ghost use Rattle.std.specs.Prelude.{◌≡◌, ◌||◌, nat_lt, ℕ, List, pos, Option, Some, None, is_some, false, IsTrue, IfOk, OnOk, OnErr};
+ghost use Rattle.sqlite.specs.State.{HasCleanDisk, Survives, KeepsCommit};
+ghost use Rattle.sqlite.specs.Held.{state};
+ghost use Rattle.flatten.specs.Rows.{rows_value};
+ghost use Rattle.dump.specs.Progress.{DumpValue};
+ghost use Rattle.tags.specs.Views.{tag_values};
+ghost use Rattle.tables.specs.Schema.{schema_two};
+ghost use Rattle.tables.specs.Columns.{dump_rows, tag_rows};
+ghost use Rattle.tables.specs.Contents.{Contents, Replies, Keeps, changed as replaced, kept};
+ghost use Rattle.tables.specs.Stands.{IsAsBefore, IsDump, IsNew, Rests, StandsFor, replies_of};
+ghost use Rattle.tables.specs.State.{State, parts_removed, accepted_text, set_dump, set_tags, clear, changed};
+ghost use Rattle.tables.specs.Steps.Puts.{GoesOn};
+
+use crate::dump_part::insert_dump;
+use crate::fault::{TablesFault, fault_of};
+use crate::slots::{Part, insert_reply, remove_slot};
+use crate::tables::Tables;
+use crate::tags_part::insert_tags;
+use flatten::Rows;
+use sqlite::{Alter, Connection, Error, Transaction};
+use std::alloc::Global;
+use tags::Tag;
+
+// ---- a dump
+
+/// Puts the rows of a dump in the place of those that the project has, and keeps the reply under the key.
+fn change_dump<S: Alter>(
+    tx: &mut Transaction<'_, S>,
+    project: &str,
+    key: &str,
+    reply: &str,
+    rows: &Rows<'_>,
+) -> Result<(), Error>
+    ensures same_reference { tx.new.conn.ghost_name ≡ tx.old.conn.ghost_name }
+    ensures changed { HasCleanDisk (state S.Store tx.new.conn.now) → IsTrue tx.old.conn.now.in_transaction → (state S.Store tx.old.conn.now).now.schema ≡ schema_two
+        → (parts : Contents) (replies : Replies) → Keeps (state S.Store tx.old.conn.now).now.trees parts replies → replies project.now key.now ≡ None
+        → OnOk result (GoesOn (state S.Store tx.old.conn.now) (state S.Store tx.new.conn.now)
+        × Keeps (state S.Store tx.new.conn.now).now.trees (replaced parts project.now (pos 1) (Some (dump_rows rows.now.profile (rows_value rows.now)))) (kept replies project.now key.now reply.now)) }
+    ensures kept { HasCleanDisk (state S.Store tx.new.conn.now) → KeepsCommit (state S.Store tx.old.conn.now) (state S.Store tx.new.conn.now) }
+    ensures survives { Survives (state S.Store tx.old.conn.now) (state S.Store tx.new.conn.now) (λ _. ⊥) }
+{
+    remove_slot(tx, project, Part::Dump)?;
+    insert_dump(tx, project, rows)?;
+    insert_reply(tx, project, key, reply)?;
+    Ok(())
+}
+
+/// The same in one transaction.
+fn commit_dump<S: Alter>(
+    conn: &mut Connection<S>,
+    project: &str,
+    key: &str,
+    reply: &str,
+    rows: &Rows<'_>,
+) -> Result<(), Error>
+    requires mode { conn.old.in_transaction ≡ false }
+    ensures mode { conn.new.in_transaction ≡ false }
+    ensures done { HasCleanDisk (state S.Store conn.new) → (m : State) (dump : DumpValue) → Rests (state S.Store conn.old) m → IsDump dump (dump_rows rows.now.profile (rows_value rows.now)) → IsNew m project.now key.now reply.now (set_dump dump)
+        → OnOk result (Rests (state S.Store conn.new) (changed m project.now key.now (set_dump dump))) }
+    ensures same { HasCleanDisk (state S.Store conn.new) → IsTrue (state S.Store conn.new).is_open → (m : State) (dump : DumpValue) → Rests (state S.Store conn.old) m → IsDump dump (dump_rows rows.now.profile (rows_value rows.now)) → IsNew m project.now key.now reply.now (set_dump dump)
+        → OnErr result (IsAsBefore (state S.Store conn.old) (state S.Store conn.new)) }
+    ensures crash { (m : State) (dump : DumpValue) → Rests (state S.Store conn.old) m → IsDump dump (dump_rows rows.now.profile (rows_value rows.now)) → IsNew m project.now key.now reply.now (set_dump dump)
+        → Survives (state S.Store conn.old) (state S.Store conn.new) (λ db. StandsFor db (changed m project.now key.now (set_dump dump))) }
+{
+    let mut tx = conn.transaction();
+    change_dump(&mut tx, project, key, reply, rows)?;
+    tx.commit()
+}
+
+// ---- tags
+
+/// Puts the rows of tags in the place of those that the project has, and keeps the reply under the key.
+fn change_tags<S: Alter>(
+    alloc: Global,
+    tx: &mut Transaction<'_, S>,
+    project: &str,
+    key: &str,
+    reply: &str,
+    tags: &[Tag],
+) -> Result<(), Error>
+    ensures same_reference { tx.new.conn.ghost_name ≡ tx.old.conn.ghost_name }
+    ensures changed { HasCleanDisk (state S.Store tx.new.conn.now) → IsTrue tx.old.conn.now.in_transaction → (state S.Store tx.old.conn.now).now.schema ≡ schema_two
+        → (parts : Contents) (replies : Replies) → Keeps (state S.Store tx.old.conn.now).now.trees parts replies → replies project.now key.now ≡ None
+        → OnOk result (GoesOn (state S.Store tx.old.conn.now) (state S.Store tx.new.conn.now)
+        × Keeps (state S.Store tx.new.conn.now).now.trees (replaced parts project.now (pos 2) (Some (tag_rows (tag_values tags.now)))) (kept replies project.now key.now reply.now)) }
+    ensures kept { HasCleanDisk (state S.Store tx.new.conn.now) → KeepsCommit (state S.Store tx.old.conn.now) (state S.Store tx.new.conn.now) }
+    ensures survives { Survives (state S.Store tx.old.conn.now) (state S.Store tx.new.conn.now) (λ _. ⊥) }
+{
+    remove_slot(tx, project, Part::Tags)?;
+    insert_tags(alloc, tx, project, tags)?;
+    insert_reply(tx, project, key, reply)?;
+    Ok(())
+}
+
+/// The same in one transaction.
+fn commit_tags<S: Alter>(
+    alloc: Global,
+    conn: &mut Connection<S>,
+    project: &str,
+    key: &str,
+    reply: &str,
+    tags: &[Tag],
+) -> Result<(), Error>
+    requires mode { conn.old.in_transaction ≡ false }
+    ensures mode { conn.new.in_transaction ≡ false }
+    ensures done { HasCleanDisk (state S.Store conn.new) → (m : State) → Rests (state S.Store conn.old) m → IsNew m project.now key.now reply.now (set_tags (tag_values tags.now))
+        → OnOk result (Rests (state S.Store conn.new) (changed m project.now key.now (set_tags (tag_values tags.now)))) }
+    ensures same { HasCleanDisk (state S.Store conn.new) → IsTrue (state S.Store conn.new).is_open → (m : State) → Rests (state S.Store conn.old) m → IsNew m project.now key.now reply.now (set_tags (tag_values tags.now))
+        → OnErr result (IsAsBefore (state S.Store conn.old) (state S.Store conn.new)) }
+    ensures crash { (m : State) → Rests (state S.Store conn.old) m → IsNew m project.now key.now reply.now (set_tags (tag_values tags.now))
+        → Survives (state S.Store conn.old) (state S.Store conn.new) (λ db. StandsFor db (changed m project.now key.now (set_tags (tag_values tags.now)))) }
+{
+    let mut tx = conn.transaction();
+    change_tags(alloc, &mut tx, project, key, reply, tags)?;
+    tx.commit()
+}
+
+// ---- a removal
+
+/// The text of the reply to a removal.
+fn removal_text(was_there: bool) -> &'static str
+    ensures { result.now ≡ accepted_text (parts_removed was_there) }
+{
+    if was_there {
+        "{\"removed\":true}"
+    } else {
+        "{\"removed\":false}"
+    }
+}
+
+/// Whether there was a slot of a dump, or one of tags.
+fn is_any(dumps: usize, tags: usize) -> bool
+    ensures { result ≡ (nat_lt 0 dumps || nat_lt 0 tags) }
+{
+    dumps > 0 || tags > 0
+}
+
+/// Takes out both parts of the project: whether there was one.
+fn clear_parts<S: Alter>(tx: &mut Transaction<'_, S>, project: &str) -> Result<bool, Error>
+    ensures same_reference { tx.new.conn.ghost_name ≡ tx.old.conn.ghost_name }
+    ensures gone { HasCleanDisk (state S.Store tx.new.conn.now) → IsTrue tx.old.conn.now.in_transaction → (state S.Store tx.old.conn.now).now.schema ≡ schema_two
+        → (parts : Contents) (replies : Replies) → Keeps (state S.Store tx.old.conn.now).now.trees parts replies
+        → IfOk result (λ was_there. (was_there ≡ (is_some (parts project.now (pos 1)) || is_some (parts project.now (pos 2)))) × GoesOn (state S.Store tx.old.conn.now) (state S.Store tx.new.conn.now)
+        × Keeps (state S.Store tx.new.conn.now).now.trees (replaced (replaced parts project.now (pos 1) None) project.now (pos 2) None) replies) }
+    ensures kept { HasCleanDisk (state S.Store tx.new.conn.now) → KeepsCommit (state S.Store tx.old.conn.now) (state S.Store tx.new.conn.now) }
+    ensures survives { Survives (state S.Store tx.old.conn.now) (state S.Store tx.new.conn.now) (λ _. ⊥) }
+{
+    let dumps = remove_slot(tx, project, Part::Dump)?;
+    let tags = remove_slot(tx, project, Part::Tags)?;
+    Ok(is_any(dumps, tags))
+}
+
+/// Takes out both parts of the project, and keeps under the key whether there was one.
+fn change_both<S: Alter>(
+    tx: &mut Transaction<'_, S>,
+    project: &str,
+    key: &str,
+) -> Result<bool, Error>
+    ensures same_reference { tx.new.conn.ghost_name ≡ tx.old.conn.ghost_name }
+    ensures changed { HasCleanDisk (state S.Store tx.new.conn.now) → IsTrue tx.old.conn.now.in_transaction → (state S.Store tx.old.conn.now).now.schema ≡ schema_two
+        → (parts : Contents) (replies : Replies) → Keeps (state S.Store tx.old.conn.now).now.trees parts replies → replies project.now key.now ≡ None
+        → IfOk result (λ was_there. (was_there ≡ (is_some (parts project.now (pos 1)) || is_some (parts project.now (pos 2)))) × GoesOn (state S.Store tx.old.conn.now) (state S.Store tx.new.conn.now)
+        × Keeps (state S.Store tx.new.conn.now).now.trees (replaced (replaced parts project.now (pos 1) None) project.now (pos 2) None) (kept replies project.now key.now (accepted_text (parts_removed was_there)))) }
+    ensures kept { HasCleanDisk (state S.Store tx.new.conn.now) → KeepsCommit (state S.Store tx.old.conn.now) (state S.Store tx.new.conn.now) }
+    ensures survives { Survives (state S.Store tx.old.conn.now) (state S.Store tx.new.conn.now) (λ _. ⊥) }
+{
+    let was_there = clear_parts(tx, project)?;
+    insert_reply(tx, project, key, removal_text(was_there))?;
+    Ok(was_there)
+}
+
+/// The same in one transaction.
+fn commit_removal<S: Alter>(
+    conn: &mut Connection<S>,
+    project: &str,
+    key: &str,
+) -> Result<bool, Error>
+    requires mode { conn.old.in_transaction ≡ false }
+    ensures mode { conn.new.in_transaction ≡ false }
+    ensures done { HasCleanDisk (state S.Store conn.new) → (m : State) → Rests (state S.Store conn.old) m → m.kept project.now key.now ≡ None
+        → IfOk result (λ was_there. (was_there ≡ (is_some (m.dump project.now) || is_some (m.tags project.now))) × Rests (state S.Store conn.new) (changed m project.now key.now clear)) }
+    ensures same { HasCleanDisk (state S.Store conn.new) → IsTrue (state S.Store conn.new).is_open → (m : State) → Rests (state S.Store conn.old) m → m.kept project.now key.now ≡ None
+        → OnErr result (IsAsBefore (state S.Store conn.old) (state S.Store conn.new)) }
+    ensures crash { (m : State) → Rests (state S.Store conn.old) m → m.kept project.now key.now ≡ None
+        → Survives (state S.Store conn.old) (state S.Store conn.new) (λ db. StandsFor db (changed m project.now key.now clear)) }
+{
+    let mut tx = conn.transaction();
+    let was_there = change_both(&mut tx, project, key)?;
+    tx.commit()?;
+    Ok(was_there)
+}
+
+// ---- the calls
+
+impl<S: Alter> Tables<S> {
+    ghost use Rattle.std.specs.Prelude.{◌≡◌, ◌||◌, None, is_some, IsTrue, IfOk, OnOk, OnErr};
+    ghost use Rattle.sqlite.specs.State.{HasCleanDisk, Survives};
+    ghost use Rattle.sqlite.specs.Held.{state};
+    ghost use Rattle.flatten.specs.Rows.{rows_value};
+    ghost use Rattle.dump.specs.Progress.{DumpValue};
+    ghost use Rattle.tags.specs.Views.{tag_values};
+    ghost use Rattle.tables.specs.Columns.{dump_rows};
+    ghost use Rattle.tables.specs.Stands.{IsAsBefore, IsDump, IsNew, Rests, StandsFor};
+    ghost use Rattle.tables.specs.State.{State, set_dump, set_tags, clear, changed};
+
+    /// Puts the rows of a dump in the place of those of the dump that the project has, where it has one, and keeps the text of
+    /// the reply under the key, all in one transaction: the key must not be kept yet, and the rows be those of a dump without
+    /// fault.
+    ///
+    /// With each fault the tables are as they were: `Memory` where memory was refused, `Refused` where the store refused.
+    pub fn replace_dump(
+        &mut self,
+        project: &str,
+        key: &str,
+        reply: &str,
+        rows: &Rows<'_>,
+    ) -> Result<(), TablesFault>
+        ensures done { HasCleanDisk (state S.Store self.new) → (m : State) (dump : DumpValue) → Rests (state S.Store self.old) m → IsDump dump (dump_rows rows.now.profile (rows_value rows.now)) → IsNew m project.now key.now reply.now (set_dump dump)
+            → OnOk result (Rests (state S.Store self.new) (changed m project.now key.now (set_dump dump))) }
+        ensures same { HasCleanDisk (state S.Store self.new) → IsTrue (state S.Store self.new).is_open → (m : State) (dump : DumpValue) → Rests (state S.Store self.old) m → IsDump dump (dump_rows rows.now.profile (rows_value rows.now)) → IsNew m project.now key.now reply.now (set_dump dump)
+            → OnErr result (IsAsBefore (state S.Store self.old) (state S.Store self.new)) }
+        ensures crash { (m : State) (dump : DumpValue) → Rests (state S.Store self.old) m → IsDump dump (dump_rows rows.now.profile (rows_value rows.now)) → IsNew m project.now key.now reply.now (set_dump dump)
+            → Survives (state S.Store self.old) (state S.Store self.new) (λ db. StandsFor db (changed m project.now key.now (set_dump dump))) }
+    {
+        match commit_dump(&mut self.conn, project, key, reply, rows) {
+            Ok(()) => Ok(()),
+            Err(error) => Err(fault_of(error)),
+        }
+    }
+
+    /// Puts tags in the place of those that the project has, where it has some, and keeps the text of the reply under the key,
+    /// all in one transaction: the key must not be kept yet. No tags are a part too.
+    ///
+    /// With each fault the tables are as they were: `Memory` where memory was refused, `Refused` where the store refused.
+    pub fn replace_tags(
+        &mut self,
+        alloc: Global,
+        project: &str,
+        key: &str,
+        reply: &str,
+        tags: &[Tag],
+    ) -> Result<(), TablesFault>
+        ensures done { HasCleanDisk (state S.Store self.new) → (m : State) → Rests (state S.Store self.old) m → IsNew m project.now key.now reply.now (set_tags (tag_values tags.now))
+            → OnOk result (Rests (state S.Store self.new) (changed m project.now key.now (set_tags (tag_values tags.now)))) }
+        ensures same { HasCleanDisk (state S.Store self.new) → IsTrue (state S.Store self.new).is_open → (m : State) → Rests (state S.Store self.old) m → IsNew m project.now key.now reply.now (set_tags (tag_values tags.now))
+            → OnErr result (IsAsBefore (state S.Store self.old) (state S.Store self.new)) }
+        ensures crash { (m : State) → Rests (state S.Store self.old) m → IsNew m project.now key.now reply.now (set_tags (tag_values tags.now))
+            → Survives (state S.Store self.old) (state S.Store self.new) (λ db. StandsFor db (changed m project.now key.now (set_tags (tag_values tags.now)))) }
+    {
+        match commit_tags(alloc, &mut self.conn, project, key, reply, tags) {
+            Ok(()) => Ok(()),
+            Err(error) => Err(fault_of(error)),
+        }
+    }
+
+    /// Takes out the dump and the tags of the project, and keeps under the key, which must not be kept yet, the text of the reply,
+    /// all in one transaction: whether either was there.
+    ///
+    /// With each fault the tables are as they were: `Memory` where memory was refused, `Refused` where the store refused.
+    pub fn remove(&mut self, project: &str, key: &str) -> Result<bool, TablesFault>
+        ensures done { HasCleanDisk (state S.Store self.new) → (m : State) → Rests (state S.Store self.old) m → m.kept project.now key.now ≡ None
+            → IfOk result (λ was_there. (was_there ≡ (is_some (m.dump project.now) || is_some (m.tags project.now))) × Rests (state S.Store self.new) (changed m project.now key.now clear)) }
+        ensures same { HasCleanDisk (state S.Store self.new) → IsTrue (state S.Store self.new).is_open → (m : State) → Rests (state S.Store self.old) m → m.kept project.now key.now ≡ None
+            → OnErr result (IsAsBefore (state S.Store self.old) (state S.Store self.new)) }
+        ensures crash { (m : State) → Rests (state S.Store self.old) m → m.kept project.now key.now ≡ None
+            → Survives (state S.Store self.old) (state S.Store self.new) (λ db. StandsFor db (changed m project.now key.now clear)) }
+    {
+        match commit_removal(&mut self.conn, project, key) {
+            Ok(was_there) => Ok(was_there),
+            Err(error) => Err(fault_of(error)),
+        }
+    }
+}

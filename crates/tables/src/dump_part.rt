@@ -1,0 +1,102 @@
+//! The rows of a dump, put under a slot of its own.
+ghost use Rattle.std.specs.Prelude.{◌≡◌, ◌∷◌, [], ℕ, pos, map, Some, None, IsTrue, IfOk, OnOk, OnErr};
+ghost use Rattle.sqlite_value.specs.declared.value.Value.TheVariants.{Int};
+ghost use Rattle.sqlite.specs.State.{HasCleanDisk, Survives, KeepsCommit};
+ghost use Rattle.sqlite.specs.Held.{state};
+ghost use Rattle.flatten.specs.Rows.{rows_value};
+ghost use Rattle.tables.specs.Schema.{schema_two};
+ghost use Rattle.tables.specs.Columns.{document_columns, range_columns, item_columns, hover_columns, mark_columns, bearer_columns, profile_number, profile_columns, more_rows, dump_rows};
+ghost use Rattle.tables.specs.Contents.{Contents, Replies, Keeps, changed, kept};
+ghost use Rattle.tables.specs.Steps.Puts.{PutsAll, Steps, Then, GoesOn};
+
+use crate::more::insert_more;
+use crate::part_rows::insert_all;
+use crate::slots::{Part, insert_slot};
+use flatten::Rows;
+use lsif::Profile;
+use sqlite::{Alter, Error, Transaction, params};
+
+/// Puts the documents, the ranges and the items of a dump.
+fn insert_places<S: Alter>(
+    tx: &mut Transaction<'_, S>,
+    slot: i64,
+    rows: &Rows<'_>,
+) -> Result<(), Error>
+    ensures same_reference { tx.new.conn.ghost_name ≡ tx.old.conn.ghost_name }
+    ensures put { HasCleanDisk (state S.Store tx.new.conn.now) → IsTrue tx.old.conn.now.in_transaction → (state S.Store tx.old.conn.now).now.schema ≡ schema_two
+        → OnOk result (Steps (Then (PutsAll 5 (map (λ columns. Int slot ∷ columns) (map document_columns (rows_value rows.now).documents))) (Then (PutsAll 7 (map (λ columns. Int slot ∷ columns) (map range_columns (rows_value rows.now).ranges)))
+        (PutsAll 9 (map (λ columns. Int slot ∷ columns) (map item_columns (rows_value rows.now).items))))) (state S.Store tx.old.conn.now) (state S.Store tx.new.conn.now)) }
+    ensures kept { HasCleanDisk (state S.Store tx.new.conn.now) → KeepsCommit (state S.Store tx.old.conn.now) (state S.Store tx.new.conn.now) }
+    ensures survives { Survives (state S.Store tx.old.conn.now) (state S.Store tx.new.conn.now) (λ _. ⊥) }
+{
+    insert_all(tx, slot, rows.documents.as_slice())?;
+    insert_all(tx, slot, rows.ranges.as_slice())?;
+    insert_all(tx, slot, rows.items.as_slice())
+}
+
+/// Puts the hovers, the marks and the bearers of a dump.
+fn insert_contents<S: Alter>(
+    tx: &mut Transaction<'_, S>,
+    slot: i64,
+    rows: &Rows<'_>,
+) -> Result<(), Error>
+    ensures same_reference { tx.new.conn.ghost_name ≡ tx.old.conn.ghost_name }
+    ensures put { HasCleanDisk (state S.Store tx.new.conn.now) → IsTrue tx.old.conn.now.in_transaction → (state S.Store tx.old.conn.now).now.schema ≡ schema_two
+        → OnOk result (Steps (Then (PutsAll 11 (map (λ columns. Int slot ∷ columns) (map hover_columns (rows_value rows.now).hovers))) (Then (PutsAll 13 (map (λ columns. Int slot ∷ columns) (map mark_columns (rows_value rows.now).marks)))
+        (PutsAll 15 (map (λ columns. Int slot ∷ columns) (map bearer_columns (rows_value rows.now).bearers))))) (state S.Store tx.old.conn.now) (state S.Store tx.new.conn.now)) }
+    ensures kept { HasCleanDisk (state S.Store tx.new.conn.now) → KeepsCommit (state S.Store tx.old.conn.now) (state S.Store tx.new.conn.now) }
+    ensures survives { Survives (state S.Store tx.old.conn.now) (state S.Store tx.new.conn.now) (λ _. ⊥) }
+{
+    insert_all(tx, slot, rows.hovers.as_slice())?;
+    insert_all(tx, slot, rows.marks.as_slice())?;
+    insert_all(tx, slot, rows.bearers.as_slice())
+}
+
+fn number_of_profile(profile: Profile) -> u32
+    ensures { result ≡ profile_number profile }
+{
+    match profile {
+        Profile::One => 1,
+        Profile::Two => 2,
+    }
+}
+
+/// Puts the profile of a dump.
+fn insert_profile<S: Alter>(
+    tx: &mut Transaction<'_, S>,
+    slot: i64,
+    profile: Profile,
+) -> Result<usize, Error>
+    ensures same_reference { tx.new.conn.ghost_name ≡ tx.old.conn.ghost_name }
+    ensures put { HasCleanDisk (state S.Store tx.new.conn.now) → IsTrue tx.old.conn.now.in_transaction → (state S.Store tx.old.conn.now).now.schema ≡ schema_two
+        → OnOk result (Steps (PutsAll 22 ((Int slot ∷ profile_columns profile) ∷ [])) (state S.Store tx.old.conn.now) (state S.Store tx.new.conn.now)) }
+    ensures kept { HasCleanDisk (state S.Store tx.new.conn.now) → KeepsCommit (state S.Store tx.old.conn.now) (state S.Store tx.new.conn.now) }
+    ensures survives { Survives (state S.Store tx.old.conn.now) (state S.Store tx.new.conn.now) (λ _. ⊥) }
+{
+    let number = number_of_profile(profile);
+    tx.execute(
+        "INSERT INTO part_profile (slot, profile) VALUES (?1, ?2)",
+        params![slot, number],
+    )
+}
+
+/// Puts the rows of a dump under a slot of its own, where the project has none.
+pub(crate) fn insert_dump<S: Alter>(
+    tx: &mut Transaction<'_, S>,
+    project: &str,
+    rows: &Rows<'_>,
+) -> Result<(), Error>
+    ensures same_reference { tx.new.conn.ghost_name ≡ tx.old.conn.ghost_name }
+    ensures put { HasCleanDisk (state S.Store tx.new.conn.now) → IsTrue tx.old.conn.now.in_transaction → (state S.Store tx.old.conn.now).now.schema ≡ schema_two
+        → (parts : Contents) (replies : Replies) → Keeps (state S.Store tx.old.conn.now).now.trees (changed parts project.now (pos 1) None) replies
+        → OnOk result (GoesOn (state S.Store tx.old.conn.now) (state S.Store tx.new.conn.now)
+        × Keeps (state S.Store tx.new.conn.now).now.trees (changed parts project.now (pos 1) (Some (dump_rows rows.now.profile (rows_value rows.now)))) replies) }
+    ensures kept { HasCleanDisk (state S.Store tx.new.conn.now) → KeepsCommit (state S.Store tx.old.conn.now) (state S.Store tx.new.conn.now) }
+    ensures survives { Survives (state S.Store tx.old.conn.now) (state S.Store tx.new.conn.now) (λ _. ⊥) }
+{
+    let slot = insert_slot(tx, project, Part::Dump)?;
+    insert_places(tx, slot, rows)?;
+    insert_contents(tx, slot, rows)?;
+    insert_profile(tx, slot, rows.profile)?;
+    insert_more(tx, slot, rows)
+}

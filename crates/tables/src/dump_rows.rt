@@ -1,0 +1,127 @@
+//! The rows of a dump.
+ghost use Rattle.std.specs.Prelude.{◌≡◌};
+ghost use Rattle.flatten.specs.Flat.{role_index, kind_index};
+ghost use Rattle.flatten.specs.Rows.{document_value, range_value, item_value, hover_value, mark_value, bearer_value};
+ghost use Rattle.tables.specs.Columns.{document_columns, range_columns, item_columns, hover_columns, mark_columns, bearer_columns};
+
+use crate::part_rows::PartRow;
+use dump::Role;
+use flatten::{BearerRow, DocRow, HoverRow, ItemRow, MarkRow, RangeRow};
+use lsif::MonikerKind;
+use sqlite::{Alter, Error, Transaction, params};
+
+fn role_number(role: Role) -> u32
+    ensures { result ≡ role_index role }
+{
+    match role {
+        Role::Definitions => 0,
+        Role::References => 1,
+    }
+}
+
+fn kind_number(kind: MonikerKind) -> u32
+    ensures { result ≡ kind_index kind }
+{
+    match kind {
+        MonikerKind::Import => 0,
+        MonikerKind::Export => 1,
+        MonikerKind::Local => 2,
+    }
+}
+
+impl PartRow for DocRow<'_> {
+    ghost tree = { 5 };
+
+    ghost columns = { λ row. document_columns (document_value row) };
+
+    fn insert<S: Alter>(&self, tx: &mut Transaction<'_, S>, slot: i64) -> Result<usize, Error> {
+        tx.execute(
+            "INSERT INTO document (slot, uri) VALUES (?1, ?2)",
+            params![slot, self.uri],
+        )
+    }
+}
+
+impl PartRow for RangeRow<'_> {
+    ghost tree = { 7 };
+
+    ghost columns = { λ row. range_columns (range_value row) };
+
+    fn insert<S: Alter>(&self, tx: &mut Transaction<'_, S>, slot: i64) -> Result<usize, Error> {
+        let first = self.span.start().pack();
+        let last = self.span.end().pack();
+        tx.execute(
+            "INSERT INTO range_row (slot, line, uri, first, last, parent, def, refs, hover) VALUES (?1, ?2, ?3, ?4, ?5, ?6, ?7, ?8, ?9)",
+            params![
+                slot,
+                self.line,
+                self.uri,
+                first,
+                last,
+                self.parent,
+                self.def,
+                self.refs,
+                self.hover
+            ],
+        )
+    }
+}
+
+impl PartRow for ItemRow<'_> {
+    ghost tree = { 9 };
+
+    ghost columns = { λ row. item_columns (item_value row) };
+
+    fn insert<S: Alter>(&self, tx: &mut Transaction<'_, S>, slot: i64) -> Result<usize, Error> {
+        let first = self.span.start().pack();
+        let last = self.span.end().pack();
+        let role = role_number(self.role);
+        tx.execute(
+            "INSERT INTO item (slot, result, role, uri, first, last) VALUES (?1, ?2, ?3, ?4, ?5, ?6)",
+            params![slot, self.result, role, self.uri, first, last],
+        )
+    }
+}
+
+impl PartRow for HoverRow<'_> {
+    ghost tree = { 11 };
+
+    ghost columns = { λ row. hover_columns (hover_value row) };
+
+    fn insert<S: Alter>(&self, tx: &mut Transaction<'_, S>, slot: i64) -> Result<usize, Error> {
+        tx.execute(
+            "INSERT INTO hover (slot, result, contents) VALUES (?1, ?2, ?3)",
+            params![slot, self.result, self.contents],
+        )
+    }
+}
+
+impl PartRow for MarkRow {
+    ghost tree = { 13 };
+
+    ghost columns = { λ row. mark_columns (mark_value row) };
+
+    fn insert<S: Alter>(&self, tx: &mut Transaction<'_, S>, slot: i64) -> Result<usize, Error> {
+        let kind = kind_number(self.kind);
+        tx.execute(
+            "INSERT INTO mark (slot, line, kind, keytext) VALUES (?1, ?2, ?3, ?4)",
+            params![slot, self.range, kind, &self.key],
+        )
+    }
+}
+
+impl PartRow for BearerRow {
+    ghost tree = { 15 };
+
+    ghost columns = { λ row. bearer_columns (bearer_value row) };
+
+    fn insert<S: Alter>(&self, tx: &mut Transaction<'_, S>, slot: i64) -> Result<usize, Error> {
+        let kind = kind_number(self.kind);
+        tx.execute(
+            "INSERT INTO bearer (slot, line, keytext, kind, def, refs, hover) VALUES (?1, ?2, ?3, ?4, ?5, ?6, ?7)",
+            params![
+                slot, self.line, &self.key, kind, self.def, self.refs, self.hover
+            ],
+        )
+    }
+}

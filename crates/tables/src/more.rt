@@ -1,0 +1,163 @@
+//! The declarations and implementations of ranges and bearers.
+ghost use Rattle.std.specs.Prelude.{◌≡◌, ◌∷◌, [], ◌⊎◌, ◌≤◌, length, map, take, IsTrue, OnOk};
+ghost use Rattle.std.specs.List.{flat_map};
+ghost use Rattle.sqlite_value.specs.declared.value.Value.TheVariants.{Int};
+ghost use Rattle.sqlite_value.specs.Order.{Row as Columns};
+ghost use Rattle.sqlite_rules.specs.Lists.{Has};
+ghost use Rattle.sqlite.specs.State.{HasCleanDisk, Survives, KeepsCommit};
+ghost use Rattle.sqlite.specs.Held.{state};
+ghost use Rattle.flatten.specs.Rows.{range_value, bearer_value, rows_value};
+ghost use Rattle.tables.specs.Schema.{schema_two};
+ghost use Rattle.tables.specs.Databases.{Holds};
+ghost use Rattle.tables.specs.Columns.{number, optional, more_columns, more_rows, range_more, bearer_more};
+ghost use Rattle.tables.specs.Steps.Puts.{PutsAll, Steps};
+
+use flatten::{BearerRow, RangeRow, Rows};
+use sqlite::{Alter, Error, Transaction, params};
+
+/// Puts the row of a line that has a declaration or an implementation.
+fn insert_row<S: Alter>(
+    tx: &mut Transaction<'_, S>,
+    slot: i64,
+    line: u32,
+    decl: Option<u32>,
+    imp: Option<u32>,
+) -> Result<usize, Error>
+    ensures same_reference { tx.new.conn.ghost_name ≡ tx.old.conn.ghost_name }
+    ensures put { HasCleanDisk (state S.Store tx.new.conn.now) → IsTrue tx.old.conn.now.in_transaction → (state S.Store tx.old.conn.now).now.schema ≡ schema_two
+        → OnOk result (Steps (PutsAll 24 ((Int slot ∷ number line ∷ optional decl ∷ optional imp ∷ []) ∷ [])) (state S.Store tx.old.conn.now) (state S.Store tx.new.conn.now)) }
+    ensures kept { HasCleanDisk (state S.Store tx.new.conn.now) → KeepsCommit (state S.Store tx.old.conn.now) (state S.Store tx.new.conn.now) }
+    ensures survives { Survives (state S.Store tx.old.conn.now) (state S.Store tx.new.conn.now) (λ _. ⊥) }
+{
+    tx.execute(
+        "INSERT INTO more (slot, line, decl, imp) VALUES (?1, ?2, ?3, ?4)",
+        params![slot, line, decl, imp],
+    )
+}
+
+/// Puts what a line has of a declaration or an implementation, where it has either.
+fn insert_line<S: Alter>(
+    tx: &mut Transaction<'_, S>,
+    slot: i64,
+    line: u32,
+    decl: Option<u32>,
+    imp: Option<u32>,
+) -> Result<(), Error>
+    ensures same_reference { tx.new.conn.ghost_name ≡ tx.old.conn.ghost_name }
+    ensures put { HasCleanDisk (state S.Store tx.new.conn.now) → IsTrue tx.old.conn.now.in_transaction → (state S.Store tx.old.conn.now).now.schema ≡ schema_two
+        → OnOk result (Steps (PutsAll 24 (map (λ columns. Int slot ∷ columns) (more_columns line decl imp))) (state S.Store tx.old.conn.now) (state S.Store tx.new.conn.now)) }
+    ensures kept { HasCleanDisk (state S.Store tx.new.conn.now) → KeepsCommit (state S.Store tx.old.conn.now) (state S.Store tx.new.conn.now) }
+    ensures survives { Survives (state S.Store tx.old.conn.now) (state S.Store tx.new.conn.now) (λ _. ⊥) }
+{
+    if decl.is_none() && imp.is_none() {
+        return Ok(());
+    }
+    insert_row(tx, slot, line, decl, imp)?;
+    Ok(())
+}
+
+/// Puts what the ranges have of declarations and implementations.
+fn insert_ranges<S: Alter>(
+    tx: &mut Transaction<'_, S>,
+    slot: i64,
+    ranges: &[RangeRow<'_>],
+) -> Result<(), Error>
+    ensures same_reference { tx.new.conn.ghost_name ≡ tx.old.conn.ghost_name }
+    ensures put { HasCleanDisk (state S.Store tx.new.conn.now) → IsTrue tx.old.conn.now.in_transaction → (state S.Store tx.old.conn.now).now.schema ≡ schema_two
+        → OnOk result (Steps (PutsAll 24 (flat_map (λ row. map (λ columns. Int slot ∷ columns) (range_more (range_value row))) ranges.now)) (state S.Store tx.old.conn.now) (state S.Store tx.new.conn.now)) }
+    ensures kept { HasCleanDisk (state S.Store tx.new.conn.now) → KeepsCommit (state S.Store tx.old.conn.now) (state S.Store tx.new.conn.now) }
+    ensures survives { Survives (state S.Store tx.old.conn.now) (state S.Store tx.new.conn.now) (λ _. ⊥) }
+{
+    for row in ranges {
+        insert_line(tx, slot, row.line, row.decl, row.imp)?;
+    }
+    Ok(())
+}
+
+/// Whether a bearer has the line, the declaration and the implementation of these.
+fn has_same(bearer: &BearerRow, line: u32, decl: Option<u32>, imp: Option<u32>) -> bool
+    ensures { IsTrue result → more_columns line decl imp ≡ bearer_more (bearer_value bearer.now) }
+{
+    bearer.line == line && bearer.decl == decl && bearer.imp == imp
+}
+
+/// Whether what a bearer has of a declaration or an implementation is that of the bearer before it, or of a range.
+fn is_listed(rows: &Rows<'_>, at: usize, bearer: &BearerRow) -> bool
+    requires { at ≤ length rows.now.bearers.items }
+    ensures { IsTrue result → (row : Columns) → Has (bearer_more (bearer_value bearer.now)) row
+        → Has (flat_map (λ r. range_more (range_value r)) rows.now.ranges.items) row ⊎ Has (flat_map (λ b. bearer_more (bearer_value b)) (take at rows.now.bearers.items)) row }
+{
+    if let Some(before) = rows.bearers[..at].last() {
+        if has_same(bearer, before.line, before.decl, before.imp) {
+            return true;
+        }
+    }
+    match rows
+        .ranges
+        .binary_search_by(|range| range.line.cmp(&bearer.line))
+    {
+        Ok(found) => match rows.ranges.get(found) {
+            Some(range) => has_same(bearer, range.line, range.decl, range.imp),
+            None => false,
+        },
+        Err(_) => false,
+    }
+}
+
+/// Puts what a bearer has of a declaration or an implementation, where that isn't there yet.
+fn insert_bearer<S: Alter>(
+    tx: &mut Transaction<'_, S>,
+    slot: i64,
+    rows: &Rows<'_>,
+    at: usize,
+    bearer: &BearerRow,
+) -> Result<(), Error>
+    requires { at ≤ length rows.now.bearers.items }
+    ensures same_reference { tx.new.conn.ghost_name ≡ tx.old.conn.ghost_name }
+    ensures put { HasCleanDisk (state S.Store tx.new.conn.now) → IsTrue tx.old.conn.now.in_transaction → (state S.Store tx.old.conn.now).now.schema ≡ schema_two
+        → ((row : Columns) → Has (map (λ columns. Int slot ∷ columns) (flat_map (λ r. range_more (range_value r)) rows.now.ranges.items)) row → Holds (state S.Store tx.old.conn.now).now.trees 24 row)
+        → ((row : Columns) → Has (map (λ columns. Int slot ∷ columns) (flat_map (λ b. bearer_more (bearer_value b)) (take at rows.now.bearers.items))) row → Holds (state S.Store tx.old.conn.now).now.trees 24 row)
+        → OnOk result (Steps (PutsAll 24 (map (λ columns. Int slot ∷ columns) (bearer_more (bearer_value bearer.now)))) (state S.Store tx.old.conn.now) (state S.Store tx.new.conn.now)) }
+    ensures kept { HasCleanDisk (state S.Store tx.new.conn.now) → KeepsCommit (state S.Store tx.old.conn.now) (state S.Store tx.new.conn.now) }
+    ensures survives { Survives (state S.Store tx.old.conn.now) (state S.Store tx.new.conn.now) (λ _. ⊥) }
+{
+    if is_listed(rows, at, bearer) {
+        return Ok(());
+    }
+    insert_line(tx, slot, bearer.line, bearer.decl, bearer.imp)
+}
+
+/// Puts what the bearers have of declarations and implementations, where what the ranges have is there.
+fn insert_bearers<S: Alter>(
+    tx: &mut Transaction<'_, S>,
+    slot: i64,
+    rows: &Rows<'_>,
+) -> Result<(), Error>
+    ensures same_reference { tx.new.conn.ghost_name ≡ tx.old.conn.ghost_name }
+    ensures put { HasCleanDisk (state S.Store tx.new.conn.now) → IsTrue tx.old.conn.now.in_transaction → (state S.Store tx.old.conn.now).now.schema ≡ schema_two
+        → ((row : Columns) → Has (map (λ columns. Int slot ∷ columns) (flat_map (λ r. range_more (range_value r)) rows.now.ranges.items)) row → Holds (state S.Store tx.old.conn.now).now.trees 24 row)
+        → OnOk result (Steps (PutsAll 24 (flat_map (λ b. map (λ columns. Int slot ∷ columns) (bearer_more (bearer_value b))) rows.now.bearers.items)) (state S.Store tx.old.conn.now) (state S.Store tx.new.conn.now)) }
+    ensures kept { HasCleanDisk (state S.Store tx.new.conn.now) → KeepsCommit (state S.Store tx.old.conn.now) (state S.Store tx.new.conn.now) }
+    ensures survives { Survives (state S.Store tx.old.conn.now) (state S.Store tx.new.conn.now) (λ _. ⊥) }
+{
+    for (at, bearer) in rows.bearers.iter().enumerate() {
+        insert_bearer(tx, slot, rows, at, bearer)?;
+    }
+    Ok(())
+}
+
+/// Puts what the ranges and the bearers of a dump have of declarations and implementations.
+pub(crate) fn insert_more<S: Alter>(
+    tx: &mut Transaction<'_, S>,
+    slot: i64,
+    rows: &Rows<'_>,
+) -> Result<(), Error>
+    ensures same_reference { tx.new.conn.ghost_name ≡ tx.old.conn.ghost_name }
+    ensures put { HasCleanDisk (state S.Store tx.new.conn.now) → IsTrue tx.old.conn.now.in_transaction → (state S.Store tx.old.conn.now).now.schema ≡ schema_two
+        → OnOk result (Steps (PutsAll 24 (map (λ columns. Int slot ∷ columns) (more_rows (rows_value rows.now)))) (state S.Store tx.old.conn.now) (state S.Store tx.new.conn.now)) }
+    ensures kept { HasCleanDisk (state S.Store tx.new.conn.now) → KeepsCommit (state S.Store tx.old.conn.now) (state S.Store tx.new.conn.now) }
+    ensures survives { Survives (state S.Store tx.old.conn.now) (state S.Store tx.new.conn.now) (λ _. ⊥) }
+{
+    insert_ranges(tx, slot, rows.ranges.as_slice())?;
+    insert_bearers(tx, slot, rows)
+}

@@ -1,0 +1,87 @@
+//! The slots of parts, and the kept replies.
+ghost use Rattle.std.specs.Prelude.{◌≡◌, ◌∷◌, [], ◌↔◌, ℕ, None, IsTrue, IfOk, OnOk};
+ghost use Rattle.sqlite_value.specs.declared.value.Value.TheVariants.{Int, Text, Null};
+ghost use Rattle.sqlite.specs.State.{HasCleanDisk, Survives, KeepsCommit};
+ghost use Rattle.sqlite.specs.Held.{state};
+ghost use Rattle.tables.specs.Schema.{schema_two};
+ghost use Rattle.tables.specs.Contents.{Contents, Replies, Keeps, changed};
+ghost use Rattle.tables.specs.Parts.{part_number};
+ghost use Rattle.tables.specs.Steps.Puts.{Puts, PutsAll, Steps, GoesOn};
+
+use sqlite::{Alter, Error, Transaction, params};
+
+/// A kind of part of a project.
+#[derive(Clone, Copy, Drop)]
+pub(crate) enum Part {
+    Dump,
+    Tags,
+}
+
+/// The number of a kind of part in `slot`.
+fn part_number(part: Part) -> i64
+    ensures { result ≡ part_number part }
+{
+    match part {
+        Part::Dump => 1,
+        Part::Tags => 2,
+    }
+}
+
+/// Takes out the slot of a part, and with it the part's rows: and how many slots there were.
+pub(crate) fn remove_slot<S: Alter>(
+    tx: &mut Transaction<'_, S>,
+    project: &str,
+    part: Part,
+) -> Result<usize, Error>
+    ensures same_reference { tx.new.conn.ghost_name ≡ tx.old.conn.ghost_name }
+    ensures gone { HasCleanDisk (state S.Store tx.new.conn.now) → IsTrue tx.old.conn.now.in_transaction → (state S.Store tx.old.conn.now).now.schema ≡ schema_two
+        → (parts : Contents) (replies : Replies) → Keeps (state S.Store tx.old.conn.now).now.trees parts replies
+        → IfOk result (λ count. GoesOn (state S.Store tx.old.conn.now) (state S.Store tx.new.conn.now) × Keeps (state S.Store tx.new.conn.now).now.trees (changed parts project.now (part_number part) None) replies × ((count ≡ 0) ↔ (parts project.now (part_number part) ≡ None))) }
+    ensures kept { HasCleanDisk (state S.Store tx.new.conn.now) → KeepsCommit (state S.Store tx.old.conn.now) (state S.Store tx.new.conn.now) }
+    ensures survives { Survives (state S.Store tx.old.conn.now) (state S.Store tx.new.conn.now) (λ _. ⊥) }
+{
+    let number = part_number(part);
+    tx.execute(
+        "DELETE FROM slot WHERE project = ?1 AND part = ?2",
+        params![project, number],
+    )
+}
+
+/// Makes a slot for a part: its id.
+pub(crate) fn insert_slot<S: Alter>(
+    tx: &mut Transaction<'_, S>,
+    project: &str,
+    part: Part,
+) -> Result<i64, Error>
+    ensures same_reference { tx.new.conn.ghost_name ≡ tx.old.conn.ghost_name }
+    ensures put { HasCleanDisk (state S.Store tx.new.conn.now) → IsTrue tx.old.conn.now.in_transaction → (state S.Store tx.old.conn.now).now.schema ≡ schema_two
+        → IfOk result (λ id. Steps (Puts 1 id (Null ∷ Text project.now ∷ Int (part_number part) ∷ [])) (state S.Store tx.old.conn.now) (state S.Store tx.new.conn.now)) }
+    ensures kept { HasCleanDisk (state S.Store tx.new.conn.now) → KeepsCommit (state S.Store tx.old.conn.now) (state S.Store tx.new.conn.now) }
+    ensures survives { Survives (state S.Store tx.old.conn.now) (state S.Store tx.new.conn.now) (λ _. ⊥) }
+{
+    let number = part_number(part);
+    tx.execute(
+        "INSERT INTO slot (project, part) VALUES (?1, ?2)",
+        params![project, number],
+    )?;
+    Ok(tx.last_insert_rowid())
+}
+
+/// Keeps the text of a reply under a key.
+pub(crate) fn insert_reply<S: Alter>(
+    tx: &mut Transaction<'_, S>,
+    project: &str,
+    key: &str,
+    reply: &str,
+) -> Result<usize, Error>
+    ensures same_reference { tx.new.conn.ghost_name ≡ tx.old.conn.ghost_name }
+    ensures put { HasCleanDisk (state S.Store tx.new.conn.now) → IsTrue tx.old.conn.now.in_transaction → (state S.Store tx.old.conn.now).now.schema ≡ schema_two
+        → OnOk result (Steps (PutsAll 3 ((Text project.now ∷ Text key.now ∷ Text reply.now ∷ []) ∷ [])) (state S.Store tx.old.conn.now) (state S.Store tx.new.conn.now)) }
+    ensures kept { HasCleanDisk (state S.Store tx.new.conn.now) → KeepsCommit (state S.Store tx.old.conn.now) (state S.Store tx.new.conn.now) }
+    ensures survives { Survives (state S.Store tx.old.conn.now) (state S.Store tx.new.conn.now) (λ _. ⊥) }
+{
+    tx.execute(
+        "INSERT INTO keyed (project, cmdkey, reply) VALUES (?1, ?2, ?3)",
+        params![project, key, reply],
+    )
+}

@@ -1,0 +1,132 @@
+//! The rows of tags, put under a slot of their own.
+ghost use Rattle.std.specs.Prelude.{◌≡◌, ◌∷◌, [], ◌++◌, ℕ, pos, map, option_map, string_bytes, Some, None, IsTrue, IfOk, OnOk};
+ghost use Rattle.sqlite_value.specs.declared.value.Value.TheVariants.{Int};
+ghost use Rattle.sqlite.specs.State.{HasCleanDisk, Survives, KeepsCommit};
+ghost use Rattle.sqlite.specs.Held.{state};
+ghost use Rattle.serde_json.specs.Data.{array};
+ghost use Rattle.serde_json.specs.View.{view, items_of};
+ghost use Rattle.tags.specs.Views.{field_value, tag_value, tag_values};
+ghost use Rattle.tables.specs.Schema.{schema_two};
+ghost use Rattle.tables.specs.Columns.{field_data, fields_text, tag_columns, tag_rows};
+ghost use Rattle.tables.specs.Contents.{Contents, Replies, Keeps, changed};
+ghost use Rattle.tables.specs.Steps.Puts.{PutsAll, Steps, GoesOn};
+
+use crate::slots::{Part, insert_slot};
+use serde_json::{Value, json};
+use sqlite::{Alter, Error, Transaction, params};
+use std::alloc::{AllocError, Global};
+use tags::{Field, Tag};
+
+fn field_value(alloc: Global, field: &Field) -> Result<Value, AllocError>
+    ensures { IfOk result (λ v. view v ≡ field_data (field_value field.now)) }
+{
+    json!(in alloc; [&field.name, &field.value])
+}
+
+fn add_field(alloc: Global, field: &Field, list: &mut Vec<Value>) -> Result<(), AllocError>
+    ensures { OnOk result (map view list.new.items ≡ map view list.old.items ++ field_data (field_value field.now) ∷ []) }
+{
+    let value = field_value(alloc, field)?;
+    serde_json::push(list, value)
+}
+
+fn fields_value(alloc: Global, fields: &[Field]) -> Result<Value, AllocError>
+    ensures { IfOk result (λ v. view v ≡ array (items_of (map field_data (map field_value fields.now)))) }
+{
+    let mut list = Vec::new(alloc);
+    for field in fields {
+        add_field(alloc, field, &mut list)?;
+    }
+    Ok(Value::Array(list))
+}
+
+/// The text of the fields of a tag.
+fn fields_text(alloc: Global, fields: &[Field]) -> Result<String, AllocError>
+    ensures { IfOk result (λ text. string_bytes text ≡ fields_text (map field_value fields.now)) }
+{
+    fields_value(alloc, fields)?.to_string(alloc)
+}
+
+/// Puts the row of a tag, whose fields have this text.
+fn insert_row<S: Alter>(
+    tx: &mut Transaction<'_, S>,
+    slot: i64,
+    tag: &Tag,
+    fields: &str,
+) -> Result<usize, Error>
+    requires { fields.now ≡ fields_text (tag_value tag.now).fields }
+    ensures same_reference { tx.new.conn.ghost_name ≡ tx.old.conn.ghost_name }
+    ensures put { HasCleanDisk (state S.Store tx.new.conn.now) → IsTrue tx.old.conn.now.in_transaction → (state S.Store tx.old.conn.now).now.schema ≡ schema_two
+        → OnOk result (Steps (PutsAll 17 ((Int slot ∷ tag_columns (tag_value tag.now)) ∷ [])) (state S.Store tx.old.conn.now) (state S.Store tx.new.conn.now)) }
+    ensures kept { HasCleanDisk (state S.Store tx.new.conn.now) → KeepsCommit (state S.Store tx.old.conn.now) (state S.Store tx.new.conn.now) }
+    ensures survives { Survives (state S.Store tx.old.conn.now) (state S.Store tx.new.conn.now) (λ _. ⊥) }
+{
+    tx.execute(
+        "INSERT INTO tag (slot, line, name, file, address, kind, fields) VALUES (?1, ?2, ?3, ?4, ?5, ?6, ?7)",
+        params![
+            slot,
+            tag.line,
+            &tag.name,
+            &tag.file,
+            &tag.address,
+            &tag.kind,
+            fields
+        ],
+    )
+}
+
+/// Puts the row of a tag.
+fn insert_tag<S: Alter>(
+    alloc: Global,
+    tx: &mut Transaction<'_, S>,
+    slot: i64,
+    tag: &Tag,
+) -> Result<(), Error>
+    ensures same_reference { tx.new.conn.ghost_name ≡ tx.old.conn.ghost_name }
+    ensures put { HasCleanDisk (state S.Store tx.new.conn.now) → IsTrue tx.old.conn.now.in_transaction → (state S.Store tx.old.conn.now).now.schema ≡ schema_two
+        → OnOk result (Steps (PutsAll 17 ((Int slot ∷ tag_columns (tag_value tag.now)) ∷ [])) (state S.Store tx.old.conn.now) (state S.Store tx.new.conn.now)) }
+    ensures kept { HasCleanDisk (state S.Store tx.new.conn.now) → KeepsCommit (state S.Store tx.old.conn.now) (state S.Store tx.new.conn.now) }
+    ensures survives { Survives (state S.Store tx.old.conn.now) (state S.Store tx.new.conn.now) (λ _. ⊥) }
+{
+    let fields = fields_text(alloc, &tag.fields)?;
+    insert_row(tx, slot, tag, &fields)?;
+    Ok(())
+}
+
+/// Puts the rows of tags.
+fn insert_all<S: Alter>(
+    alloc: Global,
+    tx: &mut Transaction<'_, S>,
+    slot: i64,
+    tags: &[Tag],
+) -> Result<(), Error>
+    ensures same_reference { tx.new.conn.ghost_name ≡ tx.old.conn.ghost_name }
+    ensures put { HasCleanDisk (state S.Store tx.new.conn.now) → IsTrue tx.old.conn.now.in_transaction → (state S.Store tx.old.conn.now).now.schema ≡ schema_two
+        → OnOk result (Steps (PutsAll 17 (map (λ tag. Int slot ∷ tag_columns (tag_value tag)) tags.now)) (state S.Store tx.old.conn.now) (state S.Store tx.new.conn.now)) }
+    ensures kept { HasCleanDisk (state S.Store tx.new.conn.now) → KeepsCommit (state S.Store tx.old.conn.now) (state S.Store tx.new.conn.now) }
+    ensures survives { Survives (state S.Store tx.old.conn.now) (state S.Store tx.new.conn.now) (λ _. ⊥) }
+{
+    for tag in tags {
+        insert_tag(alloc, tx, slot, tag)?;
+    }
+    Ok(())
+}
+
+/// Puts the rows of tags under a slot of their own, where the project has none.
+pub(crate) fn insert_tags<S: Alter>(
+    alloc: Global,
+    tx: &mut Transaction<'_, S>,
+    project: &str,
+    tags: &[Tag],
+) -> Result<(), Error>
+    ensures same_reference { tx.new.conn.ghost_name ≡ tx.old.conn.ghost_name }
+    ensures put { HasCleanDisk (state S.Store tx.new.conn.now) → IsTrue tx.old.conn.now.in_transaction → (state S.Store tx.old.conn.now).now.schema ≡ schema_two
+        → (parts : Contents) (replies : Replies) → Keeps (state S.Store tx.old.conn.now).now.trees (changed parts project.now (pos 2) None) replies
+        → OnOk result (GoesOn (state S.Store tx.old.conn.now) (state S.Store tx.new.conn.now)
+        × Keeps (state S.Store tx.new.conn.now).now.trees (changed parts project.now (pos 2) (Some (tag_rows (tag_values tags.now)))) replies) }
+    ensures kept { HasCleanDisk (state S.Store tx.new.conn.now) → KeepsCommit (state S.Store tx.old.conn.now) (state S.Store tx.new.conn.now) }
+    ensures survives { Survives (state S.Store tx.old.conn.now) (state S.Store tx.new.conn.now) (λ _. ⊥) }
+{
+    let slot = insert_slot(tx, project, Part::Tags)?;
+    insert_all(alloc, tx, slot, tags)
+}

@@ -1,0 +1,281 @@
+//! Parts replaced and removed: what the tables hold then, also where the store stops, and on a real file.
+ghost use Rattle.std.specs.Prelude.{◌≡◌, false};
+
+use crate::{Tables, TablesFault};
+use dump::{CheckedDump, Checker};
+use flatten::flatten;
+use lsif::{Element, Profile, ReadFault, read_element};
+use sqlite::{Alter, Connection, FileStore, Files, Options};
+use sqlite_disk::{Crash, Fuse, Memory};
+use std::alloc::Global;
+use std::test::Fail;
+use tags::{Tag, read_tags};
+
+/// A dump that has a row in each of its tables.
+const FULL: [&str; 20] = [
+    r#"{"id":1,"type":"vertex","label":"metaData","version":"0.6.0"}"#,
+    r#"{"id":2,"type":"vertex","label":"document","uri":"file:///a.ts"}"#,
+    r#"{"id":3,"type":"vertex","label":"range","start":{"line":0,"character":0},"end":{"line":0,"character":9}}"#,
+    r#"{"id":4,"type":"vertex","label":"range","start":{"line":0,"character":2},"end":{"line":0,"character":5}}"#,
+    r#"{"id":5,"type":"vertex","label":"range","start":{"line":7,"character":0},"end":{"line":7,"character":0}}"#,
+    r#"{"id":6,"type":"vertex","label":"definitionResult"}"#,
+    r#"{"id":7,"type":"vertex","label":"declarationResult"}"#,
+    r#"{"id":8,"type":"vertex","label":"hoverResult","result":{"contents":"f"}}"#,
+    r#"{"id":9,"type":"vertex","label":"moniker","scheme":"npm","identifier":"f","kind":"export"}"#,
+    r#"{"id":10,"type":"vertex","label":"resultSet"}"#,
+    r#"{"id":11,"type":"edge","label":"next","outV":3,"inV":10}"#,
+    r#"{"id":12,"type":"edge","label":"next","outV":4,"inV":10}"#,
+    r#"{"id":13,"type":"edge","label":"textDocument/definition","outV":10,"inV":6}"#,
+    r#"{"id":14,"type":"edge","label":"textDocument/declaration","outV":10,"inV":7}"#,
+    r#"{"id":15,"type":"edge","label":"textDocument/hover","outV":3,"inV":8}"#,
+    r#"{"id":16,"type":"edge","label":"moniker","outV":10,"inV":9}"#,
+    r#"{"id":17,"type":"edge","label":"item","outV":6,"inVs":[3,4],"shard":2}"#,
+    r#"{"id":18,"type":"edge","label":"item","outV":7,"inVs":[4],"shard":2}"#,
+    r#"{"id":19,"type":"edge","label":"moniker","outV":3,"inV":9}"#,
+    r#"{"id":20,"type":"edge","label":"contains","outV":2,"inVs":[3,4,5]}"#,
+];
+
+/// A dump of one range.
+const SMALL: [&str; 4] = [
+    r#"{"id":1,"type":"vertex","label":"metaData","version":"0.6.0"}"#,
+    r#"{"id":2,"type":"vertex","label":"document","uri":"file:///b.ts"}"#,
+    r#"{"id":3,"type":"vertex","label":"range","start":{"line":4,"character":1},"end":{"line":4,"character":2}}"#,
+    r#"{"id":4,"type":"edge","label":"contains","outV":2,"inVs":[3]}"#,
+];
+
+/// Two tags, of which one has a field beside its kind.
+const TAGS: &str = "a\tf.c\t1;\"\tf\tclass:B\\tC\nb\tf.c\t/x/\n";
+
+fn element(alloc: Global, profile: Profile, line: &str) -> Result<Element, Fail> {
+    match read_element(alloc, profile, line.as_bytes()) {
+        Ok(element) => Ok(element),
+        Err(ReadFault::Shape(_) | ReadFault::Memory) => Err("no element")?,
+    }
+}
+
+/// The dump of these lines, which has no fault.
+fn dump_of(alloc: Global, profile: Profile, lines: &[&str]) -> Result<CheckedDump, Fail> {
+    let mut checker = Checker::new(alloc, profile);
+    for line in lines {
+        checker.feed(Ok(element(alloc, profile, line)?))?;
+    }
+    match checker.finish() {
+        Ok(dump) => Ok(dump),
+        Err(_) => Err("a fault")?,
+    }
+}
+
+fn tags_of(alloc: Global, text: &str) -> Result<Vec<Tag>, Fail> {
+    match read_tags(alloc, text.as_bytes()) {
+        Ok(tags) => Ok(tags),
+        Err(_) => Err("a fault")?,
+    }
+}
+
+/// A change of the index, each under a key of its own.
+#[derive(Clone, Copy)]
+enum Step {
+    /// Puts `FULL`, by profile 2.
+    Full(&'static str),
+    /// Puts `SMALL`, by profile 1.
+    Small(&'static str),
+    Tags(&'static str, &'static str),
+    Remove(&'static str),
+}
+
+/// What the step answers: of a removal whether there was anything, and else true.
+fn take<S: Alter>(
+    alloc: Global,
+    tables: &mut Tables<S>,
+    step: Step,
+    key: &str,
+) -> Result<Result<bool, TablesFault>, Fail> {
+    let done = match step {
+        Step::Full(project) => {
+            let dump = dump_of(alloc, Profile::Two, &FULL)?;
+            let reply = r#"{"accepted":"lsif","count":20}"#;
+            tables.replace_dump(project, key, reply, &flatten(alloc, &dump)?)
+        }
+        Step::Small(project) => {
+            let dump = dump_of(alloc, Profile::One, &SMALL)?;
+            let reply = r#"{"accepted":"lsif","count":4}"#;
+            tables.replace_dump(project, key, reply, &flatten(alloc, &dump)?)
+        }
+        Step::Tags(project, text) => {
+            let tags = tags_of(alloc, text)?;
+            let reply = r#"{"accepted":"tags","count":2}"#;
+            tables.replace_tags(alloc, project, key, reply, &tags)
+        }
+        Step::Remove(project) => return Ok(tables.remove(project, key)),
+    };
+    Ok(done.map(|()| true))
+}
+
+const STEPS: [(Step, &str); 7] = [
+    (Step::Full("app"), "k1"),
+    (Step::Tags("app", TAGS), "k2"),
+    (Step::Tags("lib", ""), "k3"),
+    (Step::Small("app"), "k4"),
+    (Step::Full("lib"), "k5"),
+    (Step::Remove("app"), "k6"),
+    (Step::Remove("app"), "k7"),
+];
+
+/// The tables whose rows are counted.
+const COUNTS: [&str; 11] = [
+    "SELECT id FROM slot",
+    "SELECT reply FROM keyed",
+    "SELECT uri FROM document",
+    "SELECT line FROM range_row",
+    "SELECT result FROM item",
+    "SELECT result FROM hover",
+    "SELECT line FROM mark",
+    "SELECT line FROM bearer",
+    "SELECT line FROM tag",
+    "SELECT slot FROM part_profile",
+    "SELECT line FROM more",
+];
+
+/// How many rows they have before each step and after the last.
+const HELD: [[usize; 11]; 8] = [
+    [0, 0, 0, 0, 0, 0, 0, 0, 0, 0, 0],
+    [1, 1, 1, 3, 3, 1, 2, 2, 0, 1, 3],
+    [2, 2, 1, 3, 3, 1, 2, 2, 2, 1, 3],
+    [3, 3, 1, 3, 3, 1, 2, 2, 2, 1, 3],
+    [3, 4, 1, 1, 0, 0, 0, 0, 2, 1, 0],
+    [4, 5, 2, 4, 3, 1, 2, 2, 2, 2, 3],
+    [2, 6, 1, 3, 3, 1, 2, 2, 0, 1, 3],
+    [2, 7, 1, 3, 3, 1, 2, 2, 0, 1, 3],
+];
+
+/// The numbers of their rows.
+fn held<S: Alter>(conn: &mut Connection<S>) -> Result<[usize; 11], Fail> {
+    let mut counts = [0; 11];
+    for at in 0..COUNTS.len() {
+        counts[at] = conn.query_all(COUNTS[at], &[])?.len();
+    }
+    Ok(counts)
+}
+
+/// What single rows say after all steps.
+const SAID: [&str; 6] = [
+    "SELECT line FROM range_row WHERE line = 4 AND uri = 'file:///a.ts' AND first = 2 AND last = 5 AND parent = 3 AND def = 6 AND refs IS NULL AND hover IS NULL",
+    "SELECT line FROM range_row WHERE line = 5 AND first = 15032385536 AND last = first AND parent IS NULL AND def IS NULL",
+    "SELECT slot FROM part_profile WHERE profile = 2",
+    "SELECT line FROM more WHERE line = 10 AND decl = 7 AND imp IS NULL",
+    "SELECT reply FROM keyed WHERE project = 'app' AND cmdkey = 'k6' AND reply = '{\"removed\":true}'",
+    "SELECT reply FROM keyed WHERE project = 'app' AND cmdkey = 'k7' AND reply = '{\"removed\":false}'",
+];
+
+fn opened<S: Alter + Drop>(conn: Connection<S>) -> Result<Tables<S>, Fail>
+    requires { conn.in_transaction ≡ false }
+{
+    match Tables::open(conn) {
+        Ok(tables) => Ok(tables),
+        Err(_) => Err("not opened")?,
+    }
+}
+
+#[test]
+fn replaced_and_removed(rt: HostRuntime) -> Result<(), Fail> {
+    let mut tables = opened(Connection::open_in_memory(rt.alloc())?)?;
+    for at in 0..STEPS.len() {
+        let (step, key) = STEPS[at];
+        assert_eq!(rt; held(&mut tables.conn)?, HELD[at], "before {key}");
+        let answer = take(rt.alloc(), &mut tables, step, key)?;
+        assert!(rt; answer == Ok(key != "k7"), "{key}");
+    }
+    let mut conn = tables.into_connection();
+    assert_eq!(rt; held(&mut conn)?, HELD[STEPS.len()]);
+    for query in SAID {
+        assert!(rt; conn.query_all(query, &[])?.len() == 1, "{query}");
+    }
+    Ok(())
+}
+
+/// Takes the steps until one is refused, and answers how many were accepted, and the files.
+fn stopped(alloc: Global, log: u64, db: u64) -> Result<(usize, Files<Fuse<Memory>>), Fail> {
+    let files = Files {
+        log: Fuse::new(Memory::new(alloc), log),
+        db: Fuse::new(Memory::new(alloc), db),
+    };
+    let conn = match Connection::open_files(alloc, files, Options::new(1)) {
+        Ok(conn) => conn,
+        Err((_, left)) => return Ok((0, left.into_files())),
+    };
+    let mut tables = match Tables::open(conn) {
+        Ok(tables) => tables,
+        Err((_, conn)) => return Ok((0, files_of(conn))),
+    };
+    for at in 0..STEPS.len() {
+        let (step, key) = STEPS[at];
+        if take(alloc, &mut tables, step, key)?.is_err() {
+            return Ok((at, files_of(tables.into_connection())));
+        }
+    }
+    Ok((STEPS.len(), files_of(tables.into_connection())))
+}
+
+fn files_of(conn: Connection<FileStore<Fuse<Memory>>>) -> Files<Fuse<Memory>> {
+    match conn.close_files() {
+        Ok(files) => files,
+        Err((_, store)) => store.close(),
+    }
+}
+
+/// What the tables hold that are opened over what a crash left of the files.
+fn recovered(alloc: Global, files: Files<Fuse<Memory>>) -> Result<[usize; 11], Fail> {
+    let Files { mut log, mut db } = files;
+    log.crash();
+    db.crash();
+    match Connection::open_files(alloc, Files { log, db }, Options::new(1)) {
+        Ok(conn) => held(&mut opened(conn)?.conn),
+        Err(_) => Err("not recovered")?,
+    }
+}
+
+/// Each call of one of the files stops the store in turn: what is left is the state before the step that was refused, or the one after
+/// it, and a step that was accepted isn't lost.
+#[test]
+fn stop_at_each_call(rt: HostRuntime) -> Result<(), Fail> {
+    for is_log in [true, false] {
+        let mut taken = 0;
+        let mut calls = 0;
+        while taken < STEPS.len() && calls < 10000 {
+            let (log, db) = if is_log {
+                (calls, u64::MAX)
+            } else {
+                (u64::MAX, calls)
+            };
+            let (count, files) = stopped(rt.alloc(), log, db)?;
+            let left = recovered(rt.alloc(), files)?;
+            let is_next = count < STEPS.len() && left == HELD[count + 1];
+            assert!(rt;
+                left == HELD[count] || is_next,
+                "{count} after {calls} calls"
+            );
+            taken = count;
+            calls += 1;
+        }
+        assert!(rt; taken == STEPS.len() && calls > 20, "{calls}");
+    }
+    Ok(())
+}
+
+/// A file that is opened twice has what was put at first.
+#[test]
+fn same_file_twice(rt: HostRuntime) -> Result<(), Fail> {
+    let mut tables = opened(Connection::open(&rt, "index.db")?)?;
+    let (step, key) = STEPS[0];
+    assert!(rt; take(rt.alloc(), &mut tables, step, key)? == Ok(true));
+    match tables.into_connection().close() {
+        Ok(()) => {}
+        Err(_) => assert!(rt; false, "not closed"),
+    }
+    let mut tables = opened(Connection::open(&rt, "index.db")?)?;
+    assert_eq!(rt; held(&mut tables.conn)?, HELD[1]);
+    let (step, key) = STEPS[1];
+    assert!(rt; take(rt.alloc(), &mut tables, step, key)? == Ok(true));
+    assert_eq!(rt; held(&mut tables.conn)?, HELD[2]);
+    Ok(())
+}
