@@ -49,7 +49,7 @@ document_same x y e = text_eq x.uri.now y.uri.now e
 abbrev same_position : PositionValue → PositionValue → Bool
 same_position p q = (p.line == q.line) && (p.character == q.character)
 
-abbrev same_span : SpanValue → SpanValue → Bool
+abbrev pub same_span : SpanValue → SpanValue → Bool
 same_span s t = same_position s.start t.start && same_position s.«end» t.«end»
 
 position_ties : (p q : PositionValue) → same_position p q ≡ is_eq (position_cmp p q)
@@ -67,15 +67,15 @@ span_same s t e =
     let b = position_same s.«end» t.«end» (second_so (same_position s.start t.start) (same_position s.«end» t.«end») e) in
     λ i. record { start = a i; «end» = b i }
 
-abbrev same_place : PlaceValue → PlaceValue → Bool
+abbrev pub same_place : PlaceValue → PlaceValue → Bool
 same_place a b = pointwise nat_eq a.uri b.uri && same_span a.span b.span
 
-place_ties : (a b : PlaceValue) → same_place a b ≡ is_eq (place_cmp a b)
+pub place_ties : (a b : PlaceValue) → same_place a b ≡ is_eq (place_cmp a b)
 place_ties a b =
     both_tied (pointwise nat_eq a.uri b.uri) (same_span a.span b.span) (slice_cmp nat_cmp a.uri b.uri) (ordering_then (position_cmp a.span.start b.span.start) (position_cmp a.span.«end» b.span.«end»)) (texts_ties a.uri b.uri)
     (both_tied (same_position a.span.start b.span.start) (same_position a.span.«end» b.span.«end») (position_cmp a.span.start b.span.start) (position_cmp a.span.«end» b.span.«end») (position_ties a.span.start b.span.start) (position_ties a.span.«end» b.span.«end»))
 
-place_same : (a b : PlaceValue) → same_place a b ≡ true → a ≡ b
+pub place_same : (a b : PlaceValue) → same_place a b ≡ true → a ≡ b
 place_same a b e =
     let u = text_eq a.uri b.uri (first_so (pointwise nat_eq a.uri b.uri) (same_span a.span b.span) e) in
     let s = span_same a.span b.span (second_so (pointwise nat_eq a.uri b.uri) (same_span a.span b.span) e) in

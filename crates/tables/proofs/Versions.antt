@@ -71,7 +71,7 @@ unfolding same_name
 version_at = refl
 
 -- where it fails, the state is as it was or rolled back
-failed : (schema : Schema) (sql : List ℕ) (params : Row) (old new : State) (e : Error) → old.now.schema ≡ schema → IsPlain (understood schema sql) → IsTrue new.is_open → FailsToQuery sql params old new e
+pub failed : (schema : Schema) (sql : List ℕ) (params : Row) (old new : State) (e : Error) → old.now.schema ≡ schema → IsPlain (understood schema sql) → IsTrue new.is_open → FailsToQuery sql params old new e
     → (new.committed ≡ old.committed) × ((new.now ≡ old.now) ⊎ (new.now ≡ old.committed))
 unfolding FailsToQuery IsNotRun
 failed schema sql params old new e has plain up (inl (inl same)) = (same.1.0.committed_is, inl same.1.0.now_is)

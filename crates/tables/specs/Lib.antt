@@ -5,6 +5,7 @@ pub mod Fault
 pub mod MemoryDisk
 pub mod Parts
 pub mod Schema
+pub mod Selections
 pub mod Stands
 pub mod State
 pub mod Steps

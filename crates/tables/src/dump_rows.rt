@@ -10,7 +10,8 @@ use flatten::{BearerRow, DocRow, HoverRow, ItemRow, MarkRow, RangeRow};
 use lsif::MonikerKind;
 use sqlite::{Alter, Error, Transaction, params};
 
-fn role_number(role: Role) -> u32
+/// The number that a row has for a role.
+pub(crate) fn role_number(role: Role) -> u32
     ensures { result ≡ role_index role }
 {
     match role {
@@ -19,7 +20,8 @@ fn role_number(role: Role) -> u32
     }
 }
 
-fn kind_number(kind: MonikerKind) -> u32
+/// The number that a row has for the kind of a moniker.
+pub(crate) fn kind_number(kind: MonikerKind) -> u32
     ensures { result ≡ kind_index kind }
 {
     match kind {

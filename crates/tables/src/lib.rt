@@ -2,21 +2,32 @@
 #![tactic(auto)]
 
 mod changes;
+mod columns;
 mod dump_part;
 mod dump_rows;
 mod fault;
 mod format;
+mod items;
+mod marks;
 mod memory_disk;
 mod migration;
 mod more;
 mod part_rows;
+mod parts;
+mod projects;
+mod replies;
+mod results;
+mod selection;
 mod slots;
 mod tables;
 mod tags_part;
 
 pub use fault::TablesFault;
+pub use items::FoundItem;
+pub use marks::FoundMark;
 pub use memory_disk::MemoryDisk;
 pub use migration::migrate;
+pub use projects::ProjectRow;
 pub use tables::Tables;
 
 #[cfg(test)]

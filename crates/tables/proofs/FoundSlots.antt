@@ -1,0 +1,99 @@
+-- The slots of parts, as they are selected.
+use Rattle.std.proofs.Common.{◌≡◌, inl, inr, ℕ, ℤ, List, [], ◌∷◌, Option, Some, None, codes, false, refl, sym, ap, subst, ◌∙◌}
+use Rattle.sqlite.specs.Listing.{understood, reads_listing}
+use Rattle.sqlite.specs.State.{State, Shown}
+use Rattle.sqlite.proofs.Callers.{IsPlain, command_of}
+use Rattle.sqlite_tied.specs.Compute.{everything}
+use Rattle.sqlite_value.specs.Order.{Row}
+use Rattle.sqlite_value.specs.declared.value.Value.TheVariants.{Null, Int, Text}
+use Rattle.sqlite_value.proofs.OrderLemmas.{value_cmp-Int}
+use Rattle.sqlite_sql.specs.Term.{col}
+use Rattle.sqlite_schema.specs.declared.command.Command.TheVariants.{Select}
+use Rattle.sqlite_trees.specs.Tree.{Trees}
+use Rattle.sqlite_rules.specs.Lists.{Has}
+use Rattle.sqlite_rules.proofs.PlaceLemmas.{tied_same}
+use Rattle.tables.specs.Schema.{schema_two, slot}
+use Rattle.tables.specs.Contents.{Contents, Replies, Keeps, slot_row}
+use Rattle.tables.specs.Steps.SelectionTexts.{select_slot}
+use Rattle.tables.specs.Steps.Selected.{AreTyped, IsFirstRead, ShowsOne, equals}
+use Rattle.tables.specs.Steps.Slots.{IsSlotOf}
+use Rattle.tables.proofs.Cascade.{equal_is}
+use Rattle.tables.proofs.Entries.{typed_as}
+use Rattle.tables.proofs.Keeping.{none_is_some, slot_is, same_int_itself}
+use Rattle.tables.proofs.Select.{one_table}
+use Rattle.tables.proofs.Selecting.{IsSelection, shows_one}
+
+pub select_slot_is : command_of (understood schema_two select_slot) ≡ Select (record { lets = []; body = one_table 1 (equals ((2, 0) ∷ (3, 1) ∷ [])) (col 1 0 ∷ []) }) (codes "id" ∷ [])
+unfolding understood everything
+select_slot_is = refl
+
+pub select_slot_plain : IsPlain (understood schema_two select_slot) × (reads_listing schema_two select_slot ≡ false)
+unfolding understood everything
+select_slot_plain = ((refl, refl), refl)
+
+pub record SlotEntry : Type 0 where
+  pub project : List ℕ
+  pub part : ℤ
+
+abbrev pub slot_values : SlotEntry → Row
+slot_values e = Null ∷ Text e.project ∷ Int e.part ∷ []
+
+abbrev pub id_of : ℤ → Row
+id_of id = Int id ∷ []
+
+abbrev Ided : ℤ → SlotEntry → Row
+Ided id e = id_of id
+
+pub typed_slots : (db : Trees) (parts : Contents) (replies : Replies) → Keeps db parts replies → AreTyped slot_values (db 1)
+typed_slots db parts replies is row h = let s = is.slots row h in (s.id, record { project = s.project; part = s.part }, s.is)
+
+-- two parts have no slot in common
+pub one_slot : (db : Trees) (parts : Contents) (replies : Replies) (id : ℤ) (p q : List ℕ) (j k : ℤ) → Keeps db parts replies → Has (db 1) (slot_row id p j) → Has (db 1) (slot_row id q k) → (p ≡ q) × (j ≡ k)
+one_slot db parts replies id p q j k is a b =
+    (slot_is (tied_same (db 1) (slot_row id p j) (slot_row id q k) (is.ordered slot (inr (inl refl))).rises a b (value_cmp-Int id id ∙ equal_is _ (same_int_itself id)))).1
+
+pub no_slot : (db : Trees) (parts : Contents) (project : List ℕ) (part : ℤ) (found : Option ℤ) → IsSlotOf db parts project part found → found ≡ None → parts project part ≡ None
+no_slot db parts project part None is e = is
+no_slot db parts project part (Some id) is e = absurd (none_is_some (sym e))
+
+pub the_slot : (db : Trees) (parts : Contents) (project : List ℕ) (part id : ℤ) (found : Option ℤ) → IsSlotOf db parts project part found → found ≡ Some id → Has (db 1) (slot_row id project part)
+the_slot db parts project part id None is e = absurd (none_is_some e)
+the_slot db parts project part id (Some n) is e = subst (λ (i : ℤ). Has (db 1) (slot_row i project part)) (let it : n ≡ id = cc in it) is
+
+module _ (project : List ℕ) (part : ℤ) where
+  abbrev IsOfPart : ℤ → SlotEntry → Type 0
+  IsOfPart id e = (e.project ≡ project) × (e.part ≡ part)
+
+  selection : IsSelection slot_values Ided IsOfPart select_slot (Text project ∷ Int part ∷ []) 1
+  selection = record {
+    pairs = (2, 0) ∷ (3, 1) ∷ [];
+    terms = col 1 0 ∷ [];
+    names = codes "id" ∷ [];
+    is = select_slot_is;
+    plain = select_slot_plain;
+    own = λ db. refl;
+    shows = λ id e. refl;
+    alike = λ id e. (tt, (tt, tt));
+    wants = λ id e h. ((let a = h.0 in cc), (let a = h.1.0 in cc));
+    wanted = λ id e w. (ap Text w.0, (ap Int w.1, tt));
+  }
+
+  is_slot : (db : Trees) (parts : Contents) (replies : Replies) → Keeps db parts replies → (found : Option ℤ) → ShowsOne slot_values Ided IsOfPart id_of db 1 found → IsSlotOf db parts project part found
+  is_slot db parts replies is None none = none_there (parts project part) refl
+    where
+      none_there : (o : Option (ℕ → List Row)) → parts project part ≡ o → parts project part ≡ None
+      none_there None e = e
+      none_there (Some rows) e =
+          let s = is.there project part rows e in
+          absurd (none (record { project = project; part = part }) ((s.0, s.1), (refl, refl)))
+  is_slot db parts replies is (Some id) one =
+      let same : one.1.0.0 ≡ id = let a = one.2 in cc in
+      subst (λ (i : ℤ). Has (db 1) (slot_row i project part)) same
+      (subst (λ (k : ℤ). Has (db 1) (slot_row one.1.0.0 project k)) one.1.1.1 (subst (λ (p : List ℕ). Has (db 1) (slot_row one.1.0.0 p one.0.part)) one.1.1.0 one.1.0.1))
+
+  pub slot_found : (old new : State) (rows : List Row) (found : Option ℤ) (parts : Contents) (replies : Replies) → Keeps old.now.trees parts replies → old.now.schema ≡ schema_two → Shown select_slot (Text project ∷ Int part ∷ []) old new rows → IsFirstRead id_of rows found
+      → IsSlotOf old.now.trees parts project part found
+  unfolding selection
+  slot_found old new rows found parts replies is has shown read =
+      is_slot old.now.trees parts replies is found
+      (shows_one slot_values Ided IsOfPart id_of select_slot (Text project ∷ Int part ∷ []) 1 selection (λ x. refl) old new rows has (typed_slots old.now.trees parts replies is) shown found read)

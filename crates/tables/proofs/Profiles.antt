@@ -1,0 +1,87 @@
+-- The profile of a dump, as it is selected.
+use Rattle.std.proofs.Common.{◌≡◌, inl, inr, ℕ, ℤ, pos, List, [], ◌∷◌, Option, Some, None, codes, false, refl, sym, ap, subst, ◌∙◌, option_map, ◌↔◌}
+use Rattle.sqlite.specs.Listing.{understood, reads_listing}
+use Rattle.sqlite.specs.State.{State as Store, Shown}
+use Rattle.sqlite.proofs.Callers.{IsPlain, command_of}
+use Rattle.sqlite_tied.specs.Compute.{everything}
+use Rattle.sqlite_value.specs.Order.{Row}
+use Rattle.sqlite_value.specs.declared.value.Value.TheVariants.{Int}
+use Rattle.sqlite_sql.specs.Term.{col}
+use Rattle.sqlite_schema.specs.declared.command.Command.TheVariants.{Select}
+use Rattle.sqlite_trees.specs.Tree.{Trees}
+use Rattle.sqlite_rules.specs.Lists.{Has}
+use Rattle.lsif.specs.declared.element.Profile.{Profile}
+use Rattle.lsif.specs.declared.element.Profile.TheVariants.{One, Two}
+use Rattle.dump.specs.Progress.{DumpValue}
+use Rattle.flatten.specs.Flat.{RowsValue, IsFlat}
+use Rattle.tables.specs.Schema.{schema_two}
+use Rattle.tables.specs.Columns.{dump_rows, profile_columns}
+use Rattle.tables.specs.Contents.{owned, slot_row}
+use Rattle.tables.specs.State.{State}
+use Rattle.tables.specs.Stands.{StandsFor}
+use Rattle.tables.specs.Steps.SelectionTexts.{select_profile}
+use Rattle.tables.specs.Steps.Selected.{IsFirstRead, equals}
+use Rattle.tables.specs.Steps.DumpEntries.{Entries, entry_values, ShowsOneOf}
+use Rattle.tables.proofs.DumpEntries.{typed, shows_one_of}
+use Rattle.tables.proofs.Select.{one_table}
+use Rattle.tables.proofs.Selecting.{IsSelection, shows_one}
+
+select_profile_is : command_of (understood schema_two select_profile) ≡ Select (record { lets = []; body = one_table 22 (equals ((1, 0) ∷ [])) (col 1 2 ∷ []) }) (codes "profile" ∷ [])
+unfolding understood everything
+select_profile_is = refl
+
+pub select_profile_plain : IsPlain (understood schema_two select_profile) × (reads_listing schema_two select_profile ≡ false)
+unfolding understood everything
+select_profile_plain = ((refl, refl), refl)
+
+abbrev IsProfile : DumpValue → Profile → Type 0
+IsProfile dump profile = dump.profile ≡ profile
+
+are : (d : DumpValue) (flat : RowsValue) → IsFlat d.elements flat → (row : Row) → Has (dump_rows d.profile flat 22) row ↔ ((p : Profile) × IsProfile d p × (row ≡ profile_columns p))
+are d flat is row = (
+  (λ h. elim h [ inl e ↦ (d.profile, refl, e) | inr none ↦ absurd none ]),
+  (λ h. inl (h.2 ∙ ap profile_columns (sym h.1))),
+)
+
+abbrev Matches : Profile → Type 0
+Matches p = Unit {0}
+
+same_profile : (p q : Profile) → profile_columns p ≡ profile_columns q → p ≡ q
+same_profile One One e = refl
+same_profile One Two e = absurd cc
+same_profile Two One e = absurd cc
+same_profile Two Two e = refl
+
+module _ (db : Trees) (m : State) (s : StandsFor db m) (id : ℤ) where
+  abbrev IsWanted : ℤ → Entries IsProfile db m → Type 0
+  IsWanted at e = (e.0.slot ≡ id) × Matches e.0.value
+
+  selection : IsSelection (entry_values profile_columns IsProfile db m) (λ at e. profile_columns e.0.value) IsWanted select_profile (Int id ∷ []) 22
+  selection = record {
+    pairs = (1, 0) ∷ [];
+    terms = col 1 2 ∷ [];
+    names = codes "profile" ∷ [];
+    is = select_profile_is;
+    plain = select_profile_plain;
+    own = λ db. refl;
+    shows = λ at e. refl;
+    alike = λ at e. (tt, tt);
+    wants = λ at e h. ((let a = h.0 in cc), tt);
+    wanted = λ at e w. (ap Int w.0, tt);
+  }
+
+is_owned : Has owned 22
+is_owned = inr (inr (inr (inr (inr (inr (inr (inl refl)))))))
+
+pub profile_found : (m : State) (id : ℤ) (project : List ℕ) (dump : DumpValue) (old new : Store) (rows : List Row) (found : Option Profile) → StandsFor old.now.trees m → old.now.schema ≡ schema_two → Has (old.now.trees 1) (slot_row id project (pos 1))
+    → m.dump project ≡ Some dump → Shown select_profile (Int id ∷ []) old new rows → IsFirstRead profile_columns rows found → found ≡ Some dump.profile
+unfolding selection
+profile_found m id project dump old new rows found s schema slot has shown read =
+    let db = old.now.trees in
+    it found (shows_one_of db m s IsProfile profile_columns 22 is_owned are (λ tags. refl) project dump id slot has Matches profile_columns profile_columns found
+    (shows_one (entry_values profile_columns IsProfile db m) (λ at e. profile_columns e.0.value) (IsWanted db m s id) profile_columns select_profile (Int id ∷ []) 22 (selection db m s id) (λ x. refl) old new rows schema
+    (typed db m s IsProfile profile_columns 22 is_owned are (λ tags. refl)) shown found read))
+  where
+    it : (o : Option Profile) → ShowsOneOf profile_columns (IsProfile dump) Matches profile_columns o → o ≡ Some dump.profile
+    it None none = absurd (none dump.profile refl tt)
+    it (Some p) one = ap (λ (x : Profile). Some x) (same_profile p one.0 one.3 ∙ sym one.1)

@@ -1,0 +1,15 @@
+use Rattle.std.proofs.Common.{to_z-of_z}
+use Rattle.std.proofs.lemmas.Result.{IfOk-weaker}
+use Rattle.sqlite.specs.Held.{state}
+use Rattle.tables.proofs.FoundSlots.{select_slot_plain, slot_found}
+use Rattle.tables.proofs.parts.find_slot.Goals as goal
+
+pub select_first-requires : goal.select_first-requires
+select_first-requires g c = select_slot_plain.0
+
+pub returns-clause-slot : goal.returns-clause-slot
+returns-clause-slot g c clean has parts replies is =
+    let old = state g.S.Store c.args.conn.now in
+    let new = state g.S.Store c.select_first.new.conn in
+    IfOk-weaker c.select_first.result _ _ (λ found h.
+    slot_found c.args.project.now c.args.part old new h.0 found parts replies is has (rw (c.params-to_sql.ensures, c.params-to_sql-2.ensures, to_z-of_z c.ranges.part) at h.1) h.2) (c.select_first.ensures.read clean)

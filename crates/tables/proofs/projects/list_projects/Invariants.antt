@@ -1,0 +1,29 @@
+use Rattle.std.proofs.Common.{◌≡◌, ◌++◌, false, length, map, reverse, string_bytes}
+use Rattle.std.specs.List.{AllByRecursion}
+use Rattle.sqlite.specs.State.{HasCleanDisk}
+use Rattle.sqlite.specs.Held.{state}
+use Rattle.dump.specs.Places.{IsListing}
+use Rattle.tables.specs.Schema.{schema_two}
+use Rattle.tables.specs.Contents.{Contents, Replies, Keeps}
+use Rattle.tables.specs.State.{State}
+use Rattle.tables.specs.Stands.{StandsFor}
+use Rattle.tables.specs.Selections.{IsAsBefore, project_found, text_cmp}
+use Rattle.tables.specs.Steps.Selected.{Looks}
+use Rattle.tables.specs.Steps.Slots.{HasPart, IsTold}
+use Rattle.tables.proofs.ProjectNames.{names_of}
+use Rattle.tables.proofs.projects.list_projects.Given as goal
+
+abbrev pub invariant-loop-name : goal.invariant-loop-name
+invariant-loop-name g l =
+    let old = state g.S.Store l.fn.conn in
+    let now = state g.S.Store l.conn in
+    record {
+      looks : Looks old now;
+      kept : HasCleanDisk now → old.now.schema ≡ schema_two → IsAsBefore old now;
+      mode : l.fn.conn.in_transaction ≡ false → l.conn.in_transaction ≡ false;
+      names : HasCleanDisk now → old.now.schema ≡ schema_two → (parts : Contents) (replies : Replies) → Keeps old.now.trees parts replies → IsListing text_cmp (HasPart parts) (names_of l.found.items ++ reverse (map string_bytes l.left.items));
+      told : HasCleanDisk now → old.now.schema ≡ schema_two → (m : State) → StandsFor old.now.trees m → AllByRecursion (IsTold m) (map project_found l.found.items);
+    }
+
+abbrev pub decreases-loop-name : goal.decreases-loop-name
+decreases-loop-name g l = length l.left.items

@@ -1,0 +1,99 @@
+-- What selections find, and what they leave.
+use Rattle.std.specs.Prelude.{◌≡◌, ◌||◌, ℕ, Bool, true, List, Option, Some, None, is_some, string_bytes}
+use Rattle.std.specs.declared.cmp.Ordering.{Ordering}
+use Rattle.std.specs.Ordering.{nat_cmp, ordering_then}
+use Rattle.std.specs.Cmp.Lexicographic.{slice_cmp}
+use Rattle.sqlite.specs.State as sqlite
+use Rattle.lsif.specs.declared.element.MonikerKind.{MonikerKind}
+use Rattle.positions.specs.Position.{IsPosition}
+use Rattle.positions.specs.Span.{SpanValue}
+use Rattle.lsif.specs.Element.{IdValue, range}
+use Rattle.dump.specs.Graph.{vertex_at}
+use Rattle.dump.specs.declared.role.Role.{Role}
+use Rattle.dump.specs.Places.{PlaceValue, IsListing, place_cmp}
+use Rattle.dump.specs.Progress.{DumpValue}
+use Rattle.flatten.specs.Flat.{IsHoverRow, IsItemRow, IsMarkRow, kind_index}
+use Rattle.tables.specs.State.{State}
+use Rattle.tables.specs.declared.items.FoundItem.{FoundItem}
+use Rattle.tables.specs.declared.marks.FoundMark.{FoundMark}
+use Rattle.tables.specs.declared.projects.ProjectRow.{ProjectRow}
+
+-- what is shown and what is committed are as before
+abbrev pub IsAsBefore : sqlite.State → sqlite.State → Type 0
+IsAsBefore old new = (new.now ≡ old.now) × (new.committed ≡ old.committed)
+
+-- by their bytes
+abbrev pub text_cmp : List ℕ → List ℕ → Ordering
+text_cmp = slice_cmp nat_cmp
+
+-- ---- projects
+
+-- a project's name, and whether it has a dump and tags
+pub record ProjectValue : Type 0 where
+  pub name : List ℕ
+  pub dump : Bool
+  pub tags : Bool
+
+abbrev pub project_found : ProjectRow → ProjectValue
+project_found project = record { name = string_bytes project.name; dump = project.dump; tags = project.tags }
+
+-- a project with a part, and which of both it has
+abbrev pub IsProject : State → ProjectValue → Type 0
+IsProject m p = (p.dump ≡ is_some (m.dump p.name)) × (p.tags ≡ is_some (m.tags p.name)) × ((p.dump || p.tags) ≡ true)
+
+abbrev pub project_cmp : ProjectValue → ProjectValue → Ordering
+project_cmp a b = text_cmp a.name b.name
+
+-- the projects with a part, each once
+abbrev pub FindsProjects : State → List ProjectValue → Type 0
+FindsProjects m = IsListing project_cmp (IsProject m)
+
+-- ---- hovers
+
+-- the hover result of this number, in the project's dump, has these contents
+abbrev pub HasHover : State → List ℕ → ℕ → List ℕ → Type 0
+HasHover m project result contents = (dump : DumpValue) × (m.dump project ≡ Some dump) × IsHoverRow dump.elements (record { result = result; contents = contents })
+
+-- the contents of the hover result, or none where there is no such result
+abbrev pub FindsHover : State → List ℕ → ℕ → Option (List ℕ) → Type 0
+FindsHover m project result (Some contents) = HasHover m project result contents
+FindsHover m project result None = (contents : List ℕ) → HasHover m project result contents → ⊥
+
+-- ---- marks
+
+-- the kind of a moniker, and the text of its key
+pub record MarkText : Type 0 where
+  pub kind : MonikerKind
+  pub key : List ℕ
+
+abbrev pub mark_found : FoundMark → MarkText
+mark_found mark = record { kind = mark.kind; key = string_bytes mark.key }
+
+-- the range at this line of the project's dump has the mark
+abbrev pub HasMark : State → List ℕ → ℕ → MarkText → Type 0
+HasMark m project line mark = (dump : DumpValue) × (m.dump project ≡ Some dump) × IsMarkRow dump.elements (record { range = line; kind = mark.kind; key = mark.key })
+
+-- by kind, then by key
+abbrev pub mark_text_cmp : MarkText → MarkText → Ordering
+mark_text_cmp a b = ordering_then (nat_cmp (kind_index a.kind) (kind_index b.kind)) (text_cmp a.key b.key)
+
+-- the marks of the range, each once
+abbrev pub FindsMarks : State → List ℕ → ℕ → List MarkText → Type 0
+FindsMarks m project line = IsListing mark_text_cmp (HasMark m project line)
+
+-- ---- items
+
+-- the positions of each range of a dump have numbers
+abbrev pub HasPositions : State → Type 0
+HasPositions m = (project : List ℕ) (dump : DumpValue) (r : IdValue) (span : SpanValue) → m.dump project ≡ Some dump → vertex_at dump.elements r ≡ Some (range span) → IsPosition span.start × IsPosition span.«end»
+
+abbrev pub item_found : FoundItem → PlaceValue
+item_found item = record { uri = string_bytes item.uri; span = item.span }
+
+-- the result of this number, in the project's dump, has the place in the role
+abbrev pub HasItem : State → List ℕ → ℕ → Role → PlaceValue → Type 0
+HasItem m project result role place = (dump : DumpValue) × (m.dump project ≡ Some dump) × IsItemRow dump.elements (record { result = result; role = role; place = place })
+
+-- the places of the result in the role, each once
+abbrev pub FindsItems : State → List ℕ → ℕ → Role → List PlaceValue → Type 0
+FindsItems m project result role = IsListing place_cmp (HasItem m project result role)

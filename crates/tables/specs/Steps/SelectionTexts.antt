@@ -1,0 +1,20 @@
+-- The texts of the selections.
+use Rattle.std.specs.Prelude.{codes, ℕ, List}
+
+abbrev pub select_slot : List ℕ
+select_slot = codes "SELECT id FROM slot WHERE project = ?1 AND part = ?2"
+
+abbrev pub select_profile : List ℕ
+select_profile = codes "SELECT profile FROM part_profile WHERE slot = ?1"
+
+abbrev pub select_projects : List ℕ
+select_projects = codes "SELECT project FROM slot"
+
+abbrev pub select_hover : List ℕ
+select_hover = codes "SELECT contents FROM hover WHERE slot = ?1 AND result = ?2"
+
+abbrev pub select_marks : List ℕ
+select_marks = codes "SELECT kind, keytext FROM mark WHERE slot = ?1 AND line = ?2"
+
+abbrev pub select_items : List ℕ
+select_items = codes "SELECT uri, first, last FROM item WHERE slot = ?1 AND result = ?2 AND role = ?3"

@@ -1,0 +1,128 @@
+//! The items of results, as they are selected.
+ghost use Rattle.std.specs.Prelude.{◌≡◌, ◌∷◌, [], List, ℕ, Contains, map, string_bytes, pos, false, IsTrue, IfOk};
+ghost use Rattle.sqlite_value.specs.declared.value.Value.TheVariants.{Text};
+ghost use Rattle.sqlite_rules.specs.Lists.{Has};
+ghost use Rattle.sqlite.specs.State.{HasCleanDisk, Survives};
+ghost use Rattle.sqlite.specs.Held.{state};
+ghost use Rattle.positions.specs.Position.{IsPosition};
+ghost use Rattle.dump.specs.Places.{IsListing, place_cmp};
+ghost use Rattle.tables.specs.Schema.{schema_two};
+ghost use Rattle.tables.specs.Columns.{position};
+ghost use Rattle.tables.specs.Contents.{slot_row};
+ghost use Rattle.tables.specs.State.{State};
+ghost use Rattle.tables.specs.Stands.{StandsFor, Rests};
+ghost use Rattle.tables.specs.Selections.{IsAsBefore, HasPositions, FindsItems, item_found};
+ghost use Rattle.tables.specs.Steps.Selected.{Looks};
+
+use crate::columns::{column, span_of};
+use crate::dump_rows::role_number;
+use crate::fault::TablesFault;
+use crate::parts::{DUMP, find_slot};
+use crate::selection::{Listed, select_all};
+use crate::tables::Tables;
+use dump::Role;
+use positions::Span;
+use sqlite::{Alter, Connection, Row, params};
+use std::alloc::Global;
+use std::cmp::Ordering;
+
+/// A place of a result: that of a range that is an item of it, or of a result that it leads to.
+#[derive(Debug, PartialEq, Eq, Drop)]
+pub struct FoundItem {
+    /// The serialized URL of the document.
+    pub uri: String,
+    /// The start of the range and its end, which is exclusive.
+    pub span: Span,
+}
+
+impl Listed for FoundItem {
+    ghost columns = { λ item. Text (string_bytes item.uri) ∷ position item.span.start ∷ position item.span.«end» ∷ [] };
+
+    ghost is_sound = { λ item. IsPosition item.span.start × IsPosition item.span.«end» };
+
+    fn read(row: &Row) -> Result<FoundItem, TablesFault> {
+        let span = span_of(column(row, 1)?, column(row, 2)?)?;
+        Ok(FoundItem {
+            uri: column(row, 0)?,
+            span,
+        })
+    }
+}
+
+/// By uri (its bytes), then start, then end.
+fn order(a: &FoundItem, b: &FoundItem) -> Ordering
+    ensures { result ≡ place_cmp (item_found a.now) (item_found b.now) }
+{
+    let ends = a.span.end().cmp(&b.span.end());
+    let starts = a.span.start().cmp(&b.span.start());
+    a.uri.as_str().cmp(b.uri.as_str()).then(starts.then(ends))
+}
+
+/// Puts the items in order, each once.
+fn list_items(found: &mut Vec<FoundItem>)
+    ensures { IsListing place_cmp (Contains (map item_found found.old.items)) (map item_found found.new.items) }
+{
+    found.sort_unstable_by(|a, b| order(a, b));
+    found.dedup();
+}
+
+/// The items that a result has in a role, in the dump that has this slot.
+fn items_in<S: Alter>(
+    alloc: Global,
+    conn: &mut Connection<S>,
+    slot: i64,
+    result_number: u32,
+    role: Role,
+) -> Result<Vec<FoundItem>, TablesFault>
+    ensures found { HasCleanDisk (state S.Store conn.new) → (state S.Store conn.old).now.schema ≡ schema_two → (m : State) → StandsFor (state S.Store conn.old).now.trees m → HasPositions m
+        → (project : List ℕ) → Has ((state S.Store conn.old).now.trees 1) (slot_row slot project (pos 1)) → IfOk result (λ found. FindsItems m project result_number role (map item_found found.items)) }
+    ensures looks { Looks (state S.Store conn.old) (state S.Store conn.new) }
+    ensures mode { conn.old.in_transaction ≡ false → conn.new.in_transaction ≡ false }
+{
+    let role = role_number(role);
+    let mut found = select_all(
+        alloc,
+        conn,
+        "SELECT uri, first, last FROM item WHERE slot = ?1 AND result = ?2 AND role = ?3",
+        params![slot, result_number, role],
+    )?;
+    list_items(&mut found);
+    Ok(found)
+}
+
+/// The items that a result has in a role, in a project's dump.
+fn find_items<S: Alter>(
+    alloc: Global,
+    conn: &mut Connection<S>,
+    project: &str,
+    result_number: u32,
+    role: Role,
+) -> Result<Vec<FoundItem>, TablesFault>
+    ensures found { HasCleanDisk (state S.Store conn.new) → (state S.Store conn.old).now.schema ≡ schema_two → (m : State) → StandsFor (state S.Store conn.old).now.trees m → HasPositions m → IfOk result (λ found. FindsItems m project.now result_number role (map item_found found.items)) }
+    ensures looks { Looks (state S.Store conn.old) (state S.Store conn.new) }
+    ensures mode { conn.old.in_transaction ≡ false → conn.new.in_transaction ≡ false }
+{
+    match find_slot(conn, project, DUMP)? {
+        Some(slot) => items_in(alloc, conn, slot, result_number, role),
+        None => Ok(Vec::new(alloc)),
+    }
+}
+
+impl<S: Alter> Tables<S> {
+    /// The places that a result of the project's dump has in a role, by the result's number: each once, by uri, start and end, and none where the dump
+    /// has no such result or the project no dump. It's `Refused` where the store refuses, or where a row isn't one of this product's, and `Memory` where
+    /// memory is refused.
+    pub fn items(
+        &mut self,
+        alloc: Global,
+        project: &str,
+        result_number: u32,
+        role: Role,
+    ) -> Result<Vec<FoundItem>, TablesFault>
+        ensures found { HasCleanDisk (state S.Store self.new) → (m : State) → Rests (state S.Store self.old) m → HasPositions m → IfOk result (λ found. FindsItems m project.now result_number role (map item_found found.items)) }
+        ensures same { HasCleanDisk (state S.Store self.new) → IsTrue (state S.Store self.new).is_open → (m : State) → Rests (state S.Store self.old) m → IsAsBefore (state S.Store self.old) (state S.Store self.new) }
+        ensures survives { (m : State) → Rests (state S.Store self.old) m → Survives (state S.Store self.old) (state S.Store self.new) (λ _. ⊥) }
+    {
+        find_items(alloc, &mut self.conn, project, result_number, role)
+    }
+}

@@ -1,0 +1,119 @@
+//! Marks, as they are selected.
+ghost use Rattle.std.specs.Prelude.{◌≡◌, ◌∷◌, [], List, ℕ, Contains, map, string_bytes, pos, false, IsTrue, IfOk};
+ghost use Rattle.sqlite_value.specs.declared.value.Value.TheVariants.{Text};
+ghost use Rattle.sqlite_rules.specs.Lists.{Has};
+ghost use Rattle.sqlite.specs.State.{HasCleanDisk, Survives};
+ghost use Rattle.sqlite.specs.Held.{state};
+ghost use Rattle.dump.specs.Places.{IsListing};
+ghost use Rattle.flatten.specs.Flat.{kind_index};
+ghost use Rattle.tables.specs.Schema.{schema_two};
+ghost use Rattle.tables.specs.Columns.{number};
+ghost use Rattle.tables.specs.Contents.{slot_row};
+ghost use Rattle.tables.specs.State.{State};
+ghost use Rattle.tables.specs.Stands.{StandsFor, Rests};
+ghost use Rattle.tables.specs.Selections.{IsAsBefore, FindsMarks, mark_text_cmp, mark_found};
+ghost use Rattle.tables.specs.Steps.Selected.{Looks};
+
+use crate::columns::{column, kind_of};
+use crate::dump_rows::kind_number;
+use crate::fault::TablesFault;
+use crate::parts::{DUMP, find_slot};
+use crate::selection::{Listed, select_all};
+use crate::tables::Tables;
+use lsif::MonikerKind;
+use sqlite::{Alter, Connection, Row, params};
+use std::alloc::Global;
+use std::cmp::Ordering;
+
+/// A mark of a range: the kind and the text of the key of a moniker that the range, or another member of its chain, bears.
+#[derive(Debug, PartialEq, Eq, Drop)]
+pub struct FoundMark {
+    pub kind: MonikerKind,
+    /// As `flatten::key_text` makes it.
+    pub key: String,
+}
+
+impl Listed for FoundMark {
+    ghost columns = { λ mark. number (kind_index mark.kind) ∷ Text (string_bytes mark.key) ∷ [] };
+
+    fn read(row: &Row) -> Result<FoundMark, TablesFault> {
+        let kind = kind_of(column(row, 0)?)?;
+        Ok(FoundMark {
+            kind,
+            key: column(row, 1)?,
+        })
+    }
+}
+
+/// By kind, then by key.
+fn order(a: &FoundMark, b: &FoundMark) -> Ordering
+    ensures { result ≡ mark_text_cmp (mark_found a.now) (mark_found b.now) }
+{
+    kind_number(a.kind)
+        .cmp(&kind_number(b.kind))
+        .then(a.key.as_str().cmp(b.key.as_str()))
+}
+
+/// Puts the marks in order, each once.
+fn list_marks(found: &mut Vec<FoundMark>)
+    ensures { IsListing mark_text_cmp (Contains (map mark_found found.old.items)) (map mark_found found.new.items) }
+{
+    found.sort_unstable_by(|a, b| order(a, b));
+    found.dedup();
+}
+
+/// The marks of a range of the dump that has this slot.
+fn marks_in<S: Alter>(
+    alloc: Global,
+    conn: &mut Connection<S>,
+    slot: i64,
+    line: u32,
+) -> Result<Vec<FoundMark>, TablesFault>
+    ensures found { HasCleanDisk (state S.Store conn.new) → (state S.Store conn.old).now.schema ≡ schema_two → (m : State) → StandsFor (state S.Store conn.old).now.trees m
+        → (project : List ℕ) → Has ((state S.Store conn.old).now.trees 1) (slot_row slot project (pos 1)) → IfOk result (λ found. FindsMarks m project line (map mark_found found.items)) }
+    ensures looks { Looks (state S.Store conn.old) (state S.Store conn.new) }
+    ensures mode { conn.old.in_transaction ≡ false → conn.new.in_transaction ≡ false }
+{
+    let mut found = select_all(
+        alloc,
+        conn,
+        "SELECT kind, keytext FROM mark WHERE slot = ?1 AND line = ?2",
+        params![slot, line],
+    )?;
+    list_marks(&mut found);
+    Ok(found)
+}
+
+/// The marks of a range of a project's dump.
+fn find_marks<S: Alter>(
+    alloc: Global,
+    conn: &mut Connection<S>,
+    project: &str,
+    line: u32,
+) -> Result<Vec<FoundMark>, TablesFault>
+    ensures found { HasCleanDisk (state S.Store conn.new) → (state S.Store conn.old).now.schema ≡ schema_two → (m : State) → StandsFor (state S.Store conn.old).now.trees m → IfOk result (λ found. FindsMarks m project.now line (map mark_found found.items)) }
+    ensures looks { Looks (state S.Store conn.old) (state S.Store conn.new) }
+    ensures mode { conn.old.in_transaction ≡ false → conn.new.in_transaction ≡ false }
+{
+    match find_slot(conn, project, DUMP)? {
+        Some(slot) => marks_in(alloc, conn, slot, line),
+        None => Ok(Vec::new(alloc)),
+    }
+}
+
+impl<S: Alter> Tables<S> {
+    /// The marks of the range at this line of the project's dump, counted from 1: each once, by kind and key, and none where there is no such range. It's
+    /// `Refused` where the store refuses, or where a row isn't one of this product's, and `Memory` where memory is refused.
+    pub fn marks(
+        &mut self,
+        alloc: Global,
+        project: &str,
+        line: u32,
+    ) -> Result<Vec<FoundMark>, TablesFault>
+        ensures found { HasCleanDisk (state S.Store self.new) → (m : State) → Rests (state S.Store self.old) m → IfOk result (λ found. FindsMarks m project.now line (map mark_found found.items)) }
+        ensures same { HasCleanDisk (state S.Store self.new) → IsTrue (state S.Store self.new).is_open → (m : State) → Rests (state S.Store self.old) m → IsAsBefore (state S.Store self.old) (state S.Store self.new) }
+        ensures survives { (m : State) → Rests (state S.Store self.old) m → Survives (state S.Store self.old) (state S.Store self.new) (λ _. ⊥) }
+    {
+        find_marks(alloc, &mut self.conn, project, line)
+    }
+}

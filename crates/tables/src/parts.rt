@@ -1,0 +1,101 @@
+//! The parts of projects, as they are selected.
+ghost use Rattle.std.specs.Prelude.{◌≡◌, List, ℕ, Some, option_map, pos, false, IsTrue, IfOk, OnOk};
+ghost use Rattle.sqlite_rules.specs.Lists.{Has};
+ghost use Rattle.sqlite.specs.State.{HasCleanDisk, Survives};
+ghost use Rattle.sqlite.specs.Held.{state};
+ghost use Rattle.dump.specs.Progress.{DumpValue};
+ghost use Rattle.tables.specs.Schema.{schema_two};
+ghost use Rattle.tables.specs.Columns.{profile_columns};
+ghost use Rattle.tables.specs.Contents.{Contents, Replies, Keeps, slot_row};
+ghost use Rattle.tables.specs.State.{State};
+ghost use Rattle.tables.specs.Stands.{StandsFor, Rests};
+ghost use Rattle.tables.specs.Selections.{IsAsBefore};
+ghost use Rattle.tables.specs.Steps.Selected.{Looks};
+ghost use Rattle.tables.specs.Steps.Slots.{IsSlotOf};
+
+use crate::columns::column;
+use crate::fault::TablesFault;
+use crate::selection::{Listed, select_first};
+use crate::tables::Tables;
+use lsif::Profile;
+use sqlite::{Alter, Connection, Row, params};
+
+/// The part that a dump is, as `slot` has it.
+pub(crate) const DUMP: i64 = 1;
+
+/// The part that tags are.
+pub(crate) const TAGS: i64 = 2;
+
+/// The id of the slot of a part, where the project has it.
+pub(crate) fn find_slot<S: Alter>(
+    conn: &mut Connection<S>,
+    project: &str,
+    part: i64,
+) -> Result<Option<i64>, TablesFault>
+    ensures slot { HasCleanDisk (state S.Store conn.new) → (state S.Store conn.old).now.schema ≡ schema_two → (parts : Contents) (replies : Replies) → Keeps (state S.Store conn.old).now.trees parts replies
+        → IfOk result (IsSlotOf (state S.Store conn.old).now.trees parts project.now part) }
+    ensures kept { HasCleanDisk (state S.Store conn.new) → (state S.Store conn.old).now.schema ≡ schema_two → OnOk result (IsAsBefore (state S.Store conn.old) (state S.Store conn.new)) }
+    ensures looks { Looks (state S.Store conn.old) (state S.Store conn.new) }
+    ensures mode { conn.old.in_transaction ≡ false → conn.new.in_transaction ≡ false }
+{
+    select_first(
+        conn,
+        "SELECT id FROM slot WHERE project = ?1 AND part = ?2",
+        params![project, part],
+    )
+}
+
+impl Listed for Profile {
+    ghost columns = { profile_columns };
+
+    fn read(row: &Row) -> Result<Profile, TablesFault> {
+        let number: u32 = column(row, 0)?;
+        match number {
+            1 => Ok(Profile::One),
+            2 => Ok(Profile::Two),
+            _ => Err(TablesFault::Refused),
+        }
+    }
+}
+
+/// The profile of the dump that has this slot.
+fn profile_in<S: Alter>(conn: &mut Connection<S>, slot: i64) -> Result<Profile, TablesFault>
+    ensures profile { HasCleanDisk (state S.Store conn.new) → (state S.Store conn.old).now.schema ≡ schema_two → (m : State) → StandsFor (state S.Store conn.old).now.trees m
+        → (project : List ℕ) (dump : DumpValue) → Has ((state S.Store conn.old).now.trees 1) (slot_row slot project (pos 1)) → m.dump project ≡ Some dump → IfOk result (λ profile. profile ≡ dump.profile) }
+    ensures looks { Looks (state S.Store conn.old) (state S.Store conn.new) }
+    ensures mode { conn.old.in_transaction ≡ false → conn.new.in_transaction ≡ false }
+{
+    let found = select_first(
+        conn,
+        "SELECT profile FROM part_profile WHERE slot = ?1",
+        params![slot],
+    )?;
+    found.ok_or(TablesFault::Refused)
+}
+
+/// The profile of a project's dump.
+fn find_profile<S: Alter>(
+    conn: &mut Connection<S>,
+    project: &str,
+) -> Result<Option<Profile>, TablesFault>
+    ensures found { HasCleanDisk (state S.Store conn.new) → (state S.Store conn.old).now.schema ≡ schema_two → (m : State) → StandsFor (state S.Store conn.old).now.trees m → IfOk result (λ found. found ≡ option_map (λ d. d.profile) (m.dump project.now)) }
+    ensures looks { Looks (state S.Store conn.old) (state S.Store conn.new) }
+    ensures mode { conn.old.in_transaction ≡ false → conn.new.in_transaction ≡ false }
+{
+    match find_slot(conn, project, DUMP)? {
+        Some(slot) => Ok(Some(profile_in(conn, slot)?)),
+        None => Ok(None),
+    }
+}
+
+impl<S: Alter> Tables<S> {
+    /// The profile that the project's dump was read by, or none where it has no dump. It's `Refused` where the store refuses, or where a row isn't one
+    /// of this product's.
+    pub fn profile(&mut self, project: &str) -> Result<Option<Profile>, TablesFault>
+        ensures found { HasCleanDisk (state S.Store self.new) → (m : State) → Rests (state S.Store self.old) m → IfOk result (λ found. found ≡ option_map (λ d. d.profile) (m.dump project.now)) }
+        ensures same { HasCleanDisk (state S.Store self.new) → IsTrue (state S.Store self.new).is_open → (m : State) → Rests (state S.Store self.old) m → IsAsBefore (state S.Store self.old) (state S.Store self.new) }
+        ensures survives { (m : State) → Rests (state S.Store self.old) m → Survives (state S.Store self.old) (state S.Store self.new) (λ _. ⊥) }
+    {
+        find_profile(&mut self.conn, project)
+    }
+}

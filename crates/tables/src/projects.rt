@@ -1,0 +1,113 @@
+//! The projects with a part, as they are selected.
+ghost use Rattle.std.specs.Prelude.{◌≡◌, Contains, is_some, map, string_bytes, false, IsTrue, IfOk, OnOk};
+ghost use Rattle.sqlite.specs.State.{HasCleanDisk, Survives};
+ghost use Rattle.sqlite.specs.Held.{state};
+ghost use Rattle.dump.specs.Places.{IsListing};
+ghost use Rattle.tables.specs.Schema.{schema_two};
+ghost use Rattle.tables.specs.Contents.{Contents, Replies, Keeps};
+ghost use Rattle.tables.specs.State.{State};
+ghost use Rattle.tables.specs.Stands.{StandsFor, Rests};
+ghost use Rattle.tables.specs.Selections.{IsAsBefore, FindsProjects, project_found, text_cmp};
+ghost use Rattle.tables.specs.Steps.Selected.{Looks};
+ghost use Rattle.tables.specs.Steps.Slots.{HasPart, IsTold};
+
+use crate::fault::TablesFault;
+use crate::parts::{DUMP, TAGS, find_slot};
+use crate::selection::select_all;
+use crate::tables::Tables;
+use sqlite::{Alter, Connection};
+use std::alloc::Global;
+
+/// A project with a part, and which parts it has.
+#[derive(Debug, PartialEq, Eq, Drop)]
+pub struct ProjectRow {
+    pub name: String,
+    pub dump: bool,
+    pub tags: bool,
+}
+
+/// Whether the project has the part.
+fn has_part<S: Alter>(
+    conn: &mut Connection<S>,
+    project: &str,
+    part: i64,
+) -> Result<bool, TablesFault>
+    ensures part { HasCleanDisk (state S.Store conn.new) → (state S.Store conn.old).now.schema ≡ schema_two → (parts : Contents) (replies : Replies) → Keeps (state S.Store conn.old).now.trees parts replies
+        → IfOk result (λ has. has ≡ is_some (parts project.now part)) }
+    ensures kept { HasCleanDisk (state S.Store conn.new) → (state S.Store conn.old).now.schema ≡ schema_two → OnOk result (IsAsBefore (state S.Store conn.old) (state S.Store conn.new)) }
+    ensures looks { Looks (state S.Store conn.old) (state S.Store conn.new) }
+    ensures mode { conn.old.in_transaction ≡ false → conn.new.in_transaction ≡ false }
+{
+    let slot = find_slot(conn, project, part)?;
+    Ok(slot.is_some())
+}
+
+/// The project of this name, and which parts it has.
+fn project_of<S: Alter>(conn: &mut Connection<S>, name: String) -> Result<ProjectRow, TablesFault>
+    ensures name { IfOk result (λ project. string_bytes project.name ≡ string_bytes name) }
+    ensures told { HasCleanDisk (state S.Store conn.new) → (state S.Store conn.old).now.schema ≡ schema_two → (m : State) → StandsFor (state S.Store conn.old).now.trees m → IfOk result (λ project. IsTold m (project_found project)) }
+    ensures kept { HasCleanDisk (state S.Store conn.new) → (state S.Store conn.old).now.schema ≡ schema_two → OnOk result (IsAsBefore (state S.Store conn.old) (state S.Store conn.new)) }
+    ensures looks { Looks (state S.Store conn.old) (state S.Store conn.new) }
+    ensures mode { conn.old.in_transaction ≡ false → conn.new.in_transaction ≡ false }
+{
+    let dump = has_part(conn, name.as_str(), DUMP)?;
+    let tags = has_part(conn, name.as_str(), TAGS)?;
+    Ok(ProjectRow { name, dump, tags })
+}
+
+/// Puts the names in order, each once.
+fn list_names(names: &mut Vec<String>)
+    ensures { IsListing text_cmp (Contains (map string_bytes names.old.items)) (map string_bytes names.new.items) }
+{
+    names.sort_unstable();
+    names.dedup();
+}
+
+/// The names of the projects with a part.
+fn select_names<S: Alter>(
+    alloc: Global,
+    conn: &mut Connection<S>,
+) -> Result<Vec<String>, TablesFault>
+    ensures names { HasCleanDisk (state S.Store conn.new) → (state S.Store conn.old).now.schema ≡ schema_two → (parts : Contents) (replies : Replies) → Keeps (state S.Store conn.old).now.trees parts replies
+        → IfOk result (λ names. IsListing text_cmp (HasPart parts) (map string_bytes names.items)) }
+    ensures kept { HasCleanDisk (state S.Store conn.new) → (state S.Store conn.old).now.schema ≡ schema_two → OnOk result (IsAsBefore (state S.Store conn.old) (state S.Store conn.new)) }
+    ensures looks { Looks (state S.Store conn.old) (state S.Store conn.new) }
+    ensures mode { conn.old.in_transaction ≡ false → conn.new.in_transaction ≡ false }
+{
+    let mut names = select_all(alloc, conn, "SELECT project FROM slot", &[])?;
+    list_names(&mut names);
+    Ok(names)
+}
+
+/// The projects with a part.
+fn list_projects<S: Alter>(
+    alloc: Global,
+    conn: &mut Connection<S>,
+) -> Result<Vec<ProjectRow>, TablesFault>
+    ensures found { HasCleanDisk (state S.Store conn.new) → (state S.Store conn.old).now.schema ≡ schema_two → (m : State) → StandsFor (state S.Store conn.old).now.trees m → IfOk result (λ found. FindsProjects m (map project_found found.items)) }
+    ensures looks { Looks (state S.Store conn.old) (state S.Store conn.new) }
+    ensures mode { conn.old.in_transaction ≡ false → conn.new.in_transaction ≡ false }
+{
+    let mut left = select_names(alloc, conn)?;
+    left.reverse();
+    let mut found = Vec::new(alloc);
+    while let Some(name) = left.pop() {
+        let project = project_of(conn, name)?;
+        if found.push(project).is_err() {
+            return Err(TablesFault::Memory);
+        }
+    }
+    Ok(found)
+}
+
+impl<S: Alter> Tables<S> {
+    /// The projects with a part: each once, by name (its bytes). It's `Refused` where the store refuses, or where a row isn't one of this product's, and
+    /// `Memory` where memory is refused.
+    pub fn projects(&mut self, alloc: Global) -> Result<Vec<ProjectRow>, TablesFault>
+        ensures found { HasCleanDisk (state S.Store self.new) → (m : State) → Rests (state S.Store self.old) m → IfOk result (λ found. FindsProjects m (map project_found found.items)) }
+        ensures same { HasCleanDisk (state S.Store self.new) → IsTrue (state S.Store self.new).is_open → (m : State) → Rests (state S.Store self.old) m → IsAsBefore (state S.Store self.old) (state S.Store self.new) }
+        ensures survives { (m : State) → Rests (state S.Store self.old) m → Survives (state S.Store self.old) (state S.Store self.new) (λ _. ⊥) }
+    {
+        list_projects(alloc, &mut self.conn)
+    }
+}

@@ -1,0 +1,68 @@
+//! Hovers and marks, as they are selected.
+ghost use Rattle.std.specs.Prelude.{◌≡◌, List, ℕ, Some, option_map, string_bytes, pos, false, IsTrue, IfOk, OnOk};
+ghost use Rattle.sqlite_rules.specs.Lists.{Has};
+ghost use Rattle.sqlite.specs.State.{HasCleanDisk, Survives};
+ghost use Rattle.sqlite.specs.Held.{state};
+ghost use Rattle.dump.specs.Progress.{DumpValue};
+ghost use Rattle.tables.specs.Schema.{schema_two};
+ghost use Rattle.tables.specs.Contents.{slot_row};
+ghost use Rattle.tables.specs.State.{State};
+ghost use Rattle.tables.specs.Stands.{StandsFor, Rests};
+ghost use Rattle.tables.specs.Selections.{IsAsBefore, FindsHover};
+ghost use Rattle.tables.specs.Steps.Selected.{Looks};
+
+use crate::fault::TablesFault;
+use crate::parts::{DUMP, find_slot};
+use crate::selection::select_first;
+use crate::tables::Tables;
+use sqlite::{Alter, Connection, params};
+
+/// The contents of a hover result of the dump that has this slot.
+fn hover_in<S: Alter>(
+    conn: &mut Connection<S>,
+    slot: i64,
+    result_number: u32,
+) -> Result<Option<String>, TablesFault>
+    ensures found { HasCleanDisk (state S.Store conn.new) → (state S.Store conn.old).now.schema ≡ schema_two → (m : State) → StandsFor (state S.Store conn.old).now.trees m
+        → (project : List ℕ) → Has ((state S.Store conn.old).now.trees 1) (slot_row slot project (pos 1)) → IfOk result (λ found. FindsHover m project result_number (option_map string_bytes found)) }
+    ensures looks { Looks (state S.Store conn.old) (state S.Store conn.new) }
+    ensures mode { conn.old.in_transaction ≡ false → conn.new.in_transaction ≡ false }
+{
+    select_first(
+        conn,
+        "SELECT contents FROM hover WHERE slot = ?1 AND result = ?2",
+        params![slot, result_number],
+    )
+}
+
+/// The contents of a hover result of a project's dump.
+fn find_hover<S: Alter>(
+    conn: &mut Connection<S>,
+    project: &str,
+    result_number: u32,
+) -> Result<Option<String>, TablesFault>
+    ensures found { HasCleanDisk (state S.Store conn.new) → (state S.Store conn.old).now.schema ≡ schema_two → (m : State) → StandsFor (state S.Store conn.old).now.trees m → IfOk result (λ found. FindsHover m project.now result_number (option_map string_bytes found)) }
+    ensures looks { Looks (state S.Store conn.old) (state S.Store conn.new) }
+    ensures mode { conn.old.in_transaction ≡ false → conn.new.in_transaction ≡ false }
+{
+    match find_slot(conn, project, DUMP)? {
+        Some(slot) => hover_in(conn, slot, result_number),
+        None => Ok(None),
+    }
+}
+
+impl<S: Alter> Tables<S> {
+    /// The contents of a hover result of the project's dump, by the result's number, or none where the dump has no such result or the project no dump.
+    /// It's `Refused` where the store refuses, or where a row isn't one of this product's.
+    pub fn hover(
+        &mut self,
+        project: &str,
+        result_number: u32,
+    ) -> Result<Option<String>, TablesFault>
+        ensures found { HasCleanDisk (state S.Store self.new) → (m : State) → Rests (state S.Store self.old) m → IfOk result (λ found. FindsHover m project.now result_number (option_map string_bytes found)) }
+        ensures same { HasCleanDisk (state S.Store self.new) → IsTrue (state S.Store self.new).is_open → (m : State) → Rests (state S.Store self.old) m → IsAsBefore (state S.Store self.old) (state S.Store self.new) }
+        ensures survives { (m : State) → Rests (state S.Store self.old) m → Survives (state S.Store self.old) (state S.Store self.new) (λ _. ⊥) }
+    {
+        find_hover(&mut self.conn, project, result_number)
+    }
+}

@@ -1,0 +1,93 @@
+//! Selections of typed rows.
+ghost use Rattle.std.specs.Prelude.{◌≡◌, ⊤, List, false, IfOk, OnOk};
+ghost use Rattle.std.specs.List.{AllByRecursion};
+ghost use Rattle.sqlite_value.specs.Order.{Row as Columns};
+ghost use Rattle.sqlite.specs.Values.{bound};
+ghost use Rattle.sqlite.specs.State.{HasCleanDisk, Shown};
+ghost use Rattle.sqlite.specs.Held.{state};
+ghost use Rattle.sqlite.specs.Given.{IsPlain};
+ghost use Rattle.sqlite.specs.Listing.{understood};
+ghost use Rattle.tables.specs.Schema.{schema_two};
+ghost use Rattle.tables.specs.Selections.{IsAsBefore};
+ghost use Rattle.tables.specs.Steps.Selected.{Looks, AreColumns, AreRead, IsFirstRead};
+
+use crate::fault::{TablesFault, fault_of};
+use sqlite::types::ValueRef;
+use sqlite::{Alter, Connection, Row};
+use std::alloc::Global;
+
+/// A value that a row of an answer reads as.
+pub(crate) trait Listed: Sized + Drop {
+    /// The columns of its row.
+    ghost columns: { Self → Columns };
+
+    /// What is true of each value that is read, beside its columns.
+    ghost is_sound: { Self → Type 0 } = { λ _. ⊤ };
+
+    /// The value of a row. It's `Refused` where the product writes no such row.
+    fn read(row: &Row) -> Result<Self, TablesFault>
+        ensures columns { IfOk result (λ x. AreColumns 0 (columns x) row.now) }
+        ensures sound { IfOk result is_sound };
+}
+
+/// All rows of the answer to a query that writes nothing.
+fn rows_of<S: Alter>(
+    conn: &mut Connection<S>,
+    sql: &str,
+    params: &[ValueRef<'_>],
+) -> Result<Vec<Row>, TablesFault>
+    requires { IsPlain (understood schema_two sql.now) }
+    ensures shown { HasCleanDisk (state S.Store conn.new) → IfOk result (λ rows. Shown sql.now (bound params.now) (state S.Store conn.old) (state S.Store conn.new) rows.items) }
+    ensures kept { HasCleanDisk (state S.Store conn.new) → (state S.Store conn.old).now.schema ≡ schema_two → OnOk result (IsAsBefore (state S.Store conn.old) (state S.Store conn.new)) }
+    ensures looks { Looks (state S.Store conn.old) (state S.Store conn.new) }
+    ensures mode { conn.old.in_transaction ≡ false → conn.new.in_transaction ≡ false }
+{
+    match conn.query_all(sql, params) {
+        Ok(rows) => Ok(rows),
+        Err(error) => Err(fault_of(error)),
+    }
+}
+
+/// What the rows of the answer read as.
+pub(crate) fn select_all<S: Alter, T: Listed>(
+    alloc: Global,
+    conn: &mut Connection<S>,
+    sql: &str,
+    params: &[ValueRef<'_>],
+) -> Result<Vec<T>, TablesFault>
+    requires { IsPlain (understood schema_two sql.now) }
+    ensures read { HasCleanDisk (state S.Store conn.new) → IfOk result (λ found. (rows : List Columns) × Shown sql.now (bound params.now) (state S.Store conn.old) (state S.Store conn.new) rows × AreRead T.columns rows found.items) }
+    ensures sound { IfOk result (λ found. AllByRecursion T.is_sound found.items) }
+    ensures kept { HasCleanDisk (state S.Store conn.new) → (state S.Store conn.old).now.schema ≡ schema_two → OnOk result (IsAsBefore (state S.Store conn.old) (state S.Store conn.new)) }
+    ensures looks { Looks (state S.Store conn.old) (state S.Store conn.new) }
+    ensures mode { conn.old.in_transaction ≡ false → conn.new.in_transaction ≡ false }
+{
+    let rows = rows_of(conn, sql, params)?;
+    let mut found = Vec::new(alloc);
+    for row in &rows {
+        let item = T::read(row)?;
+        if found.push(item).is_err() {
+            return Err(TablesFault::Memory);
+        }
+    }
+    Ok(found)
+}
+
+/// What the first row of the answer reads as, where there is one.
+pub(crate) fn select_first<S: Alter, T: Listed>(
+    conn: &mut Connection<S>,
+    sql: &str,
+    params: &[ValueRef<'_>],
+) -> Result<Option<T>, TablesFault>
+    requires { IsPlain (understood schema_two sql.now) }
+    ensures read { HasCleanDisk (state S.Store conn.new) → IfOk result (λ found. (rows : List Columns) × Shown sql.now (bound params.now) (state S.Store conn.old) (state S.Store conn.new) rows × IsFirstRead T.columns rows found) }
+    ensures kept { HasCleanDisk (state S.Store conn.new) → (state S.Store conn.old).now.schema ≡ schema_two → OnOk result (IsAsBefore (state S.Store conn.old) (state S.Store conn.new)) }
+    ensures looks { Looks (state S.Store conn.old) (state S.Store conn.new) }
+    ensures mode { conn.old.in_transaction ≡ false → conn.new.in_transaction ≡ false }
+{
+    let rows = rows_of(conn, sql, params)?;
+    match rows.first() {
+        Some(row) => Ok(Some(T::read(row)?)),
+        None => Ok(None),
+    }
+}
