@@ -16,9 +16,8 @@ use Rattle.dump.specs.declared.role.Role.{Role}
 use Rattle.dump.specs.declared.role.Role.TheVariants.{Definitions, References}
 use Rattle.flatten.specs.declared.items.Items.{Items}
 use Rattle.flatten.specs.Flat.{IsItemRow, ItemRowValue, is_result, number_of}
-use Rattle.flatten.specs.Steps.Items.{AreItems, IsReachedRow, IsRowOf, has_role, is_role, item_pairs_of, pairs_by, row_of, rows_of_role, same_role}
+use Rattle.flatten.specs.Steps.Items.{AreItems, IsReachedRow, IsRowOf, has_role, is_role, item_pairs_of, pairs_by, places_of, row_of, rows_of_role, same_role}
 use Rattle.flatten.specs.Steps.Numbers.{pairs_of}
-use Rattle.flatten.specs.Steps.Places.{place_value}
 use Rattle.flatten.specs.Steps.Tables.{OfOne, container_uri, place_of, place_with, table_of}
 use Rattle.flatten.proofs.Closures.{wider}
 use Rattle.flatten.proofs.Members.{contains_map, contains_one, filter_keeps, filter_source, flat_of, flat_from, if_in, in_if, map_source, not_in_nil, one_contains}
@@ -30,7 +29,7 @@ use Rattle.flatten.proofs.Tables.{table_from, table_to}
 
 module _ (number : ℕ) (items : Items) where
   abbrev places : List (Option PlaceValue)
-  places = map (option_map place_value) items.places.items
+  places = places_of items
 
   -- the row of another result's item in this role
   record IsRoleRow (role : Role) (other : ℕ) (row : ItemRowValue) : Type 0 where
@@ -225,7 +224,7 @@ module _ (d : List ElementValue) (free : IsFaultless (map Ok d)) (vertices : (i 
         let pair = Contains-permutation (pairs_by row.role items) (pairs_of (item_pairs_of row.role) d) (h.other, h.range) (IsPermutation-sym (pairs_of (item_pairs_of row.role) d) (pairs_by row.role items) (are.each row.role)) h.joined in
         let t = items_are.to h.other h.range pair in
         let same : t.0 ≡ p.0 = ones t.0 p.0 h.other t.3 p.1 in
-        let placed : get_or (table_of (place_of d) d) h.range None ≡ Some row.place = subst (λ l. get_or l h.range None ≡ Some row.place) are.places h.placed in
+        let placed : get_or (table_of (place_of d) d) h.range None ≡ Some row.place = subst (λ e. get_or (table_of (place_of e) e) h.range None ≡ Some row.place) are.same h.placed in
         record {
           result = i;
           at_line = at ∙ ap (λ n. Some n) (sym h.is_number);
@@ -254,7 +253,7 @@ module _ (d : List ElementValue) (free : IsFaultless (map Ok d)) (vertices : (i 
           is_number = refl;
           reached = wider (pairs_of result_pairs_of d) items.results.items (λ q c. Contains-permutation (pairs_of result_pairs_of d) items.results.items q are.results c) row.result p.0 p.2;
           joined = Contains-permutation (pairs_of (item_pairs_of row.role) d) (pairs_by row.role items) (p.0, n.0) (are.each row.role) pair;
-          placed = subst (λ l. get_or l n.0 None ≡ Some row.place) (sym are.places) (place_from r n.0 row.place n.1 its_place);
+          placed = subst (λ e. get_or (table_of (place_of e) e) n.0 None ≡ Some row.place) (sym are.same) (place_from r n.0 row.place n.1 its_place);
         } in
         (vertex h.result v.0, (vertices h.result v.0).0 v.1, (ap is_result (sym v.1) ∙ h.is_result, row.result, h.at_line, reached))
 

@@ -9,6 +9,7 @@ pub mod Listing
 pub mod MarkRows
 pub mod Members
 pub mod NumberPairs
+pub mod OfKinds
 pub mod OpenIntervals
 pub mod RangeRows
 pub mod Rising

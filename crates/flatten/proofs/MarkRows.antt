@@ -15,7 +15,7 @@ use Rattle.flatten.specs.KeyTexts.{key_text, key_value}
 use Rattle.flatten.specs.Steps.Borne.{IsBorne, IsBorneBy, MarkText, mark_text, text_of}
 use Rattle.flatten.specs.Steps.Chains.{first_by, is_bearing, is_source, or_else, own_bearer}
 use Rattle.flatten.specs.Steps.Marks as steps
-use Rattle.flatten.specs.Steps.Marks.{AreBorne, AreMarks, IsBearerFrom, IsBorneMark, IsBorneRow, IsMarkAlong, IsMarkOfNumber, IsMarkOfOne, IsMarkOfRange, IsMarkOfVertex, IsNextBearer, bearer_mark, marks_of}
+use Rattle.flatten.specs.Steps.Marks.{AreBorne, IsBearerFrom, IsBorneMark, IsBorneRow, IsMarkAlong, IsMarkOfNumber, IsMarkOfOne, IsMarkOfRange, IsMarkOfVertex, IsNextBearer, bearer_mark, marks_in, marks_of}
 use Rattle.flatten.specs.Steps.Numbers.{both_numbers, pairs_of}
 use Rattle.flatten.specs.Steps.Tables.{Adds, OfOne}
 use Rattle.std.proofs.lemmas.List.{append_assoc, map-append, reverse-append, reverse-reverse}
@@ -178,42 +178,42 @@ IsRowFor d number x row = (mark : MarkValue) × Bears d x mark × (row.range ≡
 
 module _ (d : List ElementValue) (free : IsFaultless (map Ok d)) (vertices : (i : IdValue) (v : VertexValue) → vertex_at d i ≡ Some v ↔ Contains d (vertex i v)) (ones : AreOnes d)
     (there : (i : IdValue) (v : VertexValue) → vertex_at d i ≡ Some v → (k : ℕ) × (line_of d i ≡ Some k) × (slice_get d k ≡ Some (vertex i v)))
-    (borne : List (ℕ × ℕ)) (are : AreBorne d borne) (marks : List (Option MarkText)) (table : AreMarks d marks) where
+    (borne : List (ℕ × ℕ)) (are : AreBorne d borne) where
   lined : HasVertexNumbers d
   lined i v e = let t = there i v e in (t.0 + 1, ap (option_map (λ k. k + 1)) t.1)
 
   -- the mark of a moniker at its number
-  mark_to : (n : IdValue) (k : ℕ) (m : MarkText) → number_of d n ≡ Some k → get_or marks k None ≡ Some m → (mark : MarkValue) × (mark_of d n ≡ Some mark) × (m.kind ≡ mark.kind) × (m.key ≡ key_text mark.key)
+  mark_to : (n : IdValue) (k : ℕ) (m : MarkText) → number_of d n ≡ Some k → get_or (marks_in d) k None ≡ Some m → (mark : MarkValue) × (mark_of d n ≡ Some mark) × (m.kind ≡ mark.kind) × (m.key ≡ key_text mark.key)
   mark_to n k m at h =
-      let t = table_to (mark_text d) d free k m (subst (λ l. get_or l k None ≡ Some m) table h) in
+      let t = table_to (mark_text d) d free k m h in
       let s = says_mark d t.0 m t.3 in
       let same : s.0 ≡ n = ones s.0 n k (subst (λ e. number_of d (element_id e) ≡ Some k) s.2 t.2) at in
       let is : vertex_at d s.0 ≡ Some (moniker s.1) = (vertices s.0 (moniker s.1)).1 (subst (Contains d) s.2 t.1) in
       let mark = the_mark (package_of d s.0) s.1 in
       (mark, ap (mark_of d) (sym same) ∙ ap (mark_with (package_of d s.0)) is, sym (ap (λ (x : MarkText). x.kind) s.3), sym (ap (λ (x : MarkText). x.key) s.3))
 
-  mark_from : (n : IdValue) (k : ℕ) (mark : MarkValue) → number_of d n ≡ Some k → mark_of d n ≡ Some mark → (m : MarkText) × (get_or marks k None ≡ Some m) × (m.kind ≡ mark.kind) × (m.key ≡ key_text mark.key)
+  mark_from : (n : IdValue) (k : ℕ) (mark : MarkValue) → number_of d n ≡ Some k → mark_of d n ≡ Some mark → (m : MarkText) × (get_or (marks_in d) k None ≡ Some m) × (m.kind ≡ mark.kind) × (m.key ≡ key_text mark.key)
   mark_from n k mark at h =
       let s = marked (package_of d n) (vertex_at d n) mark h in
       let m = text_of d n s.0 in
-      (m, ap (λ l. get_or l k None) table ∙ table_from (mark_text d) d there n (moniker s.0) k s.1 at, ap (λ (x : MarkValue). x.kind) s.2, ap (λ (x : MarkValue). key_text x.key) s.2)
+      (m, table_from (mark_text d) d there n (moniker s.0) k s.1 at, ap (λ (x : MarkValue). x.kind) s.2, ap (λ (x : MarkValue). key_text x.key) s.2)
 
-  number_to : (number bearer : ℕ) (x : IdValue) (row : MarkRowValue) → number_of d x ≡ Some bearer → IsMarkOfNumber borne marks number bearer row → IsRowFor d number x row
+  number_to : (number bearer : ℕ) (x : IdValue) (row : MarkRowValue) → number_of d x ≡ Some bearer → IsMarkOfNumber borne (marks_in d) number bearer row → IsRowFor d number x row
   number_to number bearer x row at (k, held, here) =
       let b = (are (bearer, k)).0 held in
-      let o = one_mark number (get_or marks k None) row here in
+      let o = one_mark number (get_or (marks_in d) k None) row here in
       let m = mark_to b.near k o.0 b.at_near o.1 in
       let same : b.vertex ≡ x = ones b.vertex x bearer b.at_vertex at in
       (m.0, (b.bound, b.near, subst (λ z. Contains (moniker_pairs d) (z, b.bound)) same b.is_bound, b.is_near, m.1), o.2, sym m.2 ∙ o.3, sym m.3 ∙ o.4)
 
-  number_from : (number bearer : ℕ) (x : IdValue) (row : MarkRowValue) → number_of d x ≡ Some bearer → IsRowFor d number x row → IsMarkOfNumber borne marks number bearer row
+  number_from : (number bearer : ℕ) (x : IdValue) (row : MarkRowValue) → number_of d x ≡ Some bearer → IsRowFor d number x row → IsMarkOfNumber borne (marks_in d) number bearer row
   number_from number bearer x row at (mark, (bound, near, is_bound, is_near, is_mark), is_number, kind, key) =
       let s = marked (package_of d near) (vertex_at d near) mark is_mark in
       let k = lined near (moniker s.0) s.1 in
       let m = mark_from near k.0 mark k.1 is_mark in (
         k.0,
         (are (bearer, k.0)).1 (record { vertex = x; bound = bound; near = near; at_vertex = at; is_bound = is_bound; is_near = is_near; at_near = k.1 }),
-        mark_one number (get_or marks k.0 None) row m.0 m.1 is_number (m.2 ∙ kind) (m.3 ∙ key),
+        mark_one number (get_or (marks_in d) k.0 None) row m.0 m.1 is_number (m.2 ∙ kind) (m.3 ∙ key),
       )
 
   -- what bears a mark has a number
@@ -222,7 +222,7 @@ module _ (d : List ElementValue) (free : IsFaultless (map Ok d)) (vertices : (i 
 
   -- ---- the rows of ranges
 
-  range_to : (x : ElementValue) (row : MarkRowValue) → Contains d x → IsMarkOfRange d borne marks x row → IsMarkRow d row
+  range_to : (x : ElementValue) (row : MarkRowValue) → Contains d x → IsMarkOfRange d borne (marks_in d) x row → IsMarkRow d row
   range_to (vertex i (range span)) row here (number, at, (xs, chain, (y, among, (bearer, its, h)))) =
       let r = number_to number bearer y row its h in
       record { range = i; span = span; mark = r.0; at_line = at ∙ ap (λ n. Some n) (sym r.2); is_range = (vertices i (range span)).1 here; marks = (xs, y, chain, among, r.1); is_kind = r.3; is_key = r.4 }
@@ -241,10 +241,10 @@ module _ (d : List ElementValue) (free : IsFaultless (map Ok d)) (vertices : (i 
   range_to (vertex i other_vertex) row here h = absurd h
   range_to (edge i e) row here h = absurd h
 
-  pub range_marks : HasEnds d → (row : MarkRowValue) → OfOne (IsMarkOfRange d borne marks) d row ↔ IsMarkRow d row
+  pub range_marks : HasEnds d → (row : MarkRowValue) → OfOne (IsMarkOfRange d borne (marks_in d)) d row ↔ IsMarkRow d row
   range_marks has row = (λ o. range_to o.0 row o.1 o.2, back)
     where
-      back : IsMarkRow d row → OfOne (IsMarkOfRange d borne marks) d row
+      back : IsMarkRow d row → OfOne (IsMarkOfRange d borne (marks_in d)) d row
       back h =
           let xs = h.marks.0 in
           let y = h.marks.1 in
@@ -253,16 +253,16 @@ module _ (d : List ElementValue) (free : IsFaultless (map Ok d)) (vertices : (i 
 
   -- ---- the marks that vertices bear themselves
 
-  pub borne_rows : HasEnds d → (row : MarkRowValue) → IsBorneMark borne marks row ↔ IsBorneRow d row
+  pub borne_rows : HasEnds d → (row : MarkRowValue) → IsBorneMark borne (marks_in d) row ↔ IsBorneRow d row
   borne_rows has row = (to, back)
     where
-      to : IsBorneMark borne marks row → IsBorneRow d row
+      to : IsBorneMark borne (marks_in d) row → IsBorneRow d row
       to (p, held, here) =
           let b = (are p).0 held in
           let r = number_to p.0 p.0 b.vertex row b.at_vertex (p.1, held, here) in
           record { vertex = b.vertex; mark = r.0; at_line = b.at_vertex ∙ ap (λ n. Some n) (sym r.2); bears = r.1; is_kind = r.3; is_key = r.4 }
 
-      back : IsBorneRow d row → IsBorneMark borne marks row
+      back : IsBorneRow d row → IsBorneMark borne (marks_in d) row
       back h =
           let m = number_from row.range row.range h.vertex row h.at_line (h.mark, h.bears, refl, h.is_kind, h.is_key) in
           ((row.range, m.0), m.1, m.2)

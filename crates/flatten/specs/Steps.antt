@@ -4,6 +4,7 @@ pub mod Chains
 pub mod Documents
 pub mod Found
 pub mod Items
+pub mod Kinds
 pub mod Marks
 pub mod Numbers
 pub mod Parents

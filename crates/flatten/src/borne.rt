@@ -1,11 +1,11 @@
 //! The monikers that vertices bear, and their marks.
-ghost use Rattle.std.specs.Prelude.{◌≡◌, ◌↔◌, ◌++◌, ℕ, IfOk, OnOk, Ok, Contains, map, get_or, option_map, string_bytes};
+ghost use Rattle.std.specs.Prelude.{◌≡◌, ◌↔◌, ◌++◌, ℕ, IfOk, OnOk, Contains, map, get_or, option_map, string_bytes};
 ghost use Rattle.std.specs.List.Sorted.{IsNonDecreasingBy};
 ghost use Rattle.lsif.specs.Element.{id_value, element_value, moniker_value, package_value};
-ghost use Rattle.dump.specs.Fault.{IsFaultless};
 ghost use Rattle.dump.specs.Monikers.{attach_pairs_of, package_of};
 ghost use Rattle.flatten.specs.KeyTexts.{key_text, key_value};
 ghost use Rattle.flatten.specs.Steps.Borne.{IsBorne, IsBorneBy, mark_text, mark_value, text_of};
+ghost use Rattle.flatten.specs.Steps.Kinds.{AreKinds};
 ghost use Rattle.flatten.specs.Steps.Numbers.{pairs_in, pairs_of};
 ghost use Rattle.flatten.specs.Steps.Tables.{Adds, table_of};
 
@@ -13,7 +13,8 @@ use crate::budget::Budgets;
 use crate::closure::{by_source, closed};
 use crate::fault::FlattenFault;
 use crate::keys::key_text;
-use crate::numbers::number_pair;
+use crate::kinds::Kinds;
+use crate::numbers::{element_at, number_pair};
 use dump::{CheckedDump, ends_law, line_law};
 use lsif::{Edge, Element, Id, Moniker, MonikerKind, Package, Vertex};
 use std::alloc::{AllocError, Global};
@@ -36,12 +37,13 @@ fn add_attached(
 }
 
 /// The numbers of the monikers that `attach` edges join, each edge read both ways.
-fn attached(alloc: Global, dump: &CheckedDump) -> Result<Vec<(u32, u32)>, AllocError>
-    ensures { IfOk result (λ pairs. pairs.items ≡ pairs_of attach_pairs_of dump.now.elements) }
+fn attached(alloc: Global, kinds: &Kinds<'_>) -> Result<Vec<(u32, u32)>, AllocError>
+    requires { AreKinds kinds.now }
+    ensures { IfOk result (λ pairs. pairs.items ≡ pairs_of attach_pairs_of kinds.now.dump.now.elements) }
 {
     let mut pairs = Vec::new(alloc);
-    for element in dump.elements() {
-        add_attached(&mut pairs, dump, element)?;
+    for element in &kinds.moniker_edges {
+        add_attached(&mut pairs, kinds.dump, element)?;
     }
     Ok(pairs)
 }
@@ -88,20 +90,27 @@ fn add_borne(
 /// The numbers of vertices with those of the monikers that they bear themselves, in the order of the vertices'.
 pub(crate) fn borne(
     alloc: Global,
-    dump: &CheckedDump,
+    kinds: &Kinds<'_>,
     limit: usize,
 ) -> Result<Vec<(u32, u32)>, FlattenFault>
+    requires { AreKinds kinds.now }
     ensures sorted { IfOk result (λ pairs. IsNonDecreasingBy (λ p. p.0) pairs.items) }
-    ensures borne { IfOk result (λ pairs. (p : ℕ × ℕ) → Contains pairs.items p ↔ IsBorne dump.now.elements p) }
-    ensures faultless { OnOk result (IsFaultless (map Ok dump.now.elements)) }
+    ensures borne { IfOk result (λ pairs. (p : ℕ × ℕ) → Contains pairs.items p ↔ IsBorne kinds.now.dump.now.elements p) }
 {
     ends_law();
     line_law();
-    let attached = by_source(alloc, &attached(alloc, dump)?)?;
+    let attached = by_source(alloc, &attached(alloc, kinds)?)?;
     let mut budgets = Budgets::new(limit);
     let mut pairs = Vec::new(alloc);
-    for element in dump.elements() {
-        add_borne(alloc, &mut pairs, dump, &attached, element, &mut budgets)?;
+    for element in &kinds.moniker_edges {
+        add_borne(
+            alloc,
+            &mut pairs,
+            kinds.dump,
+            &attached,
+            element,
+            &mut budgets,
+        )?;
     }
     Ok(by_source(alloc, &pairs)?)
 }
@@ -155,24 +164,16 @@ fn mark_in(
     }
 }
 
-/// The marks of monikers, each at the moniker's number.
-pub(crate) fn marks(alloc: Global, dump: &CheckedDump) -> Result<Vec<Option<Mark>>, FlattenFault>
-    ensures { IfOk result (λ table. map (option_map mark_value) table.items ≡ table_of (mark_text dump.now.elements) dump.now.elements) }
-{
-    let mut table = Vec::new(alloc);
-    table.push(None)?;
-    for element in dump.elements() {
-        table.push(mark_in(alloc, dump, element)?)?;
-    }
-    Ok(table)
-}
-
 /// The mark of the moniker of this number.
-pub(crate) fn mark_at(marks: &[Option<Mark>], number: u32) -> Option<&Mark>
-    ensures { option_map (λ m. mark_value m.now) result ≡ get_or (map (option_map mark_value) marks.now) number None }
+pub(crate) fn mark_at(
+    alloc: Global,
+    dump: &CheckedDump,
+    number: u32,
+) -> Result<Option<Mark>, FlattenFault>
+    ensures { IfOk result (λ mark. option_map mark_value mark ≡ get_or (table_of (mark_text dump.now.elements) dump.now.elements) number None) }
 {
-    match marks.get(number as usize) {
-        Some(mark) => mark.as_ref(),
-        None => None,
+    match element_at(dump, number) {
+        Some(element) => mark_in(alloc, dump, element),
+        None => Ok(None),
     }
 }

@@ -7,7 +7,9 @@ ghost use Rattle.dump.specs.Places.{HasDocument, IsListing};
 ghost use Rattle.flatten.specs.Flat.{IsHoverRow, by_result};
 ghost use Rattle.flatten.specs.Rows.{document_value, hover_value};
 ghost use Rattle.flatten.specs.Steps.Documents.{documents_in, hovers_in};
+ghost use Rattle.flatten.specs.Steps.Kinds.{AreKinds};
 
+use crate::kinds::Kinds;
 use crate::numbers::number_of;
 use crate::rows::{DocRow, HoverRow};
 use dump::{CheckedDump, line_law, vertex_law};
@@ -35,13 +37,14 @@ fn list_documents(rows: &mut Vec<DocRow<'_>>)
 /// The rows of documents: in the order of their uris.
 pub(crate) fn document_rows<'a>(
     alloc: Global,
-    dump: &'a CheckedDump,
+    kinds: &Kinds<'a>,
 ) -> Result<Vec<DocRow<'a>>, AllocError>
-    ensures { IfOk result (λ rows. IsListing (slice_cmp nat_cmp) (HasDocument dump.now.elements) (map document_value rows.items)) }
+    requires { AreKinds kinds.now }
+    ensures { IfOk result (λ rows. IsListing (slice_cmp nat_cmp) (HasDocument kinds.now.dump.now.elements) (map document_value rows.items)) }
 {
     vertex_law();
     let mut rows = Vec::new(alloc);
-    for element in dump.elements() {
+    for element in &kinds.documents {
         add_document(&mut rows, element)?;
     }
     list_documents(&mut rows);
@@ -70,15 +73,16 @@ fn add_hover<'a>(
 /// The rows of hover results: in the order of their numbers.
 pub(crate) fn hover_rows<'a>(
     alloc: Global,
-    dump: &'a CheckedDump,
+    kinds: &Kinds<'a>,
 ) -> Result<Vec<HoverRow<'a>>, AllocError>
-    ensures { IfOk result (λ rows. IsListing by_result (IsHoverRow dump.now.elements) (map hover_value rows.items)) }
+    requires { AreKinds kinds.now }
+    ensures { IfOk result (λ rows. IsListing by_result (IsHoverRow kinds.now.dump.now.elements) (map hover_value rows.items)) }
 {
     line_law();
     vertex_law();
     let mut rows = Vec::new(alloc);
-    for element in dump.elements() {
-        add_hover(&mut rows, dump, element)?;
+    for element in &kinds.hovers {
+        add_hover(&mut rows, kinds.dump, element)?;
     }
     Ok(rows)
 }

@@ -3,11 +3,12 @@ ghost use Rattle.std.specs.Prelude.{◌≡◌, IfOk};
 ghost use Rattle.flatten.specs.Flat.{IsFlat};
 ghost use Rattle.flatten.specs.Rows.{rows_value};
 
-use crate::borne::{borne, marks};
+use crate::borne::borne;
 use crate::chains::Chains;
 use crate::documents::{document_rows, hover_rows};
 use crate::fault::FlattenFault;
 use crate::items::item_rows;
+use crate::kinds::kinds_of;
 use crate::marks::{bearer_rows, mark_rows};
 use crate::ranges::range_rows;
 use crate::rows::Rows;
@@ -26,14 +27,14 @@ pub(crate) fn flatten_within<'a>(
     ensures profile { IfOk result (λ rows. rows.profile ≡ dump.now.profile) }
     ensures rows { IfOk result (λ rows. IsFlat dump.now.elements (rows_value rows)) }
 {
-    let documents = document_rows(alloc, dump)?;
-    let hovers = hover_rows(alloc, dump)?;
-    let items = item_rows(alloc, dump, limit)?;
-    let table = marks(alloc, dump)?;
-    let mut chains = Chains::new(alloc, dump, borne(alloc, dump, limit)?)?;
-    let ranges = range_rows(alloc, &mut chains)?;
-    let marks = mark_rows(alloc, &mut chains, &table, limit)?;
-    let bearers = bearer_rows(alloc, &mut chains, &table, limit)?;
+    let kinds = kinds_of(alloc, dump)?;
+    let documents = document_rows(alloc, &kinds)?;
+    let hovers = hover_rows(alloc, &kinds)?;
+    let items = item_rows(alloc, &kinds, limit)?;
+    let mut chains = Chains::new(alloc, dump, borne(alloc, &kinds, limit)?)?;
+    let ranges = range_rows(alloc, &mut chains, &kinds.ranges)?;
+    let marks = mark_rows(alloc, &mut chains, &kinds.ranges, limit)?;
+    let bearers = bearer_rows(alloc, &mut chains, limit)?;
     Ok(Rows {
         profile: dump.profile(),
         documents,

@@ -6,15 +6,17 @@ ghost use Rattle.dump.specs.Places.{IsListing, place_cmp, result_pairs_of};
 ghost use Rattle.flatten.specs.Flat.{IsItemRow, is_result, item_cmp, role_index};
 ghost use Rattle.flatten.specs.Rows.{item_value};
 ghost use Rattle.flatten.specs.Steps.Items.{AreItems, AreSorted, IsReachedRow, IsRowOf, is_role, item_pairs_of, row_of, rows_of_pairs, rows_of_role};
+ghost use Rattle.flatten.specs.Steps.Kinds.{AreKinds};
 ghost use Rattle.flatten.specs.Steps.Numbers.{numbers_of_pair, pairs_in, pairs_of};
 ghost use Rattle.flatten.specs.Steps.Places.{place_value};
-ghost use Rattle.flatten.specs.Steps.Tables.{Adds};
+ghost use Rattle.flatten.specs.Steps.Tables.{Adds, place_of, table_of};
 
 use crate::budget::{Budget, Budgets};
 use crate::closure::{by_source, closed, pairs_from};
 use crate::fault::FlattenFault;
+use crate::kinds::Kinds;
 use crate::numbers::{number_of, number_pair};
-use crate::places::{Place, place_at, places};
+use crate::places::{Place, place_at};
 use crate::rows::ItemRow;
 use dump::{CheckedDump, Role, container_law, ends_law, line_law, role_of, vertex_law};
 use lsif::{Edge, Element, Id, Property, Vertex};
@@ -56,12 +58,13 @@ fn add_results(
 }
 
 /// The numbers of the results that `item` edges with "referenceResults" join.
-fn result_pairs(alloc: Global, dump: &CheckedDump) -> Result<Vec<(u32, u32)>, AllocError>
-    ensures { IfOk result (λ pairs. pairs.items ≡ pairs_of result_pairs_of dump.now.elements) }
+fn result_pairs(alloc: Global, kinds: &Kinds<'_>) -> Result<Vec<(u32, u32)>, AllocError>
+    requires { AreKinds kinds.now }
+    ensures { IfOk result (λ pairs. pairs.items ≡ pairs_of result_pairs_of kinds.now.dump.now.elements) }
 {
     let mut pairs = Vec::new(alloc);
-    for element in dump.elements() {
-        add_results(&mut pairs, dump, element)?;
+    for element in &kinds.items {
+        add_results(&mut pairs, kinds.dump, element)?;
     }
     Ok(pairs)
 }
@@ -91,37 +94,39 @@ fn add_items(
 }
 
 /// The numbers of the results and the ranges that `item` edges of the role join.
-fn item_pairs(alloc: Global, dump: &CheckedDump, role: Role) -> Result<Vec<(u32, u32)>, AllocError>
-    ensures { IfOk result (λ pairs. pairs.items ≡ pairs_of (item_pairs_of role) dump.now.elements) }
+fn item_pairs(alloc: Global, kinds: &Kinds<'_>, role: Role) -> Result<Vec<(u32, u32)>, AllocError>
+    requires { AreKinds kinds.now }
+    ensures { IfOk result (λ pairs. pairs.items ≡ pairs_of (item_pairs_of role) kinds.now.dump.now.elements) }
 {
     let mut pairs = Vec::new(alloc);
-    for element in dump.elements() {
-        add_items(&mut pairs, dump, role, element)?;
+    for element in &kinds.items {
+        add_items(&mut pairs, kinds.dump, role, element)?;
     }
     Ok(pairs)
 }
 
-/// The items of results by numbers, and the places of ranges at theirs. The pairs are in the order of their sources.
+/// The items of results by numbers. The pairs are in the order of their sources.
 #[derive(Drop)]
 struct Items<'a> {
+    dump: &'a CheckedDump,
     results: Vec<(u32, u32)>,
     definitions: Vec<(u32, u32)>,
     references: Vec<(u32, u32)>,
-    places: Vec<Option<Place<'a>>>,
 }
 
 /// What the `item` edges of the dump join.
-fn items_of<'a>(alloc: Global, dump: &'a CheckedDump) -> Result<Items<'a>, FlattenFault>
-    ensures { IfOk result (λ items. AreItems dump.now.elements items) }
+fn items_of<'a>(alloc: Global, kinds: &Kinds<'a>) -> Result<Items<'a>, AllocError>
+    requires { AreKinds kinds.now }
+    ensures { IfOk result (λ items. AreItems kinds.now.dump.now.elements items) }
 {
-    let results = result_pairs(alloc, dump)?;
-    let definitions = item_pairs(alloc, dump, Role::Definitions)?;
-    let references = item_pairs(alloc, dump, Role::References)?;
+    let results = result_pairs(alloc, kinds)?;
+    let definitions = item_pairs(alloc, kinds, Role::Definitions)?;
+    let references = item_pairs(alloc, kinds, Role::References)?;
     Ok(Items {
+        dump: kinds.dump,
         results: by_source(alloc, &results)?,
         definitions: by_source(alloc, &definitions)?,
         references: by_source(alloc, &references)?,
-        places: places(alloc, dump)?,
     })
 }
 
@@ -148,15 +153,15 @@ fn add_row<'a>(
 /// Adds the rows of the places of the targets of these pairs.
 fn add_targets<'a>(
     rows: &mut Vec<ItemRow<'a>>,
-    places: &[Option<Place<'a>>],
+    dump: &'a CheckedDump,
     number: u32,
     role: Role,
     pairs: &[(u32, u32)],
 ) -> Result<(), AllocError>
-    ensures { OnOk result (map item_value rows.new.items ≡ map item_value rows.old.items ++ rows_of_pairs number role (map (option_map place_value) places.now) pairs.now) }
+    ensures { OnOk result (map item_value rows.new.items ≡ map item_value rows.old.items ++ rows_of_pairs number role (table_of (place_of dump.now.elements) dump.now.elements) pairs.now) }
 {
     for pair in pairs {
-        add_row(rows, number, role, place_at(places, pair.1))?;
+        add_row(rows, number, role, place_at(dump, pair.1))?;
     }
     Ok(())
 }
@@ -178,7 +183,7 @@ fn add_role<'a>(
         Role::References => pairs_from(&items.references, other),
     };
     budget.take(pairs.len())?;
-    add_targets(rows, &items.places, number, role, pairs)?;
+    add_targets(rows, items.dump, number, role, pairs)?;
     Ok(())
 }
 
@@ -232,16 +237,15 @@ fn is_result(vertex: &Vertex) -> bool
 fn add_element<'a>(
     alloc: Global,
     rows: &mut Vec<ItemRow<'a>>,
-    dump: &CheckedDump,
     items: &Items<'a>,
     element: &Element,
     budgets: &mut Budgets,
 ) -> Result<(), FlattenFault>
     requires { AreSorted items.now }
-    ensures { OnOk result (Adds (map item_value rows.old.items) (IsRowOf dump.now.elements items.now (element_value element.now)) (map item_value rows.new.items)) }
+    ensures { OnOk result (Adds (map item_value rows.old.items) (IsRowOf items.now.dump.now.elements items.now (element_value element.now)) (map item_value rows.new.items)) }
 {
     match element {
-        Element::Vertex(id, vertex) if is_result(vertex) => match number_of(dump, id) {
+        Element::Vertex(id, vertex) if is_result(vertex) => match number_of(items.dump, id) {
             Some(number) => add_result(alloc, rows, items, number, budgets),
             None => Ok(()),
         },
@@ -287,20 +291,21 @@ fn list_rows(rows: &mut Vec<ItemRow<'_>>)
 /// The rows of the places of results: in order, each once.
 pub(crate) fn item_rows<'a>(
     alloc: Global,
-    dump: &'a CheckedDump,
+    kinds: &Kinds<'a>,
     limit: usize,
 ) -> Result<Vec<ItemRow<'a>>, FlattenFault>
-    ensures { IfOk result (λ rows. IsListing item_cmp (IsItemRow dump.now.elements) (map item_value rows.items)) }
+    requires { AreKinds kinds.now }
+    ensures { IfOk result (λ rows. IsListing item_cmp (IsItemRow kinds.now.dump.now.elements) (map item_value rows.items)) }
 {
     container_law();
     ends_law();
     line_law();
     vertex_law();
-    let items = items_of(alloc, dump)?;
+    let items = items_of(alloc, kinds)?;
     let mut budgets = Budgets::new(limit);
     let mut rows = Vec::new(alloc);
-    for element in dump.elements() {
-        add_element(alloc, &mut rows, dump, &items, element, &mut budgets)?;
+    for element in &kinds.results {
+        add_element(alloc, &mut rows, &items, element, &mut budgets)?;
     }
     list_rows(&mut rows);
     Ok(rows)

@@ -12,6 +12,7 @@ mod flattening;
 mod found;
 mod items;
 mod keys;
+mod kinds;
 mod marks;
 mod numbers;
 mod parents;

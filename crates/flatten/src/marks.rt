@@ -8,7 +8,8 @@ ghost use Rattle.flatten.specs.Flat.{IsBearerRow, IsMarkRow, bearer_cmp, kind_in
 ghost use Rattle.flatten.specs.Rows.{bearer_value, mark_value as mark_row_value};
 ghost use Rattle.flatten.specs.Steps.Borne.{mark_value};
 ghost use Rattle.flatten.specs.Steps.Chains.{AreChains};
-ghost use Rattle.flatten.specs.Steps.Marks.{AreBorne, AreMarks, IsBorneMark, IsBorneRow, IsMarkAlong, IsMarkOfRange, IsMarkOfVertex, IsNextBearer, bearer_mark, mark_of, marks_of};
+ghost use Rattle.flatten.specs.Steps.Kinds.{AreThose, is_range};
+ghost use Rattle.flatten.specs.Steps.Marks.{AreBorne, IsBorneMark, IsBorneRow, IsMarkAlong, IsMarkOfRange, IsMarkOfVertex, IsNextBearer, bearer_mark, mark_of, marks_in, marks_of};
 ghost use Rattle.flatten.specs.Steps.Tables.{Adds};
 
 use crate::borne::{Mark, mark_at};
@@ -25,19 +26,14 @@ use std::alloc::{AllocError, Global};
 use std::cmp::Ordering;
 
 /// Adds the row of the mark, where there is one.
-fn add_mark(
-    alloc: Global,
-    rows: &mut Vec<MarkRow>,
-    number: u32,
-    mark: Option<&Mark>,
-) -> Result<(), AllocError>
-    ensures { OnOk result (map mark_row_value rows.new.items ≡ map mark_row_value rows.old.items ++ mark_of number (option_map (λ m. mark_value m.now) mark.entry)) }
+fn add_mark(rows: &mut Vec<MarkRow>, number: u32, mark: Option<Mark>) -> Result<(), AllocError>
+    ensures { OnOk result (map mark_row_value rows.new.items ≡ map mark_row_value rows.old.items ++ mark_of number (option_map mark_value mark)) }
 {
-    if let Some(mark) = mark {
+    if let Some(Mark { kind, key }) = mark {
         rows.push(MarkRow {
             range: number,
-            kind: mark.kind,
-            key: String::from_str(alloc, mark.key.as_str())?,
+            kind,
+            key,
         })?;
     }
     Ok(())
@@ -47,14 +43,14 @@ fn add_mark(
 fn add_targets(
     alloc: Global,
     rows: &mut Vec<MarkRow>,
-    marks: &[Option<Mark>],
+    dump: &CheckedDump,
     number: u32,
     pairs: &[(u32, u32)],
-) -> Result<(), AllocError>
-    ensures { OnOk result (map mark_row_value rows.new.items ≡ map mark_row_value rows.old.items ++ marks_of number (map (option_map mark_value) marks.now) pairs.now) }
+) -> Result<(), FlattenFault>
+    ensures { OnOk result (map mark_row_value rows.new.items ≡ map mark_row_value rows.old.items ++ marks_of number (marks_in dump.now.elements) pairs.now) }
 {
     for pair in pairs {
-        add_mark(alloc, rows, number, mark_at(marks, pair.1))?;
+        add_mark(rows, number, mark_at(alloc, dump, pair.1)?)?;
     }
     Ok(())
 }
@@ -64,18 +60,17 @@ fn add_member(
     alloc: Global,
     rows: &mut Vec<MarkRow>,
     chains: &Chains<'_>,
-    marks: &[Option<Mark>],
     number: u32,
     member: &Id,
     budget: &mut Budget,
 ) -> Result<(), FlattenFault>
     requires { AreChains chains.now }
-    ensures { OnOk result (Adds (map mark_row_value rows.old.items) (IsMarkOfVertex chains.now.dump.now.elements chains.now.borne.items (map (option_map mark_value) marks.now) number (id_value member.now)) (map mark_row_value rows.new.items)) }
+    ensures { OnOk result (Adds (map mark_row_value rows.old.items) (IsMarkOfVertex chains.now.dump.now.elements chains.now.borne.items (marks_in chains.now.dump.now.elements) number (id_value member.now)) (map mark_row_value rows.new.items)) }
 {
     if let Some(vertex) = number_of(chains.dump, member) {
         let pairs = pairs_from(&chains.borne, vertex);
         budget.take(pairs.len())?;
-        add_targets(alloc, rows, marks, number, pairs)?;
+        add_targets(alloc, rows, chains.dump, number, pairs)?;
     }
     Ok(())
 }
@@ -103,13 +98,12 @@ fn add_chain<'a>(
     alloc: Global,
     rows: &mut Vec<MarkRow>,
     chains: &mut Chains<'a>,
-    marks: &[Option<Mark>],
     number: u32,
     range: &'a Id,
     budget: &mut Budget,
 ) -> Result<(), FlattenFault>
     requires { AreChains chains.old }
-    ensures rows { OnOk result (Adds (map mark_row_value rows.old.items) (IsMarkAlong chains.old.dump.now.elements chains.old.borne.items (map (option_map mark_value) marks.now) number (id_value range.now)) (map mark_row_value rows.new.items)) }
+    ensures rows { OnOk result (Adds (map mark_row_value rows.old.items) (IsMarkAlong chains.old.dump.now.elements chains.old.borne.items (marks_in chains.old.dump.now.elements) number (id_value range.now)) (map mark_row_value rows.new.items)) }
     ensures chains { OnOk result (AreChains chains.new) }
     ensures dump { chains.new.dump ≡ chains.old.dump }
     ensures borne { chains.new.borne ≡ chains.old.borne }
@@ -121,7 +115,7 @@ fn add_chain<'a>(
         let Some(member) = bearer else {
             return Ok(());
         };
-        add_member(alloc, rows, chains, marks, number, member, budget)?;
+        add_member(alloc, rows, chains, number, member, budget)?;
         bearer = next_bearer(alloc, chains, member)?;
     }
     Ok(())
@@ -132,12 +126,11 @@ fn add_range<'a>(
     alloc: Global,
     rows: &mut Vec<MarkRow>,
     chains: &mut Chains<'a>,
-    marks: &[Option<Mark>],
     element: &'a Element,
     budget: &mut Budget,
 ) -> Result<(), FlattenFault>
     requires { AreChains chains.old }
-    ensures rows { OnOk result (Adds (map mark_row_value rows.old.items) (IsMarkOfRange chains.old.dump.now.elements chains.old.borne.items (map (option_map mark_value) marks.now) (element_value element.now)) (map mark_row_value rows.new.items)) }
+    ensures rows { OnOk result (Adds (map mark_row_value rows.old.items) (IsMarkOfRange chains.old.dump.now.elements chains.old.borne.items (marks_in chains.old.dump.now.elements) (element_value element.now)) (map mark_row_value rows.new.items)) }
     ensures chains { OnOk result (AreChains chains.new) }
     ensures dump { chains.new.dump ≡ chains.old.dump }
     ensures borne { chains.new.borne ≡ chains.old.borne }
@@ -146,7 +139,7 @@ fn add_range<'a>(
         return Ok(());
     };
     match number_of(chains.dump, id) {
-        Some(number) => add_chain(alloc, rows, chains, marks, number, id, budget),
+        Some(number) => add_chain(alloc, rows, chains, number, id, budget),
         None => Ok(()),
     }
 }
@@ -184,12 +177,13 @@ fn list_rows(rows: &mut Vec<MarkRow>)
 pub(crate) fn mark_rows<'a>(
     alloc: Global,
     chains: &mut Chains<'a>,
-    marks: &[Option<Mark>],
+    ranges: &[&'a Element],
     limit: usize,
 ) -> Result<Vec<MarkRow>, FlattenFault>
     requires chains { AreChains chains.old }
-    requires marks { AreMarks chains.old.dump.now.elements (map (option_map mark_value) marks.now) }
     requires borne { AreBorne chains.old.dump.now.elements chains.old.borne.items }
+    requires ranges { AreThose is_range chains.old.dump.now.elements ranges.now }
+    requires faultless { IsFaultless (map Ok chains.old.dump.now.elements) }
     ensures rows { IfOk result (λ rows. IsListing mark_cmp (IsMarkRow chains.old.dump.now.elements) (map mark_row_value rows.items)) }
     ensures chains { OnOk result (AreChains chains.new) }
     ensures dump { chains.new.dump ≡ chains.old.dump }
@@ -198,11 +192,10 @@ pub(crate) fn mark_rows<'a>(
     ends_law();
     line_law();
     vertex_law();
-    let dump = chains.dump;
     let mut budget = Budget::new(limit);
     let mut rows = Vec::new(alloc);
-    for element in dump.elements() {
-        add_range(alloc, &mut rows, chains, marks, element, &mut budget)?;
+    for element in ranges {
+        add_range(alloc, &mut rows, chains, element, &mut budget)?;
     }
     list_rows(&mut rows);
     Ok(rows)
@@ -211,16 +204,16 @@ pub(crate) fn mark_rows<'a>(
 /// The marks that vertices bear themselves, as rows of the vertices' numbers: in order, each once.
 fn borne_marks(
     alloc: Global,
+    dump: &CheckedDump,
     pairs: &[(u32, u32)],
-    marks: &[Option<Mark>],
     limit: usize,
 ) -> Result<Vec<MarkRow>, FlattenFault>
-    ensures { IfOk result (λ rows. IsListing mark_cmp (IsBorneMark pairs.now (map (option_map mark_value) marks.now)) (map mark_row_value rows.items)) }
+    ensures { IfOk result (λ rows. IsListing mark_cmp (IsBorneMark pairs.now (marks_in dump.now.elements)) (map mark_row_value rows.items)) }
 {
     Budget::new(limit).take(pairs.len())?;
     let mut rows = Vec::new(alloc);
     for pair in pairs {
-        add_mark(alloc, &mut rows, pair.0, mark_at(marks, pair.1))?;
+        add_mark(&mut rows, pair.0, mark_at(alloc, dump, pair.1)?)?;
     }
     list_rows(&mut rows);
     Ok(rows)
@@ -264,11 +257,9 @@ fn add_bearer<'a>(
 pub(crate) fn bearer_rows<'a>(
     alloc: Global,
     chains: &mut Chains<'a>,
-    marks: &[Option<Mark>],
     limit: usize,
 ) -> Result<Vec<BearerRow>, FlattenFault>
     requires chains { AreChains chains.old }
-    requires marks { AreMarks chains.old.dump.now.elements (map (option_map mark_value) marks.now) }
     requires borne { AreBorne chains.old.dump.now.elements chains.old.borne.items }
     requires faultless { IsFaultless (map Ok chains.old.dump.now.elements) }
     ensures { IfOk result (λ rows. IsListing bearer_cmp (IsBearerRow chains.old.dump.now.elements) (map bearer_value rows.items)) }
@@ -277,7 +268,7 @@ pub(crate) fn bearer_rows<'a>(
     line_law();
     pick_law();
     vertex_law();
-    let mut left = borne_marks(alloc, &chains.borne, marks, limit)?;
+    let mut left = borne_marks(alloc, chains.dump, &chains.borne, limit)?;
     left.reverse();
     let mut rows = Vec::new(alloc);
     while let Some(mark) = left.pop() {

@@ -6,6 +6,7 @@ ghost use Rattle.dump.specs.Fault.{IsFaultless};
 ghost use Rattle.dump.specs.Places.{IsListing};
 ghost use Rattle.positions.specs.Position.{IsPosition, packed_of};
 ghost use Rattle.lsif.specs.Element.{id_value, element_value};
+ghost use Rattle.flatten.specs.Steps.Kinds.{AreThose, is_range};
 ghost use Rattle.flatten.specs.Steps.Parents.{AreLinks, AreParents, AreIntervals, IsLinkPair, IsOpenBefore, IsWithinLimit, encloses, interval_cmp, interval_of, interval_value, interval_with, intervals_in};
 
 use crate::closure::by_source;
@@ -77,13 +78,17 @@ fn add_interval(
 }
 
 /// The intervals of the dump's ranges, in the order of their lines.
-fn intervals(alloc: Global, dump: &CheckedDump) -> Result<Vec<Interval>, AllocError>
+fn intervals(
+    alloc: Global,
+    dump: &CheckedDump,
+    ranges: &[&Element],
+) -> Result<Vec<Interval>, AllocError>
+    requires { AreThose is_range dump.now.elements ranges.now }
     ensures intervals { IfOk result (λ intervals. map interval_value intervals.items ≡ flat_map (intervals_in dump.now.elements) dump.now.elements) }
     ensures within { OnOk result (All IsWithinLimit dump.now.elements) }
-    ensures faultless { IsFaultless (map Ok dump.now.elements) }
 {
     let mut intervals = Vec::new(alloc);
-    for element in dump.elements() {
+    for element in ranges {
         add_interval(&mut intervals, dump, element)?;
     }
     Ok(intervals)
@@ -167,7 +172,13 @@ fn link_pairs(
 }
 
 /// The numbers of ranges and of the smallest other that each lies in, in the order of the first.
-pub(crate) fn parents(alloc: Global, dump: &CheckedDump) -> Result<Vec<(u32, u32)>, AllocError>
+pub(crate) fn parents(
+    alloc: Global,
+    dump: &CheckedDump,
+    ranges: &[&Element],
+) -> Result<Vec<(u32, u32)>, AllocError>
+    requires ranges { AreThose is_range dump.now.elements ranges.now }
+    requires faultless { IsFaultless (map Ok dump.now.elements) }
     ensures sorted { IfOk result (λ pairs. IsNonDecreasingBy (λ p. p.0) pairs.items) }
     ensures parents { IfOk result (λ pairs. AreParents dump.now.elements pairs.items) }
 {
@@ -175,7 +186,7 @@ pub(crate) fn parents(alloc: Global, dump: &CheckedDump) -> Result<Vec<(u32, u32
     line_law();
     nesting_law();
     vertex_law();
-    let mut intervals = intervals(alloc, dump)?;
+    let mut intervals = intervals(alloc, dump, ranges)?;
     list_intervals(&mut intervals);
     let links = links(alloc, &intervals)?;
     by_source(alloc, &link_pairs(alloc, &intervals, &links)?)

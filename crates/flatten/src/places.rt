@@ -1,14 +1,14 @@
 //! The places of ranges.
-ghost use Rattle.std.specs.Prelude.{◌≡◌, IfOk, get_or, map, option_map};
+ghost use Rattle.std.specs.Prelude.{◌≡◌, get_or, option_map};
 ghost use Rattle.lsif.specs.Element.{id_value, element_value};
 ghost use Rattle.dump.specs.Graph.{vertex_at};
 ghost use Rattle.flatten.specs.Steps.Places.{place_value};
 ghost use Rattle.flatten.specs.Steps.Tables.{container_uri, place_of, table_of, uri_of};
 
+use crate::numbers::element_at;
 use dump::CheckedDump;
 use lsif::{Element, Id, Vertex};
 use positions::Span;
-use std::alloc::{AllocError, Global};
 
 /// A place in a document.
 #[derive(Clone, Copy)]
@@ -49,26 +49,12 @@ fn place_of<'a>(dump: &'a CheckedDump, element: &'a Element) -> Option<Place<'a>
     }
 }
 
-/// The places of ranges, each at the range's number.
-pub(crate) fn places<'a>(
-    alloc: Global,
-    dump: &'a CheckedDump,
-) -> Result<Vec<Option<Place<'a>>>, AllocError>
-    ensures { IfOk result (λ table. map (option_map place_value) table.items ≡ table_of (place_of dump.now.elements) dump.now.elements) }
-{
-    let mut table = vec![in alloc; None]?;
-    for element in dump.elements() {
-        table.push(place_of(dump, element))?;
-    }
-    Ok(table)
-}
-
 /// The place of the range of this number.
-pub(crate) fn place_at<'a>(places: &[Option<Place<'a>>], number: u32) -> Option<Place<'a>>
-    ensures { option_map place_value result ≡ get_or (map (option_map place_value) places.now) number None }
+pub(crate) fn place_at<'a>(dump: &'a CheckedDump, number: u32) -> Option<Place<'a>>
+    ensures { option_map place_value result ≡ get_or (table_of (place_of dump.now.elements) dump.now.elements) number None }
 {
-    match places.get(number as usize) {
-        Some(place) => *place,
+    match element_at(dump, number) {
+        Some(element) => place_of(dump, element),
         None => None,
     }
 }

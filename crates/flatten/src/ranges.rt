@@ -9,6 +9,7 @@ ghost use Rattle.dump.specs.Places.{IsListing};
 ghost use Rattle.flatten.specs.Flat.{IsRangeRow, by_line, number_of};
 ghost use Rattle.flatten.specs.Rows.{range_value};
 ghost use Rattle.flatten.specs.Steps.Chains.{AreChains};
+ghost use Rattle.flatten.specs.Steps.Kinds.{AreThose, is_range};
 ghost use Rattle.flatten.specs.Steps.Parents.{AreParents};
 ghost use Rattle.flatten.specs.Steps.Ranges.{range_lines};
 ghost use Rattle.flatten.specs.Steps.Tables.{container_uri};
@@ -110,8 +111,11 @@ fn add_range<'a>(
 pub(crate) fn range_rows<'a>(
     alloc: Global,
     chains: &mut Chains<'a>,
+    ranges: &[&'a Element],
 ) -> Result<Vec<RangeRow<'a>>, AllocError>
-    requires { AreChains chains.old }
+    requires chains { AreChains chains.old }
+    requires ranges { AreThose is_range chains.old.dump.now.elements ranges.now }
+    requires faultless { IsFaultless (map Ok chains.old.dump.now.elements) }
     ensures rows { IfOk result (λ rows. IsListing by_line (IsRangeRow chains.old.dump.now.elements) (map range_value rows.items)) }
     ensures chains { OnOk result (AreChains chains.new) }
     ensures dump { chains.new.dump ≡ chains.old.dump }
@@ -122,10 +126,9 @@ pub(crate) fn range_rows<'a>(
     nesting_law();
     pick_law();
     vertex_law();
-    let dump = chains.dump;
-    let parents = parents(alloc, dump)?;
+    let parents = parents(alloc, chains.dump, ranges)?;
     let mut rows = Vec::new(alloc);
-    for element in dump.elements() {
+    for element in ranges {
         add_range(alloc, &mut rows, chains, &parents, element)?;
     }
     Ok(rows)

@@ -1,5 +1,5 @@
 -- The places of results, as the walk by numbers gathers them.
-use Rattle.std.specs.Prelude.{◌≡◌, ◌==◌, ℕ, Bool, true, false, List, [], ◌∷◌, map, filter, Option, Some, None, Contains, IsPermutation, get_or, option_map, if◌then◌else◌}
+use Rattle.std.specs.Prelude.{◌≡◌, ◌==◌, ℕ, Bool, true, false, List, [], ◌∷◌, map, filter, Option, Some, None, Contains, IsPermutation, get_or, if◌then◌else◌}
 use Rattle.std.specs.List.{flat_map}
 use Rattle.std.specs.List.Sorted.{IsNonDecreasingBy}
 use Rattle.lsif.specs.declared.element.Property.{Property}
@@ -10,7 +10,6 @@ use Rattle.dump.specs.declared.role.Role.{Role}
 use Rattle.dump.specs.declared.role.Role.TheVariants.{Definitions, References}
 use Rattle.flatten.specs.Flat.{ItemRowValue, is_result, number_of}
 use Rattle.flatten.specs.Steps.Numbers.{pairs_of}
-use Rattle.flatten.specs.Steps.Places.{place_value}
 use Rattle.flatten.specs.Steps.Tables.{place_of, table_of}
 use Rattle.flatten.specs.declared.items.Items.{Items}
 
@@ -42,12 +41,16 @@ pub record AreSorted (items : Items) : Type 0 where
   pub results : IsNonDecreasingBy (λ p. p.0) items.results.items
   pub each : (role : Role) → IsNonDecreasingBy (λ p. p.0) (pairs_by role items)
 
--- they are those of the dump's `item` edges, and the places are those of its ranges
+-- they are those of the dump's `item` edges
 pub record AreItems (elements : List ElementValue) (items : Items) : Type 0 where
   pub sorted : AreSorted items
   pub results : IsPermutation (pairs_of result_pairs_of elements) items.results.items
   pub each : (role : Role) → IsPermutation (pairs_of (item_pairs_of role) elements) (pairs_by role items)
-  pub places : map (option_map place_value) items.places.items ≡ table_of (place_of elements) elements
+  pub same : items.dump.now.elements ≡ elements
+
+-- the places of the dump's ranges at their numbers
+abbrev pub places_of : Items → List (Option PlaceValue)
+places_of items = table_of (place_of items.dump.now.elements) items.dump.now.elements
 
 -- the row of the place, where there is one
 abbrev pub row_of : ℕ → Role → Option PlaceValue → List ItemRowValue
@@ -60,7 +63,7 @@ rows_of_pairs number role places pairs = flat_map (λ p. row_of number role (get
 -- the rows of a result for the items of another one in a role
 abbrev pub rows_of_role : ℕ → Role → Items → ℕ → List ItemRowValue
 rows_of_role number role items other =
-    rows_of_pairs number role (map (option_map place_value) items.places.items) (filter (λ p. p.0 == other) (pairs_by role items))
+    rows_of_pairs number role (places_of items) (filter (λ p. p.0 == other) (pairs_by role items))
 
 -- the row of the result of this number for an item of one that it leads to
 pub record IsReachedRow (number : ℕ) (items : Items) (row : ItemRowValue) : Type 0 where
@@ -69,7 +72,7 @@ pub record IsReachedRow (number : ℕ) (items : Items) (row : ItemRowValue) : Ty
   pub is_number : row.result ≡ number
   pub reached : Path items.results.items number other
   pub joined : Contains (pairs_by row.role items) (other, range)
-  pub placed : get_or (map (option_map place_value) items.places.items) range None ≡ Some row.place
+  pub placed : get_or (places_of items) range None ≡ Some row.place
 
 -- such a row of the element, where it's a result
 abbrev pub IsRowOf : List ElementValue → Items → ElementValue → ItemRowValue → Type 0

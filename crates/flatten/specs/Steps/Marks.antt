@@ -51,9 +51,9 @@ IsNextBearer elements borne x bearer = IsBearerFrom elements borne (first_to (ne
 abbrev pub AreBorne : List ElementValue → List (ℕ × ℕ) → Type 0
 AreBorne elements borne = (p : ℕ × ℕ) → Contains borne p ↔ IsBorne elements p
 
--- the table has the marks of monikers
-abbrev pub AreMarks : List ElementValue → List (Option MarkText) → Type 0
-AreMarks elements marks = marks ≡ table_of (mark_text elements) elements
+-- the marks of monikers at their numbers
+abbrev pub marks_in : List ElementValue → List (Option MarkText)
+marks_in elements = table_of (mark_text elements) elements
 
 -- the row of the first number of a pair for the mark at the second
 abbrev pub IsBorneMark : List (ℕ × ℕ) → List (Option MarkText) → MarkRowValue → Type 0

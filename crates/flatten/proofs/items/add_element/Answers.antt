@@ -10,8 +10,8 @@ use Rattle.flatten.proofs.items.add_element.Goals as goal
 
 pub returns-in-Some : goal.returns-in-Some
 returns-in-Some c =
-    let d = c.args.dump.now.elements in
     let items = c.args.items.now in
+    let d = items.dump.now.elements in
     let number = c.in-Some.number in
     let start = map item_value c.args.rows.now.items in
     let rows = map item_value c.add_result.new.rows.items in

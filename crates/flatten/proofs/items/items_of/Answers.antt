@@ -1,4 +1,4 @@
-use Rattle.std.proofs.Common.{◌∙◌, subst}
+use Rattle.std.proofs.Common.{◌∙◌, refl, subst}
 use Rattle.std.specs.Prelude.{IsPermutation}
 use Rattle.flatten.proofs.ItemRows.{each_role, each_sorted}
 use Rattle.flatten.proofs.items.items_of.Goals as goal
@@ -11,8 +11,8 @@ returns c =
     record {
       sorted = record { results = c.in_ok-by_source.ensures.ordered; each = each_sorted _ c.in_ok-by_source-2.ensures.ordered c.in_ok-by_source-3.ensures.ordered };
       results = subst (λ xs. IsPermutation xs results) (c.deref.ensures.value ∙ c.in_ok-results.ensures) c.in_ok-by_source.ensures.all;
-      each = each_role c.args.dump.now.elements _
+      each = each_role c.args.kinds.now.dump.now.elements _
           (subst (λ xs. IsPermutation xs definitions) (c.deref-2.ensures.value ∙ c.in_ok-definitions.ensures) c.in_ok-by_source-2.ensures.all)
           (subst (λ xs. IsPermutation xs references) (c.deref-3.ensures.value ∙ c.in_ok-references.ensures) c.in_ok-by_source-3.ensures.all);
-      places = c.in_ok-places.ensures;
+      same = refl;
     }

@@ -1,10 +1,8 @@
 use Rattle.std.proofs.Common.{◌≡◌, map, rules, sym, subst}
-use Rattle.std.specs.Prelude.{option_map}
 use Rattle.std.proofs.lemmas.Result.{on_ok_weaker}
 use Rattle.lsif.specs.Element.{id_value, range, ElementValue, vertex, element_value}
 use Rattle.flatten.specs.Rows.{mark_value as mark_row_value}
-use Rattle.flatten.specs.Steps.Borne.{mark_value}
-use Rattle.flatten.specs.Steps.Marks.{IsMarkAlong, IsMarkOfRange}
+use Rattle.flatten.specs.Steps.Marks.{IsMarkAlong, IsMarkOfRange, marks_in}
 use Rattle.flatten.specs.Steps.Tables.{Adds}
 use Rattle.flatten.proofs.Listing.{adds_same}
 use Rattle.flatten.proofs.MarkRows.{marks_of_range}
@@ -14,7 +12,7 @@ pub returns-in-Some-clause-rows : goal.returns-in-Some-clause-rows
 returns-in-Some-clause-rows c =
     let d = c.args.chains.now.dump.now.elements in
     let borne = c.args.chains.now.borne.items in
-    let marks = map (option_map mark_value) c.args.marks.now in
+    let marks = marks_in d in
     let number = c.in-Some.number in
     let i = id_value c.in-Vertex-default-Range.id in
     let old = map mark_row_value c.args.rows.now.items in

@@ -1,11 +1,9 @@
 use Rattle.std.proofs.Common.{◌≡◌, ◌++◌, map, drop}
-use Rattle.std.specs.Prelude.{option_map}
 use Rattle.flatten.specs.Rows.{mark_value as mark_row_value}
-use Rattle.flatten.specs.Steps.Borne.{mark_value}
-use Rattle.flatten.specs.Steps.Marks.{marks_of}
+use Rattle.flatten.specs.Steps.Marks.{marks_of, marks_in}
 use Rattle.flatten.proofs.marks.add_targets.Given as goal
 
 abbrev pub invariant-loop-pair : goal.invariant-loop-pair
 invariant-loop-pair l =
-    map mark_row_value l.rows.items ++ marks_of l.number (map (option_map mark_value) l.marks) (drop l.pair-index l.pairs)
-    ≡ map mark_row_value l.initial.rows.items ++ marks_of l.number (map (option_map mark_value) l.marks) l.pairs
+    map mark_row_value l.rows.items ++ marks_of l.number (marks_in l.dump.elements) (drop l.pair-index l.pairs)
+    ≡ map mark_row_value l.initial.rows.items ++ marks_of l.number (marks_in l.dump.elements) l.pairs

@@ -18,7 +18,7 @@ lined d there i v e = let t = there i v e in (t.0 + 1, ap (option_map (λ k. k +
 pub links-requires : goal.links-requires
 links-requires c =
     let d = c.args.dump.now.elements in
-    let free = c.intervals.ensures.faultless in
+    let free = c.requires.faultless in
     let sorted = map interval_value c.list_intervals.new.intervals.items in
     let vertices = c.vertex_law.ensures d free in
     let ones = number_ones d (c.line_law.ensures.one d) in
@@ -34,7 +34,7 @@ moved xs ys P each same p = (λ at. (each p).0 (Contains-permutation ys xs p (Is
 pub returns-clause-parents : goal.returns-clause-parents
 returns-clause-parents c =
     let d = c.args.dump.now.elements in
-    let free = c.intervals.ensures.faultless in
+    let free = c.requires.faultless in
     let items = c.list_intervals.new.intervals.items in
     let sorted = map interval_value items in
     let links = c.in_ok-links.links.items in

@@ -1,0 +1,318 @@
+-- The elements of a dump, kind by kind.
+use Rattle.std.proofs.Common.{◌≡◌, ◌∙◌, ◌+◌, ◌<◌, Bool, true, false, cond, List, [], ◌∷◌, ◌++◌, length, get_or, drop, map, filter, refl, sym, ap, subst, append-nil}
+use Rattle.std.specs.Prelude.{◌↔◌, ℕ, Contains, Option, Ok}
+use Rattle.std.specs.Borrow.{Bor}
+use Rattle.std.specs.List.{All, flat_map}
+use Rattle.std.proofs.lemmas.List.{append_assoc}
+use Rattle.std.proofs.lemmas.List.Elements.{All-contains, All-contains_itself, All-weaker, Contains-get_or}
+use Rattle.lsif.specs.declared.element.Element.{Element}
+use Rattle.lsif.specs.Element.{meta_data, project, document, range, result_set, definition_result, reference_result, declaration_result, implementation_result, hover_result, moniker, package_information, event, other_vertex, contains, next, definition, references, declaration, implementation, hover, moniker_edge, package_edge, attach, item, other_edge, ElementValue, vertex, edge}
+use Rattle.dump.proofs.Lists.{drop_next}
+use Rattle.dump.specs.Fault.{IsFaultless}
+use Rattle.dump.specs.Monikers.{attach_pairs_of}
+use Rattle.dump.specs.Places.{result_pairs_of}
+use Rattle.dump.specs.declared.role.Role.{Role}
+use Rattle.flatten.specs.Flat.{MarkRowValue, ItemRowValue}
+use Rattle.flatten.specs.Steps.Borne.{IsBorneBy, MarkText}
+use Rattle.flatten.specs.Steps.Documents.{documents_in, hovers_in}
+use Rattle.flatten.specs.Steps.Items.{IsRowOf, item_pairs_of}
+use Rattle.flatten.specs.Steps.Kinds.{AreKinds, AreThose, Takes, is_document, is_hover, is_item, is_moniker_edge, is_range, is_result_vertex, kept, said}
+use Rattle.flatten.specs.Steps.Marks.{IsMarkOfRange}
+use Rattle.flatten.specs.Steps.Numbers.{pairs_in, pairs_of}
+use Rattle.flatten.specs.Steps.Parents.{IsWithinLimit, intervals_in}
+use Rattle.flatten.specs.Steps.Ranges.{range_lines}
+use Rattle.flatten.specs.Steps.Tables.{OfOne}
+use Rattle.flatten.specs.declared.items.Items.{Items}
+use Rattle.flatten.specs.declared.kinds.Kinds.{Kinds}
+use Rattle.flatten.proofs.Members.{contains_map, filter_keeps, filter_source}
+
+-- ---- the pass over the elements
+
+-- the list has those before the rest
+abbrev pub HasThose : (ElementValue → Bool) → List ElementValue → List ElementValue → List (Bor Element) → Type 0
+HasThose is elements rest list = map said list ++ filter is rest ≡ filter is elements
+
+pub record AreTaken (elements rest : List ElementValue) (kinds : Kinds) : Type 0 where
+  pub documents : HasThose is_document elements rest kinds.documents.items
+  pub hovers : HasThose is_hover elements rest kinds.hovers.items
+  pub ranges : HasThose is_range elements rest kinds.ranges.items
+  pub results : HasThose is_result_vertex elements rest kinds.results.items
+  pub items : HasThose is_item elements rest kinds.items.items
+  pub moniker_edges : HasThose is_moniker_edge elements rest kinds.moniker_edges.items
+
+first_kept : (is : ElementValue → Bool) (x : ElementValue) (rest : List ElementValue) → kept (is x) x ++ filter is rest ≡ filter is (x ∷ rest)
+first_kept is x rest = by (is x)
+  where
+    by : (b : Bool) → kept b x ++ filter is rest ≡ cond b (x ∷ filter is rest) (filter is rest)
+    by true = refl
+    by false = refl
+
+has_more : (is : ElementValue → Bool) (elements rest : List ElementValue) (x : ElementValue) (old new : List (Bor Element)) → HasThose is elements (x ∷ rest) old → map said new ≡ map said old ++ kept (is x) x → HasThose is elements rest new
+has_more is elements rest x old new has grown =
+    ap (λ l. l ++ filter is rest) grown ∙ append_assoc (map said old) (kept (is x) x) (filter is rest) ∙ ap (λ l. map said old ++ l) (first_kept is x rest) ∙ has
+
+pub taken_more : (elements rest : List ElementValue) (x : ElementValue) (old new : Kinds) → AreTaken elements (x ∷ rest) old → Takes old x new → AreTaken elements rest new
+taken_more d rest x old new a t = record {
+  documents = has_more is_document d rest x old.documents.items new.documents.items a.documents t.documents;
+  hovers = has_more is_hover d rest x old.hovers.items new.hovers.items a.hovers t.hovers;
+  ranges = has_more is_range d rest x old.ranges.items new.ranges.items a.ranges t.ranges;
+  results = has_more is_result_vertex d rest x old.results.items new.results.items a.results t.results;
+  items = has_more is_item d rest x old.items.items new.items.items a.items t.items;
+  moniker_edges = has_more is_moniker_edge d rest x old.moniker_edges.items new.moniker_edges.items a.moniker_edges t.moniker_edges;
+}
+
+has_all : (is : ElementValue → Bool) (elements : List ElementValue) (list : List (Bor Element)) → HasThose is elements [] list → AreThose is elements list
+has_all is elements list has = sym (append-nil (map said list)) ∙ has
+
+pub taken_all : (kinds : Kinds) → IsFaultless (map Ok kinds.dump.now.elements) → AreTaken kinds.dump.now.elements [] kinds → AreKinds kinds
+taken_all kinds free a =
+    let d = kinds.dump.now.elements in
+    record {
+      faultless = free;
+      documents = has_all is_document d kinds.documents.items a.documents;
+      hovers = has_all is_hover d kinds.hovers.items a.hovers;
+      ranges = has_all is_range d kinds.ranges.items a.ranges;
+      results = has_all is_result_vertex d kinds.results.items a.results;
+      items = has_all is_item d kinds.items.items a.items;
+      moniker_edges = has_all is_moniker_edge d kinds.moniker_edges.items a.moniker_edges;
+    }
+
+-- ---- what all elements say is what those of a kind say
+
+flat_filter : {Y : Type 0} (f : ElementValue → List Y) (is : ElementValue → Bool) → ((x : ElementValue) → is x ≡ false → f x ≡ []) → (d : List ElementValue) → flat_map f (filter is d) ≡ flat_map f d
+flat_filter f is none [] = refl
+flat_filter f is none (x ∷ d) = by (is x) refl (flat_filter f is none d)
+  where
+    by : (b : Bool) → is x ≡ b → flat_map f (filter is d) ≡ flat_map f d → flat_map f (cond b (x ∷ filter is d) (filter is d)) ≡ f x ++ flat_map f d
+    by true e rest = ap (λ l. f x ++ l) rest
+    by false e rest = rest ∙ ap (λ l. l ++ flat_map f d) (sym (none x e))
+
+flat_those : {Y : Type 0} (f : ElementValue → List Y) (is : ElementValue → Bool) → ((x : ElementValue) → is x ≡ false → f x ≡ []) → (d : List ElementValue) (list : List (Bor Element)) → AreThose is d list → flat_map f (map said list) ≡ flat_map f d
+flat_those f is none d list those = ap (flat_map f) those ∙ flat_filter f is none d
+
+no_document : (x : ElementValue) → is_document x ≡ false → documents_in x ≡ []
+no_document (vertex i (meta_data b)) e = refl
+no_document (vertex i project) e = refl
+no_document (vertex i (document u)) e = cc
+no_document (vertex i (range s)) e = refl
+no_document (vertex i result_set) e = refl
+no_document (vertex i definition_result) e = refl
+no_document (vertex i reference_result) e = refl
+no_document (vertex i declaration_result) e = refl
+no_document (vertex i implementation_result) e = refl
+no_document (vertex i (hover_result t)) e = refl
+no_document (vertex i (moniker m)) e = refl
+no_document (vertex i (package_information p)) e = refl
+no_document (vertex i (event v)) e = refl
+no_document (vertex i other_vertex) e = refl
+no_document (edge i k) e = refl
+
+pub documents_of : (d : List ElementValue) (list : List (Bor Element)) → AreThose is_document d list → flat_map documents_in (map said list) ≡ flat_map documents_in d
+documents_of d list those = flat_those documents_in is_document no_document d list those
+
+no_hover : (d : List ElementValue) (x : ElementValue) → is_hover x ≡ false → hovers_in d x ≡ []
+no_hover d (vertex i (meta_data b)) e = refl
+no_hover d (vertex i project) e = refl
+no_hover d (vertex i (document u)) e = refl
+no_hover d (vertex i (range s)) e = refl
+no_hover d (vertex i result_set) e = refl
+no_hover d (vertex i definition_result) e = refl
+no_hover d (vertex i reference_result) e = refl
+no_hover d (vertex i declaration_result) e = refl
+no_hover d (vertex i implementation_result) e = refl
+no_hover d (vertex i (hover_result t)) e = cc
+no_hover d (vertex i (moniker m)) e = refl
+no_hover d (vertex i (package_information p)) e = refl
+no_hover d (vertex i (event v)) e = refl
+no_hover d (vertex i other_vertex) e = refl
+no_hover d (edge i k) e = refl
+
+pub hovers_of : (d : List ElementValue) (list : List (Bor Element)) → AreThose is_hover d list → flat_map (hovers_in d) (map said list) ≡ flat_map (hovers_in d) d
+hovers_of d list those = flat_those (hovers_in d) is_hover (no_hover d) d list those
+
+no_interval : (d : List ElementValue) (x : ElementValue) → is_range x ≡ false → intervals_in d x ≡ []
+no_interval d (vertex i (meta_data b)) e = refl
+no_interval d (vertex i project) e = refl
+no_interval d (vertex i (document u)) e = refl
+no_interval d (vertex i (range s)) e = cc
+no_interval d (vertex i result_set) e = refl
+no_interval d (vertex i definition_result) e = refl
+no_interval d (vertex i reference_result) e = refl
+no_interval d (vertex i declaration_result) e = refl
+no_interval d (vertex i implementation_result) e = refl
+no_interval d (vertex i (hover_result t)) e = refl
+no_interval d (vertex i (moniker m)) e = refl
+no_interval d (vertex i (package_information p)) e = refl
+no_interval d (vertex i (event v)) e = refl
+no_interval d (vertex i other_vertex) e = refl
+no_interval d (edge i k) e = refl
+
+pub intervals_of : (d : List ElementValue) (list : List (Bor Element)) → AreThose is_range d list → flat_map (intervals_in d) (map said list) ≡ flat_map (intervals_in d) d
+intervals_of d list those = flat_those (intervals_in d) is_range (no_interval d) d list those
+
+no_line : (d : List ElementValue) (x : ElementValue) → is_range x ≡ false → range_lines d x ≡ []
+no_line d (vertex i (meta_data b)) e = refl
+no_line d (vertex i project) e = refl
+no_line d (vertex i (document u)) e = refl
+no_line d (vertex i (range s)) e = cc
+no_line d (vertex i result_set) e = refl
+no_line d (vertex i definition_result) e = refl
+no_line d (vertex i reference_result) e = refl
+no_line d (vertex i declaration_result) e = refl
+no_line d (vertex i implementation_result) e = refl
+no_line d (vertex i (hover_result t)) e = refl
+no_line d (vertex i (moniker m)) e = refl
+no_line d (vertex i (package_information p)) e = refl
+no_line d (vertex i (event v)) e = refl
+no_line d (vertex i other_vertex) e = refl
+no_line d (edge i k) e = refl
+
+pub lines_of : (d : List ElementValue) (list : List (Bor Element)) → AreThose is_range d list → flat_map (range_lines d) (map said list) ≡ flat_map (range_lines d) d
+lines_of d list those = flat_those (range_lines d) is_range (no_line d) d list those
+
+no_results : (d : List ElementValue) (x : ElementValue) → is_item x ≡ false → pairs_in result_pairs_of d x ≡ []
+no_results d (edge i (contains a b)) e = refl
+no_results d (edge i (next a b)) e = refl
+no_results d (edge i (definition a b)) e = refl
+no_results d (edge i (references a b)) e = refl
+no_results d (edge i (declaration a b)) e = refl
+no_results d (edge i (implementation a b)) e = refl
+no_results d (edge i (hover a b)) e = refl
+no_results d (edge i (moniker_edge a b)) e = refl
+no_results d (edge i (package_edge a b)) e = refl
+no_results d (edge i (attach a b)) e = refl
+no_results d (edge i (item k)) e = cc
+no_results d (edge i (other_edge a b)) e = refl
+no_results d (vertex i v) e = refl
+
+pub results_of : (d : List ElementValue) (list : List (Bor Element)) → AreThose is_item d list → flat_map (pairs_in result_pairs_of d) (map said list) ≡ pairs_of result_pairs_of d
+results_of d list those = flat_those (pairs_in result_pairs_of d) is_item (no_results d) d list those
+
+no_items : (role : Role) (d : List ElementValue) (x : ElementValue) → is_item x ≡ false → pairs_in (item_pairs_of role) d x ≡ []
+no_items role d (edge i (contains a b)) e = refl
+no_items role d (edge i (next a b)) e = refl
+no_items role d (edge i (definition a b)) e = refl
+no_items role d (edge i (references a b)) e = refl
+no_items role d (edge i (declaration a b)) e = refl
+no_items role d (edge i (implementation a b)) e = refl
+no_items role d (edge i (hover a b)) e = refl
+no_items role d (edge i (moniker_edge a b)) e = refl
+no_items role d (edge i (package_edge a b)) e = refl
+no_items role d (edge i (attach a b)) e = refl
+no_items role d (edge i (item k)) e = cc
+no_items role d (edge i (other_edge a b)) e = refl
+no_items role d (vertex i v) e = refl
+
+pub items_of : (role : Role) (d : List ElementValue) (list : List (Bor Element)) → AreThose is_item d list → flat_map (pairs_in (item_pairs_of role) d) (map said list) ≡ pairs_of (item_pairs_of role) d
+items_of role d list those = flat_those (pairs_in (item_pairs_of role) d) is_item (no_items role d) d list those
+
+no_attached : (d : List ElementValue) (x : ElementValue) → is_moniker_edge x ≡ false → pairs_in attach_pairs_of d x ≡ []
+no_attached d (edge i (contains a b)) e = refl
+no_attached d (edge i (next a b)) e = refl
+no_attached d (edge i (definition a b)) e = refl
+no_attached d (edge i (references a b)) e = refl
+no_attached d (edge i (declaration a b)) e = refl
+no_attached d (edge i (implementation a b)) e = refl
+no_attached d (edge i (hover a b)) e = refl
+no_attached d (edge i (moniker_edge a b)) e = cc
+no_attached d (edge i (package_edge a b)) e = refl
+no_attached d (edge i (attach a b)) e = cc
+no_attached d (edge i (item k)) e = refl
+no_attached d (edge i (other_edge a b)) e = refl
+no_attached d (vertex i v) e = refl
+
+pub attached_of : (d : List ElementValue) (list : List (Bor Element)) → AreThose is_moniker_edge d list → flat_map (pairs_in attach_pairs_of d) (map said list) ≡ pairs_of attach_pairs_of d
+attached_of d list those = flat_those (pairs_in attach_pairs_of d) is_moniker_edge (no_attached d) d list those
+
+-- what those up to the next say, and those after it
+pub flat_more : {Y : Type 0} (f : ElementValue → List Y) (list : List (Bor Element)) (k : ℕ) (x : Bor Element) (old new all : List Y) → k < length list → x ≡ get_or list k x → old ++ flat_map f (map said (drop k list)) ≡ all → new ≡ old ++ f (said x)
+    → new ++ flat_map f (map said (drop (k + 1) list)) ≡ all
+flat_more f list k x old new all lt is so_far grown =
+    ap (λ l. l ++ flat_map f (map said (drop (k + 1) list))) grown ∙ append_assoc old (f (said x)) (flat_map f (map said (drop (k + 1) list))) ∙ ap (λ l. old ++ flat_map f (map said l)) (sym (drop_next list k x lt is)) ∙ so_far
+
+-- ---- what is so of one of all is so of one of a kind
+
+one_of_those : {R : Type 0} (P : ElementValue → R → Type 0) (is : ElementValue → Bool) (d : List ElementValue) (list : List (Bor Element)) → AreThose is d list → ((x : ElementValue) (row : R) → P x row → is x ≡ true) → (row : R) → OfOne P (map said list) row ↔ OfOne P d row
+one_of_those P is d list those passes row = (
+  λ o. (o.0, (filter_source is d o.0 (subst (λ l. Contains l o.0) those o.1)).0, o.2),
+  λ o. (o.0, subst (λ l. Contains l o.0) (sym those) (filter_keeps is d o.0 o.1 (passes o.0 row o.2)), o.2),
+)
+
+row_of_result : (d : List ElementValue) (items : Items) (x : ElementValue) (row : ItemRowValue) → IsRowOf d items x row → is_result_vertex x ≡ true
+row_of_result d items (vertex i v) row h = h.0
+row_of_result d items (edge i k) row h = absurd h
+
+pub rows_of_results : (d : List ElementValue) (items : Items) (list : List (Bor Element)) → AreThose is_result_vertex d list → (row : ItemRowValue) → OfOne (IsRowOf d items) (map said list) row ↔ OfOne (IsRowOf d items) d row
+rows_of_results d items list those = one_of_those (IsRowOf d items) is_result_vertex d list those (row_of_result d items)
+
+borne_by_edge : (d : List ElementValue) (attached : List (ℕ × ℕ)) (x : ElementValue) (row : ℕ × ℕ) → IsBorneBy d attached x row → is_moniker_edge x ≡ true
+borne_by_edge d attached (edge i (contains a b)) row h = absurd h
+borne_by_edge d attached (edge i (next a b)) row h = absurd h
+borne_by_edge d attached (edge i (definition a b)) row h = absurd h
+borne_by_edge d attached (edge i (references a b)) row h = absurd h
+borne_by_edge d attached (edge i (declaration a b)) row h = absurd h
+borne_by_edge d attached (edge i (implementation a b)) row h = absurd h
+borne_by_edge d attached (edge i (hover a b)) row h = absurd h
+borne_by_edge d attached (edge i (moniker_edge a b)) row h = refl
+borne_by_edge d attached (edge i (package_edge a b)) row h = absurd h
+borne_by_edge d attached (edge i (attach a b)) row h = absurd h
+borne_by_edge d attached (edge i (item e)) row h = absurd h
+borne_by_edge d attached (edge i (other_edge a b)) row h = absurd h
+borne_by_edge d attached (vertex i v) row h = absurd h
+
+pub borne_of_edges : (d : List ElementValue) (attached : List (ℕ × ℕ)) (list : List (Bor Element)) → AreThose is_moniker_edge d list → (p : ℕ × ℕ) → OfOne (IsBorneBy d attached) (map said list) p ↔ OfOne (IsBorneBy d attached) d p
+borne_of_edges d attached list those = one_of_those (IsBorneBy d attached) is_moniker_edge d list those (borne_by_edge d attached)
+
+mark_of_range : (d : List ElementValue) (borne : List (ℕ × ℕ)) (marks : List (Option MarkText)) (x : ElementValue) (row : MarkRowValue) → IsMarkOfRange d borne marks x row → is_range x ≡ true
+mark_of_range d borne marks (vertex i (meta_data b)) row h = absurd h
+mark_of_range d borne marks (vertex i project) row h = absurd h
+mark_of_range d borne marks (vertex i (document u)) row h = absurd h
+mark_of_range d borne marks (vertex i (range s)) row h = refl
+mark_of_range d borne marks (vertex i result_set) row h = absurd h
+mark_of_range d borne marks (vertex i definition_result) row h = absurd h
+mark_of_range d borne marks (vertex i reference_result) row h = absurd h
+mark_of_range d borne marks (vertex i declaration_result) row h = absurd h
+mark_of_range d borne marks (vertex i implementation_result) row h = absurd h
+mark_of_range d borne marks (vertex i (hover_result t)) row h = absurd h
+mark_of_range d borne marks (vertex i (moniker m)) row h = absurd h
+mark_of_range d borne marks (vertex i (package_information p)) row h = absurd h
+mark_of_range d borne marks (vertex i (event v)) row h = absurd h
+mark_of_range d borne marks (vertex i other_vertex) row h = absurd h
+mark_of_range d borne marks (edge i k) row h = absurd h
+
+pub marks_of_ranges : (d : List ElementValue) (borne : List (ℕ × ℕ)) (marks : List (Option MarkText)) (list : List (Bor Element)) → AreThose is_range d list → (row : MarkRowValue) → OfOne (IsMarkOfRange d borne marks) (map said list) row ↔ OfOne (IsMarkOfRange d borne marks) d row
+marks_of_ranges d borne marks list those = one_of_those (IsMarkOfRange d borne marks) is_range d list those (mark_of_range d borne marks)
+
+-- ---- what is so of all, as it's so of those of a kind
+
+within_else : (x : ElementValue) → is_range x ≡ false → IsWithinLimit x
+within_else (vertex i (meta_data b)) e = tt
+within_else (vertex i project) e = tt
+within_else (vertex i (document u)) e = tt
+within_else (vertex i (range s)) e = cc
+within_else (vertex i result_set) e = tt
+within_else (vertex i definition_result) e = tt
+within_else (vertex i reference_result) e = tt
+within_else (vertex i declaration_result) e = tt
+within_else (vertex i implementation_result) e = tt
+within_else (vertex i (hover_result t)) e = tt
+within_else (vertex i (moniker m)) e = tt
+within_else (vertex i (package_information p)) e = tt
+within_else (vertex i (event v)) e = tt
+within_else (vertex i other_vertex) e = tt
+within_else (edge i k) e = tt
+
+pub within_of : (d : List ElementValue) (list : List (Bor Element)) → AreThose is_range d list → All IsWithinLimit (map said list) → All IsWithinLimit d
+within_of d list those all = All-weaker (Contains d) IsWithinLimit each d (All-contains_itself d)
+  where
+    each : (x : ElementValue) → Contains d x → IsWithinLimit x
+    each x at = by (is_range x) refl
+      where
+        by : (b : Bool) → is_range x ≡ b → IsWithinLimit x
+        by true e = All-contains IsWithinLimit (map said list) x all (subst (λ l. Contains l x) (sym those) (filter_keeps is_range d x at e))
+        by false e = within_else x e
+
+-- one of those of a kind is one of all
+pub those_in : (is : ElementValue → Bool) (d : List ElementValue) (list : List (Bor Element)) (k : ℕ) (x : Bor Element) → AreThose is d list → k < length list → x ≡ get_or list k x → Contains d (said x)
+those_in is d list k x those lt e =
+    (filter_source is d (said x) (subst (λ l. Contains l (said x)) those (contains_map said list x (subst (Contains list) (sym e) (Contains-get_or list k x lt))))).0

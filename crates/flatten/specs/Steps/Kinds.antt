@@ -1,0 +1,70 @@
+-- The elements of a dump, kind by kind.
+use Rattle.std.specs.Borrow.{Bor}
+use Rattle.std.specs.Prelude.{◌≡◌, ◌++◌, Bool, true, false, List, [], ◌∷◌, map, filter, Some, Ok}
+use Rattle.lsif.specs.declared.element.Element.{Element}
+use Rattle.lsif.specs.Element.{document, range, hover_result, moniker_edge, attach, item, ElementValue, vertex, edge, element_value}
+use Rattle.dump.specs.Fault.{IsFaultless}
+use Rattle.flatten.specs.Flat.{is_result}
+use Rattle.flatten.specs.declared.kinds.Kinds.{Kinds}
+
+abbrev pub said : Bor Element → ElementValue
+said e = element_value e.now
+
+abbrev pub is_document : ElementValue → Bool
+is_document (vertex i (document uri)) = true
+is_document (vertex i v) = false
+is_document (edge i e) = false
+
+abbrev pub is_hover : ElementValue → Bool
+is_hover (vertex i (hover_result contents)) = true
+is_hover (vertex i v) = false
+is_hover (edge i e) = false
+
+abbrev pub is_range : ElementValue → Bool
+is_range (vertex i (range span)) = true
+is_range (vertex i v) = false
+is_range (edge i e) = false
+
+-- a result that `item` edges leave
+abbrev pub is_result_vertex : ElementValue → Bool
+is_result_vertex (vertex i v) = is_result (Some v)
+is_result_vertex (edge i e) = false
+
+abbrev pub is_item : ElementValue → Bool
+is_item (edge i (item e)) = true
+is_item (edge i e) = false
+is_item (vertex i v) = false
+
+-- an edge `moniker` or `attach`
+abbrev pub is_moniker_edge : ElementValue → Bool
+is_moniker_edge (edge i (moniker_edge from to)) = true
+is_moniker_edge (edge i (attach from to)) = true
+is_moniker_edge (edge i e) = false
+is_moniker_edge (vertex i v) = false
+
+abbrev pub kept : Bool → ElementValue → List ElementValue
+kept true x = x ∷ []
+kept false x = []
+
+-- the list has the elements that pass, in their order
+abbrev pub AreThose : (ElementValue → Bool) → List ElementValue → List (Bor Element) → Type 0
+AreThose is elements list = map said list ≡ filter is elements
+
+-- each list has the elements of its kind, and the dump has no fault
+pub record AreKinds (kinds : Kinds) : Type 0 where
+  pub faultless : IsFaultless (map Ok kinds.dump.now.elements)
+  pub documents : AreThose is_document kinds.dump.now.elements kinds.documents.items
+  pub hovers : AreThose is_hover kinds.dump.now.elements kinds.hovers.items
+  pub ranges : AreThose is_range kinds.dump.now.elements kinds.ranges.items
+  pub results : AreThose is_result_vertex kinds.dump.now.elements kinds.results.items
+  pub items : AreThose is_item kinds.dump.now.elements kinds.items.items
+  pub moniker_edges : AreThose is_moniker_edge kinds.dump.now.elements kinds.moniker_edges.items
+
+-- the element was added to the list of its kind
+pub record Takes (old : Kinds) (x : ElementValue) (new : Kinds) : Type 0 where
+  pub documents : map said new.documents.items ≡ map said old.documents.items ++ kept (is_document x) x
+  pub hovers : map said new.hovers.items ≡ map said old.hovers.items ++ kept (is_hover x) x
+  pub ranges : map said new.ranges.items ≡ map said old.ranges.items ++ kept (is_range x) x
+  pub results : map said new.results.items ≡ map said old.results.items ++ kept (is_result_vertex x) x
+  pub items : map said new.items.items ≡ map said old.items.items ++ kept (is_item x) x
+  pub moniker_edges : map said new.moniker_edges.items ≡ map said old.moniker_edges.items ++ kept (is_moniker_edge x) x

@@ -1,0 +1,119 @@
+//! The elements that rows are made of, kind by kind.
+ghost use Rattle.std.specs.Prelude.{◌≡◌, ◌++◌, IfOk, OnOk, map};
+ghost use Rattle.lsif.specs.Element.{element_value};
+ghost use Rattle.flatten.specs.Steps.Kinds.{AreKinds, Takes, is_document, is_hover, is_item, is_moniker_edge, is_range, is_result_vertex, kept, said};
+
+use dump::CheckedDump;
+use lsif::{Edge, Element, Vertex};
+use std::alloc::{AllocError, Global};
+
+/// The elements of a dump that rows are made of: those of each kind in the order of their lines.
+#[derive(Drop)]
+pub(crate) struct Kinds<'a> {
+    pub(crate) dump: &'a CheckedDump,
+    pub(crate) documents: Vec<&'a Element>,
+    pub(crate) hovers: Vec<&'a Element>,
+    pub(crate) ranges: Vec<&'a Element>,
+    /// The results that `item` edges leave.
+    pub(crate) results: Vec<&'a Element>,
+    pub(crate) items: Vec<&'a Element>,
+    /// The edges `moniker` and `attach`.
+    pub(crate) moniker_edges: Vec<&'a Element>,
+}
+
+fn is_document(element: &Element) -> bool
+    ensures { result ≡ is_document (element_value element.now) }
+{
+    matches!(element, Element::Vertex(_, Vertex::Document(_)))
+}
+
+fn is_hover(element: &Element) -> bool
+    ensures { result ≡ is_hover (element_value element.now) }
+{
+    matches!(element, Element::Vertex(_, Vertex::HoverResult(_)))
+}
+
+fn is_range(element: &Element) -> bool
+    ensures { result ≡ is_range (element_value element.now) }
+{
+    matches!(element, Element::Vertex(_, Vertex::Range(_)))
+}
+
+/// Whether the element is a result that `item` edges leave.
+fn is_result(element: &Element) -> bool
+    ensures { result ≡ is_result_vertex (element_value element.now) }
+{
+    matches!(
+        element,
+        Element::Vertex(
+            _,
+            Vertex::DefinitionResult
+                | Vertex::ReferenceResult
+                | Vertex::DeclarationResult
+                | Vertex::ImplementationResult
+        )
+    )
+}
+
+fn is_item(element: &Element) -> bool
+    ensures { result ≡ is_item (element_value element.now) }
+{
+    matches!(element, Element::Edge(_, Edge::Item(_)))
+}
+
+/// Whether the element is an edge `moniker` or `attach`.
+fn is_moniker_edge(element: &Element) -> bool
+    ensures { result ≡ is_moniker_edge (element_value element.now) }
+{
+    matches!(
+        element,
+        Element::Edge(_, Edge::Moniker(_, _) | Edge::Attach(_, _))
+    )
+}
+
+/// Adds the element to the list, where it's of the list's kind.
+fn keep<'a>(
+    list: &mut Vec<&'a Element>,
+    element: &'a Element,
+    is_kept: bool,
+) -> Result<(), AllocError>
+    ensures { OnOk result (map said list.new.items ≡ map said list.old.items ++ kept is_kept (element_value element.now)) }
+{
+    if is_kept {
+        list.push(element)?;
+    }
+    Ok(())
+}
+
+/// Adds the element to the list of its kind.
+fn add<'a>(kinds: &mut Kinds<'a>, element: &'a Element) -> Result<(), AllocError>
+    ensures takes { OnOk result (Takes kinds.old (element_value element.now) kinds.new) }
+    ensures dump { kinds.new.dump ≡ kinds.old.dump }
+{
+    keep(&mut kinds.documents, element, is_document(element))?;
+    keep(&mut kinds.hovers, element, is_hover(element))?;
+    keep(&mut kinds.ranges, element, is_range(element))?;
+    keep(&mut kinds.results, element, is_result(element))?;
+    keep(&mut kinds.items, element, is_item(element))?;
+    keep(&mut kinds.moniker_edges, element, is_moniker_edge(element))
+}
+
+/// The elements of the dump, gone over once.
+pub(crate) fn kinds_of<'a>(alloc: Global, dump: &'a CheckedDump) -> Result<Kinds<'a>, AllocError>
+    ensures kinds { IfOk result (λ kinds. AreKinds kinds) }
+    ensures dump { IfOk result (λ kinds. kinds.dump.now ≡ dump.now) }
+{
+    let mut kinds = Kinds {
+        dump,
+        documents: Vec::new(alloc),
+        hovers: Vec::new(alloc),
+        ranges: Vec::new(alloc),
+        results: Vec::new(alloc),
+        items: Vec::new(alloc),
+        moniker_edges: Vec::new(alloc),
+    };
+    for element in dump.elements() {
+        add(&mut kinds, element)?;
+    }
+    Ok(kinds)
+}
