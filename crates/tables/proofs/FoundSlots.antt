@@ -1,5 +1,9 @@
 -- The slots of parts, as they are selected.
-use Rattle.std.proofs.Common.{◌≡◌, inl, inr, ℕ, ℤ, List, [], ◌∷◌, Option, Some, None, codes, false, refl, sym, ap, subst, ◌∙◌}
+use Rattle.std.proofs.Common.{◌≡◌, inl, inr, ℕ, ℤ, List, [], ◌∷◌, Option, Some, None, codes, false, refl, sym, ap, subst, ◌∙◌, string_bytes}
+use Rattle.std.specs.Option.{ok_or}
+use Rattle.std.specs.Prelude.{IfOk}
+use Rattle.std.specs.declared.string.String.{String}
+use Rattle.std.specs.declared.alloc.Global.{Global}
 use Rattle.sqlite.specs.Listing.{understood, reads_listing}
 use Rattle.sqlite.specs.State.{State, Shown}
 use Rattle.sqlite.proofs.Callers.{IsPlain, command_of}
@@ -14,12 +18,12 @@ use Rattle.sqlite_rules.specs.Lists.{Has}
 use Rattle.sqlite_rules.proofs.PlaceLemmas.{tied_same}
 use Rattle.tables.specs.Schema.{schema_two, slot}
 use Rattle.tables.specs.Contents.{Contents, Replies, Keeps, slot_row}
-use Rattle.tables.specs.Steps.SelectionTexts.{select_slot}
+use Rattle.tables.specs.Steps.SelectionTexts.{select_slot, select_project}
 use Rattle.tables.specs.Steps.Selected.{AreTyped, IsFirstRead, ShowsOne, equals}
 use Rattle.tables.specs.Steps.Slots.{IsSlotOf}
 use Rattle.tables.proofs.Cascade.{equal_is}
 use Rattle.tables.proofs.Entries.{typed_as}
-use Rattle.tables.proofs.Keeping.{none_is_some, slot_is, same_int_itself}
+use Rattle.tables.proofs.Keeping.{none_is_some, same_some, slot_is, same_int_itself}
 use Rattle.tables.proofs.Select.{one_table}
 use Rattle.tables.proofs.Selecting.{IsSelection, shows_one}
 
@@ -97,3 +101,59 @@ module _ (project : List ℕ) (part : ℤ) where
   slot_found old new rows found parts replies is has shown read =
       is_slot old.now.trees parts replies is found
       (shows_one slot_values Ided IsOfPart id_of select_slot (Text project ∷ Int part ∷ []) 1 selection (λ x. refl) old new rows has (typed_slots old.now.trees parts replies is) shown found read)
+
+-- ---- the project of a slot
+
+select_project_is : command_of (understood schema_two select_project) ≡ Select (record { lets = []; body = one_table 1 (equals ((0, 0) ∷ [])) (col 1 2 ∷ []) }) (codes "project" ∷ [])
+unfolding understood everything
+select_project_is = refl
+
+pub select_project_plain : IsPlain (understood schema_two select_project) × (reads_listing schema_two select_project ≡ false)
+unfolding understood everything
+select_project_plain = ((refl, refl), refl)
+
+abbrev project_columns : String Global → Row
+project_columns s = Text (string_bytes s) ∷ []
+
+abbrev project_shown : ℤ → SlotEntry → Row
+project_shown id e = Text e.project ∷ []
+
+module _ (id : ℤ) where
+  abbrev HasId : ℤ → SlotEntry → Type 0
+  HasId at e = at ≡ id
+
+  by_id : IsSelection slot_values project_shown HasId select_project (Int id ∷ []) 1
+  by_id = record {
+    pairs = (0, 0) ∷ [];
+    terms = col 1 2 ∷ [];
+    names = codes "project" ∷ [];
+    is = select_project_is;
+    plain = select_project_plain;
+    own = λ db. refl;
+    shows = λ at e. refl;
+    alike = λ at e. (tt, tt);
+    wants = λ at e h. let a = h.0 in cc;
+    wanted = λ at e w. (ap Int w, tt);
+  }
+
+  is_project : (db : Trees) (parts : Contents) (replies : Replies) → Keeps db parts replies → (project : List ℕ) (part : ℤ) → Has (db 1) (slot_row id project part) → (found : Option (String Global)) (text : String Global) → found ≡ Some text
+      → ShowsOne slot_values project_shown HasId project_columns db 1 found → string_bytes text ≡ project
+  is_project db parts replies is project part slot None text e none = absurd (none_is_some e)
+  is_project db parts replies is project part slot (Some x) text e one =
+      let entry = one.0 in
+      let there = subst (λ (i : ℤ). Has (db 1) (Int i ∷ slot_values entry)) one.1.1 one.1.0.1 in
+      let same = (one_slot db parts replies id entry.project project entry.part part is there slot).0 in
+      let read : string_bytes x ≡ entry.project = let a = one.2 in cc in
+      let text_is : x ≡ text = same_some e in
+      ap (λ (t : String Global). string_bytes t) (sym text_is) ∙ (read ∙ same)
+
+  pub project_found : (old new : State) (rows : List Row) (found : Option (String Global)) (text : String Global) (parts : Contents) (replies : Replies) → found ≡ Some text → Keeps old.now.trees parts replies → old.now.schema ≡ schema_two
+      → Shown select_project (Int id ∷ []) old new rows → IsFirstRead project_columns rows found → (project : List ℕ) (part : ℤ) → Has (old.now.trees 1) (slot_row id project part) → string_bytes text ≡ project
+  unfolding by_id
+  project_found old new rows found text parts replies e is has shown read project part slot =
+      is_project old.now.trees parts replies is project part slot found text e
+      (shows_one slot_values project_shown HasId project_columns select_project (Int id ∷ []) 1 by_id (λ x. refl) old new rows has (typed_slots old.now.trees parts replies is) shown found read)
+
+pub if_some : {X F : Type 0} (o : Option X) (fault : F) (P : X → Type 0) → ((x : X) → o ≡ Some x → P x) → IfOk (ok_or o fault) P
+if_some None fault P h = tt
+if_some (Some x) fault P h = h x refl

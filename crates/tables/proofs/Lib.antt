@@ -1,4 +1,5 @@
 pub mod Batches
+pub mod BearerOrder
 pub mod Cascade
 pub mod Commands
 pub mod Crashes
@@ -11,6 +12,7 @@ pub mod Entries
 pub mod Equalities
 pub mod Fill
 pub mod Filling
+pub mod FoundBearers
 pub mod FoundItems
 pub mod FoundMarks
 pub mod FoundSlots
@@ -19,6 +21,7 @@ pub mod Insert
 pub mod Inserts
 pub mod Keeping
 pub mod KeptReplies
+pub mod LineResults
 pub mod Looking
 pub mod PartRemoved
 pub mod Popping

@@ -12,8 +12,9 @@ use Rattle.dump.specs.Graph.{vertex_at}
 use Rattle.dump.specs.declared.role.Role.{Role}
 use Rattle.dump.specs.Places.{PlaceValue, IsListing, place_cmp}
 use Rattle.dump.specs.Progress.{DumpValue}
-use Rattle.flatten.specs.Flat.{IsHoverRow, IsItemRow, IsMarkRow, kind_index}
+use Rattle.flatten.specs.Flat.{ResultsValue, BearerRowValue, IsBearerRow, IsHoverRow, IsItemRow, IsMarkRow, kind_index}
 use Rattle.tables.specs.State.{State}
+use Rattle.tables.specs.declared.bearers.FoundBearer.{FoundBearer}
 use Rattle.tables.specs.declared.items.FoundItem.{FoundItem}
 use Rattle.tables.specs.declared.marks.FoundMark.{FoundMark}
 use Rattle.tables.specs.declared.projects.ProjectRow.{ProjectRow}
@@ -97,3 +98,36 @@ HasItem m project result role place = (dump : DumpValue) × (m.dump project ≡ 
 -- the places of the result in the role, each once
 abbrev pub FindsItems : State → List ℕ → ℕ → Role → List PlaceValue → Type 0
 FindsItems m project result role = IsListing place_cmp (HasItem m project result role)
+
+-- ---- bearers
+
+-- a vertex of a project's dump that bears a mark itself: its line, the kind of the mark, and its first results
+pub record BearerFound : Type 0 where
+  pub project : List ℕ
+  pub line : ℕ
+  pub kind : MonikerKind
+  pub results : ResultsValue
+
+abbrev pub bearer_found : FoundBearer → BearerFound
+bearer_found b = record {
+  project = string_bytes b.project;
+  line = b.line;
+  kind = b.kind;
+  results = record { definition = b.def; references = b.refs; hover = b.hover; declaration = b.decl; implementation = b.imp };
+}
+
+-- its row, of a mark with this key
+abbrev pub bearer_row : List ℕ → BearerFound → BearerRowValue
+bearer_row key b = record { line = b.line; key = key; kind = b.kind; results = b.results }
+
+-- the vertex bears a mark with this key, in its project's dump
+abbrev pub Bears : State → List ℕ → BearerFound → Type 0
+Bears m key b = (dump : DumpValue) × (m.dump b.project ≡ Some dump) × IsBearerRow dump.elements (bearer_row key b)
+
+-- by project, then by line, then by kind
+abbrev pub bearer_found_cmp : BearerFound → BearerFound → Ordering
+bearer_found_cmp a b = ordering_then (text_cmp a.project b.project) (ordering_then (nat_cmp a.line b.line) (nat_cmp (kind_index a.kind) (kind_index b.kind)))
+
+-- the bearers of the key in all projects, each once
+abbrev pub FindsBearers : State → List ℕ → List BearerFound → Type 0
+FindsBearers m key = IsListing bearer_found_cmp (Bears m key)

@@ -1,6 +1,8 @@
-//! The index in a database: its tables, opened, made where there are none, and made of those of the format before.
+//! The index in a database: its tables, opened, made where there are none, and made of those of the format before; the parts of projects, replaced
+//! and removed; and what is selected of them.
 #![tactic(auto)]
 
+mod bearers;
 mod changes;
 mod columns;
 mod dump_part;
@@ -22,6 +24,7 @@ mod slots;
 mod tables;
 mod tags_part;
 
+pub use bearers::FoundBearer;
 pub use fault::TablesFault;
 pub use items::FoundItem;
 pub use marks::FoundMark;
@@ -34,3 +37,5 @@ pub use tables::Tables;
 mod tests;
 #[cfg(test)]
 mod tests_changes;
+#[cfg(test)]
+mod tests_selections;

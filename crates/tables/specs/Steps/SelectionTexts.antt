@@ -18,3 +18,12 @@ select_marks = codes "SELECT kind, keytext FROM mark WHERE slot = ?1 AND line = 
 
 abbrev pub select_items : List ℕ
 select_items = codes "SELECT uri, first, last FROM item WHERE slot = ?1 AND result = ?2 AND role = ?3"
+
+abbrev pub select_project : List ℕ
+select_project = codes "SELECT project FROM slot WHERE id = ?1"
+
+abbrev pub select_bearers : List ℕ
+select_bearers = codes "SELECT slot, line, kind, def, refs, hover FROM bearer WHERE keytext = ?1"
+
+abbrev pub select_more : List ℕ
+select_more = codes "SELECT decl, imp FROM more WHERE slot = ?1 AND line = ?2"

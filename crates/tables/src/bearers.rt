@@ -1,0 +1,231 @@
+//! The bearers of a key, as they are selected.
+ghost use Rattle.std.specs.Prelude.{◌≡◌, ◌∷◌, [], List, ℕ, Contains, Some, map, string_bytes, pos, false, IsTrue, IfOk, OnOk};
+ghost use Rattle.std.specs.declared.cmp.Ordering.TheVariants.{Equal};
+ghost use Rattle.std.specs.List.{AllByRecursion};
+ghost use Rattle.sqlite_value.specs.declared.value.Value.TheVariants.{Int};
+ghost use Rattle.sqlite_rules.specs.Lists.{Has};
+ghost use Rattle.sqlite.specs.State.{HasCleanDisk, Survives};
+ghost use Rattle.sqlite.specs.Held.{state};
+ghost use Rattle.dump.specs.Places.{IsListing};
+ghost use Rattle.dump.specs.Progress.{DumpValue};
+ghost use Rattle.flatten.specs.Flat.{ResultsValue, kind_index};
+ghost use Rattle.tables.specs.Schema.{schema_two};
+ghost use Rattle.tables.specs.Columns.{number, optional};
+ghost use Rattle.tables.specs.Contents.{Contents, Replies, Keeps, slot_row};
+ghost use Rattle.tables.specs.State.{State};
+ghost use Rattle.tables.specs.Stands.{StandsFor, Rests};
+ghost use Rattle.tables.specs.Selections.{IsAsBefore, BearerFound, Bears, FindsBearers, bearer_found, bearer_found_cmp};
+ghost use Rattle.tables.specs.declared.bearers.SlotBearer.{SlotBearer};
+ghost use Rattle.tables.specs.Steps.Selected.{Looks};
+ghost use Rattle.tables.specs.Steps.Known.{IsKnown, TellsBearer};
+
+use crate::columns::{column, kind_of};
+use crate::dump_rows::kind_number;
+use crate::fault::TablesFault;
+use crate::selection::{Listed, select_all, select_first};
+use crate::tables::Tables;
+use lsif::MonikerKind;
+use sqlite::{Alter, Connection, Row, params};
+use std::alloc::Global;
+use std::cmp::Ordering;
+
+/// A bearer of a key: a vertex of a project's dump that bears a moniker with the key itself.
+#[derive(Debug, PartialEq, Eq, Drop)]
+pub struct FoundBearer {
+    pub project: String,
+    /// The vertex's line in the dump, counted from 1.
+    pub line: u32,
+    pub kind: MonikerKind,
+    /// The numbers of its first results: of a definition, of references, of a hover, of a declaration and of an implementation.
+    pub def: Option<u32>,
+    pub refs: Option<u32>,
+    pub hover: Option<u32>,
+    pub decl: Option<u32>,
+    pub imp: Option<u32>,
+}
+
+/// What the row of a bearer has.
+#[derive(Drop)]
+struct SlotBearer {
+    slot: i64,
+    line: u32,
+    kind: MonikerKind,
+    def: Option<u32>,
+    refs: Option<u32>,
+    hover: Option<u32>,
+}
+
+impl Listed for SlotBearer {
+    ghost columns = { λ b. Int b.slot ∷ number b.line ∷ number (kind_index b.kind) ∷ optional b.def ∷ optional b.refs ∷ optional b.hover ∷ [] };
+
+    fn read(row: &Row) -> Result<SlotBearer, TablesFault> {
+        let kind = kind_of(column(row, 2)?)?;
+        Ok(SlotBearer {
+            slot: column(row, 0)?,
+            line: column(row, 1)?,
+            kind,
+            def: column(row, 3)?,
+            refs: column(row, 4)?,
+            hover: column(row, 5)?,
+        })
+    }
+}
+
+/// The declaration and the implementation of a line.
+#[derive(Drop)]
+pub(crate) struct LineMore {
+    pub(crate) decl: Option<u32>,
+    pub(crate) imp: Option<u32>,
+}
+
+impl Listed for LineMore {
+    ghost columns = { λ more. optional more.decl ∷ optional more.imp ∷ [] };
+
+    fn read(row: &Row) -> Result<LineMore, TablesFault> {
+        Ok(LineMore {
+            decl: column(row, 0)?,
+            imp: column(row, 1)?,
+        })
+    }
+}
+
+/// The declaration and the implementation of a line of the dump that has this slot.
+pub(crate) fn more_of<S: Alter>(
+    conn: &mut Connection<S>,
+    slot: i64,
+    line: u32,
+) -> Result<LineMore, TablesFault>
+    ensures more { HasCleanDisk (state S.Store conn.new) → (state S.Store conn.old).now.schema ≡ schema_two → (m : State) → StandsFor (state S.Store conn.old).now.trees m
+        → (project : List ℕ) (dump : DumpValue) → Has ((state S.Store conn.old).now.trees 1) (slot_row slot project (pos 1)) → m.dump project ≡ Some dump
+        → (results : ResultsValue) → IsKnown dump line results → IfOk result (λ more. (more.decl ≡ results.declaration) × (more.imp ≡ results.implementation)) }
+    ensures kept { HasCleanDisk (state S.Store conn.new) → (state S.Store conn.old).now.schema ≡ schema_two → OnOk result (IsAsBefore (state S.Store conn.old) (state S.Store conn.new)) }
+    ensures looks { Looks (state S.Store conn.old) (state S.Store conn.new) }
+    ensures mode { conn.old.in_transaction ≡ false → conn.new.in_transaction ≡ false }
+{
+    let found = select_first(
+        conn,
+        "SELECT decl, imp FROM more WHERE slot = ?1 AND line = ?2",
+        params![slot, line],
+    )?;
+    match found {
+        Some(more) => Ok(more),
+        None => Ok(LineMore {
+            decl: None,
+            imp: None,
+        }),
+    }
+}
+
+/// The project that a slot is of.
+fn slot_project<S: Alter>(conn: &mut Connection<S>, slot: i64) -> Result<String, TablesFault>
+    ensures project { HasCleanDisk (state S.Store conn.new) → (state S.Store conn.old).now.schema ≡ schema_two → (parts : Contents) (replies : Replies) → Keeps (state S.Store conn.old).now.trees parts replies
+        → (project : List ℕ) → Has ((state S.Store conn.old).now.trees 1) (slot_row slot project (pos 1)) → IfOk result (λ found. string_bytes found ≡ project) }
+    ensures kept { HasCleanDisk (state S.Store conn.new) → (state S.Store conn.old).now.schema ≡ schema_two → OnOk result (IsAsBefore (state S.Store conn.old) (state S.Store conn.new)) }
+    ensures looks { Looks (state S.Store conn.old) (state S.Store conn.new) }
+    ensures mode { conn.old.in_transaction ≡ false → conn.new.in_transaction ≡ false }
+{
+    let found = select_first(
+        conn,
+        "SELECT project FROM slot WHERE id = ?1",
+        params![slot],
+    )?;
+    found.ok_or(TablesFault::Refused)
+}
+
+/// The bearer that a row tells, with its project, its declaration and its implementation.
+fn complete<S: Alter>(conn: &mut Connection<S>, row: SlotBearer) -> Result<FoundBearer, TablesFault>
+    ensures whole { HasCleanDisk (state S.Store conn.new) → (state S.Store conn.old).now.schema ≡ schema_two → (m : State) → StandsFor (state S.Store conn.old).now.trees m
+        → (key : List ℕ) (v : BearerFound) → TellsBearer (state S.Store conn.old).now.trees m key row v → IfOk result (λ found. bearer_found found ≡ v) }
+    ensures kept { HasCleanDisk (state S.Store conn.new) → (state S.Store conn.old).now.schema ≡ schema_two → OnOk result (IsAsBefore (state S.Store conn.old) (state S.Store conn.new)) }
+    ensures looks { Looks (state S.Store conn.old) (state S.Store conn.new) }
+    ensures mode { conn.old.in_transaction ≡ false → conn.new.in_transaction ≡ false }
+{
+    let more = more_of(conn, row.slot, row.line)?;
+    let project = slot_project(conn, row.slot)?;
+    Ok(FoundBearer {
+        project,
+        line: row.line,
+        kind: row.kind,
+        def: row.def,
+        refs: row.refs,
+        hover: row.hover,
+        decl: more.decl,
+        imp: more.imp,
+    })
+}
+
+/// The rows of the bearers of a key.
+fn select_bearers<S: Alter>(
+    alloc: Global,
+    conn: &mut Connection<S>,
+    key: &str,
+) -> Result<Vec<SlotBearer>, TablesFault>
+    ensures each { HasCleanDisk (state S.Store conn.new) → (state S.Store conn.old).now.schema ≡ schema_two → (m : State) → StandsFor (state S.Store conn.old).now.trees m
+        → IfOk result (λ rows. AllByRecursion (λ x. (v : BearerFound) × TellsBearer (state S.Store conn.old).now.trees m key.now x v) rows.items) }
+    ensures all { HasCleanDisk (state S.Store conn.new) → (state S.Store conn.old).now.schema ≡ schema_two → (m : State) → StandsFor (state S.Store conn.old).now.trees m
+        → IfOk result (λ rows. (v : BearerFound) → Bears m key.now v → (x : SlotBearer) × Has rows.items x × TellsBearer (state S.Store conn.old).now.trees m key.now x v) }
+    ensures kept { HasCleanDisk (state S.Store conn.new) → (state S.Store conn.old).now.schema ≡ schema_two → OnOk result (IsAsBefore (state S.Store conn.old) (state S.Store conn.new)) }
+    ensures looks { Looks (state S.Store conn.old) (state S.Store conn.new) }
+    ensures mode { conn.old.in_transaction ≡ false → conn.new.in_transaction ≡ false }
+{
+    select_all(
+        alloc,
+        conn,
+        "SELECT slot, line, kind, def, refs, hover FROM bearer WHERE keytext = ?1",
+        params![key],
+    )
+}
+
+/// By project, then by line, then by kind.
+fn order(a: &FoundBearer, b: &FoundBearer) -> Ordering
+    ensures { result ≡ bearer_found_cmp (bearer_found a.now) (bearer_found b.now) }
+{
+    let kinds = kind_number(a.kind).cmp(&kind_number(b.kind));
+    a.project
+        .as_str()
+        .cmp(b.project.as_str())
+        .then(a.line.cmp(&b.line).then(kinds))
+}
+
+/// Puts the bearers in order, each once, where those of one place in the order are one.
+fn list_bearers(found: &mut Vec<FoundBearer>)
+    ensures { ((v w : BearerFound) → Contains (map bearer_found found.old.items) v → Contains (map bearer_found found.old.items) w → bearer_found_cmp v w ≡ Equal → v ≡ w)
+        → IsListing bearer_found_cmp (Contains (map bearer_found found.old.items)) (map bearer_found found.new.items) }
+{
+    found.sort_unstable_by(|a, b| order(a, b));
+    found.dedup();
+}
+
+/// The bearers of a key, in all projects.
+fn find_bearers<S: Alter>(
+    alloc: Global,
+    conn: &mut Connection<S>,
+    key: &str,
+) -> Result<Vec<FoundBearer>, TablesFault>
+    ensures found { HasCleanDisk (state S.Store conn.new) → (state S.Store conn.old).now.schema ≡ schema_two → (m : State) → StandsFor (state S.Store conn.old).now.trees m → IfOk result (λ found. FindsBearers m key.now (map bearer_found found.items)) }
+    ensures looks { Looks (state S.Store conn.old) (state S.Store conn.new) }
+    ensures mode { conn.old.in_transaction ≡ false → conn.new.in_transaction ≡ false }
+{
+    let mut left = select_bearers(alloc, conn, key)?;
+    let mut found = Vec::new(alloc);
+    while let Some(row) = left.pop() {
+        let bearer = complete(conn, row)?;
+        if found.push(bearer).is_err() {
+            return Err(TablesFault::Memory);
+        }
+    }
+    list_bearers(&mut found);
+    Ok(found)
+}
+
+impl<S: Alter> Tables<S> {
+    /// The bearers of a key in the dumps of all projects: each once, by project (its bytes), line and kind. The key is as `flatten::key_text` makes it.
+    /// It's `Refused` where the store refuses, or where a row isn't one of this product's, and `Memory` where memory is refused.
+    pub fn bearers(&mut self, alloc: Global, key: &str) -> Result<Vec<FoundBearer>, TablesFault>
+        ensures found { HasCleanDisk (state S.Store self.new) → (m : State) → Rests (state S.Store self.old) m → IfOk result (λ found. FindsBearers m key.now (map bearer_found found.items)) }
+        ensures same { HasCleanDisk (state S.Store self.new) → IsTrue (state S.Store self.new).is_open → (m : State) → Rests (state S.Store self.old) m → IsAsBefore (state S.Store self.old) (state S.Store self.new) }
+        ensures survives { (m : State) → Rests (state S.Store self.old) m → Survives (state S.Store self.old) (state S.Store self.new) (λ _. ⊥) }
+    {
+        find_bearers(alloc, &mut self.conn, key)
+    }
+}
