@@ -9,7 +9,8 @@ use Rattle.std.specs.declared.cmp.Ordering.TheVariants.{Less, Equal, Greater}
 use Rattle.positions.specs.Position.{PositionValue}
 use Rattle.positions.specs.Span.{SpanValue}
 use Rattle.dump.specs.Places.{position_cmp}
-use Rattle.desk.specs.Answers.{found_cmp, text_cmp}
+use Rattle.desk.specs.Answers.{found_cmp}
+use Rattle.tables.specs.Selections.{text_cmp}
 use Rattle.desk.specs.Found.{place_found}
 use Rattle.desk.specs.declared.found.FoundPlace.{FoundPlace}
 use Rattle.desk.proofs.Listing.{under, eq_of, text_eq}

@@ -19,7 +19,8 @@ use Rattle.dump.specs.Graph.{line_of, vertex_at}
 use Rattle.dump.specs.Monikers.{moniker_pairs_of}
 use Rattle.dump.specs.Progress.{DumpValue}
 use Rattle.dump.specs.Requests.{First}
-use Rattle.desk.specs.Answers.{text_cmp, HasContents, HasJoinedContents, IsAtOrBefore, HoversAt, joined, bare}
+use Rattle.desk.specs.Answers.{HasContents, HasJoinedContents, IsAtOrBefore, HoversAt, joined, bare}
+use Rattle.tables.specs.Selections.{text_cmp}
 use Rattle.desk.specs.Joins.{IsJoined}
 use Rattle.tables.specs.State.{State}
 use Rattle.desk.specs.declared.project.Project.{Project}

@@ -7,9 +7,8 @@ use Rattle.std.specs.Map.{keys_of}
 use Rattle.std.specs.String.{string_cmp}
 use Rattle.std.specs.declared.cmp.Ordering.TheVariants.{Less}
 use Rattle.dump.specs.Places.{IsListing}
-use Rattle.desk.specs.Answers.{text_cmp, IsProject, project_cmp}
+use Rattle.tables.specs.Selections.{text_cmp, IsProject, project_cmp, ProjectValue}
 use Rattle.tables.specs.State.{State}
-use Rattle.desk.specs.Reply.{ProjectValue}
 use Rattle.desk.specs.Steps.Listed.{projects_of}
 use Rattle.desk.specs.Steps.Plain.{Stands}
 use Rattle.desk.specs.declared.project.Project.{Project}

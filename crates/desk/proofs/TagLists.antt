@@ -20,7 +20,8 @@ use Rattle.std.proofs.lemmas.Slice.Eq.{bytes_eq-Decides}
 use Rattle.tags.specs.Judging.{lines_rise}
 use Rattle.tags.specs.Values.{TagValue}
 use Rattle.dump.specs.Places.{IsListing}
-use Rattle.desk.specs.Answers.{text_cmp, IsAsked, IsTag, BeginsWith, line_cmp, name_cmp}
+use Rattle.desk.specs.Answers.{IsAsked, IsTag, BeginsWith, line_cmp, name_cmp}
+use Rattle.tables.specs.Selections.{text_cmp}
 use Rattle.desk.specs.Found.{tag_found}
 use Rattle.tables.specs.State.{State}
 use Rattle.desk.specs.Reply.{FoundTag}

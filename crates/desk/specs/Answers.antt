@@ -17,11 +17,9 @@ use Rattle.tags.specs.Values.{TagValue}
 use Rattle.desk.specs.declared.code.Code.TheVariants.{D01, D02}
 use Rattle.desk.specs.Joins.{IsJoined}
 use Rattle.tables.specs.State.{State}
-use Rattle.desk.specs.Reply.{ReplyValue, FoundPlace, FoundTag, ProjectValue, refused, places_found, hover_found, tags_found, projects_found, profile_found}
+use Rattle.desk.specs.Reply.{ReplyValue, FoundPlace, FoundTag, refused, places_found, hover_found, tags_found, projects_found, profile_found}
+use Rattle.tables.specs.Selections.{IsProject, project_cmp, text_cmp}
 use Rattle.desk.specs.Requests.{DocumentPositionValue, QueryValue, definition, references, hover, declaration, implementation, names, prefix, projects, profile}
-
-abbrev pub text_cmp : List ℕ → List ℕ → Ordering
-text_cmp = slice_cmp nat_cmp
 
 -- ---- places
 
@@ -108,15 +106,6 @@ line_cmp a b = ordering_then (text_cmp a.project b.project) (nat_cmp a.tag.line 
 -- by name, project and line
 abbrev pub name_cmp : FoundTag → FoundTag → Ordering
 name_cmp a b = ordering_then (text_cmp a.tag.name b.tag.name) (line_cmp a b)
-
--- ---- projects
-
--- a project with a part, and which of both it has
-abbrev pub IsProject : State → ProjectValue → Type 0
-IsProject m p = (p.dump ≡ is_some (m.dump p.name)) × (p.tags ≡ is_some (m.tags p.name)) × ((p.dump || p.tags) ≡ true)
-
-abbrev pub project_cmp : ProjectValue → ProjectValue → Ordering
-project_cmp a b = text_cmp a.name b.name
 
 -- ---- queries
 

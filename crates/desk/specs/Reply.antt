@@ -12,6 +12,7 @@ use Rattle.dump.specs.Places.{PlaceValue}
 use Rattle.tags.specs.Codes as tag_lines
 use Rattle.tags.specs.Values.{FieldValue, TagValue}
 use Rattle.tags.specs.declared.code.LineFault as tags
+use Rattle.tables.specs.Selections.{ProjectValue}
 use Rattle.tables.specs.State.{count_data, removed_data}
 use Rattle.desk.specs.declared.code.Code.{Code}
 use Rattle.desk.specs.declared.code.Code.TheVariants.{D01, D02, D03, S01, S02}
@@ -151,12 +152,6 @@ abbrev pub tags_found : List FoundTag → ReplyValue
 tags_found found = written 200 (tags_data found)
 
 -- ---- projects and profiles
-
--- a project's name, and whether it has a dump and tags
-pub record ProjectValue : Type 0 where
-  pub name : List ℕ
-  pub dump : Bool
-  pub tags : Bool
 
 abbrev pub project_data : ProjectValue → Data
 project_data p =

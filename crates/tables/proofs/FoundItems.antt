@@ -15,6 +15,9 @@ use Rattle.sqlite_schema.specs.declared.command.Command.TheVariants.{Select}
 use Rattle.sqlite_trees.specs.Tree.{Trees}
 use Rattle.sqlite_rules.specs.Lists.{Has}
 use Rattle.positions.specs.Position.{PositionValue, IsPosition, packed_of}
+use Rattle.positions.specs.Span.{SpanValue}
+use Rattle.lsif.specs.Element.{IdValue, range}
+use Rattle.dump.specs.Graph.{vertex_at}
 use Rattle.dump.specs.declared.role.Role.{Role}
 use Rattle.dump.specs.declared.role.Role.TheVariants.{Definitions, References}
 use Rattle.dump.specs.Places.{PlaceValue, IsListing, place_cmp}
@@ -28,12 +31,12 @@ use Rattle.tables.specs.Columns.{number, dump_rows, position, item_columns}
 use Rattle.tables.specs.Contents.{owned, slot_row}
 use Rattle.tables.specs.State.{State}
 use Rattle.tables.specs.Stands.{StandsFor}
-use Rattle.tables.specs.Selections.{HasPositions, HasItem, FindsItems, item_found}
+use Rattle.tables.specs.Selections.{HasItem, FindsItems, item_found}
 use Rattle.tables.specs.declared.items.FoundItem.{FoundItem}
 use Rattle.tables.specs.Steps.SelectionTexts.{select_items}
 use Rattle.tables.specs.Steps.Selected.{AreRead, equals}
 use Rattle.tables.specs.Steps.DumpEntries.{Entries, entry_values, SelectsOf}
-use Rattle.tables.proofs.DumpEntries.{typed, selects_of, listed_are, dump_slot, are_values, empty_listing}
+use Rattle.tables.proofs.DumpEntries.{rows_of, typed, selects_of, listed_are, dump_slot, are_values, empty_listing}
 use Rattle.tables.proofs.Keeping.{same_some, none_is_some}
 use Rattle.tables.proofs.Select.{one_table}
 use Rattle.tables.proofs.Selecting.{IsSelection, selects_typed}
@@ -100,6 +103,10 @@ are d flat is = listed_are (IsItem d) item_columns flat.items is.items
 is_owned : Has owned 9
 is_owned = inr (inr (inl refl))
 
+-- the positions of each range of a dump are within their bounds
+abbrev HasPositions : State → Type 0
+HasPositions m = (project : List ℕ) (dump : DumpValue) (r : IdValue) (span : SpanValue) → m.dump project ≡ Some dump → vertex_at dump.elements r ≡ Some (range span) → IsPosition span.start × IsPosition span.«end»
+
 -- an item of a dump that has positions has them
 located : (m : State) (project : List ℕ) (dump : DumpValue) → HasPositions m → m.dump project ≡ Some dump → (e : ItemRowValue) → IsItem dump e → IsPosition e.place.span.start × IsPosition e.place.span.«end»
 located m project dump numbered has e is = let at = is.is_place.2.2 in numbered project dump is.is_place.2.0 e.place.span has at.span
@@ -149,12 +156,13 @@ module _ (result : ℕ) (role : Role) where
         (λ h. it.1 (subst (λ (d : DumpValue). IsItem d (entry v)) (same_some (sym h.1 ∙ has)) h.2)),
       )
 
-  pub items_found : (m : State) (id : ℤ) (project : List ℕ) (old new : Store) (rows : List Row) (found listed : List FoundItem) → StandsFor old.now.trees m → HasPositions m → old.now.schema ≡ schema_two → Has (old.now.trees 1) (slot_row id project (pos 1))
+  pub items_found : (m : State) (id : ℤ) (project : List ℕ) (old new : Store) (rows : List Row) (found listed : List FoundItem) → StandsFor old.now.trees m → old.now.schema ≡ schema_two → Has (old.now.trees 1) (slot_row id project (pos 1))
       → Shown select_items (Int id ∷ number result ∷ number (role_index role) ∷ []) old new rows → AreRead found_columns rows found → AllByRecursion IsSound found → IsListing place_cmp (Contains (map item_found found)) (map item_found listed) → FindsItems m project result role (map item_found listed)
   unfolding selection
-  items_found m id project old new rows found listed s numbered schema slot shown read sound list =
+  items_found m id project old new rows found listed s schema slot shown read sound list =
       let db = old.now.trees in
       let dump = dump_slot db m s project id slot in
+      let numbered : HasPositions m = (λ project dump r span has at. (rows_of db m s project dump has).2.located r span at) in
       same_listing place_cmp _ _ (map item_found listed) (finds m project dump.0 numbered dump.1 found sound (selects_of db m s IsItem item_columns 9 is_owned are (λ tags. refl) project dump.0 id slot dump.1 IsOf item_shown (map found_columns found)
       (selects_typed (entry_values item_columns IsItem db m) (λ at e. item_shown e.0.value) (IsWanted db m id) found_columns select_items (Int id ∷ number result ∷ number (role_index role) ∷ []) 9 (selection db m id) (λ x. refl) old new rows schema
       (typed db m s IsItem item_columns 9 is_owned are (λ tags. refl)) shown found read))) list

@@ -10,8 +10,8 @@ use Rattle.sqlite.specs.State.{State, HasCleanDisk, Survives, Shown, ShowsRows, 
 use Rattle.sqlite.specs.declared.error.Error.{Error}
 use Rattle.sqlite.proofs.StateLemmas.{survives_weaker, survives_then}
 use Rattle.sqlite.proofs.Callers.{IsPlain, never_commits}
+use Rattle.tables.specs.Stands.{IsAsBefore}
 use Rattle.tables.specs.Schema.{schema_two}
-use Rattle.tables.specs.Selections.{IsAsBefore}
 use Rattle.tables.specs.Steps.Selected.{Looks}
 use Rattle.tables.proofs.Versions.{failed}
 

@@ -3,7 +3,6 @@ use Rattle.std.specs.Prelude.{◌≡◌, ◌||◌, ℕ, Bool, true, List, Option
 use Rattle.std.specs.declared.cmp.Ordering.{Ordering}
 use Rattle.std.specs.Ordering.{nat_cmp, ordering_then}
 use Rattle.std.specs.Cmp.Lexicographic.{slice_cmp}
-use Rattle.sqlite.specs.State as sqlite
 use Rattle.lsif.specs.declared.element.MonikerKind.{MonikerKind}
 use Rattle.positions.specs.Position.{IsPosition}
 use Rattle.positions.specs.Span.{SpanValue}
@@ -18,10 +17,6 @@ use Rattle.tables.specs.declared.bearers.FoundBearer.{FoundBearer}
 use Rattle.tables.specs.declared.items.FoundItem.{FoundItem}
 use Rattle.tables.specs.declared.marks.FoundMark.{FoundMark}
 use Rattle.tables.specs.declared.projects.ProjectRow.{ProjectRow}
-
--- what is shown and what is committed are as before
-abbrev pub IsAsBefore : sqlite.State → sqlite.State → Type 0
-IsAsBefore old new = (new.now ≡ old.now) × (new.committed ≡ old.committed)
 
 -- by their bytes
 abbrev pub text_cmp : List ℕ → List ℕ → Ordering
@@ -83,10 +78,6 @@ abbrev pub FindsMarks : State → List ℕ → ℕ → List MarkText → Type 0
 FindsMarks m project line = IsListing mark_text_cmp (HasMark m project line)
 
 -- ---- items
-
--- the positions of each range of a dump have numbers
-abbrev pub HasPositions : State → Type 0
-HasPositions m = (project : List ℕ) (dump : DumpValue) (r : IdValue) (span : SpanValue) → m.dump project ≡ Some dump → vertex_at dump.elements r ≡ Some (range span) → IsPosition span.start × IsPosition span.«end»
 
 abbrev pub item_found : FoundItem → PlaceValue
 item_found item = record { uri = string_bytes item.uri; span = item.span }

@@ -3,7 +3,11 @@ use Rattle.std.specs.Prelude.{◌≡◌, ◌≢◌, ⊤, ℕ, ℤ, pos, List, []
 use Rattle.sqlite_value.specs.Order.{Row}
 use Rattle.sqlite_trees.specs.Tree.{Trees}
 use Rattle.sqlite.specs.State as sqlite
+use Rattle.positions.specs.Position.{IsPosition}
+use Rattle.positions.specs.Span.{SpanValue}
 use Rattle.lsif.specs.declared.element.Profile.TheVariants.{One}
+use Rattle.lsif.specs.Element.{IdValue, range}
+use Rattle.dump.specs.Graph.{vertex_at}
 use Rattle.dump.specs.Fault.{IsFaultless}
 use Rattle.dump.specs.Progress.{DumpValue}
 use Rattle.tags.specs.Values.{TagValue}
@@ -13,9 +17,10 @@ use Rattle.tables.specs.Contents.{Contents, Replies, Keeps, KeepsOne}
 use Rattle.tables.specs.Schema.{schema_one, schema_two}
 use Rattle.tables.specs.State.{State, Change, accepted_text, text_after}
 
--- the dump has no fault, and these are the rows that its walks lead to
+-- the dump has no fault, its ranges have positions within their bounds, and these are the rows that its walks lead to
 pub record IsDump (dump : DumpValue) (rows : ℕ → List Row) : Type 0 where
   pub faultless : IsFaultless (map Ok dump.elements)
+  pub located : (r : IdValue) (span : SpanValue) → vertex_at dump.elements r ≡ Some (range span) → IsPosition span.start × IsPosition span.«end»
   pub flat : RowsValue
   pub is_flat : IsFlat dump.elements flat
   pub are_rows : rows ≡ dump_rows dump.profile flat

@@ -10,8 +10,8 @@ ghost use Rattle.tables.specs.Schema.{schema_two};
 ghost use Rattle.tables.specs.Columns.{position};
 ghost use Rattle.tables.specs.Contents.{slot_row};
 ghost use Rattle.tables.specs.State.{State};
-ghost use Rattle.tables.specs.Stands.{StandsFor, Rests};
-ghost use Rattle.tables.specs.Selections.{IsAsBefore, HasPositions, FindsItems, item_found};
+ghost use Rattle.tables.specs.Stands.{IsAsBefore, StandsFor, Rests};
+ghost use Rattle.tables.specs.Selections.{FindsItems, item_found};
 ghost use Rattle.tables.specs.Steps.Selected.{Looks};
 
 use crate::columns::{column, span_of};
@@ -74,7 +74,7 @@ fn items_in<S: Alter>(
     result_number: u32,
     role: Role,
 ) -> Result<Vec<FoundItem>, TablesFault>
-    ensures found { HasCleanDisk (state S.Store conn.new) → (state S.Store conn.old).now.schema ≡ schema_two → (m : State) → StandsFor (state S.Store conn.old).now.trees m → HasPositions m
+    ensures found { HasCleanDisk (state S.Store conn.new) → (state S.Store conn.old).now.schema ≡ schema_two → (m : State) → StandsFor (state S.Store conn.old).now.trees m
         → (project : List ℕ) → Has ((state S.Store conn.old).now.trees 1) (slot_row slot project (pos 1)) → IfOk result (λ found. FindsItems m project result_number role (map item_found found.items)) }
     ensures looks { Looks (state S.Store conn.old) (state S.Store conn.new) }
     ensures mode { conn.old.in_transaction ≡ false → conn.new.in_transaction ≡ false }
@@ -98,7 +98,7 @@ fn find_items<S: Alter>(
     result_number: u32,
     role: Role,
 ) -> Result<Vec<FoundItem>, TablesFault>
-    ensures found { HasCleanDisk (state S.Store conn.new) → (state S.Store conn.old).now.schema ≡ schema_two → (m : State) → StandsFor (state S.Store conn.old).now.trees m → HasPositions m → IfOk result (λ found. FindsItems m project.now result_number role (map item_found found.items)) }
+    ensures found { HasCleanDisk (state S.Store conn.new) → (state S.Store conn.old).now.schema ≡ schema_two → (m : State) → StandsFor (state S.Store conn.old).now.trees m → IfOk result (λ found. FindsItems m project.now result_number role (map item_found found.items)) }
     ensures looks { Looks (state S.Store conn.old) (state S.Store conn.new) }
     ensures mode { conn.old.in_transaction ≡ false → conn.new.in_transaction ≡ false }
 {
@@ -119,7 +119,7 @@ impl<S: Alter> Tables<S> {
         result_number: u32,
         role: Role,
     ) -> Result<Vec<FoundItem>, TablesFault>
-        ensures found { HasCleanDisk (state S.Store self.new) → (m : State) → Rests (state S.Store self.old) m → HasPositions m → IfOk result (λ found. FindsItems m project.now result_number role (map item_found found.items)) }
+        ensures found { HasCleanDisk (state S.Store self.new) → (m : State) → Rests (state S.Store self.old) m → IfOk result (λ found. FindsItems m project.now result_number role (map item_found found.items)) }
         ensures same { HasCleanDisk (state S.Store self.new) → IsTrue (state S.Store self.new).is_open → (m : State) → Rests (state S.Store self.old) m → IsAsBefore (state S.Store self.old) (state S.Store self.new) }
         ensures survives { (m : State) → Rests (state S.Store self.old) m → Survives (state S.Store self.old) (state S.Store self.new) (λ _. ⊥) }
     {

@@ -10,8 +10,8 @@ ghost use Rattle.tables.specs.Schema.{schema_two};
 ghost use Rattle.tables.specs.Columns.{number};
 ghost use Rattle.tables.specs.Contents.{slot_row};
 ghost use Rattle.tables.specs.State.{State};
-ghost use Rattle.tables.specs.Stands.{StandsFor, Rests};
-ghost use Rattle.tables.specs.Selections.{IsAsBefore, FindsMarks, mark_text_cmp, mark_found};
+ghost use Rattle.tables.specs.Stands.{IsAsBefore, StandsFor, Rests};
+ghost use Rattle.tables.specs.Selections.{FindsMarks, mark_text_cmp, mark_found};
 ghost use Rattle.tables.specs.Steps.Selected.{Looks};
 
 use crate::columns::{column, kind_of};

@@ -8,8 +8,7 @@ ghost use Rattle.tables.specs.Schema.{schema_two};
 ghost use Rattle.tables.specs.Columns.{profile_columns};
 ghost use Rattle.tables.specs.Contents.{Contents, Replies, Keeps, slot_row};
 ghost use Rattle.tables.specs.State.{State};
-ghost use Rattle.tables.specs.Stands.{StandsFor, Rests};
-ghost use Rattle.tables.specs.Selections.{IsAsBefore};
+ghost use Rattle.tables.specs.Stands.{IsAsBefore, StandsFor, Rests};
 ghost use Rattle.tables.specs.Steps.Selected.{Looks};
 ghost use Rattle.tables.specs.Steps.Slots.{IsSlotOf};
 

@@ -3,8 +3,7 @@ ghost use Rattle.std.specs.Prelude.{◌≡◌, IsTrue, IfOk, option_map, string_
 ghost use Rattle.sqlite.specs.State.{HasCleanDisk, Survives};
 ghost use Rattle.sqlite.specs.Held.{state};
 ghost use Rattle.tables.specs.State.{State, accepted_text};
-ghost use Rattle.tables.specs.Stands.{Rests};
-ghost use Rattle.tables.specs.Selections.{IsAsBefore};
+ghost use Rattle.tables.specs.Stands.{IsAsBefore, Rests};
 
 use crate::fault::TablesFault;
 use crate::selection::select_first;

@@ -7,8 +7,8 @@ ghost use Rattle.dump.specs.Progress.{DumpValue};
 ghost use Rattle.tables.specs.Schema.{schema_two};
 ghost use Rattle.tables.specs.Contents.{slot_row};
 ghost use Rattle.tables.specs.State.{State};
-ghost use Rattle.tables.specs.Stands.{StandsFor, Rests};
-ghost use Rattle.tables.specs.Selections.{IsAsBefore, FindsHover};
+ghost use Rattle.tables.specs.Stands.{IsAsBefore, StandsFor, Rests};
+ghost use Rattle.tables.specs.Selections.{FindsHover};
 ghost use Rattle.tables.specs.Steps.Selected.{Looks};
 
 use crate::fault::TablesFault;

@@ -7,8 +7,8 @@ ghost use Rattle.sqlite.specs.State.{HasCleanDisk, Shown};
 ghost use Rattle.sqlite.specs.Held.{state};
 ghost use Rattle.sqlite.specs.Given.{IsPlain};
 ghost use Rattle.sqlite.specs.Listing.{understood};
+ghost use Rattle.tables.specs.Stands.{IsAsBefore};
 ghost use Rattle.tables.specs.Schema.{schema_two};
-ghost use Rattle.tables.specs.Selections.{IsAsBefore};
 ghost use Rattle.tables.specs.Steps.Selected.{Looks, AreColumns, AreRead, IsFirstRead};
 
 use crate::fault::{TablesFault, fault_of};

@@ -8,9 +8,9 @@ use Rattle.sqlite_sql.specs.Term.{Term, col}
 use Rattle.sqlite_trees.specs.Tree.{Trees}
 use Rattle.sqlite_rules.specs.Lists.{Has}
 use Rattle.sqlite.specs.State.{State, HasCleanDisk, Survives}
+use Rattle.tables.specs.Stands.{IsAsBefore}
 use Rattle.tables.specs.Databases.{Holds}
 use Rattle.tables.specs.Schema.{schema_two}
-use Rattle.tables.specs.Selections.{IsAsBefore}
 use Rattle.tables.specs.Steps.Queries.{same}
 
 -- ---- what a selection leaves

@@ -3,8 +3,8 @@ use Rattle.sqlite.specs.State.{HasCleanDisk}
 use Rattle.sqlite.specs.Held.{state}
 use Rattle.tables.specs.Schema.{schema_two}
 use Rattle.tables.specs.State.{State}
-use Rattle.tables.specs.Stands.{StandsFor}
-use Rattle.tables.specs.Selections.{IsAsBefore, bearer_found}
+use Rattle.tables.specs.Stands.{IsAsBefore, StandsFor}
+use Rattle.tables.specs.Selections.{bearer_found}
 use Rattle.tables.specs.Steps.Selected.{Looks}
 use Rattle.tables.specs.Steps.Known.{Gathers}
 use Rattle.tables.proofs.bearers.find_bearers.Given as goal

@@ -14,7 +14,7 @@ use Rattle.tables.proofs.FoundItems.{no_items}
 use Rattle.tables.proofs.items.find_items.Goals as goal
 
 pub returns-in-None-clause-found : goal.returns-in-None-clause-found
-returns-in-None-clause-found g c clean has m s numbered =
+returns-in-None-clause-found g c clean has m s =
     let db = (state g.S.Store c.args.conn.now).now.trees in
     let none : c.in_ok-slot.field-0 ≡ None = search rules in
     let nothing = no_dump db m s c.args.project.now (no_slot db s.parts c.args.project.now (pos 1) c.in_ok-slot.field-0 (c.in_ok-slot.ensures.slot clean has s.parts _ s.keeps) none) in
@@ -24,7 +24,7 @@ pub returns-in-Some-clause-looks : goal.returns-in-Some-clause-looks
 returns-in-Some-clause-looks g c = looks_then _ (state g.S.Store c.find_slot.new.conn) _ c.find_slot.ensures.looks c.in_ok-slot.ensures.kept c.items_in.ensures.looks
 
 pub returns-in-Some-clause-found : goal.returns-in-Some-clause-found
-returns-in-Some-clause-found g c clean has m s numbered =
+returns-in-Some-clause-found g c clean has m s =
     let old = state g.S.Store c.args.conn.now in
     let mid = state g.S.Store c.find_slot.new.conn in
     let new = state g.S.Store c.items_in.new.conn in
@@ -34,4 +34,4 @@ returns-in-Some-clause-found g c clean has m s numbered =
     let some : c.in_ok-slot.field-0 ≡ Some id = search rules in
     let slot = the_slot old.now.trees s.parts project (pos 1) id c.in_ok-slot.field-0 (c.in_ok-slot.ensures.slot (survives_clean mid new c.items_in.ensures.looks clean) has s.parts _ s.keeps) some in
     still old mid new (λ db. StandsFor db m × Has (db 1) (slot_row id project (pos 1))) (λ db. IfOk c.items_in.result (λ found. FindsItems m project c.args.result_number c.args.role (map item_found found.items))) c.in_ok-slot.ensures.kept c.items_in.ensures.looks
-    (λ cleaner schema known. (rw (to_z-of_z fits) at c.items_in.ensures.found) cleaner schema m known.0 numbered project known.1) clean has (s, slot)
+    (λ cleaner schema known. (rw (to_z-of_z fits) at c.items_in.ensures.found) cleaner schema m known.0 project known.1) clean has (s, slot)
