@@ -4,7 +4,7 @@ use sqlite::{Alter, Connection, Error, Files, MemStore, Options};
 use std::alloc::Global;
 
 /// The tables of format 1, as they were made.
-const FORMAT_ONE: &str = "CREATE TABLE format (version INTEGER PRIMARY KEY) STRICT;\
+pub(crate) const FORMAT_ONE: &str = "CREATE TABLE format (version INTEGER PRIMARY KEY) STRICT;\
     CREATE TABLE slot (id INTEGER PRIMARY KEY, project TEXT NOT NULL, part INTEGER NOT NULL, UNIQUE (project, part)) STRICT;\
     CREATE TABLE keyed (project TEXT NOT NULL, cmdkey TEXT NOT NULL, reply TEXT NOT NULL, PRIMARY KEY (project, cmdkey)) STRICT;\
     CREATE TABLE document (slot INTEGER NOT NULL REFERENCES slot ON DELETE CASCADE, uri TEXT NOT NULL, PRIMARY KEY (slot, uri)) STRICT;\
@@ -17,7 +17,7 @@ const FORMAT_ONE: &str = "CREATE TABLE format (version INTEGER PRIMARY KEY) STRI
     INSERT INTO format (version) VALUES (1)";
 
 /// Parts of three projects, of which two have a dump, and the reply to the removal of a fourth.
-const PARTS: &str =
+pub(crate) const PARTS: &str =
     "INSERT INTO slot (project, part) VALUES ('app', 1), ('lib', 1), ('lib', 2), ('tagged', 2);\
     INSERT INTO keyed (project, cmdkey, reply) VALUES ('old', 'd1', '{\"removed\":true}');\
     INSERT INTO document (slot, uri) VALUES (1, 'file:///app.ts'), (2, 'file:///lib.ts');\
@@ -142,7 +142,7 @@ fn count<S: Alter>(conn: &mut Connection<S>, query: &str) -> Result<usize, Error
 }
 
 /// Queries of a migrated database, and how many rows each gives.
-const KEPT: [(&str, usize); 7] = [
+pub(crate) const KEPT: [(&str, usize); 7] = [
     ("SELECT version FROM format WHERE version = 2", 1),
     ("SELECT slot FROM part_profile", 2),
     (

@@ -1,7 +1,8 @@
 //! Parts replaced and removed: what the tables hold then, also where the store stops, and on a real file.
 ghost use Rattle.std.specs.Prelude.{◌≡◌, false};
 
-use crate::{Tables, TablesFault};
+use crate::tests::{FORMAT_ONE, KEPT, PARTS};
+use crate::{Tables, TablesFault, migrate};
 use dump::{CheckedDump, Checker};
 use flatten::flatten;
 use lsif::{Element, Profile, ReadFault, read_element};
@@ -258,6 +259,81 @@ fn stop_at_each_call(rt: HostRuntime) -> Result<(), Fail> {
             calls += 1;
         }
         assert!(rt; taken == STEPS.len() && calls > 20, "{calls}");
+    }
+    Ok(())
+}
+
+/// How far the making of tables of format 1 and their migration went.
+#[derive(Clone, Copy, PartialEq, Eq)]
+enum Reached {
+    Nothing,
+    FormatOne,
+    FormatTwo,
+}
+
+fn migration_stopped(
+    alloc: Global,
+    log: u64,
+    db: u64,
+) -> Result<(Reached, Files<Fuse<Memory>>), Fail> {
+    let files = Files {
+        log: Fuse::new(Memory::new(alloc), log),
+        db: Fuse::new(Memory::new(alloc), db),
+    };
+    let mut conn = match Connection::open_files(alloc, files, Options::new(1)) {
+        Ok(conn) => conn,
+        Err((_, left)) => return Ok((Reached::Nothing, left.into_files())),
+    };
+    let text = format!(in alloc; "BEGIN;{FORMAT_ONE};{PARTS};COMMIT")?;
+    if conn.execute_batch(&text).is_err() || !conn.is_autocommit() {
+        return Ok((Reached::Nothing, files_of(conn)));
+    }
+    match migrate(conn) {
+        Ok((tables, _)) => Ok((Reached::FormatTwo, files_of(tables.into_connection()))),
+        Err((_, conn)) => Ok((Reached::FormatOne, files_of(conn))),
+    }
+}
+
+/// Whether the tables that a crash left can be migrated, and then have the rows of the parts.
+fn migrated_afterwards(alloc: Global, files: Files<Fuse<Memory>>) -> Result<bool, Fail> {
+    let Files { mut log, mut db } = files;
+    log.crash();
+    db.crash();
+    let conn = match Connection::open_files(alloc, Files { log, db }, Options::new(1)) {
+        Ok(conn) => conn,
+        Err(_) => return Err("not recovered")?,
+    };
+    let mut conn = match migrate(conn) {
+        Ok((tables, _)) => tables.into_connection(),
+        Err(_) => return Ok(false),
+    };
+    for (query, rows) in KEPT {
+        if conn.query_all(query, &[])?.len() != rows {
+            return Ok(false);
+        }
+    }
+    Ok(true)
+}
+
+/// Each call of one of the files stops the store in turn: a migration leaves tables of format 1, or those of format 2, whole.
+#[test]
+fn migration_stopped_at_each_call(rt: HostRuntime) -> Result<(), Fail> {
+    for is_log in [true, false] {
+        let mut reached = Reached::Nothing;
+        let mut calls = 0;
+        while reached != Reached::FormatTwo && calls < 10000 {
+            let (log, db) = if is_log {
+                (calls, u64::MAX)
+            } else {
+                (u64::MAX, calls)
+            };
+            let (far, files) = migration_stopped(rt.alloc(), log, db)?;
+            let is_whole = migrated_afterwards(rt.alloc(), files)?;
+            assert!(rt; is_whole || far == Reached::Nothing, "{calls}");
+            reached = far;
+            calls += 1;
+        }
+        assert!(rt; reached == Reached::FormatTwo, "{calls}");
     }
     Ok(())
 }
