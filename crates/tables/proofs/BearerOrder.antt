@@ -1,5 +1,5 @@
 -- The order of bearers, and when bearers are one.
-use Rattle.std.proofs.Common.{◌≡◌, inl, inr, ◌&&◌, ◌==◌, ℕ, Bool, true, false, cond, List, [], ◌∷◌, map, Option, Some, None, refl, sym, ap, subst, ◌∙◌, eq-eqb, nat_eq, nat_cmp, is_eq, Ordering, Less, Equal, Greater, string_bytes, ◌↔◌, Contains}
+use Rattle.std.proofs.Common.{◌≡◌, inl, inr, ◌&&◌, ◌==◌, ℕ, Bool, true, false, cond, List, [], ◌∷◌, map, Option, Some, None, refl, sym, ap, subst, ◌∙◌, eq-eqb, nat_eq, nat_cmp, is_eq, Ordering, Less, Equal, Greater, string_bytes, Contains}
 use Rattle.std.specs.List.{dedup, dedup_from}
 use Rattle.std.specs.List.Sorted.{IsSorted, IsPermutation}
 use Rattle.std.specs.Option.{option_eq}
@@ -10,13 +10,12 @@ use Rattle.std.proofs.lemmas.Cmp.{tied_itself}
 use Rattle.std.proofs.lemmas.List.Kept.{Contains-from_dedup}
 use Rattle.std.proofs.lemmas.List.Sorted.{Contains-permutation, IsPermutation-sym}
 use Rattle.sqlite_rules.specs.Lists.{Has}
-use Rattle.sqlite_rules.proofs.ListLemmas.{has_contained, contains_had}
+use Rattle.sqlite_rules.proofs.ListLemmas.{contains_had}
 use Rattle.sqlite_trees.proofs.ListLemmas.{map-map}
 use Rattle.lsif.specs.contracts.element.MonikerKindPartialEq.TheImpl as kind_eq
 use Rattle.lsif.specs.declared.element.MonikerKind.{MonikerKind}
 use Rattle.lsif.specs.declared.element.MonikerKind.TheVariants.{Import, Export, Local}
 use Rattle.dump.specs.Places.{IsListing}
-use Rattle.dump.specs.Progress.{DumpValue}
 use Rattle.flatten.specs.Flat.{kind_index, ResultsValue}
 use Rattle.flatten.proofs.Listing.{under, sorted_listing, rises_unmap, eq_of}
 use Rattle.flatten.proofs.Members.{contains_map, map_source}

@@ -7,7 +7,6 @@ use Rattle.std.proofs.lemmas.Bool.{cases_Bool}
 use Rattle.sqlite_value.specs.Order.{Row}
 use Rattle.sqlite_value.specs.declared.value.Value.{Value}
 use Rattle.sqlite_value.specs.declared.value.Value.TheVariants.{Int}
-use Rattle.sqlite_schema.specs.declared.schema.Table.{Table}
 use Rattle.sqlite_trees.specs.Tree.{Trees}
 use Rattle.sqlite_rules.specs.Lists.{Has}
 use Rattle.sqlite_rules.proofs.ListLemmas.{has_contained, contains_had}
@@ -17,13 +16,12 @@ use Rattle.dump.specs.Progress.{DumpValue}
 use Rattle.tags.specs.Values.{TagValue}
 use Rattle.flatten.specs.Flat.{RowsValue, IsFlat}
 use Rattle.tables.specs.Databases.{Holds}
-use Rattle.tables.specs.Schema.{schema_two}
 use Rattle.tables.specs.Columns.{dump_rows, tag_rows}
-use Rattle.tables.specs.Contents.{Contents, IsOwned, owned, slot_row}
+use Rattle.tables.specs.Contents.{IsOwned, owned, slot_row}
 use Rattle.tables.specs.State.{State}
 use Rattle.tables.specs.Stands.{StandsFor, IsDump, AreTags, Each}
 use Rattle.tables.specs.Steps.Selected.{AreTyped, Selects, ShowsOne}
-use Rattle.tables.specs.Steps.DumpEntries.{DumpEntry, IsOfDump, Entries, entry_values, SelectsOf, ShowsOneOf}
+use Rattle.tables.specs.Steps.DumpEntries.{Entries, entry_values, SelectsOf, ShowsOneOf}
 use Rattle.tables.proofs.Entries.{typed_as}
 use Rattle.tables.proofs.FoundSlots.{one_slot}
 use Rattle.tables.proofs.Keeping.{none_is_some, same_some, table_of, slot_is, same_int_is, same_int_itself, from_map, to_map}

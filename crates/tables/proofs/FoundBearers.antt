@@ -1,5 +1,5 @@
 -- The bearers of a key, as they are selected.
-use Rattle.std.proofs.Common.{◌≡◌, ◌⊎◌, inl, inr, ◌&&◌, ℕ, ℤ, pos, Bool, true, List, [], ◌∷◌, ◌++◌, map, Option, Some, None, codes, false, refl, sym, ap, subst, ◌∙◌, string_bytes, ◌↔◌, Contains, nat_eq, Equal, Less, Greater, is_eq, nat_cmp, Ordering}
+use Rattle.std.proofs.Common.{◌≡◌, ◌⊎◌, inl, inr, ℕ, ℤ, pos, List, [], ◌∷◌, ◌++◌, map, codes, false, refl, sym, ap, subst, ◌∙◌, ◌↔◌, Contains, Equal}
 use Rattle.std.specs.List.{AllByRecursion}
 use Rattle.sqlite.specs.Listing.{understood, reads_listing}
 use Rattle.sqlite.specs.State.{State as Store, Shown}
@@ -15,7 +15,6 @@ use Rattle.sqlite_rules.proofs.ListLemmas.{has_contained, contains_had}
 use Rattle.dump.specs.Places.{IsListing}
 use Rattle.flatten.proofs.Listing.{same_listing}
 use Rattle.tables.proofs.BearerOrder.{tied_bearers}
-use Rattle.lsif.specs.declared.element.MonikerKind.{MonikerKind}
 use Rattle.dump.specs.Progress.{DumpValue}
 use Rattle.flatten.specs.Flat.{RowsValue, IsFlat, BearerRowValue, IsBearerRow, kind_index}
 use Rattle.tables.specs.Schema.{schema_two}

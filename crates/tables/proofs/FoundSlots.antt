@@ -22,7 +22,6 @@ use Rattle.tables.specs.Steps.SelectionTexts.{select_slot, select_project}
 use Rattle.tables.specs.Steps.Selected.{AreTyped, IsFirstRead, ShowsOne, equals}
 use Rattle.tables.specs.Steps.Slots.{IsSlotOf}
 use Rattle.tables.proofs.Cascade.{equal_is}
-use Rattle.tables.proofs.Entries.{typed_as}
 use Rattle.tables.proofs.Keeping.{none_is_some, same_some, slot_is, same_int_itself}
 use Rattle.tables.proofs.Select.{one_table}
 use Rattle.tables.proofs.Selecting.{IsSelection, shows_one}

@@ -1,8 +1,8 @@
 -- The kept replies, as they are selected.
-use Rattle.std.proofs.Common.{◌≡◌, inl, inr, ℕ, ℤ, List, [], ◌∷◌, Option, Some, None, codes, refl, sym, ap, subst, ◌∙◌, option_map, string_bytes}
+use Rattle.std.proofs.Common.{◌≡◌, inl, inr, ℕ, ℤ, List, [], ◌∷◌, Option, Some, None, codes, refl, sym, ap, ◌∙◌, option_map, string_bytes}
 use Rattle.std.specs.declared.string.String.{String}
 use Rattle.std.specs.declared.alloc.Global.{Global}
-use Rattle.sqlite_value.specs.Order.{Row, column}
+use Rattle.sqlite_value.specs.Order.{Row}
 use Rattle.sqlite_value.specs.declared.value.Value.TheVariants.{Text}
 use Rattle.sqlite_sql.specs.Term.{col}
 use Rattle.sqlite_trees.specs.Tree.{Trees}
@@ -13,7 +13,6 @@ use Rattle.tables.specs.Steps.Texts.{select_reply}
 use Rattle.tables.specs.Steps.Selected.{AreTyped, IsFirstRead, ShowsOne}
 use Rattle.tables.proofs.Commands.{select_reply_is, select_reply_plain}
 use Rattle.tables.proofs.Entries.{typed_as}
-use Rattle.tables.proofs.Keeping.{none_is_some}
 use Rattle.tables.proofs.Selecting.{IsSelection, shows_one}
 
 record ReplyEntry : Type 0 where

@@ -1,11 +1,11 @@
 -- The declaration and the implementation of a line, as they are selected.
-use Rattle.std.proofs.Common.{◌≡◌, ◌⊎◌, inl, inr, ◌||◌, ℕ, ℤ, pos, true, List, [], ◌∷◌, ◌++◌, map, flat_map, Option, Some, None, is_some, codes, false, refl, sym, ap, subst, ◌∙◌, ◌↔◌}
+use Rattle.std.proofs.Common.{◌≡◌, ◌⊎◌, inl, inr, ◌||◌, ℕ, ℤ, pos, true, List, [], ◌∷◌, ◌++◌, flat_map, Option, Some, None, is_some, codes, false, refl, sym, ap, subst, ◌∙◌, ◌↔◌}
 use Rattle.sqlite.specs.Listing.{understood, reads_listing}
 use Rattle.sqlite.specs.State.{State as Store, Shown}
 use Rattle.sqlite.proofs.Callers.{IsPlain, command_of}
 use Rattle.sqlite_tied.specs.Compute.{everything}
 use Rattle.sqlite_value.specs.Order.{Row}
-use Rattle.sqlite_value.specs.declared.value.Value.TheVariants.{Int, Null}
+use Rattle.sqlite_value.specs.declared.value.Value.TheVariants.{Int}
 use Rattle.sqlite_sql.specs.Term.{col}
 use Rattle.sqlite_schema.specs.declared.command.Command.TheVariants.{Select}
 use Rattle.sqlite_trees.specs.Tree.{Trees}
@@ -15,7 +15,7 @@ use Rattle.lsif.specs.Element.{IdValue}
 use Rattle.dump.specs.Progress.{DumpValue}
 use Rattle.dump.proofs.Lines.{one_line}
 use Rattle.dump.proofs.OnePicks.{one_result}
-use Rattle.flatten.specs.Flat.{RowsValue, IsFlat, ResultsValue, RangeRowValue, BearerRowValue, AreResults, number_of}
+use Rattle.flatten.specs.Flat.{RowsValue, IsFlat, ResultsValue, AreResults, number_of}
 use Rattle.flatten.proofs.NumberPairs.{number_ones}
 use Rattle.flatten.proofs.RangeRows.{results_one}
 use Rattle.tables.specs.Schema.{schema_two}

@@ -27,7 +27,7 @@ use Rattle.tables.specs.Schema.{schema_two}
 use Rattle.tables.specs.Contents.{Contents, Replies, Keeps}
 use Rattle.tables.specs.State.{State}
 use Rattle.tables.specs.Stands.{StandsFor}
-use Rattle.tables.specs.Selections.{ProjectValue, IsProject, FindsProjects, project_found, text_cmp}
+use Rattle.tables.specs.Selections.{ProjectValue, FindsProjects, project_found, text_cmp}
 use Rattle.tables.specs.declared.projects.ProjectRow.{ProjectRow}
 use Rattle.tables.specs.Steps.SelectionTexts.{select_projects}
 use Rattle.tables.specs.Steps.Selected.{AreRead, Selects, equals}

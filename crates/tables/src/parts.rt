@@ -89,7 +89,7 @@ fn find_profile<S: Alter>(
 
 impl<S: Alter> Tables<S> {
     /// The profile that the project's dump was read by, or none where it has no dump. It's `Refused` where the store refuses, or where a row isn't one
-    /// of this product's.
+    /// of this product's, and `Memory` where memory is refused.
     pub fn profile(&mut self, project: &str) -> Result<Option<Profile>, TablesFault>
         ensures found { HasCleanDisk (state S.Store self.new) → (m : State) → Rests (state S.Store self.old) m → IfOk result (λ found. found ≡ option_map (λ d. d.profile) (m.dump project.now)) }
         ensures same { HasCleanDisk (state S.Store self.new) → IsTrue (state S.Store self.new).is_open → (m : State) → Rests (state S.Store self.old) m → IsAsBefore (state S.Store self.old) (state S.Store self.new) }

@@ -1,27 +1,42 @@
 //! The kept replies, as they are selected.
-ghost use Rattle.std.specs.Prelude.{◌≡◌, IsTrue, IfOk, option_map, string_bytes};
+ghost use Rattle.std.specs.Prelude.{◌≡◌, false, IsTrue, IfOk, option_map, string_bytes};
 ghost use Rattle.sqlite.specs.State.{HasCleanDisk, Survives};
 ghost use Rattle.sqlite.specs.Held.{state};
+ghost use Rattle.tables.specs.Schema.{schema_two};
 ghost use Rattle.tables.specs.State.{State, accepted_text};
-ghost use Rattle.tables.specs.Stands.{IsAsBefore, Rests};
+ghost use Rattle.tables.specs.Stands.{IsAsBefore, StandsFor, Rests};
+ghost use Rattle.tables.specs.Steps.Selected.{Looks};
 
 use crate::fault::TablesFault;
 use crate::selection::select_first;
 use crate::tables::Tables;
-use sqlite::{Alter, params};
+use sqlite::{Alter, Connection, params};
+
+/// The text of a kept reply.
+fn find_reply<S: Alter>(
+    conn: &mut Connection<S>,
+    project: &str,
+    key: &str,
+) -> Result<Option<String>, TablesFault>
+    ensures found { HasCleanDisk (state S.Store conn.new) → (state S.Store conn.old).now.schema ≡ schema_two → (m : State) → StandsFor (state S.Store conn.old).now.trees m → IfOk result (λ reply. option_map string_bytes reply ≡ option_map accepted_text (m.kept project.now key.now)) }
+    ensures looks { Looks (state S.Store conn.old) (state S.Store conn.new) }
+    ensures mode { conn.old.in_transaction ≡ false → conn.new.in_transaction ≡ false }
+{
+    select_first(
+        conn,
+        "SELECT reply FROM keyed WHERE project = ?1 AND cmdkey = ?2",
+        params![project, key],
+    )
+}
 
 impl<S: Alter> Tables<S> {
     /// The text of the reply that is kept for the project under the key, or none where none is. It's `Refused` where the store refuses, or where a row
-    /// isn't one of this product's.
+    /// isn't one of this product's, and `Memory` where memory is refused.
     pub fn kept_reply(&mut self, project: &str, key: &str) -> Result<Option<String>, TablesFault>
         ensures found { HasCleanDisk (state S.Store self.new) → (m : State) → Rests (state S.Store self.old) m → IfOk result (λ reply. option_map string_bytes reply ≡ option_map accepted_text (m.kept project.now key.now)) }
         ensures same { HasCleanDisk (state S.Store self.new) → IsTrue (state S.Store self.new).is_open → (m : State) → Rests (state S.Store self.old) m → IsAsBefore (state S.Store self.old) (state S.Store self.new) }
         ensures survives { (m : State) → Rests (state S.Store self.old) m → Survives (state S.Store self.old) (state S.Store self.new) (λ _. ⊥) }
     {
-        select_first(
-            &mut self.conn,
-            "SELECT reply FROM keyed WHERE project = ?1 AND cmdkey = ?2",
-            params![project, key],
-        )
+        find_reply(&mut self.conn, project, key)
     }
 }

@@ -1,4 +1,4 @@
-//! Hovers and marks, as they are selected.
+//! The contents of hover results, as they are selected.
 ghost use Rattle.std.specs.Prelude.{◌≡◌, List, ℕ, Some, option_map, string_bytes, pos, false, IsTrue, IfOk, OnOk};
 ghost use Rattle.sqlite_rules.specs.Lists.{Has};
 ghost use Rattle.sqlite.specs.State.{HasCleanDisk, Survives};
@@ -53,7 +53,7 @@ fn find_hover<S: Alter>(
 
 impl<S: Alter> Tables<S> {
     /// The contents of a hover result of the project's dump, by the result's number, or none where the dump has no such result or the project no dump.
-    /// It's `Refused` where the store refuses, or where a row isn't one of this product's.
+    /// It's `Refused` where the store refuses, or where a row isn't one of this product's, and `Memory` where memory is refused.
     pub fn hover(
         &mut self,
         project: &str,

@@ -1,4 +1,4 @@
-use Rattle.std.proofs.Common.{to_z-of_z, rules, ◌≡◌, ◌∙◌, sym, Some}
+use Rattle.std.proofs.Common.{to_z-of_z, rules, ◌≡◌, Some}
 use Rattle.sqlite.specs.Held.{state}
 use Rattle.tables.proofs.Profiles.{select_profile_plain, profile_found}
 use Rattle.tables.proofs.parts.profile_in.Goals as goal

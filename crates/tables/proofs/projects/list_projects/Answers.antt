@@ -5,13 +5,12 @@ use Rattle.sqlite.specs.Held.{state}
 use Rattle.dump.specs.Places.{IsListing}
 use Rattle.flatten.proofs.Members.{nil_of}
 use Rattle.tables.specs.Stands.{StandsFor}
-use Rattle.tables.specs.Selections.{ProjectValue, project_found, text_cmp}
+use Rattle.tables.specs.Selections.{project_found, text_cmp}
 use Rattle.tables.specs.declared.projects.ProjectRow.{ProjectRow}
 use Rattle.tables.specs.Steps.Slots.{HasPart, IsTold}
 use Rattle.tables.proofs.Looking.{looks_then, kept_on, still, survives_clean}
 use Rattle.tables.proofs.Popping.{all_left, one_less}
 use Rattle.tables.proofs.ProjectNames.{names_of, text_of, projects_are, told_all}
-use Rattle.tables.proofs.Selecting.{all_last}
 use Rattle.tables.proofs.projects.list_projects.Goals as goal
 
 pub loop-name-init : goal.loop-name-init

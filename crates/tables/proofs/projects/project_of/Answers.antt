@@ -1,4 +1,4 @@
-use Rattle.std.proofs.Common.{◌≡◌, ◌∙◌, is_some, pos, string_bytes, rules}
+use Rattle.std.proofs.Common.{◌≡◌, ◌∙◌, is_some, string_bytes}
 use Rattle.sqlite.specs.Held.{state}
 use Rattle.tables.specs.Stands.{StandsFor}
 use Rattle.tables.proofs.Looking.{looks_then, still, survives_clean}

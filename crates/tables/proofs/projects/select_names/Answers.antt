@@ -1,4 +1,3 @@
-use Rattle.std.proofs.Common.{rules}
 use Rattle.sqlite.specs.Held.{state}
 use Rattle.tables.proofs.ProjectNames.{select_projects_plain, names_found}
 use Rattle.tables.proofs.projects.select_names.Goals as goal

@@ -1,11 +1,11 @@
-use Rattle.std.proofs.Common.{rules, ◌≡◌, ◌∙◌, sym, ap, subst, to_z-of_z, Some, None, pos, IfOk, option_map, string_bytes, ℕ, List}
+use Rattle.std.proofs.Common.{rules, ◌≡◌, ◌∙◌, sym, to_z-of_z, Some, None, pos, IfOk, option_map, string_bytes}
 use mir.Val.{SFits}
 use mir.Syntax.{w64}
 use Rattle.sqlite.specs.Held.{state}
 use Rattle.sqlite_rules.specs.Lists.{Has}
 use Rattle.tables.specs.Stands.{StandsFor}
 use Rattle.tables.specs.Contents.{slot_row}
-use Rattle.tables.specs.Selections.{FindsHover, HasHover}
+use Rattle.tables.specs.Selections.{FindsHover}
 use Rattle.tables.proofs.Looking.{looks_then, still, survives_clean}
 use Rattle.tables.proofs.FoundSlots.{no_slot, the_slot}
 use Rattle.tables.proofs.DumpEntries.{no_dump}
