@@ -17,8 +17,9 @@ ghost use Rattle.tables.specs.Steps.Selected.{Looks};
 use crate::columns::{column, span_of};
 use crate::dump_rows::role_number;
 use crate::fault::TablesFault;
-use crate::parts::{DUMP, find_slot};
+use crate::parts::find_slot;
 use crate::selection::{Listed, select_all};
+use crate::slots::Part;
 use crate::tables::Tables;
 use dump::Role;
 use positions::Span;
@@ -102,7 +103,7 @@ fn find_items<S: Alter>(
     ensures looks { Looks (state S.Store conn.old) (state S.Store conn.new) }
     ensures mode { conn.old.in_transaction ≡ false → conn.new.in_transaction ≡ false }
 {
-    match find_slot(conn, project, DUMP)? {
+    match find_slot(conn, project, Part::Dump)? {
         Some(slot) => items_in(alloc, conn, slot, result_number, role),
         None => Ok(Vec::new(alloc)),
     }

@@ -17,8 +17,9 @@ ghost use Rattle.tables.specs.Steps.Selected.{Looks};
 use crate::columns::{column, kind_of};
 use crate::dump_rows::kind_number;
 use crate::fault::TablesFault;
-use crate::parts::{DUMP, find_slot};
+use crate::parts::find_slot;
 use crate::selection::{Listed, select_all};
+use crate::slots::Part;
 use crate::tables::Tables;
 use lsif::MonikerKind;
 use sqlite::{Alter, Connection, Row, params};
@@ -95,7 +96,7 @@ fn find_marks<S: Alter>(
     ensures looks { Looks (state S.Store conn.old) (state S.Store conn.new) }
     ensures mode { conn.old.in_transaction ≡ false → conn.new.in_transaction ≡ false }
 {
-    match find_slot(conn, project, DUMP)? {
+    match find_slot(conn, project, Part::Dump)? {
         Some(slot) => marks_in(alloc, conn, slot, line),
         None => Ok(Vec::new(alloc)),
     }

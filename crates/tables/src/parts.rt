@@ -7,6 +7,7 @@ ghost use Rattle.dump.specs.Progress.{DumpValue};
 ghost use Rattle.tables.specs.Schema.{schema_two};
 ghost use Rattle.tables.specs.Columns.{profile_columns};
 ghost use Rattle.tables.specs.Contents.{Contents, Replies, Keeps, slot_row};
+ghost use Rattle.tables.specs.Parts.{part_number};
 ghost use Rattle.tables.specs.State.{State};
 ghost use Rattle.tables.specs.Stands.{IsAsBefore, StandsFor, Rests};
 ghost use Rattle.tables.specs.Steps.Selected.{Looks};
@@ -15,32 +16,28 @@ ghost use Rattle.tables.specs.Steps.Slots.{IsSlotOf};
 use crate::columns::column;
 use crate::fault::TablesFault;
 use crate::selection::{Listed, select_first};
+use crate::slots::{Part, part_number};
 use crate::tables::Tables;
 use lsif::Profile;
 use sqlite::{Alter, Connection, Row, params};
-
-/// The part that a dump is, as `slot` has it.
-pub(crate) const DUMP: i64 = 1;
-
-/// The part that tags are.
-pub(crate) const TAGS: i64 = 2;
 
 /// The id of the slot of a part, where the project has it.
 pub(crate) fn find_slot<S: Alter>(
     conn: &mut Connection<S>,
     project: &str,
-    part: i64,
+    part: Part,
 ) -> Result<Option<i64>, TablesFault>
     ensures slot { HasCleanDisk (state S.Store conn.new) → (state S.Store conn.old).now.schema ≡ schema_two → (parts : Contents) (replies : Replies) → Keeps (state S.Store conn.old).now.trees parts replies
-        → IfOk result (IsSlotOf (state S.Store conn.old).now.trees parts project.now part) }
+        → IfOk result (IsSlotOf (state S.Store conn.old).now.trees parts project.now (part_number part)) }
     ensures kept { HasCleanDisk (state S.Store conn.new) → (state S.Store conn.old).now.schema ≡ schema_two → OnOk result (IsAsBefore (state S.Store conn.old) (state S.Store conn.new)) }
     ensures looks { Looks (state S.Store conn.old) (state S.Store conn.new) }
     ensures mode { conn.old.in_transaction ≡ false → conn.new.in_transaction ≡ false }
 {
+    let number = part_number(part);
     select_first(
         conn,
         "SELECT id FROM slot WHERE project = ?1 AND part = ?2",
-        params![project, part],
+        params![project, number],
     )
 }
 
@@ -81,7 +78,7 @@ fn find_profile<S: Alter>(
     ensures looks { Looks (state S.Store conn.old) (state S.Store conn.new) }
     ensures mode { conn.old.in_transaction ≡ false → conn.new.in_transaction ≡ false }
 {
-    match find_slot(conn, project, DUMP)? {
+    match find_slot(conn, project, Part::Dump)? {
         Some(slot) => Ok(Some(profile_in(conn, slot)?)),
         None => Ok(None),
     }

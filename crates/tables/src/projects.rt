@@ -5,6 +5,7 @@ ghost use Rattle.sqlite.specs.Held.{state};
 ghost use Rattle.dump.specs.Places.{IsListing};
 ghost use Rattle.tables.specs.Schema.{schema_two};
 ghost use Rattle.tables.specs.Contents.{Contents, Replies, Keeps};
+ghost use Rattle.tables.specs.Parts.{part_number};
 ghost use Rattle.tables.specs.State.{State};
 ghost use Rattle.tables.specs.Stands.{IsAsBefore, StandsFor, Rests};
 ghost use Rattle.tables.specs.Selections.{FindsProjects, project_found, text_cmp};
@@ -12,8 +13,9 @@ ghost use Rattle.tables.specs.Steps.Selected.{Looks};
 ghost use Rattle.tables.specs.Steps.Slots.{HasPart, IsTold};
 
 use crate::fault::TablesFault;
-use crate::parts::{DUMP, TAGS, find_slot};
+use crate::parts::find_slot;
 use crate::selection::select_all;
+use crate::slots::Part;
 use crate::tables::Tables;
 use sqlite::{Alter, Connection};
 use std::alloc::Global;
@@ -30,10 +32,10 @@ pub struct ProjectRow {
 fn has_part<S: Alter>(
     conn: &mut Connection<S>,
     project: &str,
-    part: i64,
+    part: Part,
 ) -> Result<bool, TablesFault>
     ensures part { HasCleanDisk (state S.Store conn.new) → (state S.Store conn.old).now.schema ≡ schema_two → (parts : Contents) (replies : Replies) → Keeps (state S.Store conn.old).now.trees parts replies
-        → IfOk result (λ has. has ≡ is_some (parts project.now part)) }
+        → IfOk result (λ has. has ≡ is_some (parts project.now (part_number part))) }
     ensures kept { HasCleanDisk (state S.Store conn.new) → (state S.Store conn.old).now.schema ≡ schema_two → OnOk result (IsAsBefore (state S.Store conn.old) (state S.Store conn.new)) }
     ensures looks { Looks (state S.Store conn.old) (state S.Store conn.new) }
     ensures mode { conn.old.in_transaction ≡ false → conn.new.in_transaction ≡ false }
@@ -50,8 +52,8 @@ fn project_of<S: Alter>(conn: &mut Connection<S>, name: String) -> Result<Projec
     ensures looks { Looks (state S.Store conn.old) (state S.Store conn.new) }
     ensures mode { conn.old.in_transaction ≡ false → conn.new.in_transaction ≡ false }
 {
-    let dump = has_part(conn, name.as_str(), DUMP)?;
-    let tags = has_part(conn, name.as_str(), TAGS)?;
+    let dump = has_part(conn, name.as_str(), Part::Dump)?;
+    let tags = has_part(conn, name.as_str(), Part::Tags)?;
     Ok(ProjectRow { name, dump, tags })
 }
 

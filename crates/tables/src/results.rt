@@ -12,8 +12,9 @@ ghost use Rattle.tables.specs.Selections.{FindsHover};
 ghost use Rattle.tables.specs.Steps.Selected.{Looks};
 
 use crate::fault::TablesFault;
-use crate::parts::{DUMP, find_slot};
+use crate::parts::find_slot;
 use crate::selection::select_first;
+use crate::slots::Part;
 use crate::tables::Tables;
 use sqlite::{Alter, Connection, params};
 
@@ -45,7 +46,7 @@ fn find_hover<S: Alter>(
     ensures looks { Looks (state S.Store conn.old) (state S.Store conn.new) }
     ensures mode { conn.old.in_transaction ≡ false → conn.new.in_transaction ≡ false }
 {
-    match find_slot(conn, project, DUMP)? {
+    match find_slot(conn, project, Part::Dump)? {
         Some(slot) => hover_in(conn, slot, result_number),
         None => Ok(None),
     }

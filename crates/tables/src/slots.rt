@@ -18,7 +18,7 @@ pub(crate) enum Part {
 }
 
 /// The number of a kind of part in `slot`.
-fn part_number(part: Part) -> i64
+pub(crate) fn part_number(part: Part) -> i64
     ensures { result ≡ part_number part }
 {
     match part {

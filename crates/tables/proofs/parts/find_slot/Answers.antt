@@ -1,6 +1,7 @@
-use Rattle.std.proofs.Common.{to_z-of_z}
+use Rattle.std.proofs.Common.{rules, ◌≡◌, ◌∙◌, to_z, of_z, w64}
 use Rattle.std.proofs.lemmas.Result.{IfOk-weaker}
 use Rattle.sqlite.specs.Held.{state}
+use Rattle.tables.specs.Parts.{part_number}
 use Rattle.tables.proofs.FoundSlots.{select_slot_plain, slot_found}
 use Rattle.tables.proofs.parts.find_slot.Goals as goal
 
@@ -9,7 +10,8 @@ select_first-requires g c = select_slot_plain.0
 
 pub returns-clause-slot : goal.returns-clause-slot
 returns-clause-slot g c clean has parts replies is =
+    let number : to_z w64 (of_z w64 c.part_number-number.result) ≡ c.part_number-number.result = search rules in
     let old = state g.S.Store c.args.conn.now in
     let new = state g.S.Store c.select_first.new.conn in
     IfOk-weaker c.select_first.result _ _ (λ found h.
-    slot_found c.args.project.now c.args.part old new h.0 found parts replies is has (rw (c.params-to_sql.ensures, c.params-to_sql-2.ensures, to_z-of_z c.ranges.part) at h.1) h.2) (c.select_first.ensures.read clean)
+    slot_found c.args.project.now (part_number c.args.part) old new h.0 found parts replies is has (rw (c.params-to_sql.ensures, c.params-to_sql-2.ensures, number ∙ c.part_number-number.ensures) at h.1) h.2) (c.select_first.ensures.read clean)
