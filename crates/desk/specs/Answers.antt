@@ -18,7 +18,7 @@ use Rattle.desk.specs.declared.code.Code.TheVariants.{D01, D02}
 use Rattle.desk.specs.Joins.{IsJoined}
 use Rattle.tables.specs.State.{State}
 use Rattle.desk.specs.Reply.{ReplyValue, FoundPlace, FoundTag, refused, places_found, hover_found, tags_found, projects_found, profile_found}
-use Rattle.tables.specs.Selections.{IsProject, project_cmp, text_cmp}
+use Rattle.tables.specs.Selections.{ProjectValue, IsProject, project_cmp, text_cmp}
 use Rattle.desk.specs.Requests.{DocumentPositionValue, QueryValue, definition, references, hover, declaration, implementation, names, prefix, projects, profile}
 
 -- ---- places
