@@ -163,16 +163,16 @@ module _ (key : List ℕ) where
 
 -- ---- one row after the other
 
-has_last : {X : Type 0} (xs : List X) (x : X) → Has (xs ++ x ∷ []) x
+pub has_last : {X : Type 0} (xs : List X) (x : X) → Has (xs ++ x ∷ []) x
 has_last [] x = inl refl
 has_last (y ∷ xs) x = inr (has_last xs x)
 
-has_before : {X : Type 0} (xs : List X) (x y : X) → Has xs y → Has (xs ++ x ∷ []) y
+pub has_before : {X : Type 0} (xs : List X) (x y : X) → Has xs y → Has (xs ++ x ∷ []) y
 has_before [] x y h = absurd h
 has_before (z ∷ xs) x y (inl e) = inl e
 has_before (z ∷ xs) x y (inr h) = inr (has_before xs x y h)
 
-last_or : {X : Type 0} (xs : List X) (x y : X) → Has (xs ++ x ∷ []) y → Has xs y ⊎ (y ≡ x)
+pub last_or : {X : Type 0} (xs : List X) (x y : X) → Has (xs ++ x ∷ []) y → Has xs y ⊎ (y ≡ x)
 last_or [] x y (inl e) = inr e
 last_or [] x y (inr h) = absurd h
 last_or (z ∷ xs) x y (inl e) = inl (inl e)

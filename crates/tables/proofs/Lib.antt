@@ -16,6 +16,7 @@ pub mod FoundBearers
 pub mod FoundItems
 pub mod FoundMarks
 pub mod FoundSlots
+pub mod FoundTags
 pub mod Hovers
 pub mod Insert
 pub mod Inserts
@@ -34,7 +35,10 @@ pub mod Select
 pub mod Selecting
 pub mod SlotRemoved
 pub mod Standing
+pub mod TagFields
+pub mod TagOrder
 pub mod Texts
+pub mod ToldTags
 pub mod Transactions
 pub mod Upgrades
 pub mod Versions

@@ -3,6 +3,7 @@ pub mod Contents
 pub mod Databases
 pub mod Fault
 pub mod MemoryDisk
+pub mod Names
 pub mod Parts
 pub mod Schema
 pub mod Selections

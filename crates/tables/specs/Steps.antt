@@ -7,4 +7,5 @@ pub mod Queries
 pub mod Selected
 pub mod SelectionTexts
 pub mod Slots
+pub mod TagRows
 pub mod Texts

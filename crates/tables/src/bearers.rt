@@ -1,5 +1,5 @@
 //! The bearers of a key, as they are selected.
-ghost use Rattle.std.specs.Prelude.{◌≡◌, ◌∷◌, [], List, ℕ, Contains, Some, map, string_bytes, pos, false, IsTrue, IfOk, OnOk};
+ghost use Rattle.std.specs.Prelude.{◌≡◌, ◌∷◌, [], List, ℕ, ℤ, Contains, Some, map, string_bytes, pos, false, IsTrue, IfOk, OnOk};
 ghost use Rattle.std.specs.declared.cmp.Ordering.TheVariants.{Equal};
 ghost use Rattle.std.specs.List.{AllByRecursion};
 ghost use Rattle.sqlite_value.specs.declared.value.Value.TheVariants.{Int};
@@ -117,9 +117,12 @@ pub(crate) fn more_of<S: Alter>(
 }
 
 /// The project that a slot is of.
-fn slot_project<S: Alter>(conn: &mut Connection<S>, slot: i64) -> Result<String, TablesFault>
+pub(crate) fn slot_project<S: Alter>(
+    conn: &mut Connection<S>,
+    slot: i64,
+) -> Result<String, TablesFault>
     ensures project { HasCleanDisk (state S.Store conn.new) → (state S.Store conn.old).now.schema ≡ schema_two → (parts : Contents) (replies : Replies) → Keeps (state S.Store conn.old).now.trees parts replies
-        → (project : List ℕ) → Has ((state S.Store conn.old).now.trees 1) (slot_row slot project (pos 1)) → IfOk result (λ found. string_bytes found ≡ project) }
+        → (project : List ℕ) (part : ℤ) → Has ((state S.Store conn.old).now.trees 1) (slot_row slot project part) → IfOk result (λ found. string_bytes found ≡ project) }
     ensures kept { HasCleanDisk (state S.Store conn.new) → (state S.Store conn.old).now.schema ≡ schema_two → OnOk result (IsAsBefore (state S.Store conn.old) (state S.Store conn.new)) }
     ensures looks { Looks (state S.Store conn.old) (state S.Store conn.new) }
     ensures mode { conn.old.in_transaction ≡ false → conn.new.in_transaction ≡ false }

@@ -27,3 +27,6 @@ select_bearers = codes "SELECT slot, line, kind, def, refs, hover FROM bearer WH
 
 abbrev pub select_more : List ℕ
 select_more = codes "SELECT decl, imp FROM more WHERE slot = ?1 AND line = ?2"
+
+abbrev pub select_named : List ℕ
+select_named = codes "SELECT slot, line, name, file, address, kind, fields FROM tag WHERE name = ?1"

@@ -1,0 +1,42 @@
+use Rattle.std.proofs.Common.{◌≡◌, ◌∙◌, ◌++◌, [], ◌∷◌, List, map, option_map, rules, arith, sym, ap, subst}
+use Rattle.sqlite.specs.Held.{state}
+use Rattle.flatten.proofs.Members.{nil_of}
+use Rattle.tables.specs.Stands.{StandsFor}
+use Rattle.tables.specs.Names.{tag_found}
+use Rattle.tables.specs.declared.found_tags.FoundTag.{FoundTag}
+use Rattle.tables.specs.Steps.TagRows.{FindsTags, IsFoundIf, TellsTag}
+use Rattle.tables.proofs.Looking.{looks_then, kept_on, still, survives_clean}
+use Rattle.tables.proofs.ToldTags.{finds_none, finds_one, finds_all}
+use Rattle.tables.proofs.found_tags.complete_all.Goals as goal
+
+pub returns-in_err-tag-clause-looks : goal.returns-in_err-tag-clause-looks
+returns-in_err-tag-clause-looks g c = looks_then _ (state g.S.Store c.loop-row.conn) _ c.loop-row.invariant.looks c.loop-row.invariant.kept c.complete.ensures.looks
+
+pub returns-in_err-push_some-clause-looks : goal.returns-in_err-push_some-clause-looks
+returns-in_err-push_some-clause-looks g c = looks_then _ (state g.S.Store c.loop-row.conn) _ c.loop-row.invariant.looks c.loop-row.invariant.kept c.complete.ensures.looks
+
+pub loop-row-preserved : goal.loop-row-preserved
+loop-row-preserved g c =
+    let old = state g.S.Store c.args.conn.now in
+    let mid = state g.S.Store c.loop-row.conn in
+    let new = state g.S.Store c.complete.new.conn in
+    let was = c.loop-row.invariant in
+    let asked = option_map (λ p. p.now) c.args.asked in
+    let tag = c.in_ok-tag.tag in
+    let row = c.in-Some.row in
+    let popped : c.loop-row.left.items ≡ c.pop.new.self.items ++ row ∷ [] = search rules in
+    record {
+      looks = looks_then old mid new was.looks was.kept c.complete.ensures.looks;
+      kept = kept_on old mid new was.kept c.complete.ensures.looks c.in_ok-tag.ensures.kept;
+      mode = λ h. c.complete.ensures.mode (was.mode h);
+      finds = λ clean has m s told.
+          finds_one old.now.trees m asked c.args.rows.items c.loop-row.left.items c.pop.new.self.items row popped told tag c.loop-row.found.items c.push_some.new.found.items (search rules)
+          (λ v t. still old mid new (λ db. StandsFor db m × TellsTag db m row v) (λ db. IsFoundIf asked v tag) was.kept c.complete.ensures.looks
+          (λ cleaner schema known. c.in_ok-tag.ensures.whole cleaner schema m known.0 v known.1) clean has (s, t))
+          (was.finds (survives_clean mid new c.complete.ensures.looks clean) has m s told);
+    }
+
+pub returns-clause-found : goal.returns-clause-found
+returns-clause-found g c clean has m s told =
+    let empty = nil_of c.loop-row.left.items (omega (arith, c.loop-row.left.ok.0, c.in_default.ensures.cases.0)) in
+    finds_all (state g.S.Store c.args.conn.now).now.trees m (option_map (λ p. p.now) c.args.asked) c.args.rows.items c.loop-row.left.items (map tag_found c.loop-row.found.items) empty (c.loop-row.invariant.finds clean has m s told)

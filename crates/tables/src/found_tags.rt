@@ -1,0 +1,205 @@
+//! Tags with their projects, made of the rows that are selected.
+ghost use Rattle.std.specs.Prelude.{◌≡◌, ◌↔◌, List, ℕ, Contains, Some, map, option_map, string_bytes, false, IsTrue, IfOk, OnOk};
+ghost use Rattle.sqlite.specs.State.{HasCleanDisk};
+ghost use Rattle.sqlite.specs.Held.{state};
+ghost use Rattle.serde_json.specs.Data.{string};
+ghost use Rattle.serde_json.specs.Read.{read as read_text};
+ghost use Rattle.serde_json.specs.View.{view};
+ghost use Rattle.tags.specs.Values.{FieldValue, TagValue};
+ghost use Rattle.tags.specs.Views.{field_value, tag_value};
+ghost use Rattle.tables.specs.Schema.{schema_two};
+ghost use Rattle.tables.specs.Columns.{field_data, fields_text, tag_columns};
+ghost use Rattle.tables.specs.State.{State};
+ghost use Rattle.tables.specs.Stands.{StandsFor};
+ghost use Rattle.tables.specs.Selections.{IsAsBefore};
+ghost use Rattle.tables.specs.Names.{FoundTag as FoundTagValue, IsAsked, tag_found};
+ghost use Rattle.tables.specs.Steps.Selected.{Looks};
+ghost use Rattle.tables.specs.Steps.TagRows.{AllTell, Grows, IsFoundIf, IsTold, TellsTag, columns_of, tag_row_columns};
+
+use crate::bearers::slot_project;
+use crate::columns::column;
+use crate::fault::TablesFault;
+use crate::selection::Listed;
+use serde_json::{Category, Value};
+use sqlite::{Alter, Connection, Row};
+use std::alloc::Global;
+use tags::{Field, Tag};
+
+/// A tag of a project.
+#[derive(Debug, PartialEq, Eq, Drop)]
+pub struct FoundTag {
+    pub project: String,
+    pub tag: Tag,
+}
+
+/// The row of a tag. The fields are as they are written.
+#[derive(Drop)]
+pub(crate) struct TagRow {
+    pub(crate) slot: i64,
+    pub(crate) line: u32,
+    pub(crate) name: String,
+    pub(crate) file: String,
+    pub(crate) address: String,
+    pub(crate) kind: Option<String>,
+    pub(crate) fields: String,
+}
+
+impl Listed for TagRow {
+    ghost columns = { tag_row_columns };
+
+    fn read(row: &Row) -> Result<TagRow, TablesFault> {
+        Ok(TagRow {
+            slot: column(row, 0)?,
+            line: column(row, 1)?,
+            name: column(row, 2)?,
+            file: column(row, 3)?,
+            address: column(row, 4)?,
+            kind: column(row, 5)?,
+            fields: column(row, 6)?,
+        })
+    }
+}
+
+/// The text that a JSON value is.
+fn text_of(value: Value) -> Result<String, TablesFault>
+    ensures { (text : List ℕ) → view value ≡ string text → IfOk result (λ found. string_bytes found ≡ text) }
+{
+    match value {
+        Value::String(text) => Ok(text),
+        _ => Err(TablesFault::Refused),
+    }
+}
+
+/// The field that a JSON value is: a pair of a name and a value.
+fn field_of(value: Value) -> Result<Field, TablesFault>
+    ensures { (field : FieldValue) → view value ≡ field_data field → IfOk result (λ found. field_value found ≡ field) }
+{
+    let Value::Array(mut pair) = value else {
+        return Err(TablesFault::Refused);
+    };
+    match (pair.pop(), pair.pop(), pair.pop()) {
+        (Some(text), Some(name), None) => Ok(Field {
+            name: text_of(name)?,
+            value: text_of(text)?,
+        }),
+        _ => Err(TablesFault::Refused),
+    }
+}
+
+/// The JSON value that a text is.
+fn value_of(alloc: Global, text: &str) -> Result<Value, TablesFault>
+    ensures { IfOk result (λ value. read_text text.now ≡ Some (view value)) }
+{
+    match Value::from_str(alloc, text) {
+        Ok(value) => Ok(value),
+        Err(e) if matches!(e.classify(), Category::Memory) => Err(TablesFault::Memory),
+        Err(_) => Err(TablesFault::Refused),
+    }
+}
+
+/// The items of the JSON array that a text is.
+fn items_of(alloc: Global, text: &str) -> Result<Vec<Value>, TablesFault>
+    ensures { (fields : List FieldValue) → text.now ≡ fields_text fields → IfOk result (λ items. map view items.items ≡ map field_data fields) }
+{
+    match value_of(alloc, text)? {
+        Value::Array(items) => Ok(items),
+        _ => Err(TablesFault::Refused),
+    }
+}
+
+/// The fields that have this text.
+fn fields_of(alloc: Global, text: &str) -> Result<Vec<Field>, TablesFault>
+    ensures { (fields : List FieldValue) → text.now ≡ fields_text fields → IfOk result (λ found. map field_value found.items ≡ fields) }
+{
+    let items = items_of(alloc, text)?;
+    let mut found = Vec::new(alloc);
+    for item in items {
+        let field = field_of(item)?;
+        if found.push(field).is_err() {
+            return Err(TablesFault::Memory);
+        }
+    }
+    Ok(found)
+}
+
+/// The tag that a row tells.
+fn tag_of(alloc: Global, row: TagRow) -> Result<Tag, TablesFault>
+    ensures { (tag : TagValue) → columns_of row ≡ tag_columns tag → IfOk result (λ found. tag_value found ≡ tag) }
+{
+    let fields = fields_of(alloc, row.fields.as_str())?;
+    Ok(Tag {
+        line: row.line,
+        name: row.name,
+        file: row.file,
+        address: row.address,
+        kind: row.kind,
+        fields,
+    })
+}
+
+/// Whether the project is the one that is asked for, where one is.
+fn is_asked(asked: Option<&str>, project: &str) -> bool
+    ensures { IsTrue result ↔ IsAsked (option_map (λ p. p.now) asked.entry) project.now }
+{
+    match asked {
+        Some(asked) => project == asked,
+        None => true,
+    }
+}
+
+/// The tag that a row tells, with its project, or none where another project is asked for.
+fn complete<S: Alter>(
+    alloc: Global,
+    conn: &mut Connection<S>,
+    row: TagRow,
+    asked: Option<&str>,
+) -> Result<Option<FoundTag>, TablesFault>
+    ensures whole { HasCleanDisk (state S.Store conn.new) → (state S.Store conn.old).now.schema ≡ schema_two → (m : State) → StandsFor (state S.Store conn.old).now.trees m
+        → (v : FoundTagValue) → TellsTag (state S.Store conn.old).now.trees m row v → IfOk result (IsFoundIf (option_map (λ p. p.now) asked.entry) v) }
+    ensures kept { HasCleanDisk (state S.Store conn.new) → (state S.Store conn.old).now.schema ≡ schema_two → OnOk result (IsAsBefore (state S.Store conn.old) (state S.Store conn.new)) }
+    ensures looks { Looks (state S.Store conn.old) (state S.Store conn.new) }
+    ensures mode { conn.old.in_transaction ≡ false → conn.new.in_transaction ≡ false }
+{
+    let project = slot_project(conn, row.slot)?;
+    if !is_asked(asked, project.as_str()) {
+        return Ok(None);
+    }
+    let tag = tag_of(alloc, row)?;
+    Ok(Some(FoundTag { project, tag }))
+}
+
+/// Puts the tag behind those that were found, where there is one.
+fn push_some(found: &mut Vec<FoundTag>, tag: Option<FoundTag>) -> Result<(), TablesFault>
+    ensures { OnOk result (Grows tag found.old.items found.new.items) }
+{
+    let Some(tag) = tag else {
+        return Ok(());
+    };
+    match found.push(tag) {
+        Ok(()) => Ok(()),
+        Err(_) => Err(TablesFault::Memory),
+    }
+}
+
+/// The tags that the rows tell, each with its project: all, or those of the project that is asked for.
+pub(crate) fn complete_all<S: Alter>(
+    alloc: Global,
+    conn: &mut Connection<S>,
+    rows: Vec<TagRow>,
+    asked: Option<&str>,
+) -> Result<Vec<FoundTag>, TablesFault>
+    ensures found { HasCleanDisk (state S.Store conn.new) → (state S.Store conn.old).now.schema ≡ schema_two → (m : State) → StandsFor (state S.Store conn.old).now.trees m
+        → AllTell (state S.Store conn.old).now.trees m rows.items
+        → IfOk result (λ found. (v : FoundTagValue) → Contains (map tag_found found.items) v ↔ (IsTold (state S.Store conn.old).now.trees m rows.items v × IsAsked (option_map (λ p. p.now) asked.entry) v.project)) }
+    ensures kept { HasCleanDisk (state S.Store conn.new) → (state S.Store conn.old).now.schema ≡ schema_two → OnOk result (IsAsBefore (state S.Store conn.old) (state S.Store conn.new)) }
+    ensures looks { Looks (state S.Store conn.old) (state S.Store conn.new) }
+    ensures mode { conn.old.in_transaction ≡ false → conn.new.in_transaction ≡ false }
+{
+    let mut left = rows;
+    let mut found = Vec::new(alloc);
+    while let Some(row) = left.pop() {
+        let tag = complete(alloc, conn, row, asked)?;
+        push_some(&mut found, tag)?;
+    }
+    Ok(found)
+}
