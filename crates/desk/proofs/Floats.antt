@@ -4,7 +4,9 @@ use Rattle.std.specs.Prelude.{ℕ, Option, Some, None}
 use Rattle.serde_json.specs.View.{items_of}
 use Rattle.serde_json.specs.Written.{has_float, items_have_float}
 use Rattle.tags.specs.Values.{FieldValue}
-use Rattle.desk.specs.Reply.{FoundPlace, place_data, places_data, field_data, kind_data, FoundTag, tag_data, tags_data, project_data, projects_data}
+use Rattle.desk.specs.Reply.{FoundPlace, place_data, places_data, kind_data, tag_data, tags_data, project_data, projects_data}
+use Rattle.tables.specs.Columns.{field_data}
+use Rattle.tables.specs.Names.{FoundTag}
 use Rattle.tables.specs.Selections.{ProjectValue}
 
 each_place : (places : List FoundPlace) → items_have_float (items_of (map place_data places)) ≡ false

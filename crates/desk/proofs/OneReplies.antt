@@ -16,10 +16,11 @@ use Rattle.dump.specs.Places.{IsListing, HasDocument}
 use Rattle.dump.specs.Progress.{DumpValue}
 use Rattle.dump.specs.Requests.{First, Pick, RangeValue}
 use Rattle.dump.proofs.OnePicks.{one_listing, place_total}
-use Rattle.desk.specs.Answers.{IsFound, found_cmp, AnswersPlaces, picked, unpicked, HasContents, HasJoinedContents, IsAtOrBefore, HoversAt, own, joined, bare, AnswersHover, picked_hover, unpicked_hover, AnswersAt, no_dump, no_such_document, answered, IsTag, BeginsWith, line_cmp, name_cmp, Answers}
+use Rattle.desk.specs.Answers.{IsFound, found_cmp, AnswersPlaces, picked, unpicked, HasContents, HasJoinedContents, IsAtOrBefore, HoversAt, own, joined, bare, AnswersHover, picked_hover, unpicked_hover, AnswersAt, no_dump, no_such_document, answered, Answers}
+use Rattle.tables.specs.Names.{IsTag, BeginsWith, line_cmp, name_cmp, FoundTag}
 use Rattle.tables.specs.Selections.{text_cmp, IsProject, project_cmp, ProjectValue}
 use Rattle.tables.specs.State.{State}
-use Rattle.desk.specs.Reply.{ReplyValue, FoundPlace, FoundTag, places_found, hover_found, tags_found, projects_found}
+use Rattle.desk.specs.Reply.{ReplyValue, FoundPlace, places_found, hover_found, tags_found, projects_found}
 use Rattle.desk.specs.Requests.{DocumentPositionValue, QueryValue, definition, references, hover, declaration, implementation, names, prefix, projects, profile}
 use Rattle.desk.proofs.Listing.{eq_of, text_eq}
 

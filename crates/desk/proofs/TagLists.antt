@@ -20,11 +20,10 @@ use Rattle.std.proofs.lemmas.Slice.Eq.{bytes_eq-Decides}
 use Rattle.tags.specs.Judging.{lines_rise}
 use Rattle.tags.specs.Values.{TagValue}
 use Rattle.dump.specs.Places.{IsListing}
-use Rattle.desk.specs.Answers.{IsAsked, IsTag, BeginsWith, line_cmp, name_cmp}
+use Rattle.tables.specs.Names.{IsAsked, IsTag, BeginsWith, line_cmp, name_cmp, FoundTag}
 use Rattle.tables.specs.Selections.{text_cmp}
 use Rattle.desk.specs.Found.{tag_found}
 use Rattle.tables.specs.State.{State}
-use Rattle.desk.specs.Reply.{FoundTag}
 use Rattle.desk.specs.Steps.Listed.{is_asked, tags_so, project_tags, tags_of, by_value, TagsRise, AllRise}
 use Rattle.desk.specs.Steps.Plain.{Stands}
 use Rattle.desk.specs.declared.found.FoundTag as program

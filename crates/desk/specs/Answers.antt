@@ -17,7 +17,8 @@ use Rattle.tags.specs.Values.{TagValue}
 use Rattle.desk.specs.declared.code.Code.TheVariants.{D01, D02}
 use Rattle.desk.specs.Joins.{IsJoined}
 use Rattle.tables.specs.State.{State}
-use Rattle.desk.specs.Reply.{ReplyValue, FoundPlace, FoundTag, refused, places_found, hover_found, tags_found, projects_found, profile_found}
+use Rattle.desk.specs.Reply.{ReplyValue, FoundPlace, refused, places_found, hover_found, tags_found, projects_found, profile_found}
+use Rattle.tables.specs.Names.{FoundTag, IsTag, BeginsWith, line_cmp, name_cmp}
 use Rattle.tables.specs.Selections.{ProjectValue, IsProject, project_cmp, text_cmp}
 use Rattle.desk.specs.Requests.{DocumentPositionValue, QueryValue, definition, references, hover, declaration, implementation, names, prefix, projects, profile}
 
@@ -84,28 +85,6 @@ pub data AnswersAt (m : State) (target : DocumentPositionValue) (Answers : DumpV
   no_such_document : (dump : DumpValue) → m.dump target.project ≡ Some dump → (HasDocument dump.elements target.uri → ⊥) → AnswersAt m target Answers (refused D02)
   answered : {r : ReplyValue} (dump : DumpValue) → m.dump target.project ≡ Some dump → HasDocument dump.elements target.uri → Answers dump r
       → AnswersAt m target Answers r
-
--- ---- names
-
--- the project is the one that is asked for, where one is
-abbrev pub IsAsked : Option (List ℕ) → List ℕ → Type 0
-IsAsked None project = ⊤
-IsAsked (Some asked) project = project ≡ asked
-
--- a tag of a project, where that is asked for
-abbrev pub IsTag : State → Option (List ℕ) → FoundTag → Type 0
-IsTag m asked found = (tags : List TagValue) × (m.tags found.project ≡ Some tags) × Contains tags found.tag × IsAsked asked found.project
-
-abbrev pub BeginsWith : List ℕ → List ℕ → Type 0
-BeginsWith text start = (rest : List ℕ) × (text ≡ start ++ rest)
-
--- by project and line
-abbrev pub line_cmp : FoundTag → FoundTag → Ordering
-line_cmp a b = ordering_then (text_cmp a.project b.project) (nat_cmp a.tag.line b.tag.line)
-
--- by name, project and line
-abbrev pub name_cmp : FoundTag → FoundTag → Ordering
-name_cmp a b = ordering_then (text_cmp a.tag.name b.tag.name) (line_cmp a b)
 
 -- ---- queries
 

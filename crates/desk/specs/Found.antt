@@ -3,7 +3,8 @@ use Rattle.desk.specs.declared.found.FoundPlace as found_place
 use Rattle.desk.specs.declared.found.FoundProject as found_project
 use Rattle.desk.specs.declared.found.FoundTag as found_tag
 use Rattle.tags.specs.Views.{tag_value}
-use Rattle.desk.specs.Reply.{FoundPlace, FoundTag}
+use Rattle.desk.specs.Reply.{FoundPlace}
+use Rattle.tables.specs.Names.{FoundTag}
 use Rattle.tables.specs.Selections.{ProjectValue}
 
 abbrev pub place_found : found_place.FoundPlace → FoundPlace

@@ -6,12 +6,12 @@ use Rattle.serde_json.specs.Written.{compact_text}
 use Rattle.positions.specs.Position.{PositionValue}
 use Rattle.lsif.specs.Code as lines
 use Rattle.lsif.specs.declared.element.Profile.{Profile}
-use Rattle.lsif.specs.declared.element.Profile.TheVariants.{One, Two}
 use Rattle.dump.specs.declared.fault.LineFault as dumps
 use Rattle.dump.specs.Places.{PlaceValue}
 use Rattle.tags.specs.Codes as tag_lines
-use Rattle.tags.specs.Values.{FieldValue, TagValue}
 use Rattle.tags.specs.declared.code.LineFault as tags
+use Rattle.tables.specs.Columns.{field_data, profile_number}
+use Rattle.tables.specs.Names.{FoundTag}
 use Rattle.tables.specs.Selections.{ProjectValue}
 use Rattle.tables.specs.State.{count_data, removed_data}
 use Rattle.desk.specs.declared.code.Code.{Code}
@@ -126,14 +126,6 @@ hover_found contents = record { status = 200; body = codes "{\"contents\":" ++ (
 
 -- ---- tags
 
--- a tag of a project
-pub record FoundTag : Type 0 where
-  pub project : List ℕ
-  pub tag : TagValue
-
-abbrev pub field_data : FieldValue → Data
-field_data f = array (item (string f.name) (item (string f.value) no_items))
-
 abbrev pub kind_data : Option (List ℕ) → Data
 kind_data None = null
 kind_data (Some kind) = string kind
@@ -162,10 +154,6 @@ projects_data found = object (member (codes "projects") (list_data project_data 
 
 abbrev pub projects_found : List ProjectValue → ReplyValue
 projects_found found = written 200 (projects_data found)
-
-abbrev pub profile_number : Profile → ℕ
-profile_number One = 1
-profile_number Two = 2
 
 abbrev pub profile_data : Profile → Data
 profile_data profile = object (member (codes "profile") (number (unsigned (profile_number profile))) no_members)

@@ -5,7 +5,8 @@ ghost use Rattle.serde_json.specs.View.{view, items_of};
 ghost use Rattle.serde_json.specs.Written.{has_float};
 ghost use Rattle.tags.specs.Views.{field_value};
 ghost use Rattle.desk.specs.Found.{place_found, tag_found, project_found};
-ghost use Rattle.desk.specs.Reply.{written, fault_data, position_data, place_data, places_data, field_data, kind_data, tag_data, tags_data, project_data, projects_data, profile_data, profile_number, dump_accepted, tags_accepted, removed, dump_refused, tags_refused, places_found, hover_found, tags_found, projects_found, profile_found};
+ghost use Rattle.desk.specs.Reply.{written, fault_data, position_data, place_data, places_data, kind_data, tag_data, tags_data, project_data, projects_data, profile_data, dump_accepted, tags_accepted, removed, dump_refused, tags_refused, places_found, hover_found, tags_found, projects_found, profile_found};
+ghost use Rattle.tables.specs.Columns.{field_data, profile_number};
 ghost use Rattle.tables.specs.State.{count_data, removed_data};
 
 use crate::found::{FoundPlace, FoundProject, FoundTag};

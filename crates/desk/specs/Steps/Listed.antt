@@ -5,7 +5,7 @@ use Rattle.std.specs.declared.cmp.Ordering.{Ordering}
 use Rattle.tags.specs.Judging.{lines_rise}
 use Rattle.tags.specs.Values.{TagValue}
 use Rattle.desk.specs.Found.{tag_found}
-use Rattle.desk.specs.Reply.{FoundTag}
+use Rattle.tables.specs.Names.{FoundTag}
 use Rattle.tables.specs.Selections.{ProjectValue}
 use Rattle.desk.specs.declared.found.FoundTag as program
 use Rattle.desk.specs.declared.listed.Wanted.{Wanted}

@@ -1,7 +1,7 @@
 use Rattle.std.proofs.Common.{◌≡◌, ◌++◌, map, drop}
 use Rattle.serde_json.specs.View.{view}
 use Rattle.tags.specs.Views.{field_value}
-use Rattle.desk.specs.Reply.{field_data}
+use Rattle.tables.specs.Columns.{field_data}
 use Rattle.desk.proofs.bodies.field_list.Given as goal
 
 abbrev pub invariant-loop-field : goal.invariant-loop-field

@@ -3,8 +3,7 @@ use Rattle.sqlite.specs.State.{HasCleanDisk}
 use Rattle.sqlite.specs.Held.{state}
 use Rattle.tables.specs.Schema.{schema_two}
 use Rattle.tables.specs.State.{State}
-use Rattle.tables.specs.Stands.{StandsFor}
-use Rattle.tables.specs.Selections.{IsAsBefore}
+use Rattle.tables.specs.Stands.{IsAsBefore, StandsFor}
 use Rattle.tables.specs.Names.{tag_found}
 use Rattle.tables.specs.Steps.Selected.{Looks}
 use Rattle.tables.specs.Steps.TagRows.{AllTell, FindsTags}

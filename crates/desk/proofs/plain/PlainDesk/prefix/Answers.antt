@@ -2,9 +2,9 @@ use Rattle.std.proofs.Common.{◌≡◌, ◌∙◌, ℕ, List, map, ap, sym, sub
 use Rattle.std.specs.Prelude.{nat_eq, Contains, ◌↔◌}
 use Rattle.std.specs.List.{starts_with}
 use Rattle.std.specs.List.Sorted.{IsStrictlySortedBy}
-use Rattle.desk.specs.Answers.{IsTag, BeginsWith, line_cmp}
+use Rattle.tables.specs.Names.{IsTag, BeginsWith, line_cmp, FoundTag}
 use Rattle.desk.specs.Found.{tag_found}
-use Rattle.desk.specs.Reply.{FoundTag, tags_found}
+use Rattle.desk.specs.Reply.{tags_found}
 use Rattle.desk.specs.Steps.Listed.{tags_of}
 use Rattle.desk.proofs.TagLists.{each_tag, by_line, begins, begun, by_name, unmapped}
 use Rattle.desk.proofs.plain.PlainDesk.prefix.Goals as goal
