@@ -112,18 +112,65 @@ fn take<S: Alter>(
     Ok(done.map(|()| true))
 }
 
-const STEPS: [(Step, &str); 7] = [
-    (Step::Full("app"), "k1"),
-    (Step::Tags("app", TAGS), "k2"),
-    (Step::Tags("lib", ""), "k3"),
-    (Step::Small("app"), "k4"),
-    (Step::Full("lib"), "k5"),
-    (Step::Remove("app"), "k6"),
-    (Step::Remove("app"), "k7"),
+/// A step under a key, and how many rows the tables have before it.
+#[derive(Clone, Copy)]
+struct Row {
+    step: Step,
+    key: &'static str,
+    before: [usize; 11],
+}
+
+const ROWS: [Row; 7] = [
+    Row {
+        step: Step::Full("app"),
+        key: "k1",
+        before: [0, 0, 0, 0, 0, 0, 0, 0, 0, 0, 0],
+    },
+    Row {
+        step: Step::Tags("app", TAGS),
+        key: "k2",
+        before: [1, 1, 1, 3, 3, 1, 2, 2, 0, 1, 3],
+    },
+    Row {
+        step: Step::Tags("lib", ""),
+        key: "k3",
+        before: [2, 2, 1, 3, 3, 1, 2, 2, 2, 1, 3],
+    },
+    Row {
+        step: Step::Small("app"),
+        key: "k4",
+        before: [3, 3, 1, 3, 3, 1, 2, 2, 2, 1, 3],
+    },
+    Row {
+        step: Step::Full("lib"),
+        key: "k5",
+        before: [3, 4, 1, 1, 0, 0, 0, 0, 2, 1, 0],
+    },
+    Row {
+        step: Step::Remove("app"),
+        key: "k6",
+        before: [4, 5, 2, 4, 3, 1, 2, 2, 2, 2, 3],
+    },
+    Row {
+        step: Step::Remove("app"),
+        key: "k7",
+        before: [2, 6, 1, 3, 3, 1, 2, 2, 0, 1, 3],
+    },
 ];
 
+/// How many rows they have after the last step.
+const AFTER: [usize; 11] = [2, 7, 1, 3, 3, 1, 2, 2, 0, 1, 3];
+
+/// How many rows they have when so many steps were taken.
+fn rows_after(steps: usize) -> [usize; 11] {
+    match ROWS.as_slice().get(steps) {
+        Some(row) => row.before,
+        None => AFTER,
+    }
+}
+
 /// The tables whose rows are counted.
-const COUNTS: [&str; 11] = [
+const COUNTED: [&str; 11] = [
     "SELECT id FROM slot",
     "SELECT reply FROM keyed",
     "SELECT uri FROM document",
@@ -137,23 +184,11 @@ const COUNTS: [&str; 11] = [
     "SELECT line FROM more",
 ];
 
-/// How many rows they have before each step and after the last.
-const HELD: [[usize; 11]; 8] = [
-    [0, 0, 0, 0, 0, 0, 0, 0, 0, 0, 0],
-    [1, 1, 1, 3, 3, 1, 2, 2, 0, 1, 3],
-    [2, 2, 1, 3, 3, 1, 2, 2, 2, 1, 3],
-    [3, 3, 1, 3, 3, 1, 2, 2, 2, 1, 3],
-    [3, 4, 1, 1, 0, 0, 0, 0, 2, 1, 0],
-    [4, 5, 2, 4, 3, 1, 2, 2, 2, 2, 3],
-    [2, 6, 1, 3, 3, 1, 2, 2, 0, 1, 3],
-    [2, 7, 1, 3, 3, 1, 2, 2, 0, 1, 3],
-];
-
 /// The numbers of their rows.
-fn held<S: Alter>(conn: &mut Connection<S>) -> Result<[usize; 11], Fail> {
-    let mut counts = [0; 11];
-    for at in 0..COUNTS.len() {
-        counts[at] = conn.query_all(COUNTS[at], &[])?.len();
+fn held<S: Alter>(alloc: Global, conn: &mut Connection<S>) -> Result<Vec<usize>, Fail> {
+    let mut counts = Vec::new(alloc);
+    for query in COUNTED {
+        counts.push(conn.query_all(query, &[])?.len())?;
     }
     Ok(counts)
 }
@@ -180,14 +215,19 @@ fn opened<S: Alter + Drop>(conn: Connection<S>) -> Result<Tables<S>, Fail>
 #[test]
 fn replaced_and_removed(rt: HostRuntime) -> Result<(), Fail> {
     let mut tables = opened(Connection::open_in_memory(rt.alloc())?)?;
-    for at in 0..STEPS.len() {
-        let (step, key) = STEPS[at];
-        assert_eq!(rt; held(&mut tables.conn)?, HELD[at], "before {key}");
-        let answer = take(rt.alloc(), &mut tables, step, key)?;
-        assert!(rt; answer == Ok(key != "k7"), "{key}");
+    for row in ROWS {
+        let counts = held(rt.alloc(), &mut tables.conn)?;
+        assert_eq!(rt;
+            counts.as_slice(),
+            row.before.as_slice(),
+            "before {}",
+            row.key
+        );
+        let answer = take(rt.alloc(), &mut tables, row.step, row.key)?;
+        assert!(rt; answer == Ok(row.key != "k7"), "{}", row.key);
     }
     let mut conn = tables.into_connection();
-    assert_eq!(rt; held(&mut conn)?, HELD[STEPS.len()]);
+    assert_eq!(rt; held(rt.alloc(), &mut conn)?.as_slice(), AFTER.as_slice());
     for query in SAID {
         assert!(rt; conn.query_all(query, &[])?.len() == 1, "{query}");
     }
@@ -208,13 +248,14 @@ fn stopped(alloc: Global, log: u64, db: u64) -> Result<(usize, Files<Fuse<Memory
         Ok(tables) => tables,
         Err((_, conn)) => return Ok((0, files_of(conn))),
     };
-    for at in 0..STEPS.len() {
-        let (step, key) = STEPS[at];
-        if take(alloc, &mut tables, step, key)?.is_err() {
-            return Ok((at, files_of(tables.into_connection())));
+    let mut taken = 0;
+    for row in ROWS {
+        if take(alloc, &mut tables, row.step, row.key)?.is_err() {
+            break;
         }
+        taken += 1;
     }
-    Ok((STEPS.len(), files_of(tables.into_connection())))
+    Ok((taken, files_of(tables.into_connection())))
 }
 
 fn files_of(conn: Connection<FileStore<Fuse<Memory>>>) -> Files<Fuse<Memory>> {
@@ -225,12 +266,12 @@ fn files_of(conn: Connection<FileStore<Fuse<Memory>>>) -> Files<Fuse<Memory>> {
 }
 
 /// What the tables hold that are opened over what a crash left of the files.
-fn recovered(alloc: Global, files: Files<Fuse<Memory>>) -> Result<[usize; 11], Fail> {
+fn recovered(alloc: Global, files: Files<Fuse<Memory>>) -> Result<Vec<usize>, Fail> {
     let Files { mut log, mut db } = files;
     log.crash();
     db.crash();
     match Connection::open_files(alloc, Files { log, db }, Options::new(1)) {
-        Ok(conn) => held(&mut opened(conn)?.conn),
+        Ok(conn) => held(alloc, &mut opened(conn)?.conn),
         Err(_) => Err("not recovered")?,
     }
 }
@@ -242,7 +283,7 @@ fn stop_at_each_call(rt: HostRuntime) -> Result<(), Fail> {
     for is_log in [true, false] {
         let mut taken = 0;
         let mut calls = 0;
-        while taken < STEPS.len() && calls < 10000 {
+        while taken < ROWS.len() && calls < 10000 {
             let (log, db) = if is_log {
                 (calls, u64::MAX)
             } else {
@@ -250,15 +291,15 @@ fn stop_at_each_call(rt: HostRuntime) -> Result<(), Fail> {
             };
             let (count, files) = stopped(rt.alloc(), log, db)?;
             let left = recovered(rt.alloc(), files)?;
-            let is_next = count < STEPS.len() && left == HELD[count + 1];
+            let is_next = count < ROWS.len() && left.as_slice() == rows_after(count + 1).as_slice();
             assert!(rt;
-                left == HELD[count] || is_next,
+                is_next || left.as_slice() == rows_after(count).as_slice(),
                 "{count} after {calls} calls"
             );
             taken = count;
             calls += 1;
         }
-        assert!(rt; taken == STEPS.len() && calls > 20, "{calls}");
+        assert!(rt; taken == ROWS.len() && calls > 20, "{calls}");
     }
     Ok(())
 }
@@ -342,16 +383,20 @@ fn migration_stopped_at_each_call(rt: HostRuntime) -> Result<(), Fail> {
 #[test]
 fn same_file_twice(rt: HostRuntime) -> Result<(), Fail> {
     let mut tables = opened(Connection::open(&rt, "index.db")?)?;
-    let (step, key) = STEPS[0];
-    assert!(rt; take(rt.alloc(), &mut tables, step, key)? == Ok(true));
+    assert!(rt; take(rt.alloc(), &mut tables, Step::Full("app"), "k1")? == Ok(true));
     match tables.into_connection().close() {
         Ok(()) => {}
         Err(_) => assert!(rt; false, "not closed"),
     }
     let mut tables = opened(Connection::open(&rt, "index.db")?)?;
-    assert_eq!(rt; held(&mut tables.conn)?, HELD[1]);
-    let (step, key) = STEPS[1];
-    assert!(rt; take(rt.alloc(), &mut tables, step, key)? == Ok(true));
-    assert_eq!(rt; held(&mut tables.conn)?, HELD[2]);
+    assert_eq!(rt;
+        held(rt.alloc(), &mut tables.conn)?.as_slice(),
+        rows_after(1).as_slice()
+    );
+    assert!(rt; take(rt.alloc(), &mut tables, Step::Tags("app", TAGS), "k2")? == Ok(true));
+    assert_eq!(rt;
+        held(rt.alloc(), &mut tables.conn)?.as_slice(),
+        rows_after(2).as_slice()
+    );
     Ok(())
 }
