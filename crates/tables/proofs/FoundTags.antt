@@ -1,6 +1,5 @@
 -- Tags, as they are selected.
-use Rattle.std.proofs.Common.{◌≡◌, ◌⊎◌, inl, inr, ℕ, ℤ, pos, List, [], ◌∷◌, ◌++◌, map, Option, Some, None, codes, false, refl, sym, ap, subst, ◌∙◌, string_bytes, ◌↔◌, Contains}
-use Rattle.std.specs.List.{AllByRecursion}
+use Rattle.std.proofs.Common.{◌≡◌, inl, inr, ℕ, ℤ, pos, List, [], ◌∷◌, map, Some, codes, false, refl, sym, ap, subst, ◌∙◌, Contains}
 use Rattle.sqlite.specs.Listing.{understood, reads_listing}
 use Rattle.sqlite.specs.State.{State as Store, Shown}
 use Rattle.sqlite.proofs.Callers.{IsPlain, command_of}
@@ -12,31 +11,28 @@ use Rattle.sqlite_schema.specs.declared.command.Command.TheVariants.{Select}
 use Rattle.sqlite_trees.specs.Tree.{Trees}
 use Rattle.sqlite_rules.specs.Lists.{Has}
 use Rattle.sqlite_rules.proofs.ListLemmas.{has_contained, contains_had}
-use Rattle.dump.specs.Places.{IsListing}
 use Rattle.tags.specs.Values.{TagValue}
-use Rattle.flatten.proofs.Listing.{same_listing}
-use Rattle.tables.specs.Columns.{tag_columns, tag_rows}
+use Rattle.tables.specs.Columns.{tag_columns}
 use Rattle.tables.specs.Contents.{IsOwned, owned, slot_row}
 use Rattle.tables.specs.Databases.{Holds}
 use Rattle.tables.specs.Schema.{schema_two}
 use Rattle.tables.specs.State.{State}
 use Rattle.tables.specs.Stands.{StandsFor}
-use Rattle.tables.specs.Names.{FoundTag, IsTag, IsAsked}
+use Rattle.tables.specs.Names.{FoundTag}
 use Rattle.tables.specs.declared.found_tags.TagRow.{TagRow}
 use Rattle.tables.specs.Steps.SelectionTexts.{select_named}
 use Rattle.tables.specs.Steps.Selected.{AreRead, AreTyped, Selects, equals}
-use Rattle.tables.specs.Steps.TagRows.{TellsTag, AllTell, IsTold, TellNamed, FindsTags, tag_row_columns}
+use Rattle.tables.specs.Steps.TagRows.{TellsTag, TellNamed, tag_row_columns}
 use Rattle.tables.proofs.DumpEntries.{which_part, dump_of, tags_of, rows_of_tags}
 use Rattle.tables.proofs.Entries.{typed_as}
-use Rattle.tables.proofs.FoundBearers.{has_last, has_before, last_or}
 use Rattle.tables.proofs.Keeping.{from_map, to_map, table_of}
 use Rattle.tables.proofs.Select.{one_table}
-use Rattle.tables.proofs.Selecting.{IsSelection, selects_typed, all_of, of_all, all_last}
+use Rattle.tables.proofs.Selecting.{IsSelection, selects_typed, all_of, of_all}
 
-abbrev tag_terms : List Term
+abbrev pub tag_terms : List Term
 tag_terms = col 1 1 ∷ col 1 2 ∷ col 1 3 ∷ col 1 4 ∷ col 1 5 ∷ col 1 6 ∷ col 1 7 ∷ []
 
-abbrev tag_names : List (List ℕ)
+abbrev pub tag_names : List (List ℕ)
 tag_names = codes "slot" ∷ codes "line" ∷ codes "name" ∷ codes "file" ∷ codes "address" ∷ codes "kind" ∷ codes "fields" ∷ []
 
 select_named_is : command_of (understood schema_two select_named) ≡ Select (record { lets = []; body = one_table 17 (equals ((3, 0) ∷ [])) tag_terms }) tag_names

@@ -24,8 +24,11 @@ pub mod Keeping
 pub mod KeptReplies
 pub mod LineResults
 pub mod Looking
+pub mod Ordered
 pub mod PartRemoved
 pub mod Popping
+pub mod PrefixedTags
+pub mod Prefixes
 pub mod Profiles
 pub mod ProjectNames
 pub mod Puts
@@ -35,6 +38,7 @@ pub mod Select
 pub mod Selecting
 pub mod SlotRemoved
 pub mod Standing
+pub mod Streaming
 pub mod TagFields
 pub mod TagOrder
 pub mod Texts

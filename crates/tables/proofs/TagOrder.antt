@@ -1,5 +1,5 @@
 -- The orders of tags.
-use Rattle.std.proofs.Common.{◌≡◌, ◌+◌, ◌<◌, ℕ, true, List, [], ◌∷◌, length, map, get_or, refl, sym, ap, subst, ◌∙◌, string_bytes, Ordering, Less, Equal, Greater, nat_cmp, arith, ◌↔◌, Contains}
+use Rattle.std.proofs.Common.{◌≡◌, ◌+◌, ◌<◌, true, List, [], ◌∷◌, length, map, refl, Ordering, Less, Equal, Greater, arith, Contains}
 use Rattle.std.specs.List.{AllAdjacentBelow}
 use Rattle.std.specs.List.Sorted.{IsPermutation, IsStrictlySortedBy}
 use Rattle.std.specs.Cmp.{IsTotalOrder, then_total, on_total, nat_cmp_total}

@@ -1,13 +1,10 @@
 -- Tags that rows tell, one row after the other.
-use Rattle.std.proofs.Common.{◌≡◌, ◌⊎◌, inl, inr, ℕ, pos, List, [], ◌∷◌, ◌++◌, map, Option, Some, None, refl, sym, ap, subst, ◌∙◌, ◌↔◌, Contains}
+use Rattle.std.proofs.Common.{◌≡◌, ◌⊎◌, inl, inr, ℕ, pos, List, [], ◌∷◌, ◌++◌, map, Option, Some, None, sym, ap, subst, ◌∙◌, ◌↔◌, Contains}
 use Rattle.std.specs.List.{AllByRecursion}
-use Rattle.std.specs.declared.cmp.Ordering.{Ordering}
 use Rattle.std.proofs.lemmas.List.{map-append}
 use Rattle.sqlite_trees.specs.Tree.{Trees}
 use Rattle.sqlite_rules.specs.Lists.{Has}
 use Rattle.sqlite_rules.proofs.ListLemmas.{has_contained, contains_had}
-use Rattle.dump.specs.Places.{IsListing}
-use Rattle.flatten.proofs.Listing.{same_listing}
 use Rattle.tables.specs.State.{State}
 use Rattle.tables.specs.Stands.{StandsFor}
 use Rattle.tables.specs.Names.{FoundTag, IsTag, IsAsked, tag_found}

@@ -34,13 +34,13 @@ pub struct FoundTag {
 /// The row of a tag. The fields are as they are written.
 #[derive(Drop)]
 pub(crate) struct TagRow {
-    pub(crate) slot: i64,
-    pub(crate) line: u32,
-    pub(crate) name: String,
-    pub(crate) file: String,
-    pub(crate) address: String,
-    pub(crate) kind: Option<String>,
-    pub(crate) fields: String,
+    slot: i64,
+    line: u32,
+    name: String,
+    file: String,
+    address: String,
+    kind: Option<String>,
+    fields: String,
 }
 
 impl Listed for TagRow {

@@ -1,20 +1,22 @@
 //! Tags by their names, as they are selected.
-ghost use Rattle.std.specs.Prelude.{◌≡◌, List, ℕ, Contains, map, option_map, false, IsTrue, IfOk, OnOk};
+ghost use Rattle.std.specs.Prelude.{◌≡◌, List, Contains, map, option_map, false, IsTrue, IfOk, OnOk};
 ghost use Rattle.sqlite.specs.State.{HasCleanDisk, Survives};
 ghost use Rattle.sqlite.specs.Held.{state};
 ghost use Rattle.dump.specs.Places.{IsListing};
 ghost use Rattle.tables.specs.Schema.{schema_two};
 ghost use Rattle.tables.specs.State.{State};
 ghost use Rattle.tables.specs.Stands.{IsAsBefore, StandsFor, Rests};
-ghost use Rattle.tables.specs.Names.{FoundTag as FoundTagValue, IsTag, line_cmp, name_cmp, tag_found};
-ghost use Rattle.tables.specs.Steps.Selected.{Looks};
-ghost use Rattle.tables.specs.Steps.TagRows.{TellNamed};
+ghost use Rattle.tables.specs.Names.{FoundTag as FoundTagValue, BeginsWith, IsTag, line_cmp, name_cmp, tag_found};
+ghost use Rattle.tables.specs.Steps.Selected.{AreRead, Looks};
+ghost use Rattle.tables.specs.Steps.TagRows.{TellNamed, tag_row_columns, with_prefix};
+ghost use Rattle.tables.specs.declared.found_tags.TagRow.{TagRow};
 
-use crate::fault::TablesFault;
+use crate::fault::{TablesFault, fault_of};
 use crate::found_tags::{FoundTag, TagRow, complete_all};
-use crate::selection::select_all;
+use crate::selection::{read_all, select_all};
 use crate::tables::Tables;
-use sqlite::{Alter, Connection, params};
+use sqlite::types::ValueRef;
+use sqlite::{Alter, Connection, Error, ErrorCode, Row, params};
 use std::alloc::Global;
 use std::cmp::Ordering;
 
@@ -26,12 +28,32 @@ fn order_by_line(a: &FoundTag, b: &FoundTag) -> Ordering
     a.project.as_str().cmp(b.project.as_str()).then(lines)
 }
 
-/// Puts the tags in order by project and line. It's `Refused` where a project has two tags of one line, as no tags file has.
+/// Puts the tags in order by project and line. It's `Refused` where a project has two tags of one line, which the key of `tag` forbids.
 fn list_by_line(found: &mut Vec<FoundTag>) -> Result<(), TablesFault>
     ensures { OnOk result (IsListing line_cmp (Contains (map tag_found found.old.items)) (map tag_found found.new.items)) }
 {
     found.sort_unstable_by(|a, b| order_by_line(a, b));
     if found.is_sorted_by(|a, b| order_by_line(a, b).is_lt()) {
+        Ok(())
+    } else {
+        Err(TablesFault::Refused)
+    }
+}
+
+/// By name, then by project, then by line.
+fn order_by_name(a: &FoundTag, b: &FoundTag) -> Ordering
+    ensures { result ≡ name_cmp (tag_found a.now) (tag_found b.now) }
+{
+    let names = a.tag.name.as_str().cmp(b.tag.name.as_str());
+    names.then(order_by_line(a, b))
+}
+
+/// Puts the tags in order by name, project and line. It's `Refused` where a project has two tags of one line, which the key of `tag` forbids.
+fn list_by_name(found: &mut Vec<FoundTag>) -> Result<(), TablesFault>
+    ensures { OnOk result (IsListing name_cmp (Contains (map tag_found found.old.items)) (map tag_found found.new.items)) }
+{
+    found.sort_unstable_by(|a, b| order_by_name(a, b));
+    if found.is_sorted_by(|a, b| order_by_name(a, b).is_lt()) {
         Ok(())
     } else {
         Err(TablesFault::Refused)
@@ -76,6 +98,81 @@ fn find_named<S: Alter>(
     Ok(found)
 }
 
+/// Whether the name in the row of a tag begins with the text.
+fn has_prefix(row: &Row, prefix: &str) -> bool
+    ensures { result ≡ with_prefix prefix.now row.now }
+{
+    match row.get_ref(2) {
+        Ok(ValueRef::Text(name)) => name.starts_with(prefix.as_bytes()),
+        _ => false,
+    }
+}
+
+/// The rows of the tags whose names begin with the text. They are read one at a time, by name, up to the first with another beginning.
+fn prefixed_rows<S: Alter>(
+    alloc: Global,
+    conn: &mut Connection<S>,
+    prefix: &str,
+) -> Result<Vec<Row>, Error>
+    ensures rows { HasCleanDisk (state S.Store conn.new) → (state S.Store conn.old).now.schema ≡ schema_two → (m : State) → StandsFor (state S.Store conn.old).now.trees m
+        → IfOk result (λ rows. (xs : List TagRow) → AreRead tag_row_columns rows.items xs → TellNamed (state S.Store conn.old).now.trees m (λ text. BeginsWith text prefix.now) xs) }
+    ensures kept { HasCleanDisk (state S.Store conn.new) → (state S.Store conn.old).now.schema ≡ schema_two → OnOk result (IsAsBefore (state S.Store conn.old) (state S.Store conn.new)) }
+    ensures looks { Looks (state S.Store conn.old) (state S.Store conn.new) }
+    ensures mode { conn.old.in_transaction ≡ false → conn.new.in_transaction ≡ false }
+{
+    let mut found = Vec::new(alloc);
+    let mut rows = conn.query(
+        "SELECT slot, line, name, file, address, kind, fields FROM tag WHERE name >= ?1 ORDER BY name, slot, line",
+        params![prefix],
+    )?;
+    'rows: for _ in 0..usize::MAX {
+        let Some(row) = rows.next()? else {
+            return Ok(found);
+        };
+        if !has_prefix(row, prefix) {
+            return Ok(found);
+        }
+        found.push(row.copy()?)?;
+    }
+    Err(Error::SqliteFailure(ErrorCode::OutOfMemory))
+}
+
+/// The rows of the tags whose names begin with the text.
+fn select_prefixed<S: Alter>(
+    alloc: Global,
+    conn: &mut Connection<S>,
+    prefix: &str,
+) -> Result<Vec<TagRow>, TablesFault>
+    ensures rows { HasCleanDisk (state S.Store conn.new) → (state S.Store conn.old).now.schema ≡ schema_two → (m : State) → StandsFor (state S.Store conn.old).now.trees m
+        → IfOk result (λ rows. TellNamed (state S.Store conn.old).now.trees m (λ text. BeginsWith text prefix.now) rows.items) }
+    ensures kept { HasCleanDisk (state S.Store conn.new) → (state S.Store conn.old).now.schema ≡ schema_two → OnOk result (IsAsBefore (state S.Store conn.old) (state S.Store conn.new)) }
+    ensures looks { Looks (state S.Store conn.old) (state S.Store conn.new) }
+    ensures mode { conn.old.in_transaction ≡ false → conn.new.in_transaction ≡ false }
+{
+    match prefixed_rows(alloc, conn, prefix) {
+        Ok(rows) => read_all(alloc, &rows),
+        Err(error) => Err(fault_of(error)),
+    }
+}
+
+/// The tags whose names begin with the text.
+fn find_prefixed<S: Alter>(
+    alloc: Global,
+    conn: &mut Connection<S>,
+    prefix: &str,
+    asked: Option<&str>,
+) -> Result<Vec<FoundTag>, TablesFault>
+    ensures found { HasCleanDisk (state S.Store conn.new) → (state S.Store conn.old).now.schema ≡ schema_two → (m : State) → StandsFor (state S.Store conn.old).now.trees m
+        → IfOk result (λ found. IsListing name_cmp (λ (f : FoundTagValue). IsTag m (option_map (λ p. p.now) asked.entry) f × BeginsWith f.tag.name prefix.now) (map tag_found found.items)) }
+    ensures looks { Looks (state S.Store conn.old) (state S.Store conn.new) }
+    ensures mode { conn.old.in_transaction ≡ false → conn.new.in_transaction ≡ false }
+{
+    let rows = select_prefixed(alloc, conn, prefix)?;
+    let mut found = complete_all(alloc, conn, rows, asked)?;
+    list_by_name(&mut found)?;
+    Ok(found)
+}
+
 impl<S: Alter> Tables<S> {
     /// The tags of this name: of the project, where one is given, and else of all. They are in order by project (its bytes) and line. It's `Refused`
     /// where the store refuses, or where a row isn't one of this product's, and `Memory` where memory is refused.
@@ -91,5 +188,20 @@ impl<S: Alter> Tables<S> {
         ensures survives { (m : State) → Rests (state S.Store self.old) m → Survives (state S.Store self.old) (state S.Store self.new) (λ _. ⊥) }
     {
         find_named(alloc, &mut self.conn, name, project)
+    }
+    /// The tags whose names begin with the text: of the project, where one is given, and else of all. They are in order by name (its bytes), project and
+    /// line. It's `Refused` where the store refuses, or where a row isn't one of this product's, and `Memory` where memory is refused.
+    pub fn names_prefix(
+        &mut self,
+        alloc: Global,
+        prefix: &str,
+        project: Option<&str>,
+    ) -> Result<Vec<FoundTag>, TablesFault>
+        ensures found { HasCleanDisk (state S.Store self.new) → (m : State) → Rests (state S.Store self.old) m
+            → IfOk result (λ found. IsListing name_cmp (λ (f : FoundTagValue). IsTag m (option_map (λ p. p.now) project.entry) f × BeginsWith f.tag.name prefix.now) (map tag_found found.items)) }
+        ensures same { HasCleanDisk (state S.Store self.new) → IsTrue (state S.Store self.new).is_open → (m : State) → Rests (state S.Store self.old) m → IsAsBefore (state S.Store self.old) (state S.Store self.new) }
+        ensures survives { (m : State) → Rests (state S.Store self.old) m → Survives (state S.Store self.old) (state S.Store self.new) (λ _. ⊥) }
+    {
+        find_prefixed(alloc, &mut self.conn, prefix, project)
     }
 }

@@ -48,6 +48,21 @@ fn rows_of<S: Alter>(
     }
 }
 
+/// What the rows read as.
+pub(crate) fn read_all<T: Listed>(alloc: Global, rows: &[Row]) -> Result<Vec<T>, TablesFault>
+    ensures read { IfOk result (λ found. AreRead T.columns rows.now found.items) }
+    ensures sound { IfOk result (λ found. AllByRecursion T.is_sound found.items) }
+{
+    let mut found = Vec::new(alloc);
+    for row in rows {
+        let item = T::read(row)?;
+        if found.push(item).is_err() {
+            return Err(TablesFault::Memory);
+        }
+    }
+    Ok(found)
+}
+
 /// What the rows of the answer read as.
 pub(crate) fn select_all<S: Alter, T: Listed>(
     alloc: Global,
@@ -63,14 +78,7 @@ pub(crate) fn select_all<S: Alter, T: Listed>(
     ensures mode { conn.old.in_transaction ≡ false → conn.new.in_transaction ≡ false }
 {
     let rows = rows_of(conn, sql, params)?;
-    let mut found = Vec::new(alloc);
-    for row in &rows {
-        let item = T::read(row)?;
-        if found.push(item).is_err() {
-            return Err(TablesFault::Memory);
-        }
-    }
-    Ok(found)
+    read_all(alloc, &rows)
 }
 
 /// What the first row of the answer reads as, where there is one.

@@ -30,3 +30,6 @@ select_more = codes "SELECT decl, imp FROM more WHERE slot = ?1 AND line = ?2"
 
 abbrev pub select_named : List ℕ
 select_named = codes "SELECT slot, line, name, file, address, kind, fields FROM tag WHERE name = ?1"
+
+abbrev pub select_prefixed : List ℕ
+select_prefixed = codes "SELECT slot, line, name, file, address, kind, fields FROM tag WHERE name >= ?1 ORDER BY name, slot, line"

@@ -1,7 +1,6 @@
-use Rattle.std.proofs.Common.{to_z-of_z, rules, ◌≡◌, ◌∙◌, pos, sym, ap, subst, string_bytes, option_map, false, true, IsTrue}
+use Rattle.std.proofs.Common.{to_z-of_z, rules, ◌≡◌, ◌∙◌, pos, sym, subst, option_map, IsTrue}
 use mir.Val.{SFits}
 use mir.Syntax.{w64}
-use Rattle.sqlite.specs.Held.{state}
 use Rattle.tables.specs.Stands.{replies_of}
 use Rattle.tables.specs.Names.{IsAsked}
 use Rattle.tables.proofs.found_tags.complete.Goals as goal

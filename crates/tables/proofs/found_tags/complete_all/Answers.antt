@@ -1,12 +1,11 @@
-use Rattle.std.proofs.Common.{◌≡◌, ◌∙◌, ◌++◌, [], ◌∷◌, List, map, option_map, rules, arith, sym, ap, subst}
+use Rattle.std.proofs.Common.{◌≡◌, ◌++◌, [], ◌∷◌, map, option_map, rules, arith}
 use Rattle.sqlite.specs.Held.{state}
 use Rattle.flatten.proofs.Members.{nil_of}
 use Rattle.tables.specs.Stands.{StandsFor}
 use Rattle.tables.specs.Names.{tag_found}
-use Rattle.tables.specs.declared.found_tags.FoundTag.{FoundTag}
-use Rattle.tables.specs.Steps.TagRows.{FindsTags, IsFoundIf, TellsTag}
+use Rattle.tables.specs.Steps.TagRows.{IsFoundIf, TellsTag}
 use Rattle.tables.proofs.Looking.{looks_then, kept_on, still, survives_clean}
-use Rattle.tables.proofs.ToldTags.{finds_none, finds_one, finds_all}
+use Rattle.tables.proofs.ToldTags.{finds_one, finds_all}
 use Rattle.tables.proofs.found_tags.complete_all.Goals as goal
 
 pub returns-in_err-tag-clause-looks : goal.returns-in_err-tag-clause-looks

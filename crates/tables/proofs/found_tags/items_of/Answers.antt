@@ -1,7 +1,6 @@
-use Rattle.std.proofs.Common.{◌≡◌, Some, map, ap, sym, ◌∙◌}
-use Rattle.serde_json.specs.Data.{Data, array}
-use Rattle.serde_json.specs.Read.{read}
-use Rattle.serde_json.specs.View.{items_of, view}
+use Rattle.std.proofs.Common.{Some, map, ap, ◌∙◌}
+use Rattle.serde_json.specs.Data.{Data}
+use Rattle.serde_json.specs.View.{view}
 use Rattle.serde_json.proofs.Views.{view-Array}
 use Rattle.tables.proofs.TagFields.{items_read}
 use Rattle.tables.proofs.found_tags.items_of.Goals as goal
