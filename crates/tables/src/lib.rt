@@ -41,4 +41,6 @@ mod tests;
 #[cfg(test)]
 mod tests_changes;
 #[cfg(test)]
+mod tests_names;
+#[cfg(test)]
 mod tests_selections;
