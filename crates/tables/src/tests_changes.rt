@@ -217,19 +217,15 @@ fn replaced_and_removed(rt: HostRuntime) -> Result<(), Fail> {
     let mut tables = opened(Connection::open_in_memory(rt.alloc())?)?;
     for row in ROWS {
         let counts = held(rt.alloc(), &mut tables.conn)?;
-        assert_eq!(rt;
-            counts.as_slice(),
-            row.before.as_slice(),
-            "before {}",
-            row.key
-        );
+        assert!(rt; counts.as_slice() == row.before.as_slice());
         let answer = take(rt.alloc(), &mut tables, row.step, row.key)?;
-        assert!(rt; answer == Ok(row.key != "k7"), "{}", row.key);
+        assert!(rt; answer == Ok(row.key != "k7"));
     }
     let mut conn = tables.into_connection();
-    assert_eq!(rt; held(rt.alloc(), &mut conn)?.as_slice(), AFTER.as_slice());
+    let counts = held(rt.alloc(), &mut conn)?;
+    assert!(rt; counts.as_slice() == AFTER.as_slice());
     for query in SAID {
-        assert!(rt; conn.query_all(query, &[])?.len() == 1, "{query}");
+        assert!(rt; conn.query_all(query, &[])?.len() == 1);
     }
     Ok(())
 }
@@ -389,14 +385,10 @@ fn same_file_twice(rt: HostRuntime) -> Result<(), Fail> {
         Err(_) => assert!(rt; false, "not closed"),
     }
     let mut tables = opened(Connection::open(&rt, "index.db")?)?;
-    assert_eq!(rt;
-        held(rt.alloc(), &mut tables.conn)?.as_slice(),
-        rows_after(1).as_slice()
-    );
+    let counts = held(rt.alloc(), &mut tables.conn)?;
+    assert!(rt; counts.as_slice() == rows_after(1).as_slice());
     assert!(rt; take(rt.alloc(), &mut tables, Step::Tags("app", TAGS), "k2")? == Ok(true));
-    assert_eq!(rt;
-        held(rt.alloc(), &mut tables.conn)?.as_slice(),
-        rows_after(2).as_slice()
-    );
+    let counts = held(rt.alloc(), &mut tables.conn)?;
+    assert!(rt; counts.as_slice() == rows_after(2).as_slice());
     Ok(())
 }
