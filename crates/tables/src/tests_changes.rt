@@ -272,30 +272,38 @@ fn recovered(alloc: Global, files: Files<Fuse<Memory>>) -> Result<Vec<usize>, Fa
     }
 }
 
+/// After how many calls each file stops, where the log or the other stops after so many.
+fn fuses(is_log: bool, calls: u64) -> (u64, u64) {
+    if is_log {
+        (calls, u64::MAX)
+    } else {
+        (u64::MAX, calls)
+    }
+}
+
+/// Whether these are the rows after so many steps, or after one more.
+fn is_left(counts: &[usize], steps: usize) -> bool {
+    counts == rows_after(steps).as_slice()
+        || (steps < ROWS.len() && counts == rows_after(steps + 1).as_slice())
+}
+
 /// Each call of one of the files stops the store in turn: what is left is the state before the step that was refused, or the one after
 /// it, and a step that was accepted isn't lost.
 #[test]
 fn stop_at_each_call(rt: HostRuntime) -> Result<(), Fail> {
     for is_log in [true, false] {
         let mut taken = 0;
-        let mut calls = 0;
-        while taken < ROWS.len() && calls < 10000 {
-            let (log, db) = if is_log {
-                (calls, u64::MAX)
-            } else {
-                (u64::MAX, calls)
-            };
+        for calls in 0..10000u64 {
+            let (log, db) = fuses(is_log, calls);
             let (count, files) = stopped(rt.alloc(), log, db)?;
             let left = recovered(rt.alloc(), files)?;
-            let is_next = count < ROWS.len() && left.as_slice() == rows_after(count + 1).as_slice();
-            assert!(rt;
-                is_next || left.as_slice() == rows_after(count).as_slice(),
-                "{count} after {calls} calls"
-            );
+            assert!(rt; is_left(&left, count));
             taken = count;
-            calls += 1;
+            if taken == ROWS.len() {
+                break;
+            }
         }
-        assert!(rt; taken == ROWS.len() && calls > 20, "{calls}");
+        assert!(rt; taken == ROWS.len());
     }
     Ok(())
 }
@@ -357,20 +365,17 @@ fn migrated_afterwards(alloc: Global, files: Files<Fuse<Memory>>) -> Result<bool
 fn migration_stopped_at_each_call(rt: HostRuntime) -> Result<(), Fail> {
     for is_log in [true, false] {
         let mut reached = Reached::Nothing;
-        let mut calls = 0;
-        while reached != Reached::FormatTwo && calls < 10000 {
-            let (log, db) = if is_log {
-                (calls, u64::MAX)
-            } else {
-                (u64::MAX, calls)
-            };
+        for calls in 0..10000u64 {
+            let (log, db) = fuses(is_log, calls);
             let (far, files) = migration_stopped(rt.alloc(), log, db)?;
             let is_whole = migrated_afterwards(rt.alloc(), files)?;
-            assert!(rt; is_whole || far == Reached::Nothing, "{calls}");
+            assert!(rt; is_whole || far == Reached::Nothing);
             reached = far;
-            calls += 1;
+            if reached == Reached::FormatTwo {
+                break;
+            }
         }
-        assert!(rt; reached == Reached::FormatTwo, "{calls}");
+        assert!(rt; reached == Reached::FormatTwo);
     }
     Ok(())
 }
