@@ -1,6 +1,4 @@
 //! Parts replaced and removed: what the tables hold then, also where the store stops, and on a real file.
-ghost use Rattle.std.specs.Prelude.{◌≡◌, false};
-
 use crate::tests::{FORMAT_ONE, KEPT, PARTS};
 use crate::{Tables, TablesFault, migrate};
 use dump::{CheckedDump, Checker};
@@ -203,9 +201,10 @@ const SAID: [&str; 6] = [
     "SELECT reply FROM keyed WHERE project = 'app' AND cmdkey = 'k7' AND reply = '{\"removed\":false}'",
 ];
 
-fn opened<S: Alter + Drop>(conn: Connection<S>) -> Result<Tables<S>, Fail>
-    requires { conn.in_transaction ≡ false }
-{
+fn opened<S: Alter + Drop>(conn: Connection<S>) -> Result<Tables<S>, Fail> {
+    if !conn.is_autocommit() {
+        return Err("in a transaction")?;
+    }
     match Tables::open(conn) {
         Ok(tables) => Ok(tables),
         Err(_) => Err("not opened")?,
@@ -216,8 +215,10 @@ fn opened<S: Alter + Drop>(conn: Connection<S>) -> Result<Tables<S>, Fail>
 fn replaced_and_removed(rt: HostRuntime) -> Result<(), Fail> {
     let mut tables = opened(Connection::open_in_memory(rt.alloc())?)?;
     for row in ROWS {
-        let counts = held(rt.alloc(), &mut tables.conn)?;
+        let mut conn = tables.into_connection();
+        let counts = held(rt.alloc(), &mut conn)?;
         assert!(rt; counts.as_slice() == row.before.as_slice());
+        tables = opened(conn)?;
         let answer = take(rt.alloc(), &mut tables, row.step, row.key)?;
         assert!(rt; answer == Ok(row.key != "k7"));
     }
@@ -244,14 +245,12 @@ fn stopped(alloc: Global, log: u64, db: u64) -> Result<(usize, Files<Fuse<Memory
         Ok(tables) => tables,
         Err((_, conn)) => return Ok((0, files_of(conn))),
     };
-    let mut taken = 0;
-    for row in ROWS {
+    for (taken, row) in ROWS.iter().enumerate() {
         if take(alloc, &mut tables, row.step, row.key)?.is_err() {
-            break;
+            return Ok((taken, files_of(tables.into_connection())));
         }
-        taken += 1;
     }
-    Ok((taken, files_of(tables.into_connection())))
+    Ok((ROWS.len(), files_of(tables.into_connection())))
 }
 
 fn files_of(conn: Connection<FileStore<Fuse<Memory>>>) -> Files<Fuse<Memory>> {
@@ -267,7 +266,10 @@ fn recovered(alloc: Global, files: Files<Fuse<Memory>>) -> Result<Vec<usize>, Fa
     log.crash();
     db.crash();
     match Connection::open_files(alloc, Files { log, db }, Options::new(1)) {
-        Ok(conn) => held(alloc, &mut opened(conn)?.conn),
+        Ok(conn) => {
+            let mut conn = opened(conn)?.into_connection();
+            held(alloc, &mut conn)
+        }
         Err(_) => Err("not recovered")?,
     }
 }
@@ -389,11 +391,12 @@ fn same_file_twice(rt: HostRuntime) -> Result<(), Fail> {
         Ok(()) => {}
         Err(_) => assert!(rt; false, "not closed"),
     }
-    let mut tables = opened(Connection::open(&rt, "index.db")?)?;
-    let counts = held(rt.alloc(), &mut tables.conn)?;
+    let mut conn = opened(Connection::open(&rt, "index.db")?)?.into_connection();
+    let counts = held(rt.alloc(), &mut conn)?;
     assert!(rt; counts.as_slice() == rows_after(1).as_slice());
+    let mut tables = opened(conn)?;
     assert!(rt; take(rt.alloc(), &mut tables, Step::Tags("app", TAGS), "k2")? == Ok(true));
-    let counts = held(rt.alloc(), &mut tables.conn)?;
+    let counts = held(rt.alloc(), &mut tables.into_connection())?;
     assert!(rt; counts.as_slice() == rows_after(2).as_slice());
     Ok(())
 }
