@@ -1,6 +1,6 @@
 -- The rows of ranges and of bearers: one for each range, and one for each mark.
-use Rattle.std.proofs.Common.{◌≡◌, ◌⊎◌, inl, inr, ◌∙◌, ℕ, Bool, true, false, not, List, [], ◌∷◌, map, refl, sym, ap, subst, arith}
-use Rattle.std.specs.Prelude.{◌↔◌, ◌&&◌, ◌||◌, Contains, Option, Some, None, Ok, option_and_then}
+use Rattle.std.proofs.Common.{◌≡◌, ◌⊎◌, inl, inr, ◌∙◌, ◌+◌, ℕ, Bool, true, false, not, List, [], ◌∷◌, map, refl, sym, ap, subst, arith}
+use Rattle.std.specs.Prelude.{◌↔◌, ◌&&◌, ◌||◌, Contains, Option, Some, None, Ok, option_map, option_and_then, slice_get}
 use Rattle.std.specs.List.{All, flat_map}
 use Rattle.positions.specs.Position.{PositionValue, IsBefore, is_before}
 use Rattle.positions.specs.Span.{SpanValue, Nests, nests, overlaps}
@@ -8,16 +8,16 @@ use Rattle.lsif.specs.Element.{IdValue, VertexValue, meta_data, project, documen
 use Rattle.dump.specs.declared.request.Request.{Request}
 use Rattle.dump.specs.declared.request.Request.TheVariants.{Definition, References, Hover, Declaration, Implementation}
 use Rattle.dump.specs.Fault.{IsFaultless}
-use Rattle.dump.specs.Graph.{vertex_at}
+use Rattle.dump.specs.Graph.{line_of, vertex_at}
 use Rattle.dump.specs.Contained.{IsNested, container, is_in}
 use Rattle.dump.specs.Places.{PlaceValue, IsAt, IsListing}
 use Rattle.dump.specs.Requests.{First}
 use Rattle.std.specs.Ordering.{nat_cmp}
-use Rattle.flatten.specs.Flat.{RangeRowValue, ResultsValue, AreResults, IsParent, IsRangeRow, LiesIn, by_line, number_of, result_for}
+use Rattle.flatten.specs.Flat.{HasEachRange, RangeRowValue, ResultsValue, AreResults, IsParent, IsRangeRow, LiesIn, by_line, number_of, result_for}
 use Rattle.flatten.specs.Steps.Ranges.{line_with, range_lines}
 use Rattle.flatten.specs.Steps.Tables.{container_uri, uri_of}
 use Rattle.flatten.proofs.Listing.{keyed_listing}
-use Rattle.flatten.proofs.Members.{flat_from, one_contains}
+use Rattle.flatten.proofs.Members.{flat_from, map_source, one_contains}
 use Rattle.flatten.proofs.NumberPairs.{AreOnes}
 use Rattle.flatten.proofs.Rising.{SaysNumber, rises}
 
@@ -159,3 +159,16 @@ module _ (elements : List ElementValue) (containers : HasContainers elements) wh
         listed : (r : RangeRowValue) → IsRangeRow elements r → Contains (flat_map (range_lines elements) elements) r.line
         listed r h = flat_from (range_lines elements) elements (vertex h.range (range r.place.span)) r.line ((vertices h.range (range r.place.span)).0 h.is_at.span)
             (subst (λ l. Contains l r.line) (sym (ap (λ a. line_with a (container_uri elements h.range)) h.at_line ∙ ap (line_with (Some r.line)) (uri_of_at h.range r.place h.is_at))) (one_contains r.line r.line refl))
+
+  -- each range that a document contains has a row
+  pub has_each : ((i : IdValue) (v : VertexValue) → vertex_at elements i ≡ Some v → (k : ℕ) × (line_of elements i ≡ Some k) × (slice_get elements k ≡ Some (vertex i v))) → ((i : IdValue) (v : VertexValue) → vertex_at elements i ≡ Some v ↔ Contains elements (vertex i v))
+      → (rows : List RangeRowValue) → map (λ r. r.line) rows ≡ flat_map (range_lines elements) elements → HasEachRange elements rows
+  has_each there vertices rows lines = record {
+    row_of = λ r place at.
+        let k = there r (range place.span) at.span in
+        let number : number_of elements r ≡ Some (k.0 + 1) = ap (option_map (λ n. n + 1)) k.1 in
+        let one = subst (λ l. Contains l (k.0 + 1)) (sym (ap (λ a. line_with a (container_uri elements r)) number ∙ ap (line_with (Some (k.0 + 1))) (uri_of_at r place at))) (one_contains (k.0 + 1) (k.0 + 1) refl) in
+        let listed = flat_from (range_lines elements) elements (vertex r (range place.span)) (k.0 + 1) ((vertices r (range place.span)).0 at.span) one in
+        let row = map_source (λ (x : RangeRowValue). x.line) rows (k.0 + 1) (subst (λ l. Contains l (k.0 + 1)) (sym lines) listed) in
+        (row.0, row.1, number ∙ ap (λ n. Some n) (sym row.2));
+  }

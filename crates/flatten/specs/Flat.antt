@@ -1,6 +1,6 @@
 -- The rows of a dump: what its walks lead to, said for each document, range, result and vertex with monikers by itself
 -- (LSIF 0.6.0, "Ranges", "Request", "item", "Multiple Projects").
-use Rattle.std.specs.Prelude.{◌≡◌, ◌≢◌, ◌⊎◌, ℕ, ◌+◌, Bool, true, false, List, [], ◌∷◌, Option, Some, None, option_map, option_and_then}
+use Rattle.std.specs.Prelude.{◌≡◌, ◌≢◌, ◌⊎◌, ℕ, ◌+◌, Bool, true, false, List, [], ◌∷◌, Option, Some, None, option_map, option_and_then, Contains}
 use Rattle.std.specs.declared.cmp.Ordering.{Ordering}
 use Rattle.std.specs.Ordering.{nat_cmp, ordering_then}
 use Rattle.std.specs.Cmp.Lexicographic.{slice_cmp}
@@ -194,12 +194,17 @@ pub record RowsValue : Type 0 where
   pub marks : List MarkRowValue
   pub bearers : List BearerRowValue
 
--- The rows are those of the dump, each once: the serialized URLs of the documents; the ranges that they contain, with place, parent
--- and first results; the places of each result in each role; the contents of each hover result; the marks of each range; and the
+-- the rows have one of each range that a document contains
+pub record HasEachRange (elements : List ElementValue) (rows : List RangeRowValue) : Type 0 where
+  pub row_of : (r : IdValue) (place : PlaceValue) → IsAt elements r place → (row : RangeRowValue) × Contains rows row × (number_of elements r ≡ Some row.line)
+
+-- The rows are those of the dump, each once: the serialized URLs of the documents; the ranges that they contain, each of them, with place,
+-- parent and first results; the places of each result in each role; the contents of each hover result; the marks of each range; and the
 -- marks that each vertex bears itself, with its first results. What refers to a result or a range has its number.
 pub record IsFlat (elements : List ElementValue) (rows : RowsValue) : Type 0 where
   pub documents : IsListing (slice_cmp nat_cmp) (HasDocument elements) rows.documents
   pub ranges : IsListing by_line (IsRangeRow elements) rows.ranges
+  pub each_range : HasEachRange elements rows.ranges
   pub items : IsListing item_cmp (IsItemRow elements) rows.items
   pub hovers : IsListing by_result (IsHoverRow elements) rows.hovers
   pub marks : IsListing mark_cmp (IsMarkRow elements) rows.marks

@@ -6,7 +6,7 @@ ghost use Rattle.lsif.specs.Element.{id_value, element_value, range};
 ghost use Rattle.dump.specs.Fault.{IsFaultless};
 ghost use Rattle.dump.specs.Graph.{vertex_at};
 ghost use Rattle.dump.specs.Places.{IsListing};
-ghost use Rattle.flatten.specs.Flat.{IsRangeRow, by_line, number_of};
+ghost use Rattle.flatten.specs.Flat.{HasEachRange, IsRangeRow, by_line, number_of};
 ghost use Rattle.flatten.specs.Rows.{range_value};
 ghost use Rattle.flatten.specs.Steps.Chains.{AreChains};
 ghost use Rattle.flatten.specs.Steps.Kinds.{AreThose, is_range};
@@ -117,6 +117,7 @@ pub(crate) fn range_rows<'a>(
     requires ranges { AreThose is_range chains.old.dump.now.elements ranges.now }
     requires faultless { IsFaultless (map Ok chains.old.dump.now.elements) }
     ensures rows { IfOk result (λ rows. IsListing by_line (IsRangeRow chains.old.dump.now.elements) (map range_value rows.items)) }
+    ensures each { IfOk result (λ rows. HasEachRange chains.old.dump.now.elements (map range_value rows.items)) }
     ensures chains { OnOk result (AreChains chains.new) }
     ensures dump { chains.new.dump ≡ chains.old.dump }
     ensures borne { chains.new.borne ≡ chains.old.borne }
