@@ -25,6 +25,7 @@ pub mod Paths
 pub mod Progresses
 pub mod Reaches
 pub mod Repeats
+pub mod Rooms
 pub mod Rows
 pub mod SameIds
 pub mod Shortcuts

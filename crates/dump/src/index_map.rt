@@ -12,22 +12,32 @@ use std::alloc::{AllocError, Global};
 #[derive(Drop)]
 pub(crate) struct IndexMap {
     bound: u32,
-    slots: Vec<Option<usize>>,
-    others: IdMap<usize>,
+    slots: Vec<Option<u32>>,
+    others: IdMap<u32>,
+}
+
+/// The same index, as a list takes it.
+pub(crate) fn list_index(index: Option<u32>) -> Option<usize>
+    ensures { result ≡ index }
+{
+    match index {
+        Some(index) => Some(index as usize),
+        None => None,
+    }
 }
 
 /// What the slot of a number holds.
-fn slot(slots: &[Option<usize>], number: usize) -> Option<usize>
+fn slot(slots: &[Option<u32>], number: usize) -> Option<usize>
     ensures { result ≡ get_or slots.now number None }
 {
     match slots.get(number) {
-        Some(index) => *index,
+        Some(index) => list_index(*index),
         None => None,
     }
 }
 
 /// Enters the index in the slot of a number, where it has none yet.
-fn enter_slot(slots: &mut Vec<Option<usize>>, number: usize, index: usize) -> Result<(), AllocError>
+fn enter_slot(slots: &mut Vec<Option<u32>>, number: usize, index: u32) -> Result<(), AllocError>
     requires { number < 2 ^ 32 }
     ensures ok { OnOk result ((n : ℕ) → get_or slots.new.items n None ≡ entered (nat_eq number n) index (get_or slots.old.items n None)) }
     ensures err { OnErr result (slots.new.items ≡ slots.old.items) }
@@ -42,7 +52,7 @@ fn enter_slot(slots: &mut Vec<Option<usize>>, number: usize, index: usize) -> Re
 }
 
 /// Empties the slot of a number.
-fn empty_slot(slots: &mut [Option<usize>], number: usize)
+fn empty_slot(slots: &mut [Option<u32>], number: usize)
     ensures { (n : ℕ) → get_or slots.new n None ≡ (if nat_eq number n then None else get_or slots.old n None) }
 {
     if number < slots.len() {
@@ -68,12 +78,12 @@ impl IndexMap {
     {
         match id {
             Id::Number(n) if *n < self.bound as u64 => slot(&self.slots, *n as usize),
-            _ => self.others.get(id).copied(),
+            _ => list_index(self.others.get(id).copied()),
         }
     }
 
     /// Enters the index at the id, where the table has none yet.
-    pub(crate) fn enter(&mut self, id: &Id, index: usize) -> Result<(), AllocError>
+    pub(crate) fn enter(&mut self, id: &Id, index: u32) -> Result<(), AllocError>
         ensures ok { OnOk result ((i : IdValue) → index_at self.new i ≡ entered (same_id (id_value id.now) i) index (index_at self.old i)) }
         ensures err { OnErr result ((i : IdValue) → index_at self.new i ≡ index_at self.old i) }
     {

@@ -6,7 +6,7 @@ ghost use Rattle.dump.specs.Graph.{is_among};
 ghost use Rattle.dump.specs.Steps.Ids.{index_at, entered, HasRows};
 ghost use Rattle.dump.specs.Steps.Links.{link_index, same_link, cell, link_at};
 
-use crate::index_map::IndexMap;
+use crate::index_map::{IndexMap, list_index};
 use crate::single::SingleLabel;
 use lsif::Id;
 
@@ -27,7 +27,7 @@ pub(crate) enum Link {
 pub(crate) const LINKS: usize = 10;
 
 /// The index of the first element that names a vertex in each way.
-pub(crate) type Row = [Option<usize>; LINKS];
+pub(crate) type Row = [Option<u32>; LINKS];
 
 impl Link {
     fn index(self) -> usize
@@ -48,7 +48,7 @@ pub(crate) fn cell(rows: &[Row], row: usize, link: Link) -> Option<usize>
     ensures { result ≡ cell rows.now row link }
 {
     match rows.get(row) {
-        Some(cells) => cells[link.index()],
+        Some(cells) => list_index(cells[link.index()]),
         None => None,
     }
 }
@@ -62,7 +62,7 @@ fn row_at(rows: &[Row], row: usize) -> Row
 }
 
 /// Enters the index in a row, where the row has none of this way yet.
-fn enter(rows: &mut Vec<Row>, row: usize, link: Link, index: usize)
+fn enter(rows: &mut Vec<Row>, row: usize, link: Link, index: u32)
     requires { row < length rows.old.items }
     ensures length { length rows.new.items ≡ length rows.old.items }
     ensures cells { (n : ℕ) (other : Link) → cell rows.new.items n other ≡ entered (nat_eq row n && same_link link other) index (cell rows.old.items n other) }
@@ -76,7 +76,7 @@ fn enter(rows: &mut Vec<Row>, row: usize, link: Link, index: usize)
 }
 
 /// Enters the index in the row of this id, where it has none yet.
-fn enter_at(rows: &mut Vec<Row>, indices: &IndexMap, link: Link, id: &Id, index: usize)
+fn enter_at(rows: &mut Vec<Row>, indices: &IndexMap, link: Link, id: &Id, index: u32)
     requires rows { HasRows indices.now (length rows.old.items) }
     requires known { is_some (index_at indices.now (id_value id.now)) ≡ true }
     ensures length { length rows.new.items ≡ length rows.old.items }
@@ -89,13 +89,7 @@ fn enter_at(rows: &mut Vec<Row>, indices: &IndexMap, link: Link, id: &Id, index:
 }
 
 /// Enters the index in the rows of these ids, where they have none yet.
-pub(crate) fn enter_all(
-    rows: &mut Vec<Row>,
-    indices: &IndexMap,
-    link: Link,
-    ids: &[Id],
-    index: usize,
-)
+pub(crate) fn enter_all(rows: &mut Vec<Row>, indices: &IndexMap, link: Link, ids: &[Id], index: u32)
     requires rows { HasRows indices.now (length rows.old.items) }
     requires known { list_all (λ i. is_some (index_at indices.now i)) (id_values ids.now) ≡ true }
     ensures length { length rows.new.items ≡ length rows.old.items }

@@ -304,12 +304,7 @@ impl Tables {
     }
 
     /// Enters the id of an element and what is kept of it. Where memory is refused all stays as it is.
-    fn enter(
-        &mut self,
-        element: &Element,
-        targets: Vec<Span>,
-        index: usize,
-    ) -> Result<(), AllocError>
+    fn enter(&mut self, element: &Element, targets: Vec<Span>, index: u32) -> Result<(), AllocError>
         requires { index_at self.old.indices (element_id (element_value element.now)) ≡ None }
         ensures rows { self.new.rows ≡ self.old.rows }
         ensures indices { OnOk result ((i : IdValue) → index_at self.new.indices i ≡ entered (same_id (element_id (element_value element.now)) i) index (index_at self.old.indices i)) }
@@ -326,7 +321,7 @@ impl Tables {
             &mut self.documents,
             element,
             targets,
-            index,
+            index as usize,
         );
         if kept.is_err() {
             self.indices.remove(element.id());
@@ -342,7 +337,7 @@ impl Tables {
         ensures ok { OnOk result (AreTables self.new (map element_value elements.now ++ element_value element.now ∷ [])) }
         ensures err { OnErr result (AreTables self.new (map element_value elements.now)) }
     {
-        let index = elements.len();
+        let index = elements.len() as u32;
         let named = self.named_by(elements, element);
         let targets = self.spans_of(elements, self.ranges_of(elements, element))?;
         self.rows.reserve(1)?;

@@ -13,7 +13,7 @@ fn id(alloc: Global, short: &str) -> Result<Id, Fail> {
 }
 
 /// Enters ids, each with its index.
-fn enter(alloc: Global, map: &mut IndexMap, entered: &[(&str, usize)]) -> Result<(), Fail> {
+fn enter(alloc: Global, map: &mut IndexMap, entered: &[(&str, u32)]) -> Result<(), Fail> {
     for (short, index) in entered {
         map.enter(&id(alloc, short)?, *index)?;
     }
@@ -34,7 +34,7 @@ fn indices(alloc: Global, map: &IndexMap, ids: &[&str]) -> Result<String, Fail> 
 fn indices_of(
     alloc: Global,
     bound: u32,
-    entered: &[(&str, usize)],
+    entered: &[(&str, u32)],
     ids: &[&str],
     removed: &str,
 ) -> Result<String, Fail> {

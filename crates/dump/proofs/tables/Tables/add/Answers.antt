@@ -1,4 +1,4 @@
-use Rattle.std.proofs.Common.{◌≡◌, ◌∙◌, ◌&&◌, ◌++◌, ◌∷◌, [], Bool, List, Some, None, length, refl, sym, ap, subst, map}
+use Rattle.std.proofs.Common.{◌≡◌, ◌∙◌, ◌&&◌, ◌++◌, ◌∷◌, [], Bool, List, Some, None, length, refl, sym, ap, subst, map, arith}
 use Rattle.std.proofs.lemmas.List.{length-map}
 use Rattle.positions.specs.Span.{SpanValue}
 use Rattle.lsif.specs.Element.{IdValue, id_values, element_value, element_id}
@@ -14,8 +14,12 @@ use Rattle.dump.proofs.Ends.{no_code}
 use Rattle.dump.proofs.Fills.{fills}
 use Rattle.dump.proofs.TablesAfter.{table_enters, document_more}
 use Rattle.dump.proofs.Known.{ends_known, still_vertices}
+use Rattle.dump.proofs.Rooms.{room}
 use Rattle.dump.proofs.Slots.{entered_not}
 use Rattle.dump.proofs.tables.Tables.add.Goals as goal
+
+pub overflow_cast-index : goal.overflow_cast-index
+overflow_cast-index c = omega (arith, room (map element_value c.args.elements.now) (element_value c.args.element.now) c.requires.free, length-map c.args.elements.now element_value)
 
 pub enter-requires : goal.enter-requires
 enter-requires c =
