@@ -1,18 +1,18 @@
 -- What vertices have along their chains, from one member to the one before it.
-use Rattle.std.proofs.Common.{◌≡◌, ◌∙◌, ℕ, ◌+◌, ◌<◌, ◌≤◌, inl, inr, Bool, true, false, cond, not, ◌==◌, List, [], ◌∷◌, ◌++◌, length, filter, map, get_or, reverse, refl, sym, ap, subst, arith}
+use Rattle.std.proofs.Common.{◌≡◌, ◌∙◌, ℕ, ◌+◌, ◌≤◌, inl, inr, Bool, true, false, cond, not, ◌==◌, List, [], ◌∷◌, ◌++◌, length, filter, map, reverse, refl, sym, ap, subst, arith}
 use Rattle.std.specs.List.{list_any}
 use Rattle.std.specs.Prelude.{◌||◌, Option, Some, None, option_and_then}
-use Rattle.std.proofs.Math.ListN.{set}
-use Rattle.std.proofs.lemmas.Bool.{cases_lt}
-use Rattle.std.proofs.lemmas.List.{get_or-set_same, get_or-set_other, map-append, reverse-append}
+use Rattle.std.proofs.lemmas.List.{map-append, reverse-append}
+use Rattle.std.proofs.lemmas.List.Elements.{Contains-append_cases}
 use Rattle.lsif.specs.Element.{IdValue, ElementValue}
 use Rattle.dump.specs.Requests.{label_of}
 use Rattle.dump.specs.declared.request.Request.{Request}
 use Rattle.dump.specs.declared.request.Request.TheVariants.{Definition, References, Hover, Declaration, Implementation}
 use Rattle.dump.specs.Walks.{Pair, IsChain, ends, links, first_to, first_of_list, next_pairs, single_pairs}
 use Rattle.flatten.specs.Flat.{AreResults, IsResult, number_of, result_for}
-use Rattle.flatten.specs.Steps.Chains.{AlongValue, AreAlong, AreFound, IsAfter, IsWalkBack, Leads, entry_at, first_by, nothing, or_else, or_later, own_of, own_result}
+use Rattle.flatten.specs.Steps.Chains.{AlongValue, AreAlong, AreFound, IsAfter, IsWalkBack, Leads, VertexAlongValue, first_by, nothing, or_else, or_later, own_of, own_result}
 use Rattle.flatten.specs.Steps.Results.{numbers_along}
+use Rattle.flatten.proofs.Members.{contains_one, not_in_nil}
 use Rattle.flatten.proofs.NumberPairs.{AreOnes}
 
 -- ---- chains
@@ -40,10 +40,20 @@ one_chain pairs x xs zs (links {y = y} {ys = ys} e c) d =
 
 -- ---- a vertex and what follows it
 
+or_nothing : (o : Option IdValue) → o ≡ or_else o None
+or_nothing (Some x) = refl
+or_nothing None = refl
+
+own_alone : (a : AlongValue) → a ≡ or_later a nothing
+own_alone a i = record { def = or_nothing a.def i; refs = or_nothing a.refs i; hover = or_nothing a.hover i; decl = or_nothing a.decl i; imp = or_nothing a.imp i; bearer = or_nothing a.bearer i }
+
 module _ (elements : List ElementValue) (borne : List (ℕ × ℕ)) where
-  along_by : (x : IdValue) (along : AlongValue) (o : Option IdValue) → first_to (next_pairs elements) x ≡ o → IsAfter elements borne o along → AreAlong elements borne x (or_later (own_of elements borne x) along)
+  pub along_by : (x : IdValue) (along : AlongValue) (o : Option IdValue) → first_to (next_pairs elements) x ≡ o → IsAfter elements borne o along → AreAlong elements borne x (or_later (own_of elements borne x) along)
   along_by x along None e is = (x ∷ [], ends e, ap (or_later (own_of elements borne x)) is)
   along_by x along (Some y) e (ys, c, is) = (x ∷ ys, links e c, ap (or_later (own_of elements borne x)) is)
+
+  pub along_alone : (x : IdValue) → first_to (next_pairs elements) x ≡ None → AreAlong elements borne x (own_of elements borne x)
+  along_alone x none = (x ∷ [], ends none, λ i. own_alone (own_of elements borne x) i)
 
   pub along_after : (x : IdValue) (along : AlongValue) → IsAfter elements borne (first_to (next_pairs elements) x) along → AreAlong elements borne x (or_later (own_of elements borne x) along)
   along_after x along h = along_by x along (first_to (next_pairs elements) x) refl h
@@ -108,31 +118,18 @@ walking_full elements from at path steps w le = omega (arith, w.room, le, some_m
 
 -- ---- what is found
 
-pub found_first : (elements : List ElementValue) (borne : List (ℕ × ℕ)) (found : List (Option AlongValue)) → ((i : ℕ) → get_or found i None ≡ None) → AreFound elements borne found
-found_first elements borne found none x along e = by (number_of elements x) e
-  where
-    by : (o : Option ℕ) → entry_at found o ≡ Some along → AreAlong elements borne x along
-    by None h = cc
-    by (Some n) h = let k : ◌≡◌ {A = Option AlongValue} None (Some along) = sym (none n) ∙ h in cc
+pub found_first : (elements : List ElementValue) (borne : List (ℕ × ℕ)) → AreFound elements borne []
+found_first elements borne v x at e = absurd (not_in_nil v at)
 
-pub found_more : (elements : List ElementValue) (borne : List (ℕ × ℕ)) (found : List (Option AlongValue)) → AreOnes elements → AreFound elements borne found → (x : IdValue) (along : AlongValue) → AreAlong elements borne x along
-    → (n : ℕ) → number_of elements x ≡ Some n → n < length found → AreFound elements borne (set found n (Some along))
-found_more elements borne found ones are x along is n at lt y other e = by (number_of elements y) refl e
-  where
-    by : (o : Option ℕ) → number_of elements y ≡ o → entry_at (set found n (Some along)) o ≡ Some other → AreAlong elements borne y other
-    by None g h = cc
-    by (Some m) g h = elim (cases_lt m n) [
-      | inl less ↦ are y other (ap (entry_at found) g ∙ sym (get_or-set_other found n m (Some along) None (λ same. omega (arith, same, less))) ∙ h)
-      | inr more ↦ elim (cases_lt n m) [
-        | inl less ↦ are y other (ap (entry_at found) g ∙ sym (get_or-set_other found n m (Some along) None (λ same. omega (arith, same, less))) ∙ h)
-        | inr rest ↦
-            let same : m ≡ n = omega (arith, more, rest) in
-            let here : Some along ≡ Some other = sym (get_or-set_same found n (Some along) None lt) ∙ ap (λ k. get_or (set found n (Some along)) k None) (sym same) ∙ h in
-            let what : along ≡ other = cc in
-            let who : x ≡ y = ones x y n at (g ∙ ap (λ k. Some k) same) in
-            subst (λ z. AreAlong elements borne z other) who (subst (AreAlong elements borne x) what is)
-      ]
-    ]
+pub found_more : (elements : List ElementValue) (borne : List (ℕ × ℕ)) (found : List VertexAlongValue) → AreOnes elements → AreFound elements borne found → (x : IdValue) (v : VertexAlongValue) → AreAlong elements borne x v.along
+    → number_of elements x ≡ Some v.vertex → AreFound elements borne (found ++ v ∷ [])
+found_more elements borne found ones are x v is at w y held e = elim (Contains-append_cases found (v ∷ []) w held) [
+  | inl old ↦ are w y old e
+  | inr more ↦
+      let same : v ≡ w = contains_one v w more in
+      let who : x ≡ y = ones x y v.vertex at (e ∙ ap (λ (u : VertexAlongValue). Some u.vertex) (sym same)) in
+      subst (λ z. AreAlong elements borne z w.along) who (subst (λ (u : VertexAlongValue). AreAlong elements borne x u.along) same is)
+]
 
 -- ---- first results
 

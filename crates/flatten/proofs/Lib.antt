@@ -3,6 +3,7 @@ pub mod Closures
 pub mod DocumentLists
 pub mod Gaining
 pub mod Intervals
+pub mod ItemListings
 pub mod ItemRows
 pub mod KeyLemmas
 pub mod Listing

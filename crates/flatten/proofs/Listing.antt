@@ -165,3 +165,8 @@ keyed_listing key cmp P Q rows l all to one = record {
 
 pub eq_of : (x y : ℕ) → (x == y) ≡ true → x ≡ y
 eq_of x y e = eqb→eq x y (subst T (sym e) tt)
+
+-- the listing of none
+pub no_listing : {R : Type 0} (cmp : R → R → Ordering) (P : R → Type 0) → ((row : R) → P row → ⊥) → IsListing cmp P []
+unfolding IsStrictlySortedBy
+no_listing cmp P never = record { rises = tt; each = λ row. (λ at. absurd (not_in_nil row at), λ h. absurd (never row h)) }

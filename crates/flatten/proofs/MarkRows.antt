@@ -251,6 +251,13 @@ module _ (d : List ElementValue) (free : IsFaultless (map Ok d)) (vertices : (i 
           let n = bearer_number y h.mark has h.marks.4 in
           (vertex h.range (range h.span), (vertices h.range (range h.span)).0 h.is_range, (row.range, h.at_line, (xs, h.marks.2, (y, h.marks.3, (n.0, n.1, number_from row.range n.0 y row n.1 (h.mark, h.marks.4, refl, h.is_kind, h.is_key))))))
 
+  -- where no vertex bears a moniker no range has a mark
+  pub no_marks : HasEnds d → borne ≡ [] → (row : MarkRowValue) → IsMarkRow d row → ⊥
+  no_marks has none row h =
+      let n = bearer_number h.marks.1 h.mark has h.marks.4 in
+      let m = number_from row.range n.0 h.marks.1 row n.1 (h.mark, h.marks.4, refl, h.is_kind, h.is_key) in
+      not_in_nil (n.0, m.0) (subst (λ l. Contains l (n.0, m.0)) none m.1)
+
   -- ---- the marks that vertices bear themselves
 
   pub borne_rows : HasEnds d → (row : MarkRowValue) → IsBorneMark borne (marks_in d) row ↔ IsBorneRow d row

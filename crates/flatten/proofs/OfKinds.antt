@@ -4,22 +4,22 @@ use Rattle.std.specs.Prelude.{◌↔◌, ℕ, Contains, Option, Ok}
 use Rattle.std.specs.Borrow.{Bor}
 use Rattle.std.specs.List.{All, flat_map}
 use Rattle.std.proofs.lemmas.List.{append_assoc}
-use Rattle.std.proofs.lemmas.List.Elements.{All-contains, All-contains_itself, All-weaker, Contains-get_or}
+use Rattle.std.proofs.lemmas.List.Elements.{All-cons, All-nil, Contains-get_or}
 use Rattle.lsif.specs.declared.element.Element.{Element}
 use Rattle.lsif.specs.Element.{meta_data, project, document, range, result_set, definition_result, reference_result, declaration_result, implementation_result, hover_result, moniker, package_information, event, other_vertex, contains, next, definition, references, declaration, implementation, hover, moniker_edge, package_edge, attach, item, other_edge, ElementValue, vertex, edge}
 use Rattle.dump.proofs.Lists.{drop_next}
 use Rattle.dump.specs.Fault.{IsFaultless}
 use Rattle.dump.specs.Monikers.{attach_pairs_of}
 use Rattle.dump.specs.Places.{result_pairs_of}
-use Rattle.dump.specs.declared.role.Role.{Role}
+use Rattle.dump.specs.declared.role.Role.TheVariants.{Definitions, References}
 use Rattle.flatten.specs.Flat.{MarkRowValue, ItemRowValue}
 use Rattle.flatten.specs.Steps.Borne.{IsBorneBy, MarkText}
 use Rattle.flatten.specs.Steps.Documents.{documents_in, hovers_in}
 use Rattle.flatten.specs.Steps.Items.{IsRowOf, item_pairs_of}
-use Rattle.flatten.specs.Steps.Kinds.{AreKinds, AreThose, Takes, is_document, is_hover, is_item, is_moniker_edge, is_range, is_result_vertex, kept, said}
+use Rattle.flatten.specs.Steps.Kinds.{AreKinds, AreThose, Takes, is_document, is_hover, is_moniker_edge, is_range, is_result_vertex, kept, said}
 use Rattle.flatten.specs.Steps.Marks.{IsMarkOfRange}
 use Rattle.flatten.specs.Steps.Numbers.{pairs_in, pairs_of}
-use Rattle.flatten.specs.Steps.Parents.{IsWithinLimit, intervals_in}
+use Rattle.flatten.specs.Steps.Parents.{IsWithinLimit, interval_value, intervals_in}
 use Rattle.flatten.specs.Steps.Ranges.{range_lines}
 use Rattle.flatten.specs.Steps.Tables.{OfOne}
 use Rattle.flatten.specs.declared.items.Items.{Items}
@@ -32,13 +32,21 @@ use Rattle.flatten.proofs.Members.{contains_map, filter_keeps, filter_source}
 abbrev pub HasThose : (ElementValue → Bool) → List ElementValue → List ElementValue → List (Bor Element) → Type 0
 HasThose is elements rest list = map said list ++ filter is rest ≡ filter is elements
 
+-- the list has what those before the rest say
+abbrev pub HasSaid : {Y : Type 0} → (ElementValue → List Y) → List ElementValue → List ElementValue → List Y → Type 0
+HasSaid f elements rest list = list ++ flat_map f rest ≡ flat_map f elements
+
 pub record AreTaken (elements rest : List ElementValue) (kinds : Kinds) : Type 0 where
   pub documents : HasThose is_document elements rest kinds.documents.items
   pub hovers : HasThose is_hover elements rest kinds.hovers.items
   pub ranges : HasThose is_range elements rest kinds.ranges.items
   pub results : HasThose is_result_vertex elements rest kinds.results.items
-  pub items : HasThose is_item elements rest kinds.items.items
   pub moniker_edges : HasThose is_moniker_edge elements rest kinds.moniker_edges.items
+  pub result_pairs : HasSaid (pairs_in result_pairs_of elements) elements rest kinds.result_pairs.items
+  pub definitions : HasSaid (pairs_in (item_pairs_of Definitions) elements) elements rest kinds.definitions.items
+  pub references : HasSaid (pairs_in (item_pairs_of References) elements) elements rest kinds.references.items
+  pub intervals : HasSaid (intervals_in elements) elements rest (map interval_value kinds.intervals.items)
+  pub within : All IsWithinLimit rest → All IsWithinLimit elements
 
 first_kept : (is : ElementValue → Bool) (x : ElementValue) (rest : List ElementValue) → kept (is x) x ++ filter is rest ≡ filter is (x ∷ rest)
 first_kept is x rest = by (is x)
@@ -51,18 +59,31 @@ has_more : (is : ElementValue → Bool) (elements rest : List ElementValue) (x :
 has_more is elements rest x old new has grown =
     ap (λ l. l ++ filter is rest) grown ∙ append_assoc (map said old) (kept (is x) x) (filter is rest) ∙ ap (λ l. map said old ++ l) (first_kept is x rest) ∙ has
 
-pub taken_more : (elements rest : List ElementValue) (x : ElementValue) (old new : Kinds) → AreTaken elements (x ∷ rest) old → Takes old x new → AreTaken elements rest new
-taken_more d rest x old new a t = record {
+said_more : {Y : Type 0} (f : ElementValue → List Y) (elements rest : List ElementValue) (x : ElementValue) (old new : List Y) → HasSaid f elements (x ∷ rest) old → new ≡ old ++ f x → HasSaid f elements rest new
+said_more f elements rest x old new has grown = ap (λ l. l ++ flat_map f rest) grown ∙ append_assoc old (f x) (flat_map f rest) ∙ has
+
+said_at : {Y : Type 0} (f : List ElementValue → ElementValue → List Y) (d e : List ElementValue) (x : ElementValue) (old new : List Y) → e ≡ d → new ≡ old ++ f e x → new ≡ old ++ f d x
+said_at f d e x old new same grown = grown ∙ ap (λ l. old ++ f l x) same
+
+pub taken_more : (elements rest : List ElementValue) (x : ElementValue) (old new : Kinds) → old.dump.now.elements ≡ elements → AreTaken elements (x ∷ rest) old → Takes old x new → AreTaken elements rest new
+taken_more d rest x old new same a t = record {
   documents = has_more is_document d rest x old.documents.items new.documents.items a.documents t.documents;
   hovers = has_more is_hover d rest x old.hovers.items new.hovers.items a.hovers t.hovers;
   ranges = has_more is_range d rest x old.ranges.items new.ranges.items a.ranges t.ranges;
   results = has_more is_result_vertex d rest x old.results.items new.results.items a.results t.results;
-  items = has_more is_item d rest x old.items.items new.items.items a.items t.items;
   moniker_edges = has_more is_moniker_edge d rest x old.moniker_edges.items new.moniker_edges.items a.moniker_edges t.moniker_edges;
+  result_pairs = said_more (pairs_in result_pairs_of d) d rest x _ _ a.result_pairs (said_at (pairs_in result_pairs_of) d _ x _ _ same t.result_pairs);
+  definitions = said_more (pairs_in (item_pairs_of Definitions) d) d rest x _ _ a.definitions (said_at (pairs_in (item_pairs_of Definitions)) d _ x _ _ same t.definitions);
+  references = said_more (pairs_in (item_pairs_of References) d) d rest x _ _ a.references (said_at (pairs_in (item_pairs_of References)) d _ x _ _ same t.references);
+  intervals = said_more (intervals_in d) d rest x _ _ a.intervals (said_at intervals_in d _ x _ _ same t.intervals);
+  within = λ all. a.within (All-cons IsWithinLimit x rest t.within all);
 }
 
 has_all : (is : ElementValue → Bool) (elements : List ElementValue) (list : List (Bor Element)) → HasThose is elements [] list → AreThose is elements list
 has_all is elements list has = sym (append-nil (map said list)) ∙ has
+
+said_all : {Y : Type 0} (f : ElementValue → List Y) (elements : List ElementValue) (list : List Y) → HasSaid f elements [] list → list ≡ flat_map f elements
+said_all f elements list has = sym (append-nil list) ∙ has
 
 pub taken_all : (kinds : Kinds) → IsFaultless (map Ok kinds.dump.now.elements) → AreTaken kinds.dump.now.elements [] kinds → AreKinds kinds
 taken_all kinds free a =
@@ -73,8 +94,12 @@ taken_all kinds free a =
       hovers = has_all is_hover d kinds.hovers.items a.hovers;
       ranges = has_all is_range d kinds.ranges.items a.ranges;
       results = has_all is_result_vertex d kinds.results.items a.results;
-      items = has_all is_item d kinds.items.items a.items;
       moniker_edges = has_all is_moniker_edge d kinds.moniker_edges.items a.moniker_edges;
+      result_pairs = said_all (pairs_in result_pairs_of d) d _ a.result_pairs;
+      definitions = said_all (pairs_in (item_pairs_of Definitions) d) d _ a.definitions;
+      references = said_all (pairs_in (item_pairs_of References) d) d _ a.references;
+      intervals = said_all (intervals_in d) d _ a.intervals;
+      within = a.within (All-nil IsWithinLimit);
     }
 
 -- ---- what all elements say is what those of a kind say
@@ -87,7 +112,7 @@ flat_filter f is none (x ∷ d) = by (is x) refl (flat_filter f is none d)
     by true e rest = ap (λ l. f x ++ l) rest
     by false e rest = rest ∙ ap (λ l. l ++ flat_map f d) (sym (none x e))
 
-flat_those : {Y : Type 0} (f : ElementValue → List Y) (is : ElementValue → Bool) → ((x : ElementValue) → is x ≡ false → f x ≡ []) → (d : List ElementValue) (list : List (Bor Element)) → AreThose is d list → flat_map f (map said list) ≡ flat_map f d
+pub flat_those : {Y : Type 0} (f : ElementValue → List Y) (is : ElementValue → Bool) → ((x : ElementValue) → is x ≡ false → f x ≡ []) → (d : List ElementValue) (list : List (Bor Element)) → AreThose is d list → flat_map f (map said list) ≡ flat_map f d
 flat_those f is none d list those = ap (flat_map f) those ∙ flat_filter f is none d
 
 no_document : (x : ElementValue) → is_document x ≡ false → documents_in x ≡ []
@@ -130,26 +155,6 @@ no_hover d (edge i k) e = refl
 pub hovers_of : (d : List ElementValue) (list : List (Bor Element)) → AreThose is_hover d list → flat_map (hovers_in d) (map said list) ≡ flat_map (hovers_in d) d
 hovers_of d list those = flat_those (hovers_in d) is_hover (no_hover d) d list those
 
-no_interval : (d : List ElementValue) (x : ElementValue) → is_range x ≡ false → intervals_in d x ≡ []
-no_interval d (vertex i (meta_data b)) e = refl
-no_interval d (vertex i project) e = refl
-no_interval d (vertex i (document u)) e = refl
-no_interval d (vertex i (range s)) e = cc
-no_interval d (vertex i result_set) e = refl
-no_interval d (vertex i definition_result) e = refl
-no_interval d (vertex i reference_result) e = refl
-no_interval d (vertex i declaration_result) e = refl
-no_interval d (vertex i implementation_result) e = refl
-no_interval d (vertex i (hover_result t)) e = refl
-no_interval d (vertex i (moniker m)) e = refl
-no_interval d (vertex i (package_information p)) e = refl
-no_interval d (vertex i (event v)) e = refl
-no_interval d (vertex i other_vertex) e = refl
-no_interval d (edge i k) e = refl
-
-pub intervals_of : (d : List ElementValue) (list : List (Bor Element)) → AreThose is_range d list → flat_map (intervals_in d) (map said list) ≡ flat_map (intervals_in d) d
-intervals_of d list those = flat_those (intervals_in d) is_range (no_interval d) d list those
-
 no_line : (d : List ElementValue) (x : ElementValue) → is_range x ≡ false → range_lines d x ≡ []
 no_line d (vertex i (meta_data b)) e = refl
 no_line d (vertex i project) e = refl
@@ -169,42 +174,6 @@ no_line d (edge i k) e = refl
 
 pub lines_of : (d : List ElementValue) (list : List (Bor Element)) → AreThose is_range d list → flat_map (range_lines d) (map said list) ≡ flat_map (range_lines d) d
 lines_of d list those = flat_those (range_lines d) is_range (no_line d) d list those
-
-no_results : (d : List ElementValue) (x : ElementValue) → is_item x ≡ false → pairs_in result_pairs_of d x ≡ []
-no_results d (edge i (contains a b)) e = refl
-no_results d (edge i (next a b)) e = refl
-no_results d (edge i (definition a b)) e = refl
-no_results d (edge i (references a b)) e = refl
-no_results d (edge i (declaration a b)) e = refl
-no_results d (edge i (implementation a b)) e = refl
-no_results d (edge i (hover a b)) e = refl
-no_results d (edge i (moniker_edge a b)) e = refl
-no_results d (edge i (package_edge a b)) e = refl
-no_results d (edge i (attach a b)) e = refl
-no_results d (edge i (item k)) e = cc
-no_results d (edge i (other_edge a b)) e = refl
-no_results d (vertex i v) e = refl
-
-pub results_of : (d : List ElementValue) (list : List (Bor Element)) → AreThose is_item d list → flat_map (pairs_in result_pairs_of d) (map said list) ≡ pairs_of result_pairs_of d
-results_of d list those = flat_those (pairs_in result_pairs_of d) is_item (no_results d) d list those
-
-no_items : (role : Role) (d : List ElementValue) (x : ElementValue) → is_item x ≡ false → pairs_in (item_pairs_of role) d x ≡ []
-no_items role d (edge i (contains a b)) e = refl
-no_items role d (edge i (next a b)) e = refl
-no_items role d (edge i (definition a b)) e = refl
-no_items role d (edge i (references a b)) e = refl
-no_items role d (edge i (declaration a b)) e = refl
-no_items role d (edge i (implementation a b)) e = refl
-no_items role d (edge i (hover a b)) e = refl
-no_items role d (edge i (moniker_edge a b)) e = refl
-no_items role d (edge i (package_edge a b)) e = refl
-no_items role d (edge i (attach a b)) e = refl
-no_items role d (edge i (item k)) e = cc
-no_items role d (edge i (other_edge a b)) e = refl
-no_items role d (vertex i v) e = refl
-
-pub items_of : (role : Role) (d : List ElementValue) (list : List (Bor Element)) → AreThose is_item d list → flat_map (pairs_in (item_pairs_of role) d) (map said list) ≡ pairs_of (item_pairs_of role) d
-items_of role d list those = flat_those (pairs_in (item_pairs_of role) d) is_item (no_items role d) d list those
 
 no_attached : (d : List ElementValue) (x : ElementValue) → is_moniker_edge x ≡ false → pairs_in attach_pairs_of d x ≡ []
 no_attached d (edge i (contains a b)) e = refl
@@ -284,33 +253,6 @@ pub marks_of_ranges : (d : List ElementValue) (borne : List (ℕ × ℕ)) (marks
 marks_of_ranges d borne marks list those = one_of_those (IsMarkOfRange d borne marks) is_range d list those (mark_of_range d borne marks)
 
 -- ---- what is so of all, as it's so of those of a kind
-
-within_else : (x : ElementValue) → is_range x ≡ false → IsWithinLimit x
-within_else (vertex i (meta_data b)) e = tt
-within_else (vertex i project) e = tt
-within_else (vertex i (document u)) e = tt
-within_else (vertex i (range s)) e = cc
-within_else (vertex i result_set) e = tt
-within_else (vertex i definition_result) e = tt
-within_else (vertex i reference_result) e = tt
-within_else (vertex i declaration_result) e = tt
-within_else (vertex i implementation_result) e = tt
-within_else (vertex i (hover_result t)) e = tt
-within_else (vertex i (moniker m)) e = tt
-within_else (vertex i (package_information p)) e = tt
-within_else (vertex i (event v)) e = tt
-within_else (vertex i other_vertex) e = tt
-within_else (edge i k) e = tt
-
-pub within_of : (d : List ElementValue) (list : List (Bor Element)) → AreThose is_range d list → All IsWithinLimit (map said list) → All IsWithinLimit d
-within_of d list those all = All-weaker (Contains d) IsWithinLimit each d (All-contains_itself d)
-  where
-    each : (x : ElementValue) → Contains d x → IsWithinLimit x
-    each x at = by (is_range x) refl
-      where
-        by : (b : Bool) → is_range x ≡ b → IsWithinLimit x
-        by true e = All-contains IsWithinLimit (map said list) x all (subst (λ l. Contains l x) (sym those) (filter_keeps is_range d x at e))
-        by false e = within_else x e
 
 -- one of those of a kind is one of all
 pub those_in : (is : ElementValue → Bool) (d : List ElementValue) (list : List (Bor Element)) (k : ℕ) (x : Bor Element) → AreThose is d list → k < length list → x ≡ get_or list k x → Contains d (said x)

@@ -1,8 +1,8 @@
 //! What vertices have along their chains of `next` edges.
-ghost use Rattle.std.specs.Prelude.{◌≡◌, IfOk, OnOk, map, option_map};
+ghost use Rattle.std.specs.Prelude.{◌≡◌, IfOk, IfSome, OnOk, map, option_map};
 ghost use Rattle.std.specs.List.Sorted.{IsNonDecreasingBy};
 ghost use Rattle.lsif.specs.Element.{id_value};
-ghost use Rattle.flatten.specs.Steps.Chains.{AreAlong, AreChains, IsWalk, is_bearing, along_value, found_at, nothing, or_else, or_later, own_of};
+ghost use Rattle.flatten.specs.Steps.Chains.{AreAlong, AreChains, IsWalk, is_bearing, along_value, nothing, or_else, or_later, own_of};
 
 use crate::closure::pairs_from;
 use crate::numbers::number_of;
@@ -21,13 +21,21 @@ pub(crate) struct Along<'a> {
     pub(crate) bearer: Option<&'a Id>,
 }
 
-/// What is found so far of the vertices, each at its number; and the pairs of vertices and the monikers that they bear, in the
-/// order of their sources.
+/// The number of a vertex, and what it has along its chain.
+#[derive(Clone, Copy)]
+struct VertexAlong<'a> {
+    vertex: u32,
+    along: Along<'a>,
+}
+
+/// What is found so far of the vertices; and the pairs of vertices and the monikers that they bear, in the order of their sources.
 #[derive(Drop)]
 pub(crate) struct Chains<'a> {
     pub(crate) dump: &'a CheckedDump,
     pub(crate) borne: Vec<(u32, u32)>,
-    found: Vec<Option<Along<'a>>>,
+    found: Vec<VertexAlong<'a>>,
+    /// At the number of each vertex of which something is found: where that stands in `found`. Elsewhere any number.
+    places: Vec<u32>,
 }
 
 /// A walk along a chain: the vertices that it came to, and what those after them have.
@@ -113,34 +121,50 @@ impl<'a> Chains<'a> {
         ensures dump { IfOk result (λ chains. chains.dump.now ≡ dump.now) }
         ensures borne { IfOk result (λ chains. chains.borne ≡ borne) }
     {
-        let found = Vec::from_elem(alloc, None, dump.elements().len() + 1)?;
-        Ok(Chains { dump, borne, found })
+        let places = Vec::from_elem(alloc, 0, dump.elements().len() + 1)?;
+        Ok(Chains {
+            dump,
+            borne,
+            found: Vec::new(alloc),
+            places,
+        })
     }
 
     /// What is found of the vertex.
     fn found_at(&self, vertex: &Id) -> Option<Along<'a>>
-        ensures { option_map along_value result ≡ found_at self.now.dump.now.elements (map (option_map along_value) self.now.found.items) (id_value vertex.now) }
+        requires { AreChains self.now }
+        ensures { IfSome result (λ along. AreAlong self.now.dump.now.elements self.now.borne.items (id_value vertex.now) (along_value along)) }
     {
-        match self.found.get(number_of(self.dump, vertex)? as usize) {
-            Some(along) => *along,
-            None => None,
+        let number = number_of(self.dump, vertex)?;
+        let place = self.places.get(number as usize)?;
+        let found = self.found.get(*place as usize)?;
+        if found.vertex == number {
+            Some(found.along)
+        } else {
+            None
         }
     }
 
     /// Keeps what is found of the vertex.
-    fn keep(&mut self, vertex: &Id, along: Along<'a>)
+    fn keep(&mut self, vertex: &Id, along: Along<'a>) -> Result<(), AllocError>
         requires chains { AreChains self.old }
         requires along { AreAlong self.old.dump.now.elements self.old.borne.items (id_value vertex.now) (along_value along) }
-        ensures chains { AreChains self.new }
+        ensures chains { OnOk result (AreChains self.new) }
         ensures dump { self.new.dump ≡ self.old.dump }
         ensures borne { self.new.borne ≡ self.old.borne }
     {
         line_law();
         if let Some(number) = number_of(self.dump, vertex) {
-            if (number as usize) < self.found.len() {
-                self.found[number as usize] = Some(along);
+            let place = u32::try_from(self.found.len()).unwrap_or(0);
+            self.found.push(VertexAlong {
+                vertex: number,
+                along,
+            })?;
+            if (number as usize) < self.places.len() {
+                self.places[number as usize] = place;
             }
         }
+        Ok(())
     }
 
     /// Goes along the chain of `next` edges from the vertex, up to one of which it's found what it has.
@@ -169,7 +193,7 @@ impl<'a> Chains<'a> {
     }
 
     /// What the vertex has along its chain. Keeps what each vertex that it comes to has, and comes to each once.
-    pub(crate) fn along(&mut self, alloc: Global, vertex: &'a Id) -> Result<Along<'a>, AllocError>
+    fn kept_along(&mut self, alloc: Global, vertex: &'a Id) -> Result<Along<'a>, AllocError>
         requires { AreChains self.old }
         ensures along { IfOk result (λ along. AreAlong self.old.dump.now.elements self.old.borne.items (id_value vertex.now) (along_value along)) }
         ensures chains { OnOk result (AreChains self.new) }
@@ -181,8 +205,26 @@ impl<'a> Chains<'a> {
         let mut along = after;
         while let Some(member) = path.pop() {
             along = or_later(own_of(self.dump, &self.borne, member), along);
-            self.keep(member, along);
+            self.keep(member, along)?;
         }
         Ok(along)
+    }
+
+    /// What the vertex has along its chain. Keeps what those after it have.
+    pub(crate) fn along(&mut self, alloc: Global, vertex: &'a Id) -> Result<Along<'a>, AllocError>
+        requires { AreChains self.old }
+        ensures along { IfOk result (λ along. AreAlong self.old.dump.now.elements self.old.borne.items (id_value vertex.now) (along_value along)) }
+        ensures chains { OnOk result (AreChains self.new) }
+        ensures dump { self.new.dump ≡ self.old.dump }
+        ensures borne { self.new.borne ≡ self.old.borne }
+    {
+        let own = own_of(self.dump, &self.borne, vertex);
+        match self.dump.next(vertex) {
+            Some(next) => {
+                let after = self.kept_along(alloc, next)?;
+                Ok(or_later(own, after))
+            }
+            None => Ok(own),
+        }
     }
 }

@@ -32,7 +32,7 @@ pub(crate) fn flatten_within<'a>(
     let hovers = hover_rows(alloc, &kinds)?;
     let items = item_rows(alloc, &kinds, limit)?;
     let mut chains = Chains::new(alloc, dump, borne(alloc, &kinds, limit)?)?;
-    let ranges = range_rows(alloc, &mut chains, &kinds.ranges)?;
+    let ranges = range_rows(alloc, &mut chains, &kinds.ranges, &kinds.intervals)?;
     let marks = mark_rows(alloc, &mut chains, &kinds.ranges, limit)?;
     let bearers = bearer_rows(alloc, &mut chains, limit)?;
     Ok(Rows {

@@ -5,7 +5,7 @@ ghost use Rattle.lsif.specs.Element.{id_value, id_values, element_value, vertex_
 ghost use Rattle.dump.specs.Places.{IsListing, place_cmp, result_pairs_of};
 ghost use Rattle.flatten.specs.Flat.{IsItemRow, is_result, item_cmp, role_index};
 ghost use Rattle.flatten.specs.Rows.{item_value};
-ghost use Rattle.flatten.specs.Steps.Items.{AreItems, AreSorted, IsReachedRow, IsRowOf, is_role, item_pairs_of, row_of, rows_of_pairs, rows_of_role};
+ghost use Rattle.flatten.specs.Steps.Items.{AddsListing, AreItems, AreSorted, IsReachedRow, IsRowOf, is_role, item_pairs_of, row_of, rows_of_pairs, rows_of_role};
 ghost use Rattle.flatten.specs.Steps.Kinds.{AreKinds};
 ghost use Rattle.flatten.specs.Steps.Numbers.{numbers_of_pair, pairs_in, pairs_of};
 ghost use Rattle.flatten.specs.Steps.Places.{place_value};
@@ -41,7 +41,7 @@ fn add_pairs(
 }
 
 /// Adds the numbers of the results that the element, where it's an `item` edge with "referenceResults", joins.
-fn add_results(
+pub(crate) fn add_results(
     pairs: &mut Vec<(u32, u32)>,
     dump: &CheckedDump,
     element: &Element,
@@ -57,18 +57,6 @@ fn add_results(
     }
 }
 
-/// The numbers of the results that `item` edges with "referenceResults" join.
-fn result_pairs(alloc: Global, kinds: &Kinds<'_>) -> Result<Vec<(u32, u32)>, AllocError>
-    requires { AreKinds kinds.now }
-    ensures { IfOk result (λ pairs. pairs.items ≡ pairs_of result_pairs_of kinds.now.dump.now.elements) }
-{
-    let mut pairs = Vec::new(alloc);
-    for element in &kinds.items {
-        add_results(&mut pairs, kinds.dump, element)?;
-    }
-    Ok(pairs)
-}
-
 /// Whether an `item` edge of this property has ranges of the role.
 fn is_role(role: Role, property: Option<Property>) -> bool
     ensures { result ≡ is_role role property }
@@ -77,7 +65,7 @@ fn is_role(role: Role, property: Option<Property>) -> bool
 }
 
 /// Adds the numbers of the result and the ranges that the element, where it's an `item` edge of the role, joins.
-fn add_items(
+pub(crate) fn add_items(
     pairs: &mut Vec<(u32, u32)>,
     dump: &CheckedDump,
     role: Role,
@@ -91,18 +79,6 @@ fn add_items(
         }
         _ => Ok(()),
     }
-}
-
-/// The numbers of the results and the ranges that `item` edges of the role join.
-fn item_pairs(alloc: Global, kinds: &Kinds<'_>, role: Role) -> Result<Vec<(u32, u32)>, AllocError>
-    requires { AreKinds kinds.now }
-    ensures { IfOk result (λ pairs. pairs.items ≡ pairs_of (item_pairs_of role) kinds.now.dump.now.elements) }
-{
-    let mut pairs = Vec::new(alloc);
-    for element in &kinds.items {
-        add_items(&mut pairs, kinds.dump, role, element)?;
-    }
-    Ok(pairs)
 }
 
 /// The items of results by numbers. The pairs are in the order of their sources.
@@ -119,14 +95,11 @@ fn items_of<'a>(alloc: Global, kinds: &Kinds<'a>) -> Result<Items<'a>, AllocErro
     requires { AreKinds kinds.now }
     ensures { IfOk result (λ items. AreItems kinds.now.dump.now.elements items) }
 {
-    let results = result_pairs(alloc, kinds)?;
-    let definitions = item_pairs(alloc, kinds, Role::Definitions)?;
-    let references = item_pairs(alloc, kinds, Role::References)?;
     Ok(Items {
         dump: kinds.dump,
-        results: by_source(alloc, &results)?,
-        definitions: by_source(alloc, &definitions)?,
-        references: by_source(alloc, &references)?,
+        results: by_source(alloc, &kinds.result_pairs)?,
+        definitions: by_source(alloc, &kinds.definitions)?,
+        references: by_source(alloc, &kinds.references)?,
     })
 }
 
@@ -276,8 +249,13 @@ fn place_order(a: &ItemRow<'_>, b: &ItemRow<'_>) -> Ordering
 fn order(a: &ItemRow<'_>, b: &ItemRow<'_>) -> Ordering
     ensures { result ≡ item_cmp (item_value a.now) (item_value b.now) }
 {
-    let roles = role_index(a.role).cmp(&role_index(b.role));
-    a.result.cmp(&b.result).then(roles.then(place_order(a, b)))
+    match a.result.cmp(&b.result) {
+        Ordering::Equal => match role_index(a.role).cmp(&role_index(b.role)) {
+            Ordering::Equal => place_order(a, b),
+            roles => roles,
+        },
+        results => results,
+    }
 }
 
 /// Puts the rows in order, each once.
@@ -286,6 +264,24 @@ fn list_rows(rows: &mut Vec<ItemRow<'_>>)
 {
     rows.sort_unstable_by(|a, b| order(a, b));
     rows.dedup();
+}
+
+/// Adds the rows of the element, where it's such a result: in order, each once.
+fn add_listed<'a>(
+    alloc: Global,
+    rows: &mut Vec<ItemRow<'a>>,
+    items: &Items<'a>,
+    element: &Element,
+    budgets: &mut Budgets,
+) -> Result<(), FlattenFault>
+    requires { AreSorted items.now }
+    ensures { OnOk result (AddsListing (IsRowOf items.now.dump.now.elements items.now (element_value element.now)) (map item_value rows.old.items) (map item_value rows.new.items)) }
+{
+    let mut more = Vec::new(alloc);
+    add_element(alloc, &mut more, items, element, budgets)?;
+    list_rows(&mut more);
+    rows.append(&mut more)?;
+    Ok(())
 }
 
 /// The rows of the places of results: in order, each once.
@@ -305,8 +301,7 @@ pub(crate) fn item_rows<'a>(
     let mut budgets = Budgets::new(limit);
     let mut rows = Vec::new(alloc);
     for element in &kinds.results {
-        add_element(alloc, &mut rows, &items, element, &mut budgets)?;
+        add_listed(alloc, &mut rows, &items, element, &mut budgets)?;
     }
-    list_rows(&mut rows);
     Ok(rows)
 }

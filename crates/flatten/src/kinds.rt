@@ -1,13 +1,16 @@
-//! The elements that rows are made of, kind by kind.
+//! What rows are made of, gathered in one pass over the elements.
 ghost use Rattle.std.specs.Prelude.{◌≡◌, ◌++◌, IfOk, OnOk, map};
 ghost use Rattle.lsif.specs.Element.{element_value};
-ghost use Rattle.flatten.specs.Steps.Kinds.{AreKinds, Takes, is_document, is_hover, is_item, is_moniker_edge, is_range, is_result_vertex, kept, said};
+ghost use Rattle.flatten.specs.Steps.Kinds.{AreKinds, Takes, is_document, is_hover, is_moniker_edge, is_range, is_result_vertex, kept, said};
 
-use dump::CheckedDump;
+use crate::items::{add_items, add_results};
+use crate::parents::{Interval, add_interval};
+use dump::{CheckedDump, Role};
 use lsif::{Edge, Element, Vertex};
 use std::alloc::{AllocError, Global};
 
-/// The elements of a dump that rows are made of: those of each kind in the order of their lines.
+/// What the rows of a dump are made of, in the order of the elements' lines: elements, kind by kind; and by numbers what `item`
+/// edges join, and the ranges that aren't empty.
 #[derive(Drop)]
 pub(crate) struct Kinds<'a> {
     pub(crate) dump: &'a CheckedDump,
@@ -16,7 +19,12 @@ pub(crate) struct Kinds<'a> {
     pub(crate) ranges: Vec<&'a Element>,
     /// The results that `item` edges leave.
     pub(crate) results: Vec<&'a Element>,
-    pub(crate) items: Vec<&'a Element>,
+    /// The results that `item` edges with "referenceResults" join.
+    pub(crate) result_pairs: Vec<(u32, u32)>,
+    /// The results and the ranges that `item` edges join, role by role.
+    pub(crate) definitions: Vec<(u32, u32)>,
+    pub(crate) references: Vec<(u32, u32)>,
+    pub(crate) intervals: Vec<Interval>,
     /// The edges `moniker` and `attach`.
     pub(crate) moniker_edges: Vec<&'a Element>,
 }
@@ -55,12 +63,6 @@ fn is_result(element: &Element) -> bool
     )
 }
 
-fn is_item(element: &Element) -> bool
-    ensures { result ≡ is_item (element_value element.now) }
-{
-    matches!(element, Element::Edge(_, Edge::Item(_)))
-}
-
 /// Whether the element is an edge `moniker` or `attach`.
 fn is_moniker_edge(element: &Element) -> bool
     ensures { result ≡ is_moniker_edge (element_value element.now) }
@@ -85,7 +87,7 @@ fn keep<'a>(
     Ok(())
 }
 
-/// Adds the element to the list of its kind.
+/// Adds the element to the list of its kind, or what it says by numbers.
 fn add<'a>(kinds: &mut Kinds<'a>, element: &'a Element) -> Result<(), AllocError>
     ensures takes { OnOk result (Takes kinds.old (element_value element.now) kinds.new) }
     ensures dump { kinds.new.dump ≡ kinds.old.dump }
@@ -94,8 +96,12 @@ fn add<'a>(kinds: &mut Kinds<'a>, element: &'a Element) -> Result<(), AllocError
     keep(&mut kinds.hovers, element, is_hover(element))?;
     keep(&mut kinds.ranges, element, is_range(element))?;
     keep(&mut kinds.results, element, is_result(element))?;
-    keep(&mut kinds.items, element, is_item(element))?;
-    keep(&mut kinds.moniker_edges, element, is_moniker_edge(element))
+    keep(&mut kinds.moniker_edges, element, is_moniker_edge(element))?;
+    let dump = kinds.dump;
+    add_results(&mut kinds.result_pairs, dump, element)?;
+    add_items(&mut kinds.definitions, dump, Role::Definitions, element)?;
+    add_items(&mut kinds.references, dump, Role::References, element)?;
+    add_interval(&mut kinds.intervals, dump, element)
 }
 
 /// The elements of the dump, gone over once.
@@ -109,7 +115,10 @@ pub(crate) fn kinds_of<'a>(alloc: Global, dump: &'a CheckedDump) -> Result<Kinds
         hovers: Vec::new(alloc),
         ranges: Vec::new(alloc),
         results: Vec::new(alloc),
-        items: Vec::new(alloc),
+        result_pairs: Vec::new(alloc),
+        definitions: Vec::new(alloc),
+        references: Vec::new(alloc),
+        intervals: Vec::new(alloc),
         moniker_edges: Vec::new(alloc),
     };
     for element in dump.elements() {

@@ -173,7 +173,7 @@ fn list_rows(rows: &mut Vec<MarkRow>)
     rows.dedup();
 }
 
-/// The rows of the marks of ranges: in order, each once.
+/// The rows of the marks of ranges: in order, each once. Where no vertex bears a moniker there are none.
 pub(crate) fn mark_rows<'a>(
     alloc: Global,
     chains: &mut Chains<'a>,
@@ -192,6 +192,9 @@ pub(crate) fn mark_rows<'a>(
     ends_law();
     line_law();
     vertex_law();
+    if chains.borne.is_empty() {
+        return Ok(Vec::new(alloc));
+    }
     let mut budget = Budget::new(limit);
     let mut rows = Vec::new(alloc);
     for element in ranges {

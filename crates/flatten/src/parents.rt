@@ -19,7 +19,7 @@ use std::cmp::Ordering;
 
 /// A range that isn't empty, by numbers: its document's, its start's and its end's in the order of positions, and its own.
 #[derive(Clone, Copy, PartialEq, Eq)]
-struct Interval {
+pub(crate) struct Interval {
     document: u32,
     start: u64,
     end: u64,
@@ -59,7 +59,7 @@ fn interval_of(dump: &CheckedDump, range: &Id, start: u64, end: u64) -> Option<I
 }
 
 /// Adds the interval of the element, where it's a range.
-fn add_interval(
+pub(crate) fn add_interval(
     intervals: &mut Vec<Interval>,
     dump: &CheckedDump,
     element: &Element,
@@ -75,23 +75,6 @@ fn add_interval(
         }
     }
     Ok(())
-}
-
-/// The intervals of the dump's ranges, in the order of their lines.
-fn intervals(
-    alloc: Global,
-    dump: &CheckedDump,
-    ranges: &[&Element],
-) -> Result<Vec<Interval>, AllocError>
-    requires { AreThose is_range dump.now.elements ranges.now }
-    ensures intervals { IfOk result (λ intervals. map interval_value intervals.items ≡ flat_map (intervals_in dump.now.elements) dump.now.elements) }
-    ensures within { OnOk result (All IsWithinLimit dump.now.elements) }
-{
-    let mut intervals = Vec::new(alloc);
-    for element in ranges {
-        add_interval(&mut intervals, dump, element)?;
-    }
-    Ok(intervals)
 }
 
 /// By document, then start, of one start the greater end first, then range.
@@ -171,13 +154,15 @@ fn link_pairs(
     Ok(pairs)
 }
 
-/// The numbers of ranges and of the smallest other that each lies in, in the order of the first.
+/// The numbers of ranges and of the smallest other that each lies in, in the order of the first. The intervals are those of the
+/// dump's ranges.
 pub(crate) fn parents(
     alloc: Global,
     dump: &CheckedDump,
-    ranges: &[&Element],
+    intervals: &[Interval],
 ) -> Result<Vec<(u32, u32)>, AllocError>
-    requires ranges { AreThose is_range dump.now.elements ranges.now }
+    requires intervals { map interval_value intervals.now ≡ flat_map (intervals_in dump.now.elements) dump.now.elements }
+    requires within { All IsWithinLimit dump.now.elements }
     requires faultless { IsFaultless (map Ok dump.now.elements) }
     ensures sorted { IfOk result (λ pairs. IsNonDecreasingBy (λ p. p.0) pairs.items) }
     ensures parents { IfOk result (λ pairs. AreParents dump.now.elements pairs.items) }
@@ -186,7 +171,7 @@ pub(crate) fn parents(
     line_law();
     nesting_law();
     vertex_law();
-    let mut intervals = intervals(alloc, dump, ranges)?;
+    let mut intervals = Vec::from_slice(alloc, intervals)?;
     list_intervals(&mut intervals);
     let links = links(alloc, &intervals)?;
     by_source(alloc, &link_pairs(alloc, &intervals, &links)?)

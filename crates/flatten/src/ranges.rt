@@ -1,6 +1,6 @@
 //! The rows of ranges.
 ghost use Rattle.std.specs.Prelude.{◌≡◌, ◌++◌, ℕ, Some, Ok, IfOk, OnOk, IfSome, IfNone, Contains, map};
-ghost use Rattle.std.specs.List.{All};
+ghost use Rattle.std.specs.List.{All, flat_map};
 ghost use Rattle.std.specs.List.Sorted.{IsNonDecreasingBy};
 ghost use Rattle.lsif.specs.Element.{id_value, element_value, range};
 ghost use Rattle.dump.specs.Fault.{IsFaultless};
@@ -10,14 +10,14 @@ ghost use Rattle.flatten.specs.Flat.{HasEachRange, IsRangeRow, by_line, number_o
 ghost use Rattle.flatten.specs.Rows.{range_value};
 ghost use Rattle.flatten.specs.Steps.Chains.{AreChains};
 ghost use Rattle.flatten.specs.Steps.Kinds.{AreThose, is_range};
-ghost use Rattle.flatten.specs.Steps.Parents.{AreParents};
+ghost use Rattle.flatten.specs.Steps.Parents.{AreParents, IsWithinLimit, interval_value, intervals_in};
 ghost use Rattle.flatten.specs.Steps.Ranges.{range_lines};
 ghost use Rattle.flatten.specs.Steps.Tables.{container_uri};
 
 use crate::chains::Chains;
 use crate::closure::pairs_from;
 use crate::numbers::number_of;
-use crate::parents::parents;
+use crate::parents::{Interval, parents};
 use crate::places::container_uri;
 use crate::results::numbers_along;
 use crate::rows::RangeRow;
@@ -112,9 +112,12 @@ pub(crate) fn range_rows<'a>(
     alloc: Global,
     chains: &mut Chains<'a>,
     ranges: &[&'a Element],
+    intervals: &[Interval],
 ) -> Result<Vec<RangeRow<'a>>, AllocError>
     requires chains { AreChains chains.old }
     requires ranges { AreThose is_range chains.old.dump.now.elements ranges.now }
+    requires intervals { map interval_value intervals.now ≡ flat_map (intervals_in chains.old.dump.now.elements) chains.old.dump.now.elements }
+    requires within { All IsWithinLimit chains.old.dump.now.elements }
     requires faultless { IsFaultless (map Ok chains.old.dump.now.elements) }
     ensures rows { IfOk result (λ rows. IsListing by_line (IsRangeRow chains.old.dump.now.elements) (map range_value rows.items)) }
     ensures each { IfOk result (λ rows. HasEachRange chains.old.dump.now.elements (map range_value rows.items)) }
@@ -127,8 +130,8 @@ pub(crate) fn range_rows<'a>(
     nesting_law();
     pick_law();
     vertex_law();
-    let parents = parents(alloc, chains.dump, ranges)?;
-    let mut rows = Vec::new(alloc);
+    let parents = parents(alloc, chains.dump, intervals)?;
+    let mut rows = Vec::with_capacity(alloc, ranges.len())?;
     for element in ranges {
         add_range(alloc, &mut rows, chains, &parents, element)?;
     }

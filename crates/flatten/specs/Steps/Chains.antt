@@ -1,5 +1,5 @@
 -- What vertices have along their chains, as the walk finds it.
-use Rattle.std.specs.Prelude.{◌≡◌, ◌==◌, ℕ, Bool, false, List, [], ◌∷◌, Option, Some, None, map, get_or, option_map, if◌then◌else◌, reverse}
+use Rattle.std.specs.Prelude.{◌≡◌, ◌==◌, ℕ, Bool, false, List, [], ◌∷◌, Option, Some, None, map, option_map, if◌then◌else◌, reverse, Contains}
 use Rattle.std.specs.List.{list_any}
 use Rattle.std.specs.List.Sorted.{IsNonDecreasingBy}
 use Rattle.lsif.specs.Element.{IdValue, id_value, ElementValue}
@@ -10,6 +10,7 @@ use Rattle.dump.specs.Walks.{IsChain, first_to, next_pairs, single_pairs}
 use Rattle.flatten.specs.Flat.{number_of}
 use Rattle.flatten.specs.declared.chains.Along.{Along}
 use Rattle.flatten.specs.declared.chains.Chains.{Chains}
+use Rattle.flatten.specs.declared.chains.VertexAlong.{VertexAlong}
 
 pub record AlongValue : Type 0 where
   pub def : Option IdValue
@@ -93,22 +94,22 @@ AreAlong elements borne x along = (xs : List IdValue) × IsChain (next_pairs ele
 
 -- ---- what is found
 
-abbrev pub entry_at : List (Option AlongValue) → Option ℕ → Option AlongValue
-entry_at found (Some n) = get_or found n None
-entry_at found None = None
+-- the number of a vertex, and what it has along its chain
+pub record VertexAlongValue : Type 0 where
+  pub vertex : ℕ
+  pub along : AlongValue
 
--- what is found of the vertex
-abbrev pub found_at : List ElementValue → List (Option AlongValue) → IdValue → Option AlongValue
-found_at elements found x = entry_at found (number_of elements x)
+abbrev pub vertex_along_value : VertexAlong → VertexAlongValue
+vertex_along_value v = record { vertex = v.vertex; along = along_value v.along }
 
 -- what is found is so
-abbrev pub AreFound : List ElementValue → List (ℕ × ℕ) → List (Option AlongValue) → Type 0
-AreFound elements borne found = (x : IdValue) (along : AlongValue) → found_at elements found x ≡ Some along → AreAlong elements borne x along
+abbrev pub AreFound : List ElementValue → List (ℕ × ℕ) → List VertexAlongValue → Type 0
+AreFound elements borne found = (v : VertexAlongValue) (x : IdValue) → Contains found v → number_of elements x ≡ Some v.vertex → AreAlong elements borne x v.along
 
 -- the pairs are in the order of their sources, and what is found is so
 pub record AreChains (chains : Chains) : Type 0 where
   pub sorted : IsNonDecreasingBy (λ p. p.0) chains.borne.items
-  pub found : AreFound chains.dump.now.elements chains.borne.items (map (option_map along_value) chains.found.items)
+  pub found : AreFound chains.dump.now.elements chains.borne.items (map vertex_along_value chains.found.items)
 
 -- ---- a walk
 

@@ -1,14 +1,14 @@
 -- The places of results, as the walk by numbers gathers them.
-use Rattle.std.specs.Prelude.{◌≡◌, ◌==◌, ℕ, Bool, true, false, List, [], ◌∷◌, map, filter, Option, Some, None, Contains, IsPermutation, get_or, if◌then◌else◌}
+use Rattle.std.specs.Prelude.{◌≡◌, ◌==◌, ◌++◌, ℕ, Bool, true, false, List, [], ◌∷◌, map, filter, Option, Some, None, Contains, IsPermutation, get_or, if◌then◌else◌}
 use Rattle.std.specs.List.{flat_map}
 use Rattle.std.specs.List.Sorted.{IsNonDecreasingBy}
 use Rattle.lsif.specs.declared.element.Property.{Property}
 use Rattle.lsif.specs.Element.{item, ElementValue, vertex, edge}
-use Rattle.dump.specs.Places.{PlaceValue, result_pairs_of, role_of}
+use Rattle.dump.specs.Places.{IsListing, PlaceValue, result_pairs_of, role_of}
 use Rattle.dump.specs.Walks.{Pair, Path}
 use Rattle.dump.specs.declared.role.Role.{Role}
 use Rattle.dump.specs.declared.role.Role.TheVariants.{Definitions, References}
-use Rattle.flatten.specs.Flat.{ItemRowValue, is_result, number_of}
+use Rattle.flatten.specs.Flat.{ItemRowValue, is_result, item_cmp, number_of}
 use Rattle.flatten.specs.Steps.Numbers.{pairs_of}
 use Rattle.flatten.specs.Steps.Tables.{place_of, table_of}
 use Rattle.flatten.specs.declared.items.Items.{Items}
@@ -73,6 +73,12 @@ pub record IsReachedRow (number : ℕ) (items : Items) (row : ItemRowValue) : Ty
   pub reached : Path items.results.items number other
   pub joined : Contains (pairs_by row.role items) (other, range)
   pub placed : get_or (places_of items) range None ≡ Some row.place
+
+-- the listing of the rows with the property was added
+pub record AddsListing (P : ItemRowValue → Type 0) (old new : List ItemRowValue) : Type 0 where
+  pub more : List ItemRowValue
+  pub listed : IsListing item_cmp P more
+  pub grown : new ≡ old ++ more
 
 -- such a row of the element, where it's a result
 abbrev pub IsRowOf : List ElementValue → Items → ElementValue → ItemRowValue → Type 0

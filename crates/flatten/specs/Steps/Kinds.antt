@@ -1,10 +1,16 @@
--- The elements of a dump, kind by kind.
+-- The elements of a dump, kind by kind, and what they say by numbers.
 use Rattle.std.specs.Borrow.{Bor}
 use Rattle.std.specs.Prelude.{◌≡◌, ◌++◌, Bool, true, false, List, [], ◌∷◌, map, filter, Some, Ok}
 use Rattle.lsif.specs.declared.element.Element.{Element}
-use Rattle.lsif.specs.Element.{document, range, hover_result, moniker_edge, attach, item, ElementValue, vertex, edge, element_value}
+use Rattle.lsif.specs.Element.{document, range, hover_result, moniker_edge, attach, ElementValue, vertex, edge, element_value}
 use Rattle.dump.specs.Fault.{IsFaultless}
 use Rattle.flatten.specs.Flat.{is_result}
+use Rattle.dump.specs.Places.{result_pairs_of}
+use Rattle.dump.specs.declared.role.Role.TheVariants.{Definitions, References}
+use Rattle.std.specs.List.{All, flat_map}
+use Rattle.flatten.specs.Steps.Items.{item_pairs_of}
+use Rattle.flatten.specs.Steps.Numbers.{pairs_in, pairs_of}
+use Rattle.flatten.specs.Steps.Parents.{IsWithinLimit, interval_value, intervals_in}
 use Rattle.flatten.specs.declared.kinds.Kinds.{Kinds}
 
 abbrev pub said : Bor Element → ElementValue
@@ -30,11 +36,6 @@ abbrev pub is_result_vertex : ElementValue → Bool
 is_result_vertex (vertex i v) = is_result (Some v)
 is_result_vertex (edge i e) = false
 
-abbrev pub is_item : ElementValue → Bool
-is_item (edge i (item e)) = true
-is_item (edge i e) = false
-is_item (vertex i v) = false
-
 -- an edge `moniker` or `attach`
 abbrev pub is_moniker_edge : ElementValue → Bool
 is_moniker_edge (edge i (moniker_edge from to)) = true
@@ -57,14 +58,22 @@ pub record AreKinds (kinds : Kinds) : Type 0 where
   pub hovers : AreThose is_hover kinds.dump.now.elements kinds.hovers.items
   pub ranges : AreThose is_range kinds.dump.now.elements kinds.ranges.items
   pub results : AreThose is_result_vertex kinds.dump.now.elements kinds.results.items
-  pub items : AreThose is_item kinds.dump.now.elements kinds.items.items
   pub moniker_edges : AreThose is_moniker_edge kinds.dump.now.elements kinds.moniker_edges.items
+  pub result_pairs : kinds.result_pairs.items ≡ pairs_of result_pairs_of kinds.dump.now.elements
+  pub definitions : kinds.definitions.items ≡ pairs_of (item_pairs_of Definitions) kinds.dump.now.elements
+  pub references : kinds.references.items ≡ pairs_of (item_pairs_of References) kinds.dump.now.elements
+  pub intervals : map interval_value kinds.intervals.items ≡ flat_map (intervals_in kinds.dump.now.elements) kinds.dump.now.elements
+  pub within : All IsWithinLimit kinds.dump.now.elements
 
--- the element was added to the list of its kind
+-- the element was added to the list of its kind, and what it says by numbers
 pub record Takes (old : Kinds) (x : ElementValue) (new : Kinds) : Type 0 where
   pub documents : map said new.documents.items ≡ map said old.documents.items ++ kept (is_document x) x
   pub hovers : map said new.hovers.items ≡ map said old.hovers.items ++ kept (is_hover x) x
   pub ranges : map said new.ranges.items ≡ map said old.ranges.items ++ kept (is_range x) x
   pub results : map said new.results.items ≡ map said old.results.items ++ kept (is_result_vertex x) x
-  pub items : map said new.items.items ≡ map said old.items.items ++ kept (is_item x) x
   pub moniker_edges : map said new.moniker_edges.items ≡ map said old.moniker_edges.items ++ kept (is_moniker_edge x) x
+  pub result_pairs : new.result_pairs.items ≡ old.result_pairs.items ++ pairs_in result_pairs_of old.dump.now.elements x
+  pub definitions : new.definitions.items ≡ old.definitions.items ++ pairs_in (item_pairs_of Definitions) old.dump.now.elements x
+  pub references : new.references.items ≡ old.references.items ++ pairs_in (item_pairs_of References) old.dump.now.elements x
+  pub intervals : map interval_value new.intervals.items ≡ map interval_value old.intervals.items ++ intervals_in old.dump.now.elements x
+  pub within : IsWithinLimit x

@@ -10,9 +10,9 @@ returns c =
     let references = c.in_ok-by_source-3.field-0.items in
     record {
       sorted = record { results = c.in_ok-by_source.ensures.ordered; each = each_sorted _ c.in_ok-by_source-2.ensures.ordered c.in_ok-by_source-3.ensures.ordered };
-      results = subst (λ xs. IsPermutation xs results) (c.deref.ensures.value ∙ c.in_ok-results.ensures) c.in_ok-by_source.ensures.all;
+      results = subst (λ xs. IsPermutation xs results) (c.deref.ensures.value ∙ c.requires.result_pairs) c.in_ok-by_source.ensures.all;
       each = each_role c.args.kinds.now.dump.now.elements _
-          (subst (λ xs. IsPermutation xs definitions) (c.deref-2.ensures.value ∙ c.in_ok-definitions.ensures) c.in_ok-by_source-2.ensures.all)
-          (subst (λ xs. IsPermutation xs references) (c.deref-3.ensures.value ∙ c.in_ok-references.ensures) c.in_ok-by_source-3.ensures.all);
+          (subst (λ xs. IsPermutation xs definitions) (c.deref-2.ensures.value ∙ c.requires.definitions) c.in_ok-by_source-2.ensures.all)
+          (subst (λ xs. IsPermutation xs references) (c.deref-3.ensures.value ∙ c.requires.references) c.in_ok-by_source-3.ensures.all);
       same = refl;
     }

@@ -16,7 +16,7 @@ loop-element-preserved c =
     let k = c.loop-element.element-index in
     let x = c.element-item.result in
     let left : map element_value (drop k items) ≡ element_value x ∷ map element_value (drop (k + 1) items) = ap (map element_value) (drop_next items k x c.loop-element-test.true c.element-item.is) in (
-      taken_more d (map element_value (drop (k + 1) items)) (element_value x) c.loop-element.kinds c.add.new.kinds (subst (λ l. AreTaken d l c.loop-element.kinds) left c.loop-element.invariant.0) c.in_ok-add.ensures.takes,
+      taken_more d (map element_value (drop (k + 1) items)) (element_value x) c.loop-element.kinds c.add.new.kinds (ap (λ v. v.elements) c.loop-element.invariant.1) (subst (λ l. AreTaken d l c.loop-element.kinds) left c.loop-element.invariant.0) c.in_ok-add.ensures.takes,
       ap (λ (b : Bor CheckedDump). b.now) c.in_ok-add.ensures.dump ∙ c.loop-element.invariant.1,
     )
 

@@ -1,12 +1,14 @@
-use Rattle.std.proofs.Common.{Bor, ◌∙◌, [], map, ap, subst, arith}
+use Rattle.std.proofs.Common.{Bor, ◌≡◌, ◌∙◌, ℕ, List, [], ◌∷◌, length, map, refl, sym, ap, subst, arith}
+use Rattle.std.proofs.lemmas.Map.Views.{exact_unsigned_eq}
+use Rattle.dump.specs.Places.{IsListing}
 use Rattle.dump.specs.declared.checker.CheckedDump.{CheckedDump}
 use Rattle.flatten.specs.Flat.{IsMarkRow, mark_cmp}
 use Rattle.flatten.specs.Rows.{mark_value as mark_row_value}
 use Rattle.flatten.specs.Steps.Kinds.{said}
 use Rattle.flatten.specs.Steps.Marks.{IsMarkOfRange, marks_in}
 use Rattle.flatten.specs.Steps.Tables.{Adds, OfOne}
-use Rattle.flatten.proofs.Listing.{added_listing, adds_done, adds_same, adds_step}
-use Rattle.flatten.proofs.MarkRows.{range_marks}
+use Rattle.flatten.proofs.Listing.{added_listing, adds_done, adds_same, adds_step, no_listing}
+use Rattle.flatten.proofs.MarkRows.{no_marks, range_marks}
 use Rattle.flatten.proofs.NumberPairs.{number_ones}
 use Rattle.flatten.proofs.OfKinds.{marks_of_ranges}
 use Rattle.flatten.proofs.marks.mark_rows.Goals as goal
@@ -27,6 +29,19 @@ loop-element-preserved c =
       c.in_ok-add_range.ensures.dump ∙ inv.2,
       c.in_ok-add_range.ensures.borne ∙ inv.3,
     )
+
+no_pairs : (pairs : List (ℕ × ℕ)) → length pairs ≡ 0 → pairs ≡ []
+no_pairs [] e = refl
+no_pairs (p ∷ pairs) e = absurd (omega (arith, e))
+
+pub returns-then-is_empty-clause-rows : goal.returns-then-is_empty-clause-rows
+returns-then-is_empty-clause-rows c =
+    let d = c.args.chains.now.dump.now.elements in
+    let borne = c.args.chains.now.borne.items in
+    let free = c.requires.faultless in
+    let none : borne ≡ [] = no_pairs borne (sym c.args.chains.now.borne.ok.0 ∙ exact_unsigned_eq c.args.chains.now.borne.len 0 (sym c.is_empty.ensures ∙ c.if-is_empty.true)) in
+    subst (λ l. IsListing mark_cmp (IsMarkRow d) (map mark_row_value l)) (sym c.new.ensures.items)
+    (no_listing mark_cmp (IsMarkRow d) (no_marks d free (c.vertex_law.ensures d free) (number_ones d (c.line_law.ensures.one d)) (c.line_law.ensures.there d free) borne c.requires.borne (c.ends_law.ensures d free) none))
 
 pub returns-clause-rows : goal.returns-clause-rows
 returns-clause-rows c =

@@ -1,4 +1,4 @@
-use Rattle.std.proofs.Common.{◌≡◌, ◌+◌, ℕ, List, length, map, ap, sym, subst, arith}
+use Rattle.std.proofs.Common.{◌≡◌, ◌∙◌, ◌+◌, ℕ, List, length, map, ap, sym, subst, arith}
 use Rattle.std.specs.Prelude.{◌↔◌, Contains, IsPermutation, Some, option_map}
 use Rattle.std.specs.List.{slice_get}
 use Rattle.std.proofs.lemmas.List.{length-map}
@@ -23,9 +23,9 @@ links-requires c =
     let vertices = c.vertex_law.ensures d free in
     let ones = number_ones d (c.line_law.ensures.one d) in
     let numbers = lined d (c.line_law.ensures.there d free) in
-    let listed = subst (λ xs. IsListing interval_cmp (Contains xs) sorted) c.in_ok-intervals.ensures.intervals c.list_intervals.ensures in
+    let listed = subst (λ xs. IsListing interval_cmp (Contains xs) sorted) (ap (map interval_value) c.in_ok-intervals.ensures.items ∙ c.requires.intervals) c.list_intervals.ensures in
     subst (λ xs. AreIntervals (map interval_value xs)) (sym c.deref.ensures.value)
-    (are_intervals d c.in_ok-intervals.ensures.within vertices ones numbers (c.container_law.ensures d free) (c.nesting_law.ensures d free) sorted listed)
+    (are_intervals d c.requires.within vertices ones numbers (c.container_law.ensures d free) (c.nesting_law.ensures d free) sorted listed)
 
 -- what is so of one order of the pairs is so of another
 moved : (xs ys : List (ℕ × ℕ)) (P : ℕ × ℕ → Type 0) → ((p : ℕ × ℕ) → Contains xs p ↔ P p) → IsPermutation xs ys → (p : ℕ × ℕ) → Contains ys p ↔ P p
@@ -42,12 +42,12 @@ returns-clause-parents c =
     let vertices = c.vertex_law.ensures d free in
     let ones = number_ones d (c.line_law.ensures.one d) in
     let numbers = lined d (c.line_law.ensures.there d free) in
-    let listed = subst (λ xs. IsListing interval_cmp (Contains xs) sorted) c.in_ok-intervals.ensures.intervals c.list_intervals.ensures in
+    let listed = subst (λ xs. IsListing interval_cmp (Contains xs) sorted) (ap (map interval_value) c.in_ok-intervals.ensures.items ∙ c.requires.intervals) c.list_intervals.ensures in
     let are : AreLinks sorted links = subst (λ xs. AreLinks (map interval_value xs) links) c.deref.ensures.value c.in_ok-links.ensures.links in
     let same : length links ≡ length sorted = omega (arith, c.in_ok-links.ensures.length, c.deref.ensures.len, length-map items interval_value) in
     let of_items = subst (λ xs. (p : ℕ × ℕ) → Contains pairs p ↔ IsLinkPair (map interval_value xs) c.deref-3.result.now (length c.deref-3.result.now) p) c.deref-2.ensures.value c.in_ok-link_pairs.ensures in
     let each = subst (λ xs. (p : ℕ × ℕ) → Contains pairs p ↔ IsLinkPair sorted xs (length xs) p) c.deref-3.ensures.value of_items in
     IfOk-weaker c.by_source.result (λ r. IsPermutation c.deref-4.result.now r.items) (λ r. AreParents d r.items) (λ r h.
-    are_parents d c.in_ok-intervals.ensures.within vertices ones numbers (c.container_law.ensures d free) (c.nesting_law.ensures d free) sorted listed links are same r.items
+    are_parents d c.requires.within vertices ones numbers (c.container_law.ensures d free) (c.nesting_law.ensures d free) sorted listed links are same r.items
     (moved pairs r.items (IsLinkPair sorted links (length links)) each (subst (λ xs. IsPermutation xs r.items) c.deref-4.ensures.value h)))
     c.by_source.ensures.all

@@ -1,23 +1,22 @@
-use Rattle.std.proofs.Common.{◌∙◌, ap}
+use Rattle.std.proofs.Common.{◌∙◌, sym, ap, subst}
+use Rattle.std.specs.Prelude.{Some}
 use Rattle.lsif.specs.Element.{id_value}
-use Rattle.flatten.specs.Steps.Chains.{along_value}
-use Rattle.flatten.proofs.ChainWalks.{back_step}
+use Rattle.flatten.specs.Steps.Chains.{AreAlong, along_value, or_later, own_of}
+use Rattle.flatten.proofs.ChainWalks.{along_alone, along_by}
 use Rattle.flatten.proofs.chains.Chains.along.Goals as goal
 
-pub keep-requires-clause-along : goal.keep-requires-clause-along
-keep-requires-clause-along c =
-    let f = c.loop-member.self in
-    let s = c.args.self.now in
-    let r = back_step (λ i. id_value i.now) f.dump.now.elements s.dump.now.elements s.borne.items f.borne.items c.deref.result.now (id_value c.args.vertex.now) c.loop-member.path.items c.pop.new.self.items c.in-Some.member
-    (along_value c.loop-member.along) (along_value c.own_of.result) (along_value c.or_later-along.result)
-    (ap (λ r. r.now.elements) c.loop-member.invariant.2) (ap (λ v. v.items) c.loop-member.invariant.3) c.deref.ensures.value c.in-Some.ensures.items c.own_of.ensures c.or_later-along.ensures c.loop-member.invariant.0 in
-    r.0
+pub returns-in_ok-after-in-Some-clause-along : goal.returns-in_ok-after-in-Some-clause-along
+returns-in_ok-after-in-Some-clause-along c =
+    let d = c.args.self.now.dump.now.elements in
+    let borne = c.args.self.now.borne.items in
+    let x = id_value c.args.vertex.now in
+    let after = along_value c.in_ok-after-in-Some.after in
+    subst (AreAlong d borne x) (sym (c.or_later.ensures ∙ ap (λ o. or_later o after) (c.own_of-own.ensures ∙ ap (λ l. own_of d l x) c.deref.ensures.value)))
+    (along_by d borne x after (Some (id_value c.in-Some.next.now)) (sym c.in-Some.ensures) c.in_ok-after-in-Some.ensures.along)
 
-pub loop-member-preserved : goal.loop-member-preserved
-loop-member-preserved c =
-    let f = c.loop-member.self in
-    let s = c.args.self.now in
-    let r = back_step (λ i. id_value i.now) f.dump.now.elements s.dump.now.elements s.borne.items f.borne.items c.deref.result.now (id_value c.args.vertex.now) c.loop-member.path.items c.pop.new.self.items c.in-Some.member
-    (along_value c.loop-member.along) (along_value c.own_of.result) (along_value c.or_later-along.result)
-    (ap (λ r. r.now.elements) c.loop-member.invariant.2) (ap (λ v. v.items) c.loop-member.invariant.3) c.deref.ensures.value c.in-Some.ensures.items c.own_of.ensures c.or_later-along.ensures c.loop-member.invariant.0 in
-    (r.1, c.keep.ensures.chains, c.keep.ensures.dump ∙ c.loop-member.invariant.2, c.keep.ensures.borne ∙ c.loop-member.invariant.3)
+pub returns-in-None-clause-along : goal.returns-in-None-clause-along
+returns-in-None-clause-along c =
+    let d = c.args.self.now.dump.now.elements in
+    let borne = c.args.self.now.borne.items in
+    let x = id_value c.args.vertex.now in
+    subst (AreAlong d borne x) (sym (c.own_of-own.ensures ∙ ap (λ l. own_of d l x) c.deref.ensures.value)) (along_alone d borne x (sym c.in-None.ensures))

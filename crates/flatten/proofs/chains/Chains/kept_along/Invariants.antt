@@ -1,7 +1,7 @@
-use Rattle.std.proofs.Common.{◌≡◌, map, reverse}
+use Rattle.std.proofs.Common.{◌≡◌, length, map, reverse}
 use Rattle.lsif.specs.Element.{id_value}
 use Rattle.flatten.specs.Steps.Chains.{AreChains, IsWalkBack, along_value}
-use Rattle.flatten.proofs.chains.Chains.along.Given as goal
+use Rattle.flatten.proofs.chains.Chains.kept_along.Given as goal
 
 abbrev pub invariant-loop-member : goal.invariant-loop-member
 invariant-loop-member l =
@@ -9,4 +9,4 @@ invariant-loop-member l =
     × AreChains l.self × (l.self.dump ≡ l.initial.self.dump) × (l.self.borne ≡ l.initial.self.borne)
 
 abbrev pub decreases-loop-member : goal.decreases-loop-member
-decreases-loop-member l = goal.left-loop-member l
+decreases-loop-member l = length l.path.items
