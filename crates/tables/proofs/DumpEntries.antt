@@ -143,23 +143,21 @@ module _ (db : Trees) (m : State) (s : StandsFor db m) where
       abbrev Wanted : ℤ → Entries Of db m → Type 0
       Wanted at e = (e.0.slot ≡ id) × Matches e.0.value
 
-      in_dump : (e : Entries Of db m) → e.0.slot ≡ id → Of dump e.0.value
+      pub in_dump : (e : Entries Of db m) → e.0.slot ≡ id → Of dump e.0.value
       in_dump e same =
           let p = (one_slot db s.parts _ id e.1.project project (pos 1) (pos 1) s.keeps (subst (λ (i : ℤ). Has (db 1) (slot_row i e.1.project (pos 1))) same e.1.slot) slot).0 in
           let d : e.1.dump ≡ dump = same_some (sym e.1.has ∙ (ap m.dump p ∙ has)) in
           subst (λ (x : DumpValue). Of x e.0.value) d e.1.is
 
-      entry : (e : E) → Of dump e → Entries Of db m
+      abbrev pub entry : (e : E) → Of dump e → Entries Of db m
       entry e is = (record { slot = id; value = e }, record { project = project; dump = dump; slot = slot; has = has; is = is })
 
       pub selects_of : (shown : E → Row) (rows : List Row) → Selects values (λ at e. shown e.0.value) Wanted db tree rows → SelectsOf shown (Of dump) Matches rows
-      unfolding entry
       selects_of shown rows h = record {
         each = all_of _ rows (λ r there. let it = of_all _ rows r h.each there in (it.0.0.value, in_dump it.0 it.1.1.0, it.1.1.1, it.2));
         all = λ e is matches. h.all (entry e is) (held (entry e is), (refl, matches));
       }
 
       pub shows_one_of : {X : Type 0} (shown : E → Row) (read : X → List Value) (found : Option X) → ShowsOne values (λ at e. shown e.0.value) Wanted read db tree found → ShowsOneOf shown (Of dump) Matches read found
-      unfolding entry
       shows_one_of shown read None none = λ e is matches. none (entry e is) (held (entry e is), (refl, matches))
       shows_one_of shown read (Some x) one = (one.0.0.value, in_dump one.0 one.1.1.0, one.1.1.1, one.2)

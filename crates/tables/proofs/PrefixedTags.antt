@@ -1,5 +1,5 @@
 -- The tags whose names begin with a text, as they are selected: the early stop leaves none out.
-use Rattle.std.proofs.Common.{◌≡◌, ◌⊎◌, inl, inr, ◌<◌, ◌+◌, ℕ, ℤ, zero, suc, Bool, true, false, Ordering, Less, Equal, Greater, nat_cmp, eqb, List, [], ◌∷◌, ◌++◌, length, map, get_or, refl, sym, ap, subst, ◌∙◌, arith, IsSorted, ◌&&◌, append-nil, append_assoc}
+use Rattle.std.proofs.Common.{◌≡◌, ◌⊎◌, inl, inr, ◌<◌, ◌+◌, ℕ, ℤ, negsuc, suc, Bool, true, false, Ordering, Less, Equal, Greater, nat_cmp, eqb, List, [], ◌∷◌, ◌++◌, length, map, get_or, refl, sym, ap, subst, ◌∙◌, arith, IsSorted, ◌&&◌, append-nil, append_assoc}
 use Rattle.std.specs.List.{list_all, starts_with, AllByRecursion}
 use Rattle.std.specs.Ordering.{is_le, is_ge, is_lt, ordering_then, ordering_reverse}
 use Rattle.std.specs.Cmp.Lexicographic.{slice_cmp}
@@ -35,7 +35,7 @@ use Rattle.tables.specs.Steps.Selected.{AreRead, Selects}
 use Rattle.tables.specs.Steps.TagRows.{TellNamed, tag_row_columns, with_prefix}
 use Rattle.tables.proofs.FoundTags.{TagEntries, entry_row, tag_terms, tag_names, typed_tags, told_named}
 use Rattle.tables.proofs.Keeping.{from_map, to_map}
-use Rattle.tables.proofs.Ordered.{IsInOrder, in_order, selects_in_order, begins_in_order}
+use Rattle.tables.proofs.Ordered.{IsInOrder, in_order, selects_in_order, begins_in_order, at_place}
 use Rattle.tables.proofs.PartRemoved.{has_permuted, truly}
 use Rattle.tables.proofs.Prefixes.{none_after, not_below, begins_if, if_begins}
 use Rattle.tables.proofs.Reading.{rows_are}
@@ -53,7 +53,7 @@ up at = (col 1 at, record { collation = Binary; descending = false })
 abbrev by_name : List (Term × Key)
 by_name = up 3 ∷ up 1 ∷ up 2 ∷ []
 
-select_prefixed_is : command_of (understood schema_two select_prefixed) ≡ Select (record { lets = []; body = in_order 17 from_prefix tag_terms by_name }) tag_names
+select_prefixed_is : command_of (understood schema_two select_prefixed) ≡ Select (record { lets = []; body = in_order 17 from_prefix tag_terms by_name (negsuc 0) }) tag_names
 unfolding understood everything
 select_prefixed_is = refl
 
@@ -87,13 +87,13 @@ module _ (prefix : List ℕ) (first old : Store) (has : first.now.schema ≡ sch
   -- the answer has no more rows
   pub ended : (new : Store) (rows : List Row) → AllByRecursion (λ r. with_prefix prefix r ≡ true) rows → Shown select_prefixed (Text prefix ∷ []) old new rows → AreFirst first.now.trees prefix rows
   ended new rows each h =
-      let it = selects_in_order schema_two select_prefixed (Text prefix ∷ []) 17 from_prefix tag_terms by_name tag_names select_prefixed_is select_prefixed_plain.0 select_prefixed_plain.1 (λ db. refl) old new rows stands h in
+      let it = selects_in_order schema_two select_prefixed (Text prefix ∷ []) 17 from_prefix tag_terms by_name (negsuc 0) tag_names select_prefixed_is select_prefixed_plain.0 select_prefixed_plain.1 (λ db. refl) old new rows stands h in
       back rows (record { ordered = it.0; in_order = it.1; rest = []; whole = sym it.2 ∙ sym (append-nil rows); each = each; ends = tt })
 
   -- the next row has another beginning
   pub stopped : (rows : List Row) (row : Row) → AllByRecursion (λ r. with_prefix prefix r ≡ true) rows → with_prefix prefix row ≡ false → Begins select_prefixed (Text prefix ∷ []) old (rows ++ row ∷ []) → AreFirst first.now.trees prefix rows
   stopped rows row each other h =
-      let it = begins_in_order schema_two select_prefixed (Text prefix ∷ []) 17 from_prefix tag_terms by_name tag_names select_prefixed_is select_prefixed_plain.0 select_prefixed_plain.1 (λ db. refl) old (rows ++ row ∷ []) stands h in
+      let it = begins_in_order schema_two select_prefixed (Text prefix ∷ []) 17 from_prefix tag_terms by_name (negsuc 0) tag_names select_prefixed_is select_prefixed_plain.0 select_prefixed_plain.1 (λ db. refl) old (rows ++ row ∷ []) stands h in
       back rows (record { ordered = it.0; in_order = it.1; rest = row ∷ it.2; whole = sym it.3 ∙ append_assoc rows (row ∷ []) it.2; each = each; ends = other })
 
 -- ---- none is left out
@@ -120,11 +120,6 @@ has_first (y ∷ xs) ys x (inr h) = inr (has_first xs ys x h)
 has_second : {X : Type 0} (xs ys : List X) (x : X) → Has ys x → Has (xs ++ ys) x
 has_second [] ys x h = h
 has_second (y ∷ xs) ys x h = inr (has_second xs ys x h)
-
-at_place : (xs : List Row) (row d : Row) → Has xs row → (i : ℕ) × (i < length xs) × (get_or xs i d ≡ row)
-at_place [] row d none = absurd none
-at_place (x ∷ xs) row d (inl e) = (zero, omega arith, sym e)
-at_place (x ∷ xs) row d (inr more) = let it = at_place xs row d more in (suc it.0, omega arith, it.2)
 
 at_first : (xs : List Row) (r : Row) (ys : List Row) (d : Row) → get_or (xs ++ r ∷ ys) (length xs) d ≡ r
 at_first [] r ys d = refl

@@ -9,7 +9,7 @@ use Rattle.dump.specs.Progress.{DumpValue}
 use Rattle.tags.specs.Values.{TagValue}
 use Rattle.tables.specs.Columns.{tag_rows}
 use Rattle.tables.specs.Contents.{Contents, Replies, Keeps, IsReply, same_text, changed as replaced, kept}
-use Rattle.tables.specs.Stands.{Each, IsDump, AreTags, IsNew, StandsFor, replies_of}
+use Rattle.tables.specs.Stands.{Each, IsDump, AreTags, StandsFor, replies_of}
 use Rattle.tables.specs.State.{State, Accepted, Change, set_dump, set_tags, clear, accepted_text, changed, text_after}
 use Rattle.tables.proofs.Keeping.{same_text_is, same_text_itself, same_int_is}
 

@@ -1,5 +1,5 @@
 -- Texts of JSON.
-use Rattle.std.proofs.Common.{◌≡◌, ◌||◌, [], ◌∷◌, List, map, codes, Bool, true, false, refl, sym}
+use Rattle.std.proofs.Common.{◌≡◌, [], ◌∷◌, List, map, codes, Bool, true, false, refl}
 use Rattle.serde_json.specs.Data.{array}
 use Rattle.serde_json.specs.View.{items_of}
 use Rattle.serde_json.specs.Written.{has_float, items_have_float}

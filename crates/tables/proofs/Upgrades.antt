@@ -1,28 +1,28 @@
 -- Tables that were upgraded stand for the state that those of format 1 stood for.
 use Rattle.std.proofs.Common.{arith, ◌≡◌, ◌≢◌, ◌⊎◌, ◌↔◌, ◌&&◌, inl, inr, ℕ, ℤ, pos, Bool, true, false, List, [], ◌∷◌, Option, Some, None, refl, sym, ap, subst, ◌∙◌, int_cmp, is_eq}
-use Rattle.std.specs.List.{AllByRecursion, list_all}
+use Rattle.std.specs.List.{list_all}
 use Rattle.std.proofs.lemmas.Bool.{cases_Bool}
 use Rattle.sqlite_value.specs.Order.{Row}
-use Rattle.sqlite_value.specs.declared.value.Value.TheVariants.{Int, Text, Null}
+use Rattle.sqlite_value.specs.declared.value.Value.TheVariants.{Int, Null}
 use Rattle.sqlite_value.proofs.OrderLemmas.{value_cmp-Int}
 use Rattle.sqlite_sql.specs.Term.{holds, eval_all}
 use Rattle.sqlite_sql.specs.Ops.{binary}
 use Rattle.sqlite_schema.specs.declared.schema.Table.{Table}
-use Rattle.sqlite_trees.specs.Tree.{Trees, rowid}
+use Rattle.sqlite_trees.specs.Tree.{Trees}
 use Rattle.sqlite_rules.specs.Lists.{Has}
 use Rattle.sqlite_rules.proofs.ListLemmas.{all_has, has_filtered, has_kept}
 use Rattle.sqlite.specs.State as sqlite
 use Rattle.dump.specs.Progress.{DumpValue}
 use Rattle.tags.specs.Values.{TagValue}
 use Rattle.lsif.specs.declared.element.Profile.TheVariants.{One}
-use Rattle.tables.specs.Columns.{profile_columns, tag_rows}
+use Rattle.tables.specs.Columns.{profile_columns}
 use Rattle.tables.specs.Schema.{schema_one, schema_two, format, slot, keyed, document, range_row, item, hover, mark, bearer, tag}
-use Rattle.tables.specs.Databases.{version_row, IsOrdered, AllOrdered, AreNumbered, Holds, WasUpgraded, IsUpgraded, IsFormatOne, chosen, dump_tests, profile_shown}
-use Rattle.tables.specs.Contents.{Contents, Replies, Keeps, KeepsOne, IsSlot, IsOwned, IsReply, slot_row, owned, owned_one}
+use Rattle.tables.specs.Databases.{IsOrdered, AllOrdered, AreNumbered, Holds, WasUpgraded, IsUpgraded, IsFormatOne, chosen, dump_tests, profile_shown}
+use Rattle.tables.specs.Contents.{Contents, Replies, Keeps, KeepsOne, IsOwned, IsReply, slot_row, owned, owned_one}
 use Rattle.tables.specs.Stands.{Each, IsDump, IsDumpOne, AreTags, StandsFor, StandsIn, Rests, RestsOne, replies_of}
 use Rattle.tables.specs.State.{State}
 use Rattle.tables.proofs.Empty.{one_row, version_ordered, version_is}
-use Rattle.tables.proofs.Keeping.{from_map, to_map, slot_is, none_is_some, same_some, same_int_is, same_int_itself}
+use Rattle.tables.proofs.Keeping.{from_map, to_map, none_is_some, same_int_is, same_int_itself}
 use Rattle.tables.proofs.PartRemoved.{truly}
 
 -- ---- the rows of a part that format 2 has besides

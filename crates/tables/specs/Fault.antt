@@ -1,8 +1,8 @@
 -- Why the tables refuse: how each fault is printed, and which errors of the store are which.
-use Rattle.std.specs.Prelude.{ℕ, List, codes}
+use Rattle.std.specs.Prelude.{ℕ, Bool, true, List, codes}
 use Rattle.sqlite.specs.declared.error.Error.{Error}
 use Rattle.sqlite.specs.declared.error.Error.TheVariants.{SqliteFailure}
-use Rattle.sqlite.specs.declared.error.ErrorCode.TheVariants.{OutOfMemory}
+use Rattle.sqlite.specs.declared.error.ErrorCode.TheVariants.{OutOfMemory, SystemIoFailure}
 use Rattle.tables.specs.declared.fault.TablesFault.{TablesFault}
 use Rattle.tables.specs.declared.fault.TablesFault.TheVariants.{Refused, Memory, Foreign, OldFormat}
 
@@ -18,7 +18,9 @@ text_of Memory = codes "out of memory"
 text_of Foreign = codes "not a codenav database"
 text_of OldFormat = codes "database is of format 1"
 
--- want of memory, or a refusal for any other cause
-abbrev pub fault_of : Error → TablesFault
-fault_of (SqliteFailure OutOfMemory) = Memory
-fault_of _ = Refused
+-- Want of memory, in memory also where the store can't do what was asked, or a refusal for any other cause. The first argument says
+-- whether the database is in memory alone.
+abbrev pub fault_of : Bool → Error → TablesFault
+fault_of _ (SqliteFailure OutOfMemory) = Memory
+fault_of true (SqliteFailure SystemIoFailure) = Memory
+fault_of _ _ = Refused

@@ -1,19 +1,23 @@
 -- What selections find, and what they leave.
-use Rattle.std.specs.Prelude.{◌≡◌, ◌||◌, ℕ, Bool, true, List, Option, Some, None, is_some, string_bytes}
+use Rattle.std.specs.Prelude.{◌≡◌, ◌||◌, ℕ, Bool, true, List, map, Option, Some, None, is_some, string_bytes}
 use Rattle.std.specs.declared.cmp.Ordering.{Ordering}
 use Rattle.std.specs.Ordering.{nat_cmp, ordering_then}
 use Rattle.std.specs.Cmp.Lexicographic.{slice_cmp}
+use Rattle.std.specs.List.{AllZip}
 use Rattle.lsif.specs.declared.element.MonikerKind.{MonikerKind}
-use Rattle.positions.specs.Position.{IsPosition}
+use Rattle.positions.specs.Position.{PositionValue}
 use Rattle.positions.specs.Span.{SpanValue}
-use Rattle.lsif.specs.Element.{IdValue, range}
-use Rattle.dump.specs.Graph.{vertex_at}
+use Rattle.lsif.specs.Element.{ElementValue}
 use Rattle.dump.specs.declared.role.Role.{Role}
-use Rattle.dump.specs.Places.{PlaceValue, IsListing, place_cmp}
+use Rattle.dump.specs.Places.{PlaceValue, HasDocument, IsListing, place_cmp}
 use Rattle.dump.specs.Progress.{DumpValue}
-use Rattle.flatten.specs.Flat.{ResultsValue, BearerRowValue, IsBearerRow, IsHoverRow, IsItemRow, IsMarkRow, kind_index}
+use Rattle.dump.specs.Requests.{Cover, RangeValue}
+use Rattle.flatten.specs.Flat.{ResultsValue, AreResults, BearerRowValue, IsBearerRow, IsHoverRow, IsItemRow, IsMarkRow, kind_index, number_of}
 use Rattle.tables.specs.State.{State}
 use Rattle.tables.specs.declared.bearers.FoundBearer.{FoundBearer}
+use Rattle.tables.specs.declared.covering.Covering.{Covering}
+use Rattle.tables.specs.declared.covering.Covering.TheVariants.{NoDump, NoDocument, Ranges}
+use Rattle.tables.specs.declared.covering.FoundRange.{FoundRange}
 use Rattle.tables.specs.declared.items.FoundItem.{FoundItem}
 use Rattle.tables.specs.declared.marks.FoundMark.{FoundMark}
 use Rattle.tables.specs.declared.projects.ProjectRow.{ProjectRow}
@@ -89,6 +93,38 @@ HasItem m project result role place = (dump : DumpValue) × (m.dump project ≡ 
 -- the places of the result in the role, each once
 abbrev pub FindsItems : State → List ℕ → ℕ → Role → List PlaceValue → Type 0
 FindsItems m project result role = IsListing place_cmp (HasItem m project result role)
+
+-- ---- covering
+
+-- a range that is found: its number, its span and its first results
+pub record RangeFound : Type 0 where
+  pub line : ℕ
+  pub span : SpanValue
+  pub results : ResultsValue
+
+abbrev pub range_found : FoundRange → RangeFound
+range_found r = record {
+  line = r.line;
+  span = r.span;
+  results = record { definition = r.def; references = r.refs; hover = r.hover; declaration = r.decl; implementation = r.imp };
+}
+
+-- the range of the dump is found with its number, its span and its first results
+pub record IsRangeFound (elements : List ElementValue) (r : RangeValue) (found : RangeFound) : Type 0 where
+  pub at_line : number_of elements r.id ≡ Some found.line
+  pub span : r.span ≡ found.span
+  pub results : AreResults elements r.id found.results
+
+-- the ranges of the document of this uri that cover the position, the smallest first
+abbrev pub FindsCover : List ElementValue → List ℕ → PositionValue → List RangeFound → Type 0
+FindsCover elements uri position found = (ranges : List RangeValue) × Cover elements uri position ranges × AllZip (IsRangeFound elements) ranges found
+
+-- the project has no dump, or its dump no document of this uri, or these ranges of it cover the position
+abbrev pub FindsCovering : State → List ℕ → List ℕ → PositionValue → Covering → Type 0
+FindsCovering m project uri position NoDump = m.dump project ≡ None
+FindsCovering m project uri position NoDocument = (dump : DumpValue) × (m.dump project ≡ Some dump) × (HasDocument dump.elements uri → ⊥)
+FindsCovering m project uri position (Ranges found) =
+    (dump : DumpValue) × (m.dump project ≡ Some dump) × HasDocument dump.elements uri × FindsCover dump.elements uri position (map range_found found.items)
 
 -- ---- bearers
 

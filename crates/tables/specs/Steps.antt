@@ -1,9 +1,11 @@
 -- What only private contracts and proofs name: the texts of statements, what they test and change, and what a database holds between them.
+pub mod Climbs
 pub mod DumpEntries
 pub mod Kept
 pub mod Known
 pub mod Puts
 pub mod Queries
+pub mod Refusals
 pub mod Selected
 pub mod SelectionTexts
 pub mod Slots

@@ -21,7 +21,7 @@ ghost use Rattle.tables.specs.Steps.Known.{IsKnown, TellsBearer};
 
 use crate::columns::{column, kind_of};
 use crate::dump_rows::kind_number;
-use crate::fault::TablesFault;
+use crate::fault::{Refusal, TablesFault};
 use crate::selection::{Listed, select_all, select_first};
 use crate::tables::Tables;
 use lsif::MonikerKind;
@@ -58,7 +58,7 @@ struct SlotBearer {
 impl Listed for SlotBearer {
     ghost columns = { λ b. Int b.slot ∷ number b.line ∷ number (kind_index b.kind) ∷ optional b.def ∷ optional b.refs ∷ optional b.hover ∷ [] };
 
-    fn read(row: &Row) -> Result<SlotBearer, TablesFault> {
+    fn read(row: &Row) -> Result<SlotBearer, Refusal> {
         let kind = kind_of(column(row, 2)?)?;
         Ok(SlotBearer {
             slot: column(row, 0)?,
@@ -81,7 +81,7 @@ pub(crate) struct LineMore {
 impl Listed for LineMore {
     ghost columns = { λ more. optional more.decl ∷ optional more.imp ∷ [] };
 
-    fn read(row: &Row) -> Result<LineMore, TablesFault> {
+    fn read(row: &Row) -> Result<LineMore, Refusal> {
         Ok(LineMore {
             decl: column(row, 0)?,
             imp: column(row, 1)?,
@@ -94,7 +94,7 @@ pub(crate) fn more_of<S: Alter>(
     conn: &mut Connection<S>,
     slot: i64,
     line: u32,
-) -> Result<LineMore, TablesFault>
+) -> Result<LineMore, Refusal>
     ensures more { HasCleanDisk (state S.Store conn.new) → (state S.Store conn.old).now.schema ≡ schema_two → (m : State) → StandsFor (state S.Store conn.old).now.trees m
         → (project : List ℕ) (dump : DumpValue) → Has ((state S.Store conn.old).now.trees 1) (slot_row slot project (pos 1)) → m.dump project ≡ Some dump
         → (results : ResultsValue) → IsKnown dump line results → IfOk result (λ more. (more.decl ≡ results.declaration) × (more.imp ≡ results.implementation)) }
@@ -117,10 +117,7 @@ pub(crate) fn more_of<S: Alter>(
 }
 
 /// The project that a slot is of.
-pub(crate) fn slot_project<S: Alter>(
-    conn: &mut Connection<S>,
-    slot: i64,
-) -> Result<String, TablesFault>
+pub(crate) fn slot_project<S: Alter>(conn: &mut Connection<S>, slot: i64) -> Result<String, Refusal>
     ensures project { HasCleanDisk (state S.Store conn.new) → (state S.Store conn.old).now.schema ≡ schema_two → (parts : Contents) (replies : Replies) → Keeps (state S.Store conn.old).now.trees parts replies
         → (project : List ℕ) (part : ℤ) → Has ((state S.Store conn.old).now.trees 1) (slot_row slot project part) → IfOk result (λ found. string_bytes found ≡ project) }
     ensures kept { HasCleanDisk (state S.Store conn.new) → (state S.Store conn.old).now.schema ≡ schema_two → OnOk result (IsAsBefore (state S.Store conn.old) (state S.Store conn.new)) }
@@ -132,11 +129,11 @@ pub(crate) fn slot_project<S: Alter>(
         "SELECT project FROM slot WHERE id = ?1",
         params![slot],
     )?;
-    found.ok_or(TablesFault::Refused)
+    found.ok_or(Refusal::Row)
 }
 
 /// The bearer that a row tells, with its project, its declaration and its implementation.
-fn complete<S: Alter>(conn: &mut Connection<S>, row: SlotBearer) -> Result<FoundBearer, TablesFault>
+fn complete<S: Alter>(conn: &mut Connection<S>, row: SlotBearer) -> Result<FoundBearer, Refusal>
     ensures whole { HasCleanDisk (state S.Store conn.new) → (state S.Store conn.old).now.schema ≡ schema_two → (m : State) → StandsFor (state S.Store conn.old).now.trees m
         → (key : List ℕ) (v : BearerFound) → TellsBearer (state S.Store conn.old).now.trees m key row v → IfOk result (λ found. bearer_found found ≡ v) }
     ensures kept { HasCleanDisk (state S.Store conn.new) → (state S.Store conn.old).now.schema ≡ schema_two → OnOk result (IsAsBefore (state S.Store conn.old) (state S.Store conn.new)) }
@@ -162,7 +159,7 @@ fn select_bearers<S: Alter>(
     alloc: Global,
     conn: &mut Connection<S>,
     key: &str,
-) -> Result<Vec<SlotBearer>, TablesFault>
+) -> Result<Vec<SlotBearer>, Refusal>
     ensures each { HasCleanDisk (state S.Store conn.new) → (state S.Store conn.old).now.schema ≡ schema_two → (m : State) → StandsFor (state S.Store conn.old).now.trees m
         → IfOk result (λ rows. AllByRecursion (λ x. (v : BearerFound) × TellsBearer (state S.Store conn.old).now.trees m key.now x v) rows.items) }
     ensures all { HasCleanDisk (state S.Store conn.new) → (state S.Store conn.old).now.schema ≡ schema_two → (m : State) → StandsFor (state S.Store conn.old).now.trees m
@@ -204,7 +201,7 @@ fn find_bearers<S: Alter>(
     alloc: Global,
     conn: &mut Connection<S>,
     key: &str,
-) -> Result<Vec<FoundBearer>, TablesFault>
+) -> Result<Vec<FoundBearer>, Refusal>
     ensures found { HasCleanDisk (state S.Store conn.new) → (state S.Store conn.old).now.schema ≡ schema_two → (m : State) → StandsFor (state S.Store conn.old).now.trees m → IfOk result (λ found. FindsBearers m key.now (map bearer_found found.items)) }
     ensures looks { Looks (state S.Store conn.old) (state S.Store conn.new) }
     ensures mode { conn.old.in_transaction ≡ false → conn.new.in_transaction ≡ false }
@@ -214,7 +211,7 @@ fn find_bearers<S: Alter>(
     while let Some(row) = left.pop() {
         let bearer = complete(conn, row)?;
         if found.push(bearer).is_err() {
-            return Err(TablesFault::Memory);
+            return Err(Refusal::Memory);
         }
     }
     list_bearers(&mut found);
@@ -223,12 +220,16 @@ fn find_bearers<S: Alter>(
 
 impl<S: Alter> Tables<S> {
     /// The bearers of a key in the dumps of all projects: each once, by project (its bytes), line and kind. The key is as `flatten::key_text` makes it.
-    /// It's `Refused` where the store refuses, or where a row isn't one of this product's, and `Memory` where memory is refused.
+    /// It's `Refused` where the store refuses, or where a row isn't one of this product's, and `Memory` where memory is refused, also to a database in
+    /// memory (`in_memory`).
     pub fn bearers(&mut self, alloc: Global, key: &str) -> Result<Vec<FoundBearer>, TablesFault>
         ensures found { HasCleanDisk (state S.Store self.new) → (m : State) → Rests (state S.Store self.old) m → IfOk result (λ found. FindsBearers m key.now (map bearer_found found.items)) }
         ensures same { HasCleanDisk (state S.Store self.new) → IsTrue (state S.Store self.new).is_open → (m : State) → Rests (state S.Store self.old) m → IsAsBefore (state S.Store self.old) (state S.Store self.new) }
         ensures survives { (m : State) → Rests (state S.Store self.old) m → Survives (state S.Store self.old) (state S.Store self.new) (λ _. ⊥) }
     {
-        find_bearers(alloc, &mut self.conn, key)
+        match find_bearers(alloc, &mut self.conn, key) {
+            Ok(found) => Ok(found),
+            Err(refusal) => Err(refusal.fault(self.is_in_memory)),
+        }
     }
 }

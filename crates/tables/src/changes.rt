@@ -208,7 +208,8 @@ impl<S: Alter> Tables<S> {
     /// the reply under the key, all in one transaction: the key must not be kept yet, and the rows be those of a dump without
     /// fault.
     ///
-    /// With each fault the tables are as they were: `Memory` where memory was refused, `Refused` where the store refused.
+    /// With each fault the tables are as they were: `Memory` where memory was refused, also to a database in memory (`in_memory`), and `Refused` where
+    /// the store refused for another cause.
     pub fn replace_dump(
         &mut self,
         project: &str,
@@ -225,14 +226,15 @@ impl<S: Alter> Tables<S> {
     {
         match commit_dump(&mut self.conn, project, key, reply, rows) {
             Ok(()) => Ok(()),
-            Err(error) => Err(fault_of(error)),
+            Err(error) => Err(fault_of(self.is_in_memory, error)),
         }
     }
 
     /// Puts tags in the place of those that the project has, where it has some, and keeps the text of the reply under the key,
     /// all in one transaction: the key must not be kept yet. No tags are a part too.
     ///
-    /// With each fault the tables are as they were: `Memory` where memory was refused, `Refused` where the store refused.
+    /// With each fault the tables are as they were: `Memory` where memory was refused, also to a database in memory (`in_memory`), and `Refused` where
+    /// the store refused for another cause.
     pub fn replace_tags(
         &mut self,
         alloc: Global,
@@ -250,14 +252,15 @@ impl<S: Alter> Tables<S> {
     {
         match commit_tags(alloc, &mut self.conn, project, key, reply, tags) {
             Ok(()) => Ok(()),
-            Err(error) => Err(fault_of(error)),
+            Err(error) => Err(fault_of(self.is_in_memory, error)),
         }
     }
 
     /// Takes out the dump and the tags of the project, and keeps under the key, which must not be kept yet, the text of the reply,
     /// all in one transaction: whether either was there.
     ///
-    /// With each fault the tables are as they were: `Memory` where memory was refused, `Refused` where the store refused.
+    /// With each fault the tables are as they were: `Memory` where memory was refused, also to a database in memory (`in_memory`), and `Refused` where
+    /// the store refused for another cause.
     pub fn remove(&mut self, project: &str, key: &str) -> Result<bool, TablesFault>
         ensures done { HasCleanDisk (state S.Store self.new) → (m : State) → Rests (state S.Store self.old) m → m.kept project.now key.now ≡ None
             → IfOk result (λ was_there. (was_there ≡ (is_some (m.dump project.now) || is_some (m.tags project.now))) × Rests (state S.Store self.new) (changed m project.now key.now clear)) }
@@ -268,7 +271,7 @@ impl<S: Alter> Tables<S> {
     {
         match commit_removal(&mut self.conn, project, key) {
             Ok(was_there) => Ok(was_there),
-            Err(error) => Err(fault_of(error)),
+            Err(error) => Err(fault_of(self.is_in_memory, error)),
         }
     }
 }

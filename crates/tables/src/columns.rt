@@ -6,7 +6,7 @@ ghost use Rattle.positions.specs.Position.{IsPosition};
 ghost use Rattle.tables.specs.Columns.{position};
 ghost use Rattle.flatten.specs.Flat.{kind_index};
 
-use crate::fault::{TablesFault, fault_of};
+use crate::fault::Refusal;
 use crate::selection::Listed;
 use lsif::MonikerKind;
 use positions::{Position, Span};
@@ -14,42 +14,42 @@ use sqlite::Row;
 use sqlite::types::FromSql;
 
 /// The value of one column.
-pub(crate) fn column<T: FromSql>(row: &Row, at: usize) -> Result<T, TablesFault>
+pub(crate) fn column<T: FromSql>(row: &Row, at: usize) -> Result<T, Refusal>
     ensures { IfOk result (λ x. T.reads_as (column row.now at) x) }
 {
     match row.get(at) {
         Ok(value) => Ok(value),
-        Err(error) => Err(fault_of(error)),
+        Err(error) => Err(Refusal::Store(error)),
     }
 }
 
 /// The kind of a moniker that has this number in a row.
-pub(crate) fn kind_of(number: u32) -> Result<MonikerKind, TablesFault>
+pub(crate) fn kind_of(number: u32) -> Result<MonikerKind, Refusal>
     ensures { IfOk result (λ kind. kind_index kind ≡ number) }
 {
     match number {
         0 => Ok(MonikerKind::Import),
         1 => Ok(MonikerKind::Export),
         2 => Ok(MonikerKind::Local),
-        _ => Err(TablesFault::Refused),
+        _ => Err(Refusal::Row),
     }
 }
 
 /// The span from and to the positions that have these numbers.
-pub(crate) fn span_of(start: i64, end: i64) -> Result<Span, TablesFault>
+pub(crate) fn span_of(start: i64, end: i64) -> Result<Span, Refusal>
     ensures columns { IfOk result (λ span. (Int start ≡ position span.start) × (Int end ≡ position span.«end»)) }
     ensures sound { IfOk result (λ span. IsPosition span.start × IsPosition span.«end») }
 {
     match (Position::unpack(start), Position::unpack(end)) {
-        (Some(start), Some(end)) => Span::new(start, end).ok_or(TablesFault::Refused),
-        _ => Err(TablesFault::Refused),
+        (Some(start), Some(end)) => Span::new(start, end).ok_or(Refusal::Row),
+        _ => Err(Refusal::Row),
     }
 }
 
 impl Listed for String {
     ghost columns = { λ text. Text (string_bytes text) ∷ [] };
 
-    fn read(row: &Row) -> Result<String, TablesFault> {
+    fn read(row: &Row) -> Result<String, Refusal> {
         column(row, 0)
     }
 }
@@ -57,7 +57,7 @@ impl Listed for String {
 impl Listed for i64 {
     ghost columns = { λ n. Int n ∷ [] };
 
-    fn read(row: &Row) -> Result<i64, TablesFault> {
+    fn read(row: &Row) -> Result<i64, Refusal> {
         column(row, 0)
     }
 }

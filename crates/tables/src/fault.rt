@@ -1,6 +1,7 @@
 //! Why the tables refuse.
 ghost use Rattle.std.specs.Prelude.{◌≡◌};
 ghost use Rattle.tables.specs.Fault.{name_of, text_of, fault_of};
+ghost use Rattle.tables.specs.Steps.Refusals.{told_fault};
 
 use sqlite::{Error, ErrorCode};
 
@@ -9,7 +10,7 @@ use sqlite::{Error, ErrorCode};
 pub enum TablesFault {
     /// The store or a statement refused, for another cause than memory.
     Refused,
-    /// Memory was refused.
+    /// Memory was refused, also to the store of a database in memory.
     Memory,
     /// The database isn't the product's: something has the name of one of its tables, and no version can be read.
     Foreign,
@@ -43,12 +44,37 @@ impl TablesFault {
     }
 }
 
-/// The fault that an error of the store is.
-pub(crate) fn fault_of(error: Error) -> TablesFault
-    ensures { result ≡ fault_of error }
+/// The fault that an error of the store is, of a database in memory or of another. What a store in memory can't do is for want of memory.
+pub(crate) fn fault_of(is_in_memory: bool, error: Error) -> TablesFault
+    ensures { result ≡ fault_of is_in_memory error }
 {
     match error {
         Error::SqliteFailure(ErrorCode::OutOfMemory) => TablesFault::Memory,
+        Error::SqliteFailure(ErrorCode::SystemIoFailure) if is_in_memory => TablesFault::Memory,
         _ => TablesFault::Refused,
+    }
+}
+
+/// Why a private function refuses.
+#[derive(Clone, Copy)]
+pub(crate) enum Refusal {
+    /// The store refused with this error.
+    Store(Error),
+    /// A row isn't one of this product's.
+    Row,
+    /// Memory was refused to work beside the store's.
+    Memory,
+}
+
+impl Refusal {
+    /// The fault that it is, of a database in memory or of another.
+    pub(crate) fn fault(self, is_in_memory: bool) -> TablesFault
+        ensures { result ≡ told_fault is_in_memory self }
+    {
+        match self {
+            Refusal::Store(error) => fault_of(is_in_memory, error),
+            Refusal::Row => TablesFault::Refused,
+            Refusal::Memory => TablesFault::Memory,
+        }
     }
 }

@@ -17,7 +17,7 @@ ghost use Rattle.tables.specs.Steps.TagRows.{AllTell, Grows, IsFoundIf, IsTold, 
 
 use crate::bearers::slot_project;
 use crate::columns::column;
-use crate::fault::TablesFault;
+use crate::fault::Refusal;
 use crate::selection::Listed;
 use serde_json::{Category, Value};
 use sqlite::{Alter, Connection, Row};
@@ -46,7 +46,7 @@ pub(crate) struct TagRow {
 impl Listed for TagRow {
     ghost columns = { tag_row_columns };
 
-    fn read(row: &Row) -> Result<TagRow, TablesFault> {
+    fn read(row: &Row) -> Result<TagRow, Refusal> {
         Ok(TagRow {
             slot: column(row, 0)?,
             line: column(row, 1)?,
@@ -60,54 +60,54 @@ impl Listed for TagRow {
 }
 
 /// The text that a JSON value is.
-fn text_of(value: Value) -> Result<String, TablesFault>
+fn text_of(value: Value) -> Result<String, Refusal>
     ensures { (text : List ℕ) → view value ≡ string text → IfOk result (λ found. string_bytes found ≡ text) }
 {
     match value {
         Value::String(text) => Ok(text),
-        _ => Err(TablesFault::Refused),
+        _ => Err(Refusal::Row),
     }
 }
 
 /// The field that a JSON value is: a pair of a name and a value.
-fn field_of(value: Value) -> Result<Field, TablesFault>
+fn field_of(value: Value) -> Result<Field, Refusal>
     ensures { (field : FieldValue) → view value ≡ field_data field → IfOk result (λ found. field_value found ≡ field) }
 {
     let Value::Array(mut pair) = value else {
-        return Err(TablesFault::Refused);
+        return Err(Refusal::Row);
     };
     match (pair.pop(), pair.pop(), pair.pop()) {
         (Some(text), Some(name), None) => Ok(Field {
             name: text_of(name)?,
             value: text_of(text)?,
         }),
-        _ => Err(TablesFault::Refused),
+        _ => Err(Refusal::Row),
     }
 }
 
 /// The JSON value that a text is.
-fn value_of(alloc: Global, text: &str) -> Result<Value, TablesFault>
+fn value_of(alloc: Global, text: &str) -> Result<Value, Refusal>
     ensures { IfOk result (λ value. read_text text.now ≡ Some (view value)) }
 {
     match Value::from_str(alloc, text) {
         Ok(value) => Ok(value),
-        Err(e) if matches!(e.classify(), Category::Memory) => Err(TablesFault::Memory),
-        Err(_) => Err(TablesFault::Refused),
+        Err(e) if matches!(e.classify(), Category::Memory) => Err(Refusal::Memory),
+        Err(_) => Err(Refusal::Row),
     }
 }
 
 /// The items of the JSON array that a text is.
-fn items_of(alloc: Global, text: &str) -> Result<Vec<Value>, TablesFault>
+fn items_of(alloc: Global, text: &str) -> Result<Vec<Value>, Refusal>
     ensures { (fields : List FieldValue) → text.now ≡ fields_text fields → IfOk result (λ items. map view items.items ≡ map field_data fields) }
 {
     match value_of(alloc, text)? {
         Value::Array(items) => Ok(items),
-        _ => Err(TablesFault::Refused),
+        _ => Err(Refusal::Row),
     }
 }
 
 /// The fields that have this text.
-fn fields_of(alloc: Global, text: &str) -> Result<Vec<Field>, TablesFault>
+fn fields_of(alloc: Global, text: &str) -> Result<Vec<Field>, Refusal>
     ensures { (fields : List FieldValue) → text.now ≡ fields_text fields → IfOk result (λ found. map field_value found.items ≡ fields) }
 {
     let items = items_of(alloc, text)?;
@@ -115,14 +115,14 @@ fn fields_of(alloc: Global, text: &str) -> Result<Vec<Field>, TablesFault>
     for item in items {
         let field = field_of(item)?;
         if found.push(field).is_err() {
-            return Err(TablesFault::Memory);
+            return Err(Refusal::Memory);
         }
     }
     Ok(found)
 }
 
 /// The tag that a row tells.
-fn tag_of(alloc: Global, row: TagRow) -> Result<Tag, TablesFault>
+fn tag_of(alloc: Global, row: TagRow) -> Result<Tag, Refusal>
     ensures { (tag : TagValue) → columns_of row ≡ tag_columns tag → IfOk result (λ found. tag_value found ≡ tag) }
 {
     let fields = fields_of(alloc, row.fields.as_str())?;
@@ -152,7 +152,7 @@ fn complete<S: Alter>(
     conn: &mut Connection<S>,
     row: TagRow,
     asked: Option<&str>,
-) -> Result<Option<FoundTag>, TablesFault>
+) -> Result<Option<FoundTag>, Refusal>
     ensures whole { HasCleanDisk (state S.Store conn.new) → (state S.Store conn.old).now.schema ≡ schema_two → (m : State) → StandsFor (state S.Store conn.old).now.trees m
         → (v : FoundTagValue) → TellsTag (state S.Store conn.old).now.trees m row v → IfOk result (IsFoundIf (option_map (λ p. p.now) asked.entry) v) }
     ensures kept { HasCleanDisk (state S.Store conn.new) → (state S.Store conn.old).now.schema ≡ schema_two → OnOk result (IsAsBefore (state S.Store conn.old) (state S.Store conn.new)) }
@@ -168,7 +168,7 @@ fn complete<S: Alter>(
 }
 
 /// Puts the tag behind those that were found, where there is one.
-fn push_some(found: &mut Vec<FoundTag>, tag: Option<FoundTag>) -> Result<(), TablesFault>
+fn push_some(found: &mut Vec<FoundTag>, tag: Option<FoundTag>) -> Result<(), Refusal>
     ensures { OnOk result (Grows tag found.old.items found.new.items) }
 {
     let Some(tag) = tag else {
@@ -176,7 +176,7 @@ fn push_some(found: &mut Vec<FoundTag>, tag: Option<FoundTag>) -> Result<(), Tab
     };
     match found.push(tag) {
         Ok(()) => Ok(()),
-        Err(_) => Err(TablesFault::Memory),
+        Err(_) => Err(Refusal::Memory),
     }
 }
 
@@ -186,7 +186,7 @@ pub(crate) fn complete_all<S: Alter>(
     conn: &mut Connection<S>,
     rows: Vec<TagRow>,
     asked: Option<&str>,
-) -> Result<Vec<FoundTag>, TablesFault>
+) -> Result<Vec<FoundTag>, Refusal>
     ensures found { HasCleanDisk (state S.Store conn.new) → (state S.Store conn.old).now.schema ≡ schema_two → (m : State) → StandsFor (state S.Store conn.old).now.trees m
         → AllTell (state S.Store conn.old).now.trees m rows.items
         → IfOk result (λ found. (v : FoundTagValue) → Contains (map tag_found found.items) v ↔ (IsTold (state S.Store conn.old).now.trees m rows.items v × IsAsked (option_map (λ p. p.now) asked.entry) v.project)) }

@@ -16,7 +16,7 @@ ghost use Rattle.tables.specs.Steps.Selected.{Looks};
 
 use crate::columns::{column, span_of};
 use crate::dump_rows::role_number;
-use crate::fault::TablesFault;
+use crate::fault::{Refusal, TablesFault};
 use crate::parts::find_slot;
 use crate::selection::{Listed, select_all};
 use crate::slots::Part;
@@ -41,7 +41,7 @@ impl Listed for FoundItem {
 
     ghost is_sound = { λ item. IsPosition item.span.start × IsPosition item.span.«end» };
 
-    fn read(row: &Row) -> Result<FoundItem, TablesFault> {
+    fn read(row: &Row) -> Result<FoundItem, Refusal> {
         let span = span_of(column(row, 1)?, column(row, 2)?)?;
         Ok(FoundItem {
             uri: column(row, 0)?,
@@ -74,7 +74,7 @@ fn items_in<S: Alter>(
     slot: i64,
     result_number: u32,
     role: Role,
-) -> Result<Vec<FoundItem>, TablesFault>
+) -> Result<Vec<FoundItem>, Refusal>
     ensures found { HasCleanDisk (state S.Store conn.new) → (state S.Store conn.old).now.schema ≡ schema_two → (m : State) → StandsFor (state S.Store conn.old).now.trees m
         → (project : List ℕ) → Has ((state S.Store conn.old).now.trees 1) (slot_row slot project (pos 1)) → IfOk result (λ found. FindsItems m project result_number role (map item_found found.items)) }
     ensures looks { Looks (state S.Store conn.old) (state S.Store conn.new) }
@@ -98,7 +98,7 @@ fn find_items<S: Alter>(
     project: &str,
     result_number: u32,
     role: Role,
-) -> Result<Vec<FoundItem>, TablesFault>
+) -> Result<Vec<FoundItem>, Refusal>
     ensures found { HasCleanDisk (state S.Store conn.new) → (state S.Store conn.old).now.schema ≡ schema_two → (m : State) → StandsFor (state S.Store conn.old).now.trees m → IfOk result (λ found. FindsItems m project.now result_number role (map item_found found.items)) }
     ensures looks { Looks (state S.Store conn.old) (state S.Store conn.new) }
     ensures mode { conn.old.in_transaction ≡ false → conn.new.in_transaction ≡ false }
@@ -111,8 +111,8 @@ fn find_items<S: Alter>(
 
 impl<S: Alter> Tables<S> {
     /// The places that a result of the project's dump has in a role, by the result's number: each once, by uri, start and end, and none where the dump
-    /// has no such result or the project no dump. It's `Refused` where the store refuses, or where a row isn't one of this product's, and `Memory` where
-    /// memory is refused.
+    /// has no such result or the project no dump. It's `Refused` where the store refuses, or where a row isn't one of this product's, and `Memory`
+    /// where memory is refused, also to a database in memory (`in_memory`).
     pub fn items(
         &mut self,
         alloc: Global,
@@ -124,6 +124,9 @@ impl<S: Alter> Tables<S> {
         ensures same { HasCleanDisk (state S.Store self.new) → IsTrue (state S.Store self.new).is_open → (m : State) → Rests (state S.Store self.old) m → IsAsBefore (state S.Store self.old) (state S.Store self.new) }
         ensures survives { (m : State) → Rests (state S.Store self.old) m → Survives (state S.Store self.old) (state S.Store self.new) (λ _. ⊥) }
     {
-        find_items(alloc, &mut self.conn, project, result_number, role)
+        match find_items(alloc, &mut self.conn, project, result_number, role) {
+            Ok(found) => Ok(found),
+            Err(refusal) => Err(refusal.fault(self.is_in_memory)),
+        }
     }
 }

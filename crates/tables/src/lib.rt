@@ -5,6 +5,8 @@
 mod bearers;
 mod changes;
 mod columns;
+mod covering;
+mod documents;
 mod dump_part;
 mod dump_rows;
 mod fault;
@@ -19,6 +21,7 @@ mod names;
 mod part_rows;
 mod parts;
 mod projects;
+mod range_rows;
 mod replies;
 mod results;
 mod selection;
@@ -27,6 +30,7 @@ mod tables;
 mod tags_part;
 
 pub use bearers::FoundBearer;
+pub use covering::{Covering, FoundRange};
 pub use fault::TablesFault;
 pub use found_tags::FoundTag;
 pub use items::FoundItem;
@@ -40,6 +44,8 @@ pub use tables::Tables;
 mod tests;
 #[cfg(test)]
 mod tests_changes;
+#[cfg(test)]
+mod tests_covering;
 #[cfg(test)]
 mod tests_names;
 #[cfg(test)]

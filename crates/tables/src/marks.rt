@@ -16,7 +16,7 @@ ghost use Rattle.tables.specs.Steps.Selected.{Looks};
 
 use crate::columns::{column, kind_of};
 use crate::dump_rows::kind_number;
-use crate::fault::TablesFault;
+use crate::fault::{Refusal, TablesFault};
 use crate::parts::find_slot;
 use crate::selection::{Listed, select_all};
 use crate::slots::Part;
@@ -37,7 +37,7 @@ pub struct FoundMark {
 impl Listed for FoundMark {
     ghost columns = { λ mark. number (kind_index mark.kind) ∷ Text (string_bytes mark.key) ∷ [] };
 
-    fn read(row: &Row) -> Result<FoundMark, TablesFault> {
+    fn read(row: &Row) -> Result<FoundMark, Refusal> {
         let kind = kind_of(column(row, 0)?)?;
         Ok(FoundMark {
             kind,
@@ -69,7 +69,7 @@ fn marks_in<S: Alter>(
     conn: &mut Connection<S>,
     slot: i64,
     line: u32,
-) -> Result<Vec<FoundMark>, TablesFault>
+) -> Result<Vec<FoundMark>, Refusal>
     ensures found { HasCleanDisk (state S.Store conn.new) → (state S.Store conn.old).now.schema ≡ schema_two → (m : State) → StandsFor (state S.Store conn.old).now.trees m
         → (project : List ℕ) → Has ((state S.Store conn.old).now.trees 1) (slot_row slot project (pos 1)) → IfOk result (λ found. FindsMarks m project line (map mark_found found.items)) }
     ensures looks { Looks (state S.Store conn.old) (state S.Store conn.new) }
@@ -91,7 +91,7 @@ fn find_marks<S: Alter>(
     conn: &mut Connection<S>,
     project: &str,
     line: u32,
-) -> Result<Vec<FoundMark>, TablesFault>
+) -> Result<Vec<FoundMark>, Refusal>
     ensures found { HasCleanDisk (state S.Store conn.new) → (state S.Store conn.old).now.schema ≡ schema_two → (m : State) → StandsFor (state S.Store conn.old).now.trees m → IfOk result (λ found. FindsMarks m project.now line (map mark_found found.items)) }
     ensures looks { Looks (state S.Store conn.old) (state S.Store conn.new) }
     ensures mode { conn.old.in_transaction ≡ false → conn.new.in_transaction ≡ false }
@@ -103,8 +103,9 @@ fn find_marks<S: Alter>(
 }
 
 impl<S: Alter> Tables<S> {
-    /// The marks of the range at this line of the project's dump, counted from 1: each once, by kind and key, and none where there is no such range. It's
-    /// `Refused` where the store refuses, or where a row isn't one of this product's, and `Memory` where memory is refused.
+    /// The marks of the range at this line of the project's dump, counted from 1: each once, by kind and key, and none where there is no such range.
+    /// It's `Refused` where the store refuses, or where a row isn't one of this product's, and `Memory` where memory is refused, also to a database in
+    /// memory (`in_memory`).
     pub fn marks(
         &mut self,
         alloc: Global,
@@ -115,6 +116,9 @@ impl<S: Alter> Tables<S> {
         ensures same { HasCleanDisk (state S.Store self.new) → IsTrue (state S.Store self.new).is_open → (m : State) → Rests (state S.Store self.old) m → IsAsBefore (state S.Store self.old) (state S.Store self.new) }
         ensures survives { (m : State) → Rests (state S.Store self.old) m → Survives (state S.Store self.old) (state S.Store self.new) (λ _. ⊥) }
     {
-        find_marks(alloc, &mut self.conn, project, line)
+        match find_marks(alloc, &mut self.conn, project, line) {
+            Ok(found) => Ok(found),
+            Err(refusal) => Err(refusal.fault(self.is_in_memory)),
+        }
     }
 }

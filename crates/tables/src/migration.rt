@@ -69,13 +69,14 @@ pub fn migrate<S: Alter>(
     ensures whole { IsFormatOne (state S.Store conn).now → IfOk result (λ r. HasCleanDisk (state S.Store r.0) → IsFormatTwo (state S.Store r.0).now) }
     ensures stopped { IsFormatOne (state S.Store conn).now → IfErr result (λ e. HasCleanDisk (state S.Store e.1) → Survives (state S.Store conn) (state S.Store e.1) (WasUpgraded (state S.Store conn).now.trees)) }
 {
+    let is_in_memory = false;
     match find_format(&mut conn) {
         Ok(Format::One) => match upgrade(&mut conn) {
-            Ok(()) => Ok((Tables { conn }, true)),
-            Err(error) => Err((fault_of(error), conn)),
+            Ok(()) => Ok((Tables { conn, is_in_memory }, true)),
+            Err(error) => Err((fault_of(is_in_memory, error), conn)),
         },
-        Ok(Format::Two) => Ok((Tables { conn }, false)),
+        Ok(Format::Two) => Ok((Tables { conn, is_in_memory }, false)),
         Ok(_) => Err((TablesFault::Foreign, conn)),
-        Err(error) => Err((fault_of(error), conn)),
+        Err(error) => Err((fault_of(is_in_memory, error), conn)),
     }
 }

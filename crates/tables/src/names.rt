@@ -11,7 +11,7 @@ ghost use Rattle.tables.specs.Steps.Selected.{AreRead, Looks};
 ghost use Rattle.tables.specs.Steps.TagRows.{TellNamed, tag_row_columns, with_prefix};
 ghost use Rattle.tables.specs.declared.found_tags.TagRow.{TagRow};
 
-use crate::fault::{TablesFault, fault_of};
+use crate::fault::{Refusal, TablesFault};
 use crate::found_tags::{FoundTag, TagRow, complete_all};
 use crate::selection::{read_all, select_all};
 use crate::tables::Tables;
@@ -28,15 +28,15 @@ fn order_by_line(a: &FoundTag, b: &FoundTag) -> Ordering
     a.project.as_str().cmp(b.project.as_str()).then(lines)
 }
 
-/// Puts the tags in order by project and line. It's `Refused` where a project has two tags of one line, which the key of `tag` forbids.
-fn list_by_line(found: &mut Vec<FoundTag>) -> Result<(), TablesFault>
+/// Puts the tags in order by project and line. It's `Row` where a project has two tags of one line, which the key of `tag` forbids.
+fn list_by_line(found: &mut Vec<FoundTag>) -> Result<(), Refusal>
     ensures { OnOk result (IsListing line_cmp (Contains (map tag_found found.old.items)) (map tag_found found.new.items)) }
 {
     found.sort_unstable_by(|a, b| order_by_line(a, b));
     if found.is_sorted_by(|a, b| order_by_line(a, b).is_lt()) {
         Ok(())
     } else {
-        Err(TablesFault::Refused)
+        Err(Refusal::Row)
     }
 }
 
@@ -48,15 +48,15 @@ fn order_by_name(a: &FoundTag, b: &FoundTag) -> Ordering
     names.then(order_by_line(a, b))
 }
 
-/// Puts the tags in order by name, project and line. It's `Refused` where a project has two tags of one line, which the key of `tag` forbids.
-fn list_by_name(found: &mut Vec<FoundTag>) -> Result<(), TablesFault>
+/// Puts the tags in order by name, project and line. It's `Row` where a project has two tags of one line, which the key of `tag` forbids.
+fn list_by_name(found: &mut Vec<FoundTag>) -> Result<(), Refusal>
     ensures { OnOk result (IsListing name_cmp (Contains (map tag_found found.old.items)) (map tag_found found.new.items)) }
 {
     found.sort_unstable_by(|a, b| order_by_name(a, b));
     if found.is_sorted_by(|a, b| order_by_name(a, b).is_lt()) {
         Ok(())
     } else {
-        Err(TablesFault::Refused)
+        Err(Refusal::Row)
     }
 }
 
@@ -65,7 +65,7 @@ fn select_named<S: Alter>(
     alloc: Global,
     conn: &mut Connection<S>,
     name: &str,
-) -> Result<Vec<TagRow>, TablesFault>
+) -> Result<Vec<TagRow>, Refusal>
     ensures rows { HasCleanDisk (state S.Store conn.new) → (state S.Store conn.old).now.schema ≡ schema_two → (m : State) → StandsFor (state S.Store conn.old).now.trees m
         → IfOk result (λ rows. TellNamed (state S.Store conn.old).now.trees m (λ text. text ≡ name.now) rows.items) }
     ensures kept { HasCleanDisk (state S.Store conn.new) → (state S.Store conn.old).now.schema ≡ schema_two → OnOk result (IsAsBefore (state S.Store conn.old) (state S.Store conn.new)) }
@@ -86,7 +86,7 @@ fn find_named<S: Alter>(
     conn: &mut Connection<S>,
     name: &str,
     asked: Option<&str>,
-) -> Result<Vec<FoundTag>, TablesFault>
+) -> Result<Vec<FoundTag>, Refusal>
     ensures found { HasCleanDisk (state S.Store conn.new) → (state S.Store conn.old).now.schema ≡ schema_two → (m : State) → StandsFor (state S.Store conn.old).now.trees m
         → IfOk result (λ found. IsListing line_cmp (λ (f : FoundTagValue). IsTag m (option_map (λ p. p.now) asked.entry) f × (f.tag.name ≡ name.now)) (map tag_found found.items)) }
     ensures looks { Looks (state S.Store conn.old) (state S.Store conn.new) }
@@ -142,7 +142,7 @@ fn select_prefixed<S: Alter>(
     alloc: Global,
     conn: &mut Connection<S>,
     prefix: &str,
-) -> Result<Vec<TagRow>, TablesFault>
+) -> Result<Vec<TagRow>, Refusal>
     ensures rows { HasCleanDisk (state S.Store conn.new) → (state S.Store conn.old).now.schema ≡ schema_two → (m : State) → StandsFor (state S.Store conn.old).now.trees m
         → IfOk result (λ rows. TellNamed (state S.Store conn.old).now.trees m (λ text. BeginsWith text prefix.now) rows.items) }
     ensures kept { HasCleanDisk (state S.Store conn.new) → (state S.Store conn.old).now.schema ≡ schema_two → OnOk result (IsAsBefore (state S.Store conn.old) (state S.Store conn.new)) }
@@ -151,7 +151,7 @@ fn select_prefixed<S: Alter>(
 {
     match prefixed_rows(alloc, conn, prefix) {
         Ok(rows) => read_all(alloc, &rows),
-        Err(error) => Err(fault_of(error)),
+        Err(error) => Err(Refusal::Store(error)),
     }
 }
 
@@ -161,7 +161,7 @@ fn find_prefixed<S: Alter>(
     conn: &mut Connection<S>,
     prefix: &str,
     asked: Option<&str>,
-) -> Result<Vec<FoundTag>, TablesFault>
+) -> Result<Vec<FoundTag>, Refusal>
     ensures found { HasCleanDisk (state S.Store conn.new) → (state S.Store conn.old).now.schema ≡ schema_two → (m : State) → StandsFor (state S.Store conn.old).now.trees m
         → IfOk result (λ found. IsListing name_cmp (λ (f : FoundTagValue). IsTag m (option_map (λ p. p.now) asked.entry) f × BeginsWith f.tag.name prefix.now) (map tag_found found.items)) }
     ensures looks { Looks (state S.Store conn.old) (state S.Store conn.new) }
@@ -175,7 +175,8 @@ fn find_prefixed<S: Alter>(
 
 impl<S: Alter> Tables<S> {
     /// The tags of this name: of the project, where one is given, and else of all. They are in order by project (its bytes) and line. It's `Refused`
-    /// where the store refuses, or where a row isn't one of this product's, and `Memory` where memory is refused.
+    /// where the store refuses, or where a row isn't one of this product's, and `Memory` where memory is refused, also to a database in memory
+    /// (`in_memory`).
     pub fn names_exact(
         &mut self,
         alloc: Global,
@@ -187,10 +188,14 @@ impl<S: Alter> Tables<S> {
         ensures same { HasCleanDisk (state S.Store self.new) → IsTrue (state S.Store self.new).is_open → (m : State) → Rests (state S.Store self.old) m → IsAsBefore (state S.Store self.old) (state S.Store self.new) }
         ensures survives { (m : State) → Rests (state S.Store self.old) m → Survives (state S.Store self.old) (state S.Store self.new) (λ _. ⊥) }
     {
-        find_named(alloc, &mut self.conn, name, project)
+        match find_named(alloc, &mut self.conn, name, project) {
+            Ok(found) => Ok(found),
+            Err(refusal) => Err(refusal.fault(self.is_in_memory)),
+        }
     }
-    /// The tags whose names begin with the text: of the project, where one is given, and else of all. They are in order by name (its bytes), project and
-    /// line. It's `Refused` where the store refuses, or where a row isn't one of this product's, and `Memory` where memory is refused.
+    /// The tags whose names begin with the text: of the project, where one is given, and else of all. They are in order by name (its bytes), project
+    /// and line. It's `Refused` where the store refuses, or where a row isn't one of this product's, and `Memory` where memory is refused, also to a
+    /// database in memory (`in_memory`).
     pub fn names_prefix(
         &mut self,
         alloc: Global,
@@ -202,6 +207,9 @@ impl<S: Alter> Tables<S> {
         ensures same { HasCleanDisk (state S.Store self.new) → IsTrue (state S.Store self.new).is_open → (m : State) → Rests (state S.Store self.old) m → IsAsBefore (state S.Store self.old) (state S.Store self.new) }
         ensures survives { (m : State) → Rests (state S.Store self.old) m → Survives (state S.Store self.old) (state S.Store self.new) (λ _. ⊥) }
     {
-        find_prefixed(alloc, &mut self.conn, prefix, project)
+        match find_prefixed(alloc, &mut self.conn, prefix, project) {
+            Ok(found) => Ok(found),
+            Err(refusal) => Err(refusal.fault(self.is_in_memory)),
+        }
     }
 }

@@ -14,7 +14,7 @@ ghost use Rattle.tables.specs.Steps.Selected.{Looks};
 ghost use Rattle.tables.specs.Steps.Slots.{IsSlotOf};
 
 use crate::columns::column;
-use crate::fault::TablesFault;
+use crate::fault::{Refusal, TablesFault};
 use crate::selection::{Listed, select_first};
 use crate::slots::{Part, part_number};
 use crate::tables::Tables;
@@ -26,7 +26,7 @@ pub(crate) fn find_slot<S: Alter>(
     conn: &mut Connection<S>,
     project: &str,
     part: Part,
-) -> Result<Option<i64>, TablesFault>
+) -> Result<Option<i64>, Refusal>
     ensures slot { HasCleanDisk (state S.Store conn.new) → (state S.Store conn.old).now.schema ≡ schema_two → (parts : Contents) (replies : Replies) → Keeps (state S.Store conn.old).now.trees parts replies
         → IfOk result (IsSlotOf (state S.Store conn.old).now.trees parts project.now (part_number part)) }
     ensures kept { HasCleanDisk (state S.Store conn.new) → (state S.Store conn.old).now.schema ≡ schema_two → OnOk result (IsAsBefore (state S.Store conn.old) (state S.Store conn.new)) }
@@ -44,18 +44,18 @@ pub(crate) fn find_slot<S: Alter>(
 impl Listed for Profile {
     ghost columns = { profile_columns };
 
-    fn read(row: &Row) -> Result<Profile, TablesFault> {
+    fn read(row: &Row) -> Result<Profile, Refusal> {
         let number: u32 = column(row, 0)?;
         match number {
             1 => Ok(Profile::One),
             2 => Ok(Profile::Two),
-            _ => Err(TablesFault::Refused),
+            _ => Err(Refusal::Row),
         }
     }
 }
 
 /// The profile of the dump that has this slot.
-fn profile_in<S: Alter>(conn: &mut Connection<S>, slot: i64) -> Result<Profile, TablesFault>
+fn profile_in<S: Alter>(conn: &mut Connection<S>, slot: i64) -> Result<Profile, Refusal>
     ensures profile { HasCleanDisk (state S.Store conn.new) → (state S.Store conn.old).now.schema ≡ schema_two → (m : State) → StandsFor (state S.Store conn.old).now.trees m
         → (project : List ℕ) (dump : DumpValue) → Has ((state S.Store conn.old).now.trees 1) (slot_row slot project (pos 1)) → m.dump project ≡ Some dump → IfOk result (λ profile. profile ≡ dump.profile) }
     ensures looks { Looks (state S.Store conn.old) (state S.Store conn.new) }
@@ -66,14 +66,14 @@ fn profile_in<S: Alter>(conn: &mut Connection<S>, slot: i64) -> Result<Profile, 
         "SELECT profile FROM part_profile WHERE slot = ?1",
         params![slot],
     )?;
-    found.ok_or(TablesFault::Refused)
+    found.ok_or(Refusal::Row)
 }
 
 /// The profile of a project's dump.
 fn find_profile<S: Alter>(
     conn: &mut Connection<S>,
     project: &str,
-) -> Result<Option<Profile>, TablesFault>
+) -> Result<Option<Profile>, Refusal>
     ensures found { HasCleanDisk (state S.Store conn.new) → (state S.Store conn.old).now.schema ≡ schema_two → (m : State) → StandsFor (state S.Store conn.old).now.trees m → IfOk result (λ found. found ≡ option_map (λ d. d.profile) (m.dump project.now)) }
     ensures looks { Looks (state S.Store conn.old) (state S.Store conn.new) }
     ensures mode { conn.old.in_transaction ≡ false → conn.new.in_transaction ≡ false }
@@ -86,12 +86,15 @@ fn find_profile<S: Alter>(
 
 impl<S: Alter> Tables<S> {
     /// The profile that the project's dump was read by, or none where it has no dump. It's `Refused` where the store refuses, or where a row isn't one
-    /// of this product's, and `Memory` where memory is refused.
+    /// of this product's, and `Memory` where memory is refused, also to a database in memory (`in_memory`).
     pub fn profile(&mut self, project: &str) -> Result<Option<Profile>, TablesFault>
         ensures found { HasCleanDisk (state S.Store self.new) → (m : State) → Rests (state S.Store self.old) m → IfOk result (λ found. found ≡ option_map (λ d. d.profile) (m.dump project.now)) }
         ensures same { HasCleanDisk (state S.Store self.new) → IsTrue (state S.Store self.new).is_open → (m : State) → Rests (state S.Store self.old) m → IsAsBefore (state S.Store self.old) (state S.Store self.new) }
         ensures survives { (m : State) → Rests (state S.Store self.old) m → Survives (state S.Store self.old) (state S.Store self.new) (λ _. ⊥) }
     {
-        find_profile(&mut self.conn, project)
+        match find_profile(&mut self.conn, project) {
+            Ok(found) => Ok(found),
+            Err(refusal) => Err(refusal.fault(self.is_in_memory)),
+        }
     }
 }

@@ -12,7 +12,7 @@ ghost use Rattle.tables.specs.Selections.{FindsProjects, project_found, text_cmp
 ghost use Rattle.tables.specs.Steps.Selected.{Looks};
 ghost use Rattle.tables.specs.Steps.Slots.{HasPart, IsTold};
 
-use crate::fault::TablesFault;
+use crate::fault::{Refusal, TablesFault};
 use crate::parts::find_slot;
 use crate::selection::select_all;
 use crate::slots::Part;
@@ -29,11 +29,7 @@ pub struct ProjectRow {
 }
 
 /// Whether the project has the part.
-fn has_part<S: Alter>(
-    conn: &mut Connection<S>,
-    project: &str,
-    part: Part,
-) -> Result<bool, TablesFault>
+fn has_part<S: Alter>(conn: &mut Connection<S>, project: &str, part: Part) -> Result<bool, Refusal>
     ensures part { HasCleanDisk (state S.Store conn.new) → (state S.Store conn.old).now.schema ≡ schema_two → (parts : Contents) (replies : Replies) → Keeps (state S.Store conn.old).now.trees parts replies
         → IfOk result (λ has. has ≡ is_some (parts project.now (part_number part))) }
     ensures kept { HasCleanDisk (state S.Store conn.new) → (state S.Store conn.old).now.schema ≡ schema_two → OnOk result (IsAsBefore (state S.Store conn.old) (state S.Store conn.new)) }
@@ -45,7 +41,7 @@ fn has_part<S: Alter>(
 }
 
 /// The project of this name, and which parts it has.
-fn project_of<S: Alter>(conn: &mut Connection<S>, name: String) -> Result<ProjectRow, TablesFault>
+fn project_of<S: Alter>(conn: &mut Connection<S>, name: String) -> Result<ProjectRow, Refusal>
     ensures name { IfOk result (λ project. string_bytes project.name ≡ string_bytes name) }
     ensures told { HasCleanDisk (state S.Store conn.new) → (state S.Store conn.old).now.schema ≡ schema_two → (m : State) → StandsFor (state S.Store conn.old).now.trees m → IfOk result (λ project. IsTold m (project_found project)) }
     ensures kept { HasCleanDisk (state S.Store conn.new) → (state S.Store conn.old).now.schema ≡ schema_two → OnOk result (IsAsBefore (state S.Store conn.old) (state S.Store conn.new)) }
@@ -66,10 +62,7 @@ fn list_names(names: &mut Vec<String>)
 }
 
 /// The names of the projects with a part.
-fn select_names<S: Alter>(
-    alloc: Global,
-    conn: &mut Connection<S>,
-) -> Result<Vec<String>, TablesFault>
+fn select_names<S: Alter>(alloc: Global, conn: &mut Connection<S>) -> Result<Vec<String>, Refusal>
     ensures names { HasCleanDisk (state S.Store conn.new) → (state S.Store conn.old).now.schema ≡ schema_two → (parts : Contents) (replies : Replies) → Keeps (state S.Store conn.old).now.trees parts replies
         → IfOk result (λ names. IsListing text_cmp (HasPart parts) (map string_bytes names.items)) }
     ensures kept { HasCleanDisk (state S.Store conn.new) → (state S.Store conn.old).now.schema ≡ schema_two → OnOk result (IsAsBefore (state S.Store conn.old) (state S.Store conn.new)) }
@@ -85,7 +78,7 @@ fn select_names<S: Alter>(
 fn list_projects<S: Alter>(
     alloc: Global,
     conn: &mut Connection<S>,
-) -> Result<Vec<ProjectRow>, TablesFault>
+) -> Result<Vec<ProjectRow>, Refusal>
     ensures found { HasCleanDisk (state S.Store conn.new) → (state S.Store conn.old).now.schema ≡ schema_two → (m : State) → StandsFor (state S.Store conn.old).now.trees m → IfOk result (λ found. FindsProjects m (map project_found found.items)) }
     ensures looks { Looks (state S.Store conn.old) (state S.Store conn.new) }
     ensures mode { conn.old.in_transaction ≡ false → conn.new.in_transaction ≡ false }
@@ -96,20 +89,23 @@ fn list_projects<S: Alter>(
     while let Some(name) = left.pop() {
         let project = project_of(conn, name)?;
         if found.push(project).is_err() {
-            return Err(TablesFault::Memory);
+            return Err(Refusal::Memory);
         }
     }
     Ok(found)
 }
 
 impl<S: Alter> Tables<S> {
-    /// The projects with a part: each once, by name (its bytes). It's `Refused` where the store refuses, or where a row isn't one of this product's, and
-    /// `Memory` where memory is refused.
+    /// The projects with a part: each once, by name (its bytes). It's `Refused` where the store refuses, or where a row isn't one of this product's,
+    /// and `Memory` where memory is refused, also to a database in memory (`in_memory`).
     pub fn projects(&mut self, alloc: Global) -> Result<Vec<ProjectRow>, TablesFault>
         ensures found { HasCleanDisk (state S.Store self.new) → (m : State) → Rests (state S.Store self.old) m → IfOk result (λ found. FindsProjects m (map project_found found.items)) }
         ensures same { HasCleanDisk (state S.Store self.new) → IsTrue (state S.Store self.new).is_open → (m : State) → Rests (state S.Store self.old) m → IsAsBefore (state S.Store self.old) (state S.Store self.new) }
         ensures survives { (m : State) → Rests (state S.Store self.old) m → Survives (state S.Store self.old) (state S.Store self.new) (λ _. ⊥) }
     {
-        list_projects(alloc, &mut self.conn)
+        match list_projects(alloc, &mut self.conn) {
+            Ok(found) => Ok(found),
+            Err(refusal) => Err(refusal.fault(self.is_in_memory)),
+        }
     }
 }

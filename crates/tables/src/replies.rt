@@ -7,7 +7,7 @@ ghost use Rattle.tables.specs.State.{State, accepted_text};
 ghost use Rattle.tables.specs.Stands.{IsAsBefore, StandsFor, Rests};
 ghost use Rattle.tables.specs.Steps.Selected.{Looks};
 
-use crate::fault::TablesFault;
+use crate::fault::{Refusal, TablesFault};
 use crate::selection::select_first;
 use crate::tables::Tables;
 use sqlite::{Alter, Connection, params};
@@ -17,7 +17,7 @@ fn find_reply<S: Alter>(
     conn: &mut Connection<S>,
     project: &str,
     key: &str,
-) -> Result<Option<String>, TablesFault>
+) -> Result<Option<String>, Refusal>
     ensures found { HasCleanDisk (state S.Store conn.new) → (state S.Store conn.old).now.schema ≡ schema_two → (m : State) → StandsFor (state S.Store conn.old).now.trees m → IfOk result (λ reply. option_map string_bytes reply ≡ option_map accepted_text (m.kept project.now key.now)) }
     ensures looks { Looks (state S.Store conn.old) (state S.Store conn.new) }
     ensures mode { conn.old.in_transaction ≡ false → conn.new.in_transaction ≡ false }
@@ -31,12 +31,15 @@ fn find_reply<S: Alter>(
 
 impl<S: Alter> Tables<S> {
     /// The text of the reply that is kept for the project under the key, or none where none is. It's `Refused` where the store refuses, or where a row
-    /// isn't one of this product's, and `Memory` where memory is refused.
+    /// isn't one of this product's, and `Memory` where memory is refused, also to a database in memory (`in_memory`).
     pub fn kept_reply(&mut self, project: &str, key: &str) -> Result<Option<String>, TablesFault>
         ensures found { HasCleanDisk (state S.Store self.new) → (m : State) → Rests (state S.Store self.old) m → IfOk result (λ reply. option_map string_bytes reply ≡ option_map accepted_text (m.kept project.now key.now)) }
         ensures same { HasCleanDisk (state S.Store self.new) → IsTrue (state S.Store self.new).is_open → (m : State) → Rests (state S.Store self.old) m → IsAsBefore (state S.Store self.old) (state S.Store self.new) }
         ensures survives { (m : State) → Rests (state S.Store self.old) m → Survives (state S.Store self.old) (state S.Store self.new) (λ _. ⊥) }
     {
-        find_reply(&mut self.conn, project, key)
+        match find_reply(&mut self.conn, project, key) {
+            Ok(found) => Ok(found),
+            Err(refusal) => Err(refusal.fault(self.is_in_memory)),
+        }
     }
 }

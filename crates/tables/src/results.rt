@@ -11,7 +11,7 @@ ghost use Rattle.tables.specs.Stands.{IsAsBefore, StandsFor, Rests};
 ghost use Rattle.tables.specs.Selections.{FindsHover};
 ghost use Rattle.tables.specs.Steps.Selected.{Looks};
 
-use crate::fault::TablesFault;
+use crate::fault::{Refusal, TablesFault};
 use crate::parts::find_slot;
 use crate::selection::select_first;
 use crate::slots::Part;
@@ -23,7 +23,7 @@ fn hover_in<S: Alter>(
     conn: &mut Connection<S>,
     slot: i64,
     result_number: u32,
-) -> Result<Option<String>, TablesFault>
+) -> Result<Option<String>, Refusal>
     ensures found { HasCleanDisk (state S.Store conn.new) → (state S.Store conn.old).now.schema ≡ schema_two → (m : State) → StandsFor (state S.Store conn.old).now.trees m
         → (project : List ℕ) → Has ((state S.Store conn.old).now.trees 1) (slot_row slot project (pos 1)) → IfOk result (λ found. FindsHover m project result_number (option_map string_bytes found)) }
     ensures looks { Looks (state S.Store conn.old) (state S.Store conn.new) }
@@ -41,7 +41,7 @@ fn find_hover<S: Alter>(
     conn: &mut Connection<S>,
     project: &str,
     result_number: u32,
-) -> Result<Option<String>, TablesFault>
+) -> Result<Option<String>, Refusal>
     ensures found { HasCleanDisk (state S.Store conn.new) → (state S.Store conn.old).now.schema ≡ schema_two → (m : State) → StandsFor (state S.Store conn.old).now.trees m → IfOk result (λ found. FindsHover m project.now result_number (option_map string_bytes found)) }
     ensures looks { Looks (state S.Store conn.old) (state S.Store conn.new) }
     ensures mode { conn.old.in_transaction ≡ false → conn.new.in_transaction ≡ false }
@@ -54,7 +54,8 @@ fn find_hover<S: Alter>(
 
 impl<S: Alter> Tables<S> {
     /// The contents of a hover result of the project's dump, by the result's number, or none where the dump has no such result or the project no dump.
-    /// It's `Refused` where the store refuses, or where a row isn't one of this product's, and `Memory` where memory is refused.
+    /// It's `Refused` where the store refuses, or where a row isn't one of this product's, and `Memory` where memory is refused, also to a database in
+    /// memory (`in_memory`).
     pub fn hover(
         &mut self,
         project: &str,
@@ -64,6 +65,9 @@ impl<S: Alter> Tables<S> {
         ensures same { HasCleanDisk (state S.Store self.new) → IsTrue (state S.Store self.new).is_open → (m : State) → Rests (state S.Store self.old) m → IsAsBefore (state S.Store self.old) (state S.Store self.new) }
         ensures survives { (m : State) → Rests (state S.Store self.old) m → Survives (state S.Store self.old) (state S.Store self.new) (λ _. ⊥) }
     {
-        find_hover(&mut self.conn, project, result_number)
+        match find_hover(&mut self.conn, project, result_number) {
+            Ok(found) => Ok(found),
+            Err(refusal) => Err(refusal.fault(self.is_in_memory)),
+        }
     }
 }

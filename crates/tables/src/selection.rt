@@ -1,5 +1,5 @@
 //! Selections of typed rows.
-ghost use Rattle.std.specs.Prelude.{◌≡◌, ⊤, List, false, IfOk, OnOk};
+ghost use Rattle.std.specs.Prelude.{◌≡◌, ⊤, List, false, IfOk, IfSome, OnOk};
 ghost use Rattle.std.specs.List.{AllByRecursion};
 ghost use Rattle.sqlite_value.specs.Order.{Row as Columns};
 ghost use Rattle.sqlite.specs.Values.{bound};
@@ -11,7 +11,7 @@ ghost use Rattle.tables.specs.Stands.{IsAsBefore};
 ghost use Rattle.tables.specs.Schema.{schema_two};
 ghost use Rattle.tables.specs.Steps.Selected.{Looks, AreColumns, AreRead, IsFirstRead};
 
-use crate::fault::{TablesFault, fault_of};
+use crate::fault::Refusal;
 use sqlite::types::ValueRef;
 use sqlite::{Alter, Connection, Row};
 use std::alloc::Global;
@@ -24,8 +24,8 @@ pub(crate) trait Listed: Sized + Drop {
     /// What is true of each value that is read, beside its columns.
     ghost is_sound: { Self → Type 0 } = { λ _. ⊤ };
 
-    /// The value of a row. It's `Refused` where the product writes no such row.
-    fn read(row: &Row) -> Result<Self, TablesFault>
+    /// The value of a row. It's `Row` where the product writes no such row.
+    fn read(row: &Row) -> Result<Self, Refusal>
         ensures columns { IfOk result (λ x. AreColumns 0 (columns x) row.now) }
         ensures sound { IfOk result is_sound };
 }
@@ -35,7 +35,7 @@ fn rows_of<S: Alter>(
     conn: &mut Connection<S>,
     sql: &str,
     params: &[ValueRef<'_>],
-) -> Result<Vec<Row>, TablesFault>
+) -> Result<Vec<Row>, Refusal>
     requires { IsPlain (understood schema_two sql.now) }
     ensures shown { HasCleanDisk (state S.Store conn.new) → IfOk result (λ rows. Shown sql.now (bound params.now) (state S.Store conn.old) (state S.Store conn.new) rows.items) }
     ensures kept { HasCleanDisk (state S.Store conn.new) → (state S.Store conn.old).now.schema ≡ schema_two → OnOk result (IsAsBefore (state S.Store conn.old) (state S.Store conn.new)) }
@@ -44,12 +44,12 @@ fn rows_of<S: Alter>(
 {
     match conn.query_all(sql, params) {
         Ok(rows) => Ok(rows),
-        Err(error) => Err(fault_of(error)),
+        Err(error) => Err(Refusal::Store(error)),
     }
 }
 
 /// What the rows read as.
-pub(crate) fn read_all<T: Listed>(alloc: Global, rows: &[Row]) -> Result<Vec<T>, TablesFault>
+pub(crate) fn read_all<T: Listed>(alloc: Global, rows: &[Row]) -> Result<Vec<T>, Refusal>
     ensures read { IfOk result (λ found. AreRead T.columns rows.now found.items) }
     ensures sound { IfOk result (λ found. AllByRecursion T.is_sound found.items) }
 {
@@ -57,7 +57,7 @@ pub(crate) fn read_all<T: Listed>(alloc: Global, rows: &[Row]) -> Result<Vec<T>,
     for row in rows {
         let item = T::read(row)?;
         if found.push(item).is_err() {
-            return Err(TablesFault::Memory);
+            return Err(Refusal::Memory);
         }
     }
     Ok(found)
@@ -69,7 +69,7 @@ pub(crate) fn select_all<S: Alter, T: Listed>(
     conn: &mut Connection<S>,
     sql: &str,
     params: &[ValueRef<'_>],
-) -> Result<Vec<T>, TablesFault>
+) -> Result<Vec<T>, Refusal>
     requires { IsPlain (understood schema_two sql.now) }
     ensures read { HasCleanDisk (state S.Store conn.new) → IfOk result (λ found. (rows : List Columns) × Shown sql.now (bound params.now) (state S.Store conn.old) (state S.Store conn.new) rows × AreRead T.columns rows found.items) }
     ensures sound { IfOk result (λ found. AllByRecursion T.is_sound found.items) }
@@ -86,9 +86,10 @@ pub(crate) fn select_first<S: Alter, T: Listed>(
     conn: &mut Connection<S>,
     sql: &str,
     params: &[ValueRef<'_>],
-) -> Result<Option<T>, TablesFault>
+) -> Result<Option<T>, Refusal>
     requires { IsPlain (understood schema_two sql.now) }
     ensures read { HasCleanDisk (state S.Store conn.new) → IfOk result (λ found. (rows : List Columns) × Shown sql.now (bound params.now) (state S.Store conn.old) (state S.Store conn.new) rows × IsFirstRead T.columns rows found) }
+    ensures sound { IfOk result (λ found. IfSome found T.is_sound) }
     ensures kept { HasCleanDisk (state S.Store conn.new) → (state S.Store conn.old).now.schema ≡ schema_two → OnOk result (IsAsBefore (state S.Store conn.old) (state S.Store conn.new)) }
     ensures looks { Looks (state S.Store conn.old) (state S.Store conn.new) }
     ensures mode { conn.old.in_transaction ≡ false → conn.new.in_transaction ≡ false }

@@ -16,6 +16,8 @@ use std::marker::Model;
 #[derive(Drop)]
 pub struct Tables<S: Alter> {
     pub(crate) conn: Connection<S>,
+    /// The database is in memory alone.
+    pub(crate) is_in_memory: bool,
 }
 
 impl<S: Alter> Model for Tables<S> {
@@ -80,6 +82,7 @@ impl<S: Alter> Tables<S> {
     ///
     /// With each fault the connection comes back. It's `OldFormat` where the tables are of format 1, which `migrate` upgrades; `Foreign` where something
     /// has such a name, and `format` doesn't read as one row of version 1 or 2; and `Memory` or `Refused` where the store refuses: then no table was made.
+    /// What refuses isn't held to be in memory yet (`in_memory`).
     pub fn open(mut conn: Connection<S>) -> Result<Tables<S>, (TablesFault, Connection<S>)>
         requires { conn.in_transaction ≡ false }
         ensures fresh { (state S.Store conn).now.schema ≡ empty_schema → IfOk result (λ c. HasCleanDisk (state S.Store c) → Rests (state S.Store c) nothing) }
@@ -97,15 +100,27 @@ impl<S: Alter> Tables<S> {
         ensures left { (state S.Store conn).now.schema ≡ empty_schema → IfOk result (λ c. Survives (state S.Store conn) (state S.Store c) (λ db. StandsFor db nothing)) × IfErr result (λ e. Survives (state S.Store conn) (state S.Store e.1) (λ db. StandsFor db nothing)) }
         ensures stays { IsFormatTwo (state S.Store conn).now → IfOk result (λ c. HasCleanDisk (state S.Store c) → Survives (state S.Store conn) (state S.Store c) (λ _. ⊥)) × IfErr result (λ e. HasCleanDisk (state S.Store e.1) → Survives (state S.Store conn) (state S.Store e.1) (λ _. ⊥)) }
     {
+        let is_in_memory = false;
         match find_format(&mut conn) {
             Ok(Format::Absent) => match make(&mut conn) {
-                Ok(()) => Ok(Tables { conn }),
-                Err(error) => Err((fault_of(error), conn)),
+                Ok(()) => Ok(Tables { conn, is_in_memory }),
+                Err(error) => Err((fault_of(is_in_memory, error), conn)),
             },
-            Ok(Format::Two) => Ok(Tables { conn }),
+            Ok(Format::Two) => Ok(Tables { conn, is_in_memory }),
             Ok(Format::One) => Err((TablesFault::OldFormat, conn)),
             Ok(Format::Unknown) => Err((TablesFault::Foreign, conn)),
-            Err(error) => Err((fault_of(error), conn)),
+            Err(error) => Err((fault_of(is_in_memory, error), conn)),
+        }
+    }
+
+    /// The same tables, held to be in memory alone: where their store can't do what is asked, as grow, memory was refused. A call answers this by
+    /// `Memory` from then on, and by `Refused` where this isn't said of the tables.
+    pub fn in_memory(self) -> Tables<S>
+        ensures { result ≡ self }
+    {
+        Tables {
+            conn: self.conn,
+            is_in_memory: true,
         }
     }
 

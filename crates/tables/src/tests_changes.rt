@@ -310,6 +310,49 @@ fn stop_at_each_call(rt: HostRuntime) -> Result<(), Fail> {
     Ok(())
 }
 
+/// The tables in files that each stop after so many calls, where they can be opened.
+fn until_stopped(alloc: Global, calls: u64) -> Option<Tables<FileStore<Fuse<Memory>>>> {
+    let files = Files {
+        log: Fuse::new(Memory::new(alloc), calls),
+        db: Fuse::new(Memory::new(alloc), calls),
+    };
+    match Connection::open_files(alloc, files, Options::new(1)) {
+        Ok(conn) => Tables::open(conn).ok(),
+        Err(_) => None,
+    }
+}
+
+/// What the first call answers that is refused, of a put of tags and a selection, for each number of calls after which the files stop.
+fn told_faults(alloc: Global, is_in_memory: bool) -> Result<Vec<TablesFault>, Fail> {
+    let mut told = Vec::new(alloc);
+    for calls in 0..10000u64 {
+        let Some(mut tables) = until_stopped(alloc, calls) else {
+            continue;
+        };
+        if is_in_memory {
+            tables = tables.in_memory();
+        }
+        if let Err(fault) = take(alloc, &mut tables, Step::Tags("app", TAGS), "k1")? {
+            told.push(fault)?;
+        } else if let Err(fault) = tables.projects(alloc) {
+            told.push(fault)?;
+        } else {
+            break;
+        }
+    }
+    Ok(told)
+}
+
+/// A store that can't do what is asked was refused memory exactly where the database is in memory.
+#[test]
+fn stopped_in_memory(rt: HostRuntime) -> Result<(), Fail> {
+    for (is_in_memory, fault) in [(false, TablesFault::Refused), (true, TablesFault::Memory)] {
+        let told = told_faults(rt.alloc(), is_in_memory)?;
+        assert!(rt; !told.is_empty() && told.iter().all(|found| *found == fault));
+    }
+    Ok(())
+}
+
 /// How far the making of tables of format 1 and their migration went.
 #[derive(Clone, Copy, PartialEq, Eq)]
 enum Reached {

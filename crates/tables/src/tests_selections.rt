@@ -201,14 +201,18 @@ fn answer(alloc: Global, tables: &mut Tables<MemStore>, ask: Ask) -> Result<Stri
     }
 }
 
-/// Tables with the parts, changed by a statement.
-fn filled(alloc: Global, change: &str) -> Result<Option<Tables<MemStore>>, Error> {
+/// Tables that the statements fill and change.
+pub(crate) fn filled(
+    alloc: Global,
+    parts: &str,
+    change: &str,
+) -> Result<Option<Tables<MemStore>>, Error> {
     let conn = Connection::open_in_memory(alloc)?;
     let mut conn = match Tables::open(conn) {
         Ok(tables) => tables.into_connection(),
         Err(_) => return Ok(None),
     };
-    conn.execute_batch(PARTS)?;
+    conn.execute_batch(parts)?;
     conn.execute_batch(change)?;
     if !conn.is_autocommit() {
         return Ok(None);
@@ -222,7 +226,7 @@ fn filled(alloc: Global, change: &str) -> Result<Option<Tables<MemStore>>, Error
 #[test]
 fn selects(rt: HostRuntime) {
     for row in ROWS {
-        match filled(rt.alloc(), row.change) {
+        match filled(rt.alloc(), PARTS, row.change) {
             Ok(Some(mut tables)) => match (answer(rt.alloc(), &mut tables, row.ask), row.found) {
                 (Ok(text), Some(found)) => assert!(rt; text.as_str() == found, "{text}"),
                 (Err(fault), None) => assert!(rt; fault == TablesFault::Refused),

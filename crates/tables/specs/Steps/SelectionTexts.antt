@@ -33,3 +33,12 @@ select_named = codes "SELECT slot, line, name, file, address, kind, fields FROM 
 
 abbrev pub select_prefixed : List ℕ
 select_prefixed = codes "SELECT slot, line, name, file, address, kind, fields FROM tag WHERE name >= ?1 ORDER BY name, slot, line"
+
+abbrev pub select_document : List ℕ
+select_document = codes "SELECT slot FROM document WHERE slot = ?1 AND uri = ?2"
+
+abbrev pub select_range : List ℕ
+select_range = codes "SELECT line, first, last, parent, def, refs, hover FROM range_row WHERE slot = ?1 AND line = ?2 AND uri = ?3"
+
+abbrev pub select_start : List ℕ
+select_start = codes "SELECT line, first, last, parent, def, refs, hover FROM range_row WHERE slot = ?1 AND uri = ?2 AND first <= ?3 AND last > first ORDER BY first DESC, last LIMIT 1"

@@ -1,4 +1,4 @@
-use Rattle.std.proofs.Common.{rules, ◌≡◌, inl, refl, sym, subst}
+use Rattle.std.proofs.Common.{rules, inl, refl, sym, subst}
 use Rattle.sqlite.specs.Effect.{Database}
 use Rattle.sqlite.specs.Held.{state}
 use Rattle.tables.specs.Databases.{IsFormatOne, IsUpgraded, WasUpgraded}

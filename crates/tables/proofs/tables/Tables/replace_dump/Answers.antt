@@ -1,9 +1,3 @@
-use Rattle.std.proofs.Common.{rules, ◌≡◌, sym, subst}
-use Rattle.std.proofs.lemmas.Result.{on_ok_weaker}
-use Rattle.sqlite.specs.State.{Survives}
-use Rattle.sqlite.specs.Held.{state}
-use Rattle.tables.specs.Stands.{StandsFor}
-use Rattle.tables.specs.State.{set_dump, changed}
 use Rattle.tables.proofs.tables.Tables.replace_dump.Goals.{in-Ok, in-Err}
 use Rattle.tables.proofs.tables.Tables.replace_dump.Goals as goal
 

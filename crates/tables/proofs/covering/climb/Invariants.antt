@@ -1,0 +1,28 @@
+use Rattle.std.proofs.Common.{◌≡◌, false, ℕ, List, pos, Some}
+use Rattle.sqlite.specs.State.{HasCleanDisk}
+use Rattle.sqlite.specs.Held.{state}
+use Rattle.sqlite_rules.specs.Lists.{Has}
+use Rattle.dump.specs.Progress.{DumpValue}
+use Rattle.tables.specs.Schema.{schema_two}
+use Rattle.tables.specs.Contents.{slot_row}
+use Rattle.tables.specs.State.{State}
+use Rattle.tables.specs.Stands.{IsAsBefore, StandsFor}
+use Rattle.tables.specs.Steps.Climbs.{weight}
+use Rattle.tables.specs.Steps.Selected.{Looks}
+use Rattle.tables.proofs.Climbing.{ClimbsTo}
+use Rattle.tables.proofs.covering.climb.Given as goal
+
+abbrev pub invariant-loop-next : goal.invariant-loop-next
+invariant-loop-next g l =
+    let old = state g.S.Store l.fn.conn in
+    let now = state g.S.Store l.conn in
+    record {
+      looks : Looks old now;
+      kept : HasCleanDisk now → old.now.schema ≡ schema_two → IsAsBefore old now;
+      mode : l.fn.conn.in_transaction ≡ false → l.conn.in_transaction ≡ false;
+      climbs : HasCleanDisk now → old.now.schema ≡ schema_two → (m : State) → StandsFor old.now.trees m → (project : List ℕ) (dump : DumpValue) → Has (old.now.trees 1) (slot_row l.fn.slot project (pos 1)) → m.dump project ≡ Some dump
+          → ClimbsTo dump l.uri l.fn.at l.found.items l.next;
+    }
+
+abbrev pub decreases-loop-next : goal.decreases-loop-next
+decreases-loop-next g l = weight l.next

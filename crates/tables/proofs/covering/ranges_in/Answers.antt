@@ -1,0 +1,63 @@
+use Rattle.std.proofs.Common.{◌≡◌, ◌++◌, ◌∙◌, [], ◌∷◌, map, pos, rules, arith, ap, subst, sym, to_z-of_z}
+use Rattle.std.specs.List.{AllZip}
+use Rattle.sqlite.specs.Held.{state}
+use Rattle.sqlite_rules.specs.Lists.{Has}
+use Rattle.tables.specs.Contents.{slot_row}
+use Rattle.tables.specs.Stands.{StandsFor}
+use Rattle.tables.specs.Selections.{FindsCover, range_found}
+use Rattle.tables.specs.Steps.Climbs.{TellsRange, row_found}
+use Rattle.tables.proofs.CoverLists.{covers_all, taken_all, told_at, told_next, rows_are}
+use Rattle.tables.proofs.DumpEntries.{rows_of}
+use Rattle.tables.proofs.Looking.{looks_then, kept_on, still, survives_clean}
+use Rattle.tables.proofs.Selecting.{of_all}
+use Rattle.tables.proofs.covering.ranges_in.Goals as goal
+
+pub loop-row-init : goal.loop-row-init
+loop-row-init g c = rw (to_z-of_z c.ranges.slot) (record {
+  looks = c.climb.ensures.looks;
+  kept = c.in_ok-rows.ensures.kept;
+  cleans = λ clean. clean;
+  mode = c.climb.ensures.mode;
+  found = λ clean has m s project dump slot is rows told are. ap (map range_found) c.new-found.ensures.items;
+})
+
+pub returns-in_err-range-clause-looks : goal.returns-in_err-range-clause-looks
+returns-in_err-range-clause-looks g c = looks_then _ (state g.S.Store c.loop-row.conn) _ c.loop-row.invariant.looks c.loop-row.invariant.kept c.complete.ensures.looks
+
+pub returns-then-is_err-clause-looks : goal.returns-then-is_err-clause-looks
+returns-then-is_err-clause-looks g c = looks_then _ (state g.S.Store c.loop-row.conn) _ c.loop-row.invariant.looks c.loop-row.invariant.kept c.complete.ensures.looks
+
+pub loop-row-preserved : goal.loop-row-preserved
+loop-row-preserved g c = rw (to_z-of_z c.ranges.slot) (
+    let old = state g.S.Store c.args.conn.now in
+    let mid = state g.S.Store c.loop-row.conn in
+    let new = state g.S.Store c.complete.new.conn in
+    let was = c.loop-row.invariant in
+    let range = c.in_ok-range.range in
+    let pushed : c.push.new.self.items ≡ c.loop-row.found.items ++ range ∷ [] = search rules in
+    record {
+      looks = looks_then old mid new was.looks was.kept c.complete.ensures.looks;
+      kept = kept_on old mid new was.kept c.complete.ensures.looks c.in_ok-range.ensures.kept;
+      cleans = λ clean. was.cleans (survives_clean mid new c.complete.ensures.looks clean);
+      mode = λ h. c.complete.ensures.mode (was.mode h);
+      found = λ clean has m s project dump slot is rows told are.
+          let it = told_at c.deref-row-items.result.now rows c.loop-row.row-index c.row-item.result told (omega (arith, c.loop-row-test.true)) in
+          let r = it.0 in
+          let tells : TellsRange c.row-item.result r = subst (λ x. TellsRange x r) (sym c.row-item.is) it.2 in
+          let whole = still old mid new (λ db. StandsFor db m × Has (db 1) (slot_row c.args.slot project (pos 1))) (λ db. range_found range ≡ row_found r) was.kept c.complete.ensures.looks
+          (λ cleaner schema known. (rw (to_z-of_z c.ranges.slot) at c.in_ok-range.ensures.whole) cleaner schema m known.0 project dump known.1 is r (of_all _ rows r are it.1) tells) clean has (s, slot) in
+          let before = (rw (to_z-of_z c.ranges.slot) at was.found) (survives_clean mid new c.complete.ensures.looks clean) has m s project dump slot is rows told are in
+          ap (map range_found) pushed ∙ told_next c.loop-row.found.items range rows r c.loop-row.row-index before whole it.3;
+    })
+
+pub returns-clause-found : goal.returns-clause-found
+returns-clause-found g c clean has m s project dump slot is =
+    let d = (rows_of (state g.S.Store c.args.conn.now).now.trees m s project dump is).2 in
+    let was = c.loop-row.invariant in
+    let uri = c.args.uri.now in
+    let items = c.in_ok-rows.rows.items in
+    let climbed = (rw (to_z-of_z c.ranges.slot) at c.in_ok-rows.ensures.climbed) (was.cleans clean) has m s project dump slot is in
+    let told = subst (λ l. AllZip TellsRange l climbed.rows) (sym c.deref-row-items.ensures.value) climbed.told in
+    let found = (rw (to_z-of_z c.ranges.slot) at was.found) clean has m s project dump slot is climbed.rows told (rows_are dump uri c.args.at items climbed) in
+    let all = taken_all c.deref-row-items.result.now climbed.rows c.loop-row.row-index told (omega (arith, c.loop-row-test.false)) in
+    subst (FindsCover dump.elements uri c.args.at) (sym (found ∙ ap (map row_found) all)) (covers_all dump uri c.args.at d.faultless d.flat d.is_flat items climbed)

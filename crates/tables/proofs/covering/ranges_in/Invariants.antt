@@ -1,0 +1,28 @@
+use Rattle.std.proofs.Common.{◌≡◌, false, ℕ, List, map, take, pos, Some}
+use Rattle.std.specs.List.{AllByRecursion, AllZip}
+use Rattle.sqlite.specs.State.{HasCleanDisk}
+use Rattle.sqlite.specs.Held.{state}
+use Rattle.sqlite_rules.specs.Lists.{Has}
+use Rattle.dump.specs.Progress.{DumpValue}
+use Rattle.flatten.specs.Flat.{RangeRowValue, IsRangeRow}
+use Rattle.tables.specs.Schema.{schema_two}
+use Rattle.tables.specs.Contents.{slot_row}
+use Rattle.tables.specs.State.{State}
+use Rattle.tables.specs.Stands.{IsAsBefore, StandsFor}
+use Rattle.tables.specs.Selections.{range_found}
+use Rattle.tables.specs.Steps.Climbs.{TellsRange, row_found}
+use Rattle.tables.specs.Steps.Selected.{Looks}
+use Rattle.tables.proofs.covering.ranges_in.Given as goal
+
+abbrev pub invariant-loop-row : goal.invariant-loop-row
+invariant-loop-row g l =
+    let old = state g.S.Store l.fn.conn in
+    let now = state g.S.Store l.conn in
+    record {
+      looks : Looks old now;
+      kept : HasCleanDisk now → old.now.schema ≡ schema_two → IsAsBefore old now;
+      cleans : HasCleanDisk now → HasCleanDisk (state g.S.Store l.initial.conn);
+      mode : l.fn.conn.in_transaction ≡ false → l.conn.in_transaction ≡ false;
+      found : HasCleanDisk now → old.now.schema ≡ schema_two → (m : State) → StandsFor old.now.trees m → (project : List ℕ) (dump : DumpValue) → Has (old.now.trees 1) (slot_row l.fn.slot project (pos 1)) → m.dump project ≡ Some dump
+          → (rows : List RangeRowValue) → AllZip TellsRange l.row-items rows → AllByRecursion (IsRangeRow dump.elements) rows → map range_found l.found.items ≡ map row_found (take l.row-index rows);
+    }

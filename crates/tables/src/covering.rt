@@ -1,0 +1,185 @@
+//! The ranges that cover a position, as they are selected: a climb from the one that starts last at the position or before, by the parents.
+ghost use Rattle.std.specs.Prelude.{◌≡◌, List, ℕ, Some, map, pos, false, IsTrue, IfOk, OnOk};
+ghost use Rattle.sqlite_rules.specs.Lists.{Has};
+ghost use Rattle.sqlite.specs.State.{HasCleanDisk, Survives};
+ghost use Rattle.sqlite.specs.Held.{state};
+ghost use Rattle.dump.specs.Progress.{DumpValue};
+ghost use Rattle.flatten.specs.Flat.{RangeRowValue, IsRangeRow};
+ghost use Rattle.tables.specs.Schema.{schema_two};
+ghost use Rattle.tables.specs.Contents.{slot_row};
+ghost use Rattle.tables.specs.State.{State};
+ghost use Rattle.tables.specs.Stands.{IsAsBefore, StandsFor, Rests};
+ghost use Rattle.tables.specs.Selections.{FindsCover, FindsCovering, range_found};
+ghost use Rattle.tables.specs.Steps.Selected.{Looks};
+ghost use Rattle.tables.specs.Steps.Climbs.{IsClimbed, TellsRange, row_found};
+
+use crate::bearers::more_of;
+use crate::documents::has_document;
+use crate::fault::{Refusal, TablesFault};
+use crate::parts::find_slot;
+use crate::range_rows::{SlotRange, parent_of, start_of};
+use crate::slots::Part;
+use crate::tables::Tables;
+use positions::{Position, Span};
+use sqlite::{Alter, Connection};
+use std::alloc::Global;
+
+/// A range that covers a position.
+#[derive(Clone, Copy, Debug, PartialEq, Eq, Drop)]
+pub struct FoundRange {
+    /// The range's line in the dump, counted from 1.
+    pub line: u32,
+    /// Its start and its end, which is exclusive.
+    pub span: Span,
+    /// The numbers of its first results: of a definition, of references, of a hover, of a declaration and of an implementation.
+    pub def: Option<u32>,
+    pub refs: Option<u32>,
+    pub hover: Option<u32>,
+    pub decl: Option<u32>,
+    pub imp: Option<u32>,
+}
+
+/// What covers a position of a document.
+#[derive(Debug, PartialEq, Eq, Drop)]
+pub enum Covering {
+    /// The project has no dump.
+    NoDump,
+    /// The dump has no such document.
+    NoDocument,
+    /// The ranges of the document that cover the position, the smallest first.
+    Ranges(Vec<FoundRange>),
+}
+
+/// The rows of the ranges of a document that cover the position, in the dump that has this slot, the smallest range first.
+fn climb<S: Alter>(
+    alloc: Global,
+    conn: &mut Connection<S>,
+    slot: i64,
+    uri: &str,
+    at: Position,
+) -> Result<Vec<SlotRange>, Refusal>
+    ensures climbed { HasCleanDisk (state S.Store conn.new) → (state S.Store conn.old).now.schema ≡ schema_two → (m : State) → StandsFor (state S.Store conn.old).now.trees m
+        → (project : List ℕ) (dump : DumpValue) → Has ((state S.Store conn.old).now.trees 1) (slot_row slot project (pos 1)) → m.dump project ≡ Some dump → IfOk result (λ found. IsClimbed dump uri.now at found.items) }
+    ensures kept { HasCleanDisk (state S.Store conn.new) → (state S.Store conn.old).now.schema ≡ schema_two → OnOk result (IsAsBefore (state S.Store conn.old) (state S.Store conn.new)) }
+    ensures looks { Looks (state S.Store conn.old) (state S.Store conn.new) }
+    ensures mode { conn.old.in_transaction ≡ false → conn.new.in_transaction ≡ false }
+{
+    let mut found = Vec::new(alloc);
+    let mut next = start_of(conn, slot, uri, at)?;
+    while let Some(range) = next {
+        next = parent_of(conn, slot, uri, &range)?;
+        if range.span.covers(at) && found.push(range).is_err() {
+            return Err(Refusal::Memory);
+        }
+    }
+    Ok(found)
+}
+
+/// The range that a row tells, with its declaration and its implementation.
+fn complete<S: Alter>(
+    conn: &mut Connection<S>,
+    slot: i64,
+    row: &SlotRange,
+) -> Result<FoundRange, Refusal>
+    ensures whole { HasCleanDisk (state S.Store conn.new) → (state S.Store conn.old).now.schema ≡ schema_two → (m : State) → StandsFor (state S.Store conn.old).now.trees m
+        → (project : List ℕ) (dump : DumpValue) → Has ((state S.Store conn.old).now.trees 1) (slot_row slot project (pos 1)) → m.dump project ≡ Some dump
+        → (r : RangeRowValue) → IsRangeRow dump.elements r → TellsRange row.now r → IfOk result (λ found. range_found found ≡ row_found r) }
+    ensures kept { HasCleanDisk (state S.Store conn.new) → (state S.Store conn.old).now.schema ≡ schema_two → OnOk result (IsAsBefore (state S.Store conn.old) (state S.Store conn.new)) }
+    ensures looks { Looks (state S.Store conn.old) (state S.Store conn.new) }
+    ensures mode { conn.old.in_transaction ≡ false → conn.new.in_transaction ≡ false }
+{
+    let more = more_of(conn, slot, row.line)?;
+    Ok(FoundRange {
+        line: row.line,
+        span: row.span,
+        def: row.def,
+        refs: row.refs,
+        hover: row.hover,
+        decl: more.decl,
+        imp: more.imp,
+    })
+}
+
+/// The ranges of a document that cover the position, in the dump that has this slot.
+fn ranges_in<S: Alter>(
+    alloc: Global,
+    conn: &mut Connection<S>,
+    slot: i64,
+    uri: &str,
+    at: Position,
+) -> Result<Vec<FoundRange>, Refusal>
+    ensures found { HasCleanDisk (state S.Store conn.new) → (state S.Store conn.old).now.schema ≡ schema_two → (m : State) → StandsFor (state S.Store conn.old).now.trees m
+        → (project : List ℕ) (dump : DumpValue) → Has ((state S.Store conn.old).now.trees 1) (slot_row slot project (pos 1)) → m.dump project ≡ Some dump → IfOk result (λ found. FindsCover dump.elements uri.now at (map range_found found.items)) }
+    ensures looks { Looks (state S.Store conn.old) (state S.Store conn.new) }
+    ensures mode { conn.old.in_transaction ≡ false → conn.new.in_transaction ≡ false }
+{
+    let rows = climb(alloc, conn, slot, uri, at)?;
+    let mut found = Vec::new(alloc);
+    for row in &rows {
+        let range = complete(conn, slot, row)?;
+        if found.push(range).is_err() {
+            return Err(Refusal::Memory);
+        }
+    }
+    Ok(found)
+}
+
+/// What covers the position in a document of the dump that has this slot.
+fn covering_in<S: Alter>(
+    alloc: Global,
+    conn: &mut Connection<S>,
+    slot: i64,
+    uri: &str,
+    at: Position,
+) -> Result<Covering, Refusal>
+    ensures found { HasCleanDisk (state S.Store conn.new) → (state S.Store conn.old).now.schema ≡ schema_two → (m : State) → StandsFor (state S.Store conn.old).now.trees m
+        → (project : List ℕ) → Has ((state S.Store conn.old).now.trees 1) (slot_row slot project (pos 1)) → IfOk result (FindsCovering m project uri.now at) }
+    ensures looks { Looks (state S.Store conn.old) (state S.Store conn.new) }
+    ensures mode { conn.old.in_transaction ≡ false → conn.new.in_transaction ≡ false }
+{
+    if has_document(conn, slot, uri)? {
+        Ok(Covering::Ranges(ranges_in(alloc, conn, slot, uri, at)?))
+    } else {
+        Ok(Covering::NoDocument)
+    }
+}
+
+/// What covers the position in a document of a project's dump.
+fn find_covering<S: Alter>(
+    alloc: Global,
+    conn: &mut Connection<S>,
+    project: &str,
+    uri: &str,
+    at: Position,
+) -> Result<Covering, Refusal>
+    ensures found { HasCleanDisk (state S.Store conn.new) → (state S.Store conn.old).now.schema ≡ schema_two → (m : State) → StandsFor (state S.Store conn.old).now.trees m → IfOk result (FindsCovering m project.now uri.now at) }
+    ensures looks { Looks (state S.Store conn.old) (state S.Store conn.new) }
+    ensures mode { conn.old.in_transaction ≡ false → conn.new.in_transaction ≡ false }
+{
+    match find_slot(conn, project, Part::Dump)? {
+        Some(slot) => covering_in(alloc, conn, slot, uri, at),
+        None => Ok(Covering::NoDump),
+    }
+}
+
+impl<S: Alter> Tables<S> {
+    /// The ranges of a document of the project's dump that cover the position, the smallest first; or that the project has no dump, or the dump no
+    /// document of this serialized URL. It's `Refused` where the store refuses, or where a row isn't one of this product's, and `Memory` where memory
+    /// is refused, also to a database in memory (`in_memory`).
+    pub fn covering(
+        &mut self,
+        alloc: Global,
+        project: &str,
+        uri: &str,
+        position: Position,
+    ) -> Result<Covering, TablesFault>
+        ensures found { HasCleanDisk (state S.Store self.new) → (m : State) → Rests (state S.Store self.old) m → IfOk result (FindsCovering m project.now uri.now position) }
+        ensures same { HasCleanDisk (state S.Store self.new) → IsTrue (state S.Store self.new).is_open → (m : State) → Rests (state S.Store self.old) m → IsAsBefore (state S.Store self.old) (state S.Store self.new) }
+        ensures survives { (m : State) → Rests (state S.Store self.old) m → Survives (state S.Store self.old) (state S.Store self.new) (λ _. ⊥) }
+    {
+        match find_covering(alloc, &mut self.conn, project, uri, position) {
+            Ok(found) => Ok(found),
+            Err(refusal) => Err(refusal.fault(self.is_in_memory)),
+        }
+    }
+}

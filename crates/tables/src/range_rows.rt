@@ -1,0 +1,109 @@
+//! The rows of ranges, as they are selected: the one from which a climb starts, and that of the parent of each.
+ghost use Rattle.std.specs.Prelude.{◌≡◌, ◌<◌, ◌∷◌, [], List, ℕ, Some, pos, false, IsTrue, IfOk, OnOk};
+ghost use Rattle.sqlite_rules.specs.Lists.{Has};
+ghost use Rattle.sqlite.specs.State.{HasCleanDisk};
+ghost use Rattle.sqlite.specs.Held.{state};
+ghost use Rattle.positions.specs.Position.{IsPosition};
+ghost use Rattle.dump.specs.Progress.{DumpValue};
+ghost use Rattle.tables.specs.Schema.{schema_two};
+ghost use Rattle.tables.specs.Columns.{number, optional, position};
+ghost use Rattle.tables.specs.Contents.{slot_row};
+ghost use Rattle.tables.specs.State.{State};
+ghost use Rattle.tables.specs.Stands.{IsAsBefore, StandsFor};
+ghost use Rattle.tables.specs.Steps.Selected.{Looks};
+ghost use Rattle.tables.specs.Steps.Climbs.{IsStart, IsNamed, weight};
+
+use crate::columns::{column, span_of};
+use crate::fault::Refusal;
+use crate::selection::{Listed, select_first};
+use positions::{Position, Span};
+use sqlite::{Alter, Connection, Row, params};
+
+/// What is read of the row of a range: all but its document, its declaration and its implementation.
+#[derive(Clone, Copy, Drop)]
+pub(crate) struct SlotRange {
+    pub(crate) line: u32,
+    pub(crate) span: Span,
+    /// The line of the smallest range that it lies in.
+    pub(crate) parent: Option<u32>,
+    pub(crate) def: Option<u32>,
+    pub(crate) refs: Option<u32>,
+    pub(crate) hover: Option<u32>,
+}
+
+impl Listed for SlotRange {
+    ghost columns = { λ r. number r.line ∷ position r.span.start ∷ position r.span.«end» ∷ optional r.parent ∷ optional r.def ∷ optional r.refs ∷ optional r.hover ∷ [] };
+
+    ghost is_sound = { λ r. IsPosition r.span.start × IsPosition r.span.«end» };
+
+    fn read(row: &Row) -> Result<SlotRange, Refusal> {
+        let span = span_of(column(row, 1)?, column(row, 2)?)?;
+        Ok(SlotRange {
+            line: column(row, 0)?,
+            span,
+            parent: column(row, 3)?,
+            def: column(row, 4)?,
+            refs: column(row, 5)?,
+            hover: column(row, 6)?,
+        })
+    }
+}
+
+/// The range of a document, in the dump that has this slot, that isn't empty, starts at the position or before, and comes last, start up, end down.
+pub(crate) fn start_of<S: Alter>(
+    conn: &mut Connection<S>,
+    slot: i64,
+    uri: &str,
+    at: Position,
+) -> Result<Option<SlotRange>, Refusal>
+    ensures start { HasCleanDisk (state S.Store conn.new) → (state S.Store conn.old).now.schema ≡ schema_two → (m : State) → StandsFor (state S.Store conn.old).now.trees m
+        → (project : List ℕ) (dump : DumpValue) → Has ((state S.Store conn.old).now.trees 1) (slot_row slot project (pos 1)) → m.dump project ≡ Some dump → IfOk result (IsStart dump uri.now at) }
+    ensures kept { HasCleanDisk (state S.Store conn.new) → (state S.Store conn.old).now.schema ≡ schema_two → OnOk result (IsAsBefore (state S.Store conn.old) (state S.Store conn.new)) }
+    ensures looks { Looks (state S.Store conn.old) (state S.Store conn.new) }
+    ensures mode { conn.old.in_transaction ≡ false → conn.new.in_transaction ≡ false }
+{
+    let packed = at.pack();
+    select_first(
+        conn,
+        "SELECT line, first, last, parent, def, refs, hover FROM range_row WHERE slot = ?1 AND uri = ?2 AND first <= ?3 AND last > first ORDER BY first DESC, last LIMIT 1",
+        params![slot, uri, packed],
+    )
+}
+
+/// Whether the first range comes before the second, start up, end down.
+fn comes_before(first: &SlotRange, second: &SlotRange) -> bool
+    ensures lighter { IsTrue result → weight (Some first.now) < weight (Some second.now) }
+{
+    let (start, end) = (first.span.start(), first.span.end());
+    let (other_start, other_end) = (second.span.start(), second.span.end());
+    start < other_start || (start == other_start && end > other_end)
+}
+
+/// The range that a range of a document has as its parent, in the dump that has this slot. It's `Row` where the document has no such range, or one
+/// that doesn't come before this one, start up, end down: so that no climb goes on for ever.
+pub(crate) fn parent_of<S: Alter>(
+    conn: &mut Connection<S>,
+    slot: i64,
+    uri: &str,
+    child: &SlotRange,
+) -> Result<Option<SlotRange>, Refusal>
+    ensures named { HasCleanDisk (state S.Store conn.new) → (state S.Store conn.old).now.schema ≡ schema_two → (m : State) → StandsFor (state S.Store conn.old).now.trees m
+        → (project : List ℕ) (dump : DumpValue) → Has ((state S.Store conn.old).now.trees 1) (slot_row slot project (pos 1)) → m.dump project ≡ Some dump → IfOk result (IsNamed dump uri.now child.now) }
+    ensures lighter { IfOk result (λ parent. weight parent < weight (Some child.now)) }
+    ensures kept { HasCleanDisk (state S.Store conn.new) → (state S.Store conn.old).now.schema ≡ schema_two → OnOk result (IsAsBefore (state S.Store conn.old) (state S.Store conn.new)) }
+    ensures looks { Looks (state S.Store conn.old) (state S.Store conn.new) }
+    ensures mode { conn.old.in_transaction ≡ false → conn.new.in_transaction ≡ false }
+{
+    let Some(line) = child.parent else {
+        return Ok(None);
+    };
+    let found: Option<SlotRange> = select_first(
+        conn,
+        "SELECT line, first, last, parent, def, refs, hover FROM range_row WHERE slot = ?1 AND line = ?2 AND uri = ?3",
+        params![slot, line, uri],
+    )?;
+    match found {
+        Some(parent) if comes_before(&parent, child) => Ok(Some(parent)),
+        _ => Err(Refusal::Row),
+    }
+}
