@@ -1,9 +1,8 @@
 -- What answers a query, from a state of the machine.
-use Rattle.std.specs.Prelude.{◌≡◌, ◌≢◌, ◌⊎◌, ◌||◌, ◌++◌, ℕ, Bool, true, List, [], ◌∷◌, Option, Some, None, is_some, ⊤, Contains, slice_get, if◌then◌else◌}
+use Rattle.std.specs.Prelude.{◌≡◌, ◌≢◌, ◌⊎◌, ℕ, Bool, List, [], ◌∷◌, Option, Some, None, slice_get, if◌then◌else◌}
 use Rattle.std.specs.declared.cmp.Ordering.{Ordering}
 use Rattle.std.specs.declared.cmp.Ordering.TheVariants.{Greater}
 use Rattle.std.specs.Ordering.{nat_cmp, ordering_then}
-use Rattle.std.specs.Cmp.Lexicographic.{slice_cmp}
 use Rattle.lsif.specs.Element.{IdValue, VertexValue, hover_result, vertex}
 use Rattle.dump.specs.declared.request.Request.{Request}
 use Rattle.dump.specs.declared.request.Request.TheVariants as requests
@@ -13,7 +12,6 @@ use Rattle.dump.specs.Graph.{vertex_at}
 use Rattle.dump.specs.Places.{PlaceValue, HasDocument, IsListing, Places, place_cmp}
 use Rattle.dump.specs.Progress.{DumpValue}
 use Rattle.dump.specs.Requests.{First, Pick, RangeValue}
-use Rattle.tags.specs.Values.{TagValue}
 use Rattle.desk.specs.declared.code.Code.TheVariants.{D01, D02}
 use Rattle.desk.specs.Joins.{IsJoined}
 use Rattle.tables.specs.State.{State}

@@ -1,6 +1,6 @@
 -- Replies: the status and the body of each. Bodies are compact JSON (RFC 8259) with members in the order of their bytes.
 use Rattle.std.specs.Prelude.{ℕ, Bool, ◌++◌, ◌==◌, List, codes, map, Option, Some, None}
-use Rattle.serde_json.specs.Data.{Data, null, boolean, number, string, array, object, unsigned, item, no_items, member, no_members}
+use Rattle.serde_json.specs.Data.{Data, null, boolean, number, string, array, object, unsigned, member, no_members}
 use Rattle.serde_json.specs.View.{items_of}
 use Rattle.serde_json.specs.Written.{compact_text}
 use Rattle.positions.specs.Position.{PositionValue}
