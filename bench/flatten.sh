@@ -9,7 +9,7 @@ runs=${1:-9}
 . "$(dirname "${BASH_SOURCE[0]}")/shared.sh"
 . "$top/bench/dumps.sh"
 
-build_program flats "lsif dump flatten" <<'EOP'
+build_program flats "lsif dump flatten" "$program_check" <<'EOP'
 //! Checks each dump that the file `commands` names, makes it flat, and prints the microseconds of both and the number of ranges.
 #![tactic(auto)]
 use dump::{CheckedDump, Checker};
@@ -20,20 +20,6 @@ use std::process::ExitCode;
 use std::rt::{Clock, Files};
 use std::time::Instant;
 use std::{fs, io};
-
-fn check(alloc: Global, body: &[u8]) -> io::Result<CheckedDump> {
-    let mut checker = Checker::new(alloc, Profile::One);
-    for line in body.split(|byte| *byte == b'\n') {
-        if line.is_empty() {
-            break;
-        }
-        match read_element(alloc, Profile::One, line) {
-            Ok(element) => checker.feed(Ok(element)).map_err(|_| bad())?,
-            Err(ReadFault::Shape(_) | ReadFault::Memory) => return Err(bad()),
-        }
-    }
-    checker.finish().map_err(|_| bad())
-}
 
 fn measure<R: Alloc<A = Global> + Files + Print + Clock>(rt: &R, name: &str) -> io::Result<()> {
     let body = fs::read(rt, name)?;

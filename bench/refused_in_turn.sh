@@ -4,35 +4,12 @@
 # usage: bench/refused_in_turn.sh [FILE]      (default demo/base.lsif; needs a C compiler)
 set -eu
 top=$(cd "$(dirname "${BASH_SOURCE[0]}")/.." && pwd)
+. "$top/bench/refusal.sh"
 file=$(realpath "${1:-$top/demo/base.lsif}")
 "$top/codenav" --help >/dev/null
 room=$(mktemp -d)
 trap 'rm -rf "$room"' EXIT
-cat >"$room/refuse.c" <<'C'
-#define _GNU_SOURCE
-#include <dlfcn.h>
-#include <stdlib.h>
-
-/* The request of this number is refused, and no other. */
-static long refused = -1, count = 0;
-static void *(*real_malloc)(size_t);
-static void *(*real_realloc)(void *, size_t);
-
-static int is_refused(void) {
-    if (refused < 0) {
-        const char *text = getenv("REFUSED");
-        refused = text ? atol(text) : 0;
-        real_malloc = dlsym(RTLD_NEXT, "malloc");
-        real_realloc = dlsym(RTLD_NEXT, "realloc");
-    }
-    return ++count == refused;
-}
-
-void *malloc(size_t size) { return is_refused() ? 0 : real_malloc(size); }
-
-void *realloc(void *old, size_t size) { return is_refused() ? 0 : real_realloc(old, size); }
-C
-"${CC:-cc}" -O2 -shared -fPIC "$room/refuse.c" -o "$room/refuse.so" -ldl
+build_refusal "$room"
 wanted=0
 plain=$("$top/crates/codenav/out/codenav" check-lsif "$file") || wanted=$?
 for number in $(seq 1 1000000); do

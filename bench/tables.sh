@@ -9,7 +9,7 @@ runs=${1:-5}
 . "$(dirname "${BASH_SOURCE[0]}")/shared.sh"
 . "$top/bench/dumps.sh"
 
-build_program rows "positions lsif dump flatten tags tables sqlite" <<'EOP'
+build_program rows "positions lsif dump flatten tags tables sqlite" "$program_check" <<'EOP'
 //! Puts the dump in the file `made` into the database `index.db` so many times, and one in memory, and prints the microseconds of each; then asks
 //! the database what the file `asked` says, a line each, and prints the kind and the nanoseconds.
 #![tactic(auto)]
@@ -24,20 +24,6 @@ use std::time::Instant;
 use std::{fs, io};
 use tables::{Covering, MemoryDisk, Tables};
 use tags::read_tags;
-
-fn check(alloc: Global, body: &[u8]) -> io::Result<CheckedDump> {
-    let mut checker = Checker::new(alloc, Profile::One);
-    for line in body.split(|byte| *byte == b'\n') {
-        if line.is_empty() {
-            break;
-        }
-        match read_element(alloc, Profile::One, line) {
-            Ok(element) => checker.feed(Ok(element)).map_err(|_| bad())?,
-            Err(ReadFault::Shape(_) | ReadFault::Memory) => return Err(bad()),
-        }
-    }
-    checker.finish().map_err(|_| bad())
-}
 
 fn put<S: Alter>(rt: &HostRuntime, tables: &mut Tables<S>, kind: &str, key: &str, rows: &Rows<'_>) -> io::Result<()> {
     let start = Instant::now(rt)?;

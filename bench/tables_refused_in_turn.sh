@@ -8,8 +8,9 @@ set -eu
 elements=${1:-60}
 . "$(dirname "${BASH_SOURCE[0]}")/shared.sh"
 . "$top/bench/dumps.sh"
+. "$top/bench/refusal.sh"
 
-build_program refusals "lsif dump flatten tags tables sqlite" <<'EOP'
+build_program refusals "lsif dump flatten tags tables sqlite" "$program_check" <<'EOP'
 //! Calls tables in memory in turn, and prints what each call answers. A call that is refused is made once more.
 #![tactic(auto)]
 use dump::{CheckedDump, Checker};
@@ -22,20 +23,6 @@ use std::rt::Files;
 use std::{fs, io};
 use tables::{MemoryDisk, Tables, TablesFault};
 use tags::{Tag, read_tags};
-
-fn check(alloc: Global, body: &[u8]) -> io::Result<CheckedDump> {
-    let mut checker = Checker::new(alloc, Profile::One);
-    for line in body.split(|byte| *byte == b'\n') {
-        if line.is_empty() {
-            break;
-        }
-        match read_element(alloc, Profile::One, line) {
-            Ok(element) => checker.feed(Ok(element)).map_err(|_| bad())?,
-            Err(ReadFault::Shape(_) | ReadFault::Memory) => return Err(bad()),
-        }
-    }
-    checker.finish().map_err(|_| bad())
-}
 
 fn put_dump(tables: &mut Tables<FileStore<MemoryDisk>>, key: &str, rows: &Rows<'_>) -> Result<usize, TablesFault> {
     tables.replace_dump("app", key, "dump", rows).map(|()| 1)
@@ -129,37 +116,7 @@ fn run<R: Alloc<A = Global> + Files + Print>(rt: &R) -> io::Result<()> {
 }
 EOP
 
-cat >"$folder/refuse.c" <<'C'
-#define _GNU_SOURCE
-#include <dlfcn.h>
-#include <stdio.h>
-#include <stdlib.h>
-
-/* The request of this number is refused, and no other. With 0, none is, and their number is told at the end. */
-static long refused = -1, count = 0;
-static void *(*real_malloc)(size_t);
-static void *(*real_realloc)(void *, size_t);
-
-static int is_refused(void) {
-    if (refused < 0) {
-        const char *text = getenv("REFUSED");
-        refused = text ? atol(text) : 0;
-        real_malloc = dlsym(RTLD_NEXT, "malloc");
-        real_realloc = dlsym(RTLD_NEXT, "realloc");
-    }
-    return ++count == refused;
-}
-
-void *malloc(size_t size) { return is_refused() ? 0 : real_malloc(size); }
-
-void *realloc(void *old, size_t size) { return is_refused() ? 0 : real_realloc(old, size); }
-
-__attribute__((destructor)) static void tell(void) {
-    if (refused == 0)
-        fprintf(stderr, "%ld\n", count);
-}
-C
-"${CC:-cc}" -O2 -shared -fPIC "$folder/refuse.c" -o "$folder/refuse.so" -ldl
+build_refusal "$folder"
 make_dump "$elements" >"$folder/dump"
 printf 'a\tf.c\t1;"\tf\tclass:B\nb\tf.c\t/x/\n' >"$folder/tags"
 cd "$folder"
