@@ -85,7 +85,7 @@ one_result request d x r s (xs, chain, is) (ys, other, says) =
 
 -- ---- the ranges that cover a position
 
-same_position : (p q : PositionValue) → IsAtOrBefore p q → IsAtOrBefore q p → p ≡ q
+pub same_position : (p q : PositionValue) → IsAtOrBefore p q → IsAtOrBefore q p → p ≡ q
 same_position p q f g =
     let line : p.line ≡ q.line = grind arith in
     let character : p.character ≡ q.character = grind arith in

@@ -57,11 +57,11 @@ less_cases a b e = elim (then_cases (nat_cmp a.document b.document) (ordering_th
 
 -- ---- positions by their numbers
 
-before_packed : (p q : PositionValue) → IsPosition p → IsPosition q → IsBefore p q → packed_of p < packed_of q
+pub before_packed : (p q : PositionValue) → IsPosition p → IsPosition q → IsBefore p q → packed_of p < packed_of q
 before_packed p q f g (inl less) = omega (arith, less, f.1)
 before_packed p q f g (inr same) = omega (arith, same.0, same.1)
 
-packed_before : (p q : PositionValue) → IsPosition p → IsPosition q → packed_of p < packed_of q → IsBefore p q
+pub packed_before : (p q : PositionValue) → IsPosition p → IsPosition q → packed_of p < packed_of q → IsBefore p q
 packed_before p q f g less = elim (cases_lt p.line q.line) [
   | inl l ↦ inl l
   | inr m ↦ elim (cases_lt q.line p.line) [

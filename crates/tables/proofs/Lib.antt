@@ -32,7 +32,6 @@ pub mod Looking
 pub mod Ordered
 pub mod PartRemoved
 pub mod Popping
-pub mod PositionNumbers
 pub mod PrefixedTags
 pub mod Prefixes
 pub mod Profiles

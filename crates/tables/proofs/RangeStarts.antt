@@ -29,6 +29,7 @@ use Rattle.sqlite_rules.specs.Lists.{Has}
 use Rattle.positions.specs.Position.{PositionValue, IsPosition, packed_of}
 use Rattle.dump.specs.Progress.{DumpValue}
 use Rattle.flatten.specs.Flat.{RangeRowValue}
+use Rattle.flatten.proofs.Intervals.{before_packed, packed_before}
 use Rattle.tables.specs.Columns.{number, position, range_columns}
 use Rattle.tables.specs.Contents.{slot_row}
 use Rattle.tables.specs.Schema.{schema_two}
@@ -47,7 +48,6 @@ use Rattle.tables.proofs.FoundRanges.{IsRange, IsSound, HasPositions, are, found
 use Rattle.tables.proofs.Keeping.{same_int_is, same_int_itself}
 use Rattle.tables.proofs.Ordered.{in_order, selects_in_order}
 use Rattle.tables.proofs.PartRemoved.{truly}
-use Rattle.tables.proofs.PositionNumbers.{before_packed, packed_before}
 use Rattle.tables.proofs.Reading.{columns_are}
 use Rattle.tables.proofs.Selecting.{show}
 

@@ -5,6 +5,8 @@ use Rattle.positions.specs.Position.{PositionValue, IsBefore, IsAtOrBefore, is_b
 use Rattle.positions.specs.Span.{SpanValue, Covers, Nests, nests, overlaps}
 use Rattle.dump.specs.Contained.{conflicts}
 use Rattle.dump.specs.Requests.{IsWithin}
+use Rattle.dump.proofs.OnePicks.{same_position}
+use Rattle.dump.proofs.Passes.{not_true}
 use Rattle.tables.specs.Steps.Climbs.{ComesBefore}
 
 -- ---- positions
@@ -29,12 +31,6 @@ at_then p q r f g h = grind arith
 
 pub weaker : (p q : PositionValue) → IsBefore p q → IsAtOrBefore p q
 weaker p q f h = never p (before_then p q p f h)
-
-same_position : (p q : PositionValue) → IsAtOrBefore p q → IsAtOrBefore q p → p ≡ q
-same_position p q f g =
-    let line : p.line ≡ q.line = grind arith in
-    let character : p.character ≡ q.character = grind arith in
-    λ i. record { line = line i; character = character i }
 
 -- ---- spans
 
@@ -62,10 +58,6 @@ within_then s t u f g = (nests_then s t u f.0 g.0, λ e. f.1 (nests_both s t f.0
 -- what covers isn't empty
 pub covers_filled : (s : SpanValue) (p : PositionValue) → Covers s p → IsFilled s
 covers_filled s p h = at_before s.start p s.«end» h.0 h.1
-
-not_true : (a : Bool) → not a ≡ true → a ≡ false
-not_true true e = cc
-not_true false e = refl
 
 both_true : (a b : Bool) → a && b ≡ true → (a ≡ true) × (b ≡ true)
 both_true true b e = (refl, e)

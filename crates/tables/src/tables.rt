@@ -82,7 +82,7 @@ impl<S: Alter> Tables<S> {
     ///
     /// With each fault the connection comes back. It's `OldFormat` where the tables are of format 1, which `migrate` upgrades; `Foreign` where something
     /// has such a name, and `format` doesn't read as one row of version 1 or 2; and `Memory` or `Refused` where the store refuses: then no table was made.
-    /// What refuses isn't held to be in memory yet (`in_memory`).
+    /// A store in memory that can't grow while the tables are made is `Refused` too: that a database is in memory is said of its tables (`in_memory`).
     pub fn open(mut conn: Connection<S>) -> Result<Tables<S>, (TablesFault, Connection<S>)>
         requires { conn.in_transaction ≡ false }
         ensures fresh { (state S.Store conn).now.schema ≡ empty_schema → IfOk result (λ c. HasCleanDisk (state S.Store c) → Rests (state S.Store c) nothing) }
