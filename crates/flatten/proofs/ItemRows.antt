@@ -1,5 +1,5 @@
 -- The places of results, by numbers and by ids.
-use Rattle.std.proofs.Common.{◌≡◌, ⊎_elim, ◌∙◌, ℕ, ◌+◌, ◌==◌, true, List, [], ◌∷◌, ◌++◌, filter, map, get_or, refl, sym, ap, subst, arith}
+use Rattle.std.proofs.Common.{◌≡◌, ⊎_elim, ◌∙◌, ℕ, ◌+◌, ◌==◌, true, List, [], ◌∷◌, ◌++◌, filter, map, refl, sym, ap, subst, arith}
 use Rattle.std.specs.Prelude.{◌↔◌, Contains, Option, Some, None, Ok, option_map, slice_get, IsPermutation}
 use Rattle.std.specs.List.{flat_map}
 use Rattle.std.specs.List.Sorted.{IsNonDecreasingBy}
@@ -7,7 +7,7 @@ use Rattle.std.proofs.lemmas.List.Elements.{Contains-append_left, Contains-appen
 use Rattle.std.proofs.lemmas.List.Sorted.{Contains-permutation, IsPermutation-sym}
 use Rattle.std.proofs.lemmas.Map.Views.{exact_unsigned_eq}
 use Rattle.positions.specs.Span.{SpanValue}
-use Rattle.lsif.specs.Element.{IdValue, VertexValue, meta_data, project, document, range, result_set, definition_result, reference_result, declaration_result, implementation_result, hover_result, moniker, package_information, event, other_vertex, ItemValue, contains, next, definition, references, declaration, implementation, hover, moniker_edge, package_edge, attach, item, other_edge, ElementValue, vertex, edge, element_id}
+use Rattle.lsif.specs.Element.{IdValue, VertexValue, meta_data, project, document, range, result_set, definition_result, reference_result, declaration_result, implementation_result, hover_result, moniker, package_information, event, other_vertex, ItemValue, contains, next, definition, references, declaration, implementation, hover, moniker_edge, package_edge, attach, item, other_edge, ElementValue, vertex, edge}
 use Rattle.dump.specs.Fault.{IsFaultless}
 use Rattle.dump.specs.Graph.{vertex_at, line_of}
 use Rattle.dump.specs.Places.{PlaceValue, IsAt, IsItem, result_pairs, result_pairs_of, role_of}
@@ -16,55 +16,47 @@ use Rattle.dump.specs.declared.role.Role.{Role}
 use Rattle.dump.specs.declared.role.Role.TheVariants.{Definitions, References}
 use Rattle.flatten.specs.declared.items.Items.{Items}
 use Rattle.flatten.specs.Flat.{IsItemRow, ItemRowValue, is_result, number_of}
-use Rattle.flatten.specs.Steps.Items.{AreItems, IsReachedRow, IsRowOf, has_role, is_role, item_pairs_of, pairs_by, places_of, row_of, rows_of_role, same_role}
+use Rattle.flatten.specs.Steps.Items.{AreItems, IsReachedRow, IsRowOf, has_role, is_role, item_pairs_of, items_by, placed_by, placed_in, placed_of_pair, row_of, rows_of_role, same_role, with_place}
 use Rattle.flatten.specs.Steps.Numbers.{pairs_of}
-use Rattle.flatten.specs.Steps.Tables.{OfOne, container_uri, place_of, place_with, table_of}
+use Rattle.flatten.specs.Steps.Places.{place_value, placed_value}
+use Rattle.flatten.specs.Steps.Tables.{OfOne, container_uri, place_by, place_of, place_with}
+use Rattle.flatten.specs.declared.places.Place.{Place}
 use Rattle.flatten.proofs.Closures.{wider}
 use Rattle.flatten.proofs.Members.{contains_map, contains_one, filter_keeps, filter_source, flat_of, flat_from, if_in, in_if, map_source, not_in_nil, one_contains}
-use Rattle.flatten.proofs.NumberPairs.{AreOnes, HasEnds, HasVertexNumbers, are_numbers, have_numbers, path_on, path_to, result_ends}
+use Rattle.flatten.proofs.NumberPairs.{AreOnes, HasEnds, HasVertexNumbers, are_numbers, have_numbers, in_one, one_in, path_on, path_to, result_ends}
 use Rattle.flatten.proofs.RangeRows.{HasContainers, at_of, uri_of_at}
-use Rattle.flatten.proofs.Tables.{table_from, table_to}
 
 -- ---- the rows of what a result leads to
 
 module _ (number : ℕ) (items : Items) where
-  abbrev places : List (Option PlaceValue)
-  places = places_of items
-
   -- the row of another result's item in this role
   record IsRoleRow (role : Role) (other : ℕ) (row : ItemRowValue) : Type 0 where
-    range : ℕ
     is_number : row.result ≡ number
     is_role : row.role ≡ role
-    joined : Contains (pairs_by role items) (other, range)
-    placed : get_or places range None ≡ Some row.place
-
-  one_row : (role : Role) (o : Option PlaceValue) (row : ItemRowValue) → Contains (row_of number role o) row → (row.result ≡ number) × (row.role ≡ role) × (o ≡ Some row.place)
-  one_row role None row at = absurd (not_in_nil row at)
-  one_row role (Some place) row at =
-      let this : ItemRowValue = record { result = number; role = role; place = place } in
-      let same : this ≡ row = contains_one this row at in
-      (sym (ap (λ (r : ItemRowValue). r.result) same), sym (ap (λ (r : ItemRowValue). r.role) same), ap (λ (r : ItemRowValue). Some r.place) same)
-
-  row_one : (role : Role) (o : Option PlaceValue) (row : ItemRowValue) → row.result ≡ number → row.role ≡ role → o ≡ Some row.place → Contains (row_of number role o) row
-  row_one role o row n r e =
-      let this : ItemRowValue = record { result = number; role = role; place = row.place } in
-      let same : this ≡ row = λ i. record { result = sym n i; role = sym r i; place = row.place } in
-      subst (λ p. Contains (row_of number role p) row) (sym e) (one_contains this row same)
+    joined : Contains (map placed_value (items_by role items)) (other, row.place)
 
   role_to : (role : Role) (other : ℕ) (row : ItemRowValue) → Contains (rows_of_role number role items other) row → IsRoleRow role other row
   role_to role other row at =
-      let f = flat_of (λ (p : ℕ × ℕ). row_of number role (get_or places p.1 None)) (filter (λ (p : ℕ × ℕ). p.0 == other) (pairs_by role items)) row at in
-      let s = filter_source (λ (p : ℕ × ℕ). p.0 == other) (pairs_by role items) f.0 f.1 in
-      let o = one_row role (get_or places f.0.1 None) row f.2 in
+      let f = map_source (row_of number role) (filter (λ (p : ℕ × Place). p.0 == other) (items_by role items)) row at in
+      let s = filter_source (λ (p : ℕ × Place). p.0 == other) (items_by role items) f.0 f.1 in
       let same : f.0.0 ≡ other = exact_unsigned_eq f.0.0 other s.1 in
-      record { range = f.0.1; is_number = o.0; is_role = o.1; joined = subst (λ z. Contains (pairs_by role items) (z, f.0.1)) same s.0; placed = o.2 }
+      let place : place_value f.0.1 ≡ row.place = ap (λ (r : ItemRowValue). r.place) f.2 in
+      let whole : ◌≡◌ {A = ℕ × PlaceValue} (placed_value f.0) (other, row.place) = λ i. (same i, place i) in
+      record {
+        is_number = sym (ap (λ (r : ItemRowValue). r.result) f.2);
+        is_role = sym (ap (λ (r : ItemRowValue). r.role) f.2);
+        joined = subst (Contains (map placed_value (items_by role items))) whole (contains_map placed_value (items_by role items) f.0 s.0);
+      }
 
   role_from : (role : Role) (other : ℕ) (row : ItemRowValue) → IsRoleRow role other row → Contains (rows_of_role number role items other) row
   role_from role other row h =
-      flat_from (λ (p : ℕ × ℕ). row_of number role (get_or places p.1 None)) (filter (λ (p : ℕ × ℕ). p.0 == other) (pairs_by role items)) (other, h.range) row
-      (filter_keeps (λ (p : ℕ × ℕ). p.0 == other) (pairs_by role items) (other, h.range) h.joined (grind arith))
-      (row_one role (get_or places h.range None) row h.is_number h.is_role h.placed)
+      let m = map_source placed_value (items_by role items) (other, row.place) h.joined in
+      let same : m.0.0 ≡ other = ap (λ (p : ℕ × PlaceValue). p.0) m.2 in
+      let place : place_value m.0.1 ≡ row.place = ap (λ (p : ℕ × PlaceValue). p.1) m.2 in
+      let this : row_of number role m.0 ≡ row = λ i. record { result = sym h.is_number i; role = sym h.is_role i; place = place i } in
+      subst (Contains (rows_of_role number role items other)) this
+      (contains_map (row_of number role) (filter (λ (p : ℕ × Place). p.0 == other) (items_by role items)) m.0
+      (filter_keeps (λ (p : ℕ × Place). p.0 == other) (items_by role items) m.0 m.1 (grind (arith, same))))
 
   -- the rows for both roles of one of these
   abbrev pub IsRowFor : ℕ → ItemRowValue → Type 0
@@ -76,11 +68,9 @@ module _ (number : ℕ) (items : Items) where
       by_role : (role : Role) (other : ℕ) → Path items.results.items number other → IsRoleRow role other row → IsReachedRow number items row
       by_role role other path h = record {
         other = other;
-        range = h.range;
         is_number = h.is_number;
         reached = path;
-        joined = subst (λ r. Contains (pairs_by r items) (other, h.range)) (sym h.is_role) h.joined;
-        placed = h.placed;
+        joined = subst (λ r. Contains (map placed_value (items_by r items)) (other, row.place)) (sym h.is_role) h.joined;
       }
 
       to : OfOne IsRowFor numbers row → IsReachedRow number items row
@@ -96,7 +86,7 @@ module _ (number : ℕ) (items : Items) where
       in_role References other at = Contains-append_right (rows_of_role number Definitions items other) (rows_of_role number References items other) row at
 
       back : IsReachedRow number items row → OfOne IsRowFor numbers row
-      back h = (h.other, (all h.other).1 h.reached, in_role row.role h.other (role_from row.role h.other row (record { range = h.range; is_number = h.is_number; is_role = refl; joined = h.joined; placed = h.placed })))
+      back h = (h.other, (all h.other).1 h.reached, in_role row.role h.other (role_from row.role h.other row (record { is_number = h.is_number; is_role = refl; joined = h.joined })))
 
 -- ---- the items of results
 
@@ -153,12 +143,28 @@ module _ (role : Role) where
 
 -- ---- items in the order of their results
 
-pub each_sorted : (items : Items) → IsNonDecreasingBy (λ p. p.0) items.definitions.items → IsNonDecreasingBy (λ p. p.0) items.references.items → (role : Role) → IsNonDecreasingBy (λ p. p.0) (pairs_by role items)
+pub each_sorted : (items : Items) → IsNonDecreasingBy (λ p. p.0) items.definitions.items → IsNonDecreasingBy (λ p. p.0) items.references.items → (role : Role) → IsNonDecreasingBy (λ p. p.0) (items_by role items)
 each_sorted items a b Definitions = a
 each_sorted items a b References = b
 
-pub each_role : (d : List ElementValue) (items : Items) → IsPermutation (pairs_of (item_pairs_of Definitions) d) items.definitions.items → IsPermutation (pairs_of (item_pairs_of References) d) items.references.items
-    → (role : Role) → IsPermutation (pairs_of (item_pairs_of role) d) (pairs_by role items)
+-- those of a list are those of the list in another order
+pub placed_again : (all : List (ℕ × PlaceValue)) (list sorted : List (ℕ × Place)) → map placed_value list ≡ all → IsPermutation list sorted → (p : ℕ × PlaceValue) → Contains (map placed_value sorted) p ↔ Contains all p
+placed_again all list sorted is same p = (to, back)
+  where
+    to : Contains (map placed_value sorted) p → Contains all p
+    to at =
+        let m = map_source placed_value sorted p at in
+        subst (λ l. Contains l p) is (subst (Contains (map placed_value list)) m.2 (contains_map placed_value list m.0 (Contains-permutation sorted list m.0 (IsPermutation-sym list sorted same) m.1)))
+
+    back : Contains all p → Contains (map placed_value sorted) p
+    back at =
+        let m = map_source placed_value list p (subst (λ l. Contains l p) (sym is) at) in
+        subst (Contains (map placed_value sorted)) m.2 (contains_map placed_value sorted m.0 (Contains-permutation list sorted m.0 same m.1))
+
+abbrev AreBy : List ElementValue → Items → Role → Type 0
+AreBy d items role = (p : ℕ × PlaceValue) → Contains (map placed_value (items_by role items)) p ↔ Contains (placed_by role d) p
+
+pub each_role : (d : List ElementValue) (items : Items) → AreBy d items Definitions → AreBy d items References → (role : Role) → AreBy d items role
 each_role d items a b Definitions = a
 each_role d items a b References = b
 
@@ -183,33 +189,46 @@ module _ (d : List ElementValue) (free : IsFaultless (map Ok d)) (vertices : (i 
   lined : HasVertexNumbers d
   lined i v e = let t = there i v e in (t.0 + 1, ap (option_map (λ k. k + 1)) t.1)
 
-  said_place : (e : ElementValue) (place : PlaceValue) → Contains d e → place_of d e ≡ Some place → IsAt d (element_id e) place
-  said_place (vertex i (range span)) place here h =
-      let p = place_is span (container_uri d i) place h in
-      at_of d containers i place.uri place.span p.0 ((vertices i (range span)).1 here ∙ ap (λ s. Some (range s)) p.1)
-  said_place (vertex i (document u)) place here h = cc
-  said_place (vertex i (meta_data b)) place here h = cc
-  said_place (vertex i project) place here h = cc
-  said_place (vertex i result_set) place here h = cc
-  said_place (vertex i definition_result) place here h = cc
-  said_place (vertex i reference_result) place here h = cc
-  said_place (vertex i declaration_result) place here h = cc
-  said_place (vertex i implementation_result) place here h = cc
-  said_place (vertex i (hover_result t)) place here h = cc
-  said_place (vertex i (moniker m)) place here h = cc
-  said_place (vertex i (package_information p)) place here h = cc
-  said_place (vertex i (event v)) place here h = cc
-  said_place (vertex i other_vertex) place here h = cc
-  said_place (edge i e) place here h = cc
+  place_by_to : (r : IdValue) (o : Option VertexValue) (place : PlaceValue) → vertex_at d r ≡ o → place_by d r o ≡ Some place → IsAt d r place
+  place_by_to r (Some (range span)) place is h =
+      let p = place_is span (container_uri d r) place h in
+      at_of d containers r place.uri place.span p.0 (is ∙ ap (λ s. Some (range s)) p.1)
+  place_by_to r (Some (document u)) place is h = cc
+  place_by_to r (Some (meta_data b)) place is h = cc
+  place_by_to r (Some project) place is h = cc
+  place_by_to r (Some result_set) place is h = cc
+  place_by_to r (Some definition_result) place is h = cc
+  place_by_to r (Some reference_result) place is h = cc
+  place_by_to r (Some declaration_result) place is h = cc
+  place_by_to r (Some implementation_result) place is h = cc
+  place_by_to r (Some (hover_result t)) place is h = cc
+  place_by_to r (Some (moniker m)) place is h = cc
+  place_by_to r (Some (package_information p)) place is h = cc
+  place_by_to r (Some (event v)) place is h = cc
+  place_by_to r (Some other_vertex) place is h = cc
+  place_by_to r None place is h = cc
 
-  place_to : (r : IdValue) (n : ℕ) (place : PlaceValue) → number_of d r ≡ Some n → get_or (table_of (place_of d) d) n None ≡ Some place → IsAt d r place
-  place_to r n place at h =
-      let t = table_to (place_of d) d free n place h in
-      subst (λ x. IsAt d x place) (ones (element_id t.0) r n t.2 at) (said_place t.0 place t.1 t.3)
+  place_from : (r : IdValue) (place : PlaceValue) → IsAt d r place → place_of d r ≡ Some place
+  place_from r place h = ap (place_by d r) h.span ∙ ap (option_map (place_with place.span)) (uri_of_at d containers r place h)
 
-  place_from : (r : IdValue) (n : ℕ) (place : PlaceValue) → number_of d r ≡ Some n → IsAt d r place → get_or (table_of (place_of d) d) n None ≡ Some place
-  place_from r n place at h =
-      table_from (place_of d) d there r (range place.span) n h.span at ∙ ap (option_map (place_with place.span)) (uri_of_at d containers r place h)
+  with_both : (a : Option ℕ) (b : Option PlaceValue) (n : ℕ) (place : PlaceValue) → with_place a b ≡ Some (n, place) → (a ≡ Some n) × (b ≡ Some place)
+  with_both (Some m) (Some q) n place e = let same : ◌≡◌ {A = ℕ × PlaceValue} (m, q) (n, place) = cc in (ap (λ p. Some p.0) same, ap (λ p. Some p.1) same)
+  with_both (Some m) None n place e = cc
+  with_both None b n place e = cc
+
+  -- the item of a result by its number, and where it lies
+  placed_to : (role : Role) (n : ℕ) (place : PlaceValue) → Contains (placed_by role d) (n, place) → (x r : IdValue) × Contains (flat_map (item_pairs_of role) d) (x, r) × (number_of d x ≡ Some n) × IsAt d r place
+  placed_to role n place at =
+      let e = flat_of (placed_in role d) d (n, place) at in
+      let p = flat_of (placed_of_pair d) (item_pairs_of role e.0) (n, place) e.2 in
+      let b = with_both (number_of d p.0.0) (place_of d p.0.1) n place (in_one (with_place (number_of d p.0.0) (place_of d p.0.1)) (n, place) p.2) in
+      (p.0.0, p.0.1, flat_from (item_pairs_of role) d e.0 p.0 e.1 p.1, b.0, place_by_to p.0.1 (vertex_at d p.0.1) place refl b.1)
+
+  placed_from : (role : Role) (x r : IdValue) (n : ℕ) (place : PlaceValue) → Contains (flat_map (item_pairs_of role) d) (x, r) → number_of d x ≡ Some n → IsAt d r place → Contains (placed_by role d) (n, place)
+  placed_from role x r n place at number h =
+      let e = flat_of (item_pairs_of role) d (x, r) at in
+      let both : with_place (number_of d x) (place_of d r) ≡ Some (n, place) = ap (λ a. with_place a (place_of d r)) number ∙ ap (with_place (Some n)) (place_from r place h) in
+      flat_from (placed_in role d) d e.0 (n, place) e.1 (flat_from (placed_of_pair d) (item_pairs_of role e.0) (x, r) (n, place) e.2 (one_in (with_place (number_of d x) (place_of d r)) (n, place) both))
 
   -- ---- the rows of results
 
@@ -218,18 +237,15 @@ module _ (d : List ElementValue) (free : IsFaultless (map Ok d)) (vertices : (i 
     row_to i v row here (result, number, at, h) =
         let is = (vertices i v).1 here in
         let joined = are_numbers result_pairs_of d in
-        let items_are = are_numbers (item_pairs_of row.role) d in
         let path = wider items.results.items (pairs_of result_pairs_of d) (λ q c. Contains-permutation items.results.items (pairs_of result_pairs_of d) q (IsPermutation-sym (pairs_of result_pairs_of d) items.results.items are.results) c) number h.other h.reached in
         let p = path_on d (result_pairs d) (pairs_of result_pairs_of d) joined ones i number h.other at path in
-        let pair = Contains-permutation (pairs_by row.role items) (pairs_of (item_pairs_of row.role) d) (h.other, h.range) (IsPermutation-sym (pairs_of (item_pairs_of row.role) d) (pairs_by row.role items) (are.each row.role)) h.joined in
-        let t = items_are.to h.other h.range pair in
+        let t = placed_to row.role h.other row.place ((are.each row.role (h.other, row.place)).0 h.joined) in
         let same : t.0 ≡ p.0 = ones t.0 p.0 h.other t.3 p.1 in
-        let placed : get_or (table_of (place_of d) d) h.range None ≡ Some row.place = subst (λ e. get_or (table_of (place_of e) e) h.range None ≡ Some row.place) are.same h.placed in
         record {
           result = i;
           at_line = at ∙ ap (λ n. Some n) (sym h.is_number);
           is_result = ap is_result is ∙ result;
-          is_place = (p.0, p.2, (t.1, item_to row.role d p.0 t.1 (subst (λ z. Contains (flat_map (item_pairs_of row.role) d) (z, t.1)) same t.2), place_to t.1 h.range row.place t.4 placed));
+          is_place = (p.0, p.2, (t.1, item_to row.role d p.0 t.1 (subst (λ z. Contains (flat_map (item_pairs_of row.role) d) (z, t.1)) same t.2), t.4));
         }
 
     result_vertex : (o : Option VertexValue) → is_result o ≡ true → (v : VertexValue) × (o ≡ Some v)
@@ -245,15 +261,12 @@ module _ (d : List ElementValue) (free : IsFaultless (map Ok d)) (vertices : (i 
         let its_place = h.is_place.2.2 in
         let joined = are_numbers result_pairs_of d in
         let p = path_to d (result_pairs d) (pairs_of result_pairs_of d) joined (have_numbers result_pairs_of d result_ends has lined) h.result other row.result h.at_line h.is_place.1 in
-        let n = lined r (range row.place.span) its_place.span in
-        let pair = (are_numbers (item_pairs_of row.role) d).from other r p.0 n.0 (item_from row.role d other r its_item) p.1 n.1 in
+        let placed = placed_from row.role other r p.0 row.place (item_from row.role d other r its_item) p.1 its_place in
         let reached : IsReachedRow row.result items row = record {
           other = p.0;
-          range = n.0;
           is_number = refl;
           reached = wider (pairs_of result_pairs_of d) items.results.items (λ q c. Contains-permutation (pairs_of result_pairs_of d) items.results.items q are.results c) row.result p.0 p.2;
-          joined = Contains-permutation (pairs_of (item_pairs_of row.role) d) (pairs_by row.role items) (p.0, n.0) (are.each row.role) pair;
-          placed = subst (λ e. get_or (table_of (place_of e) e) n.0 None ≡ Some row.place) (sym are.same) (place_from r n.0 row.place n.1 its_place);
+          joined = (are.each row.role (p.0, row.place)).1 placed;
         } in
         (vertex h.result v.0, (vertices h.result v.0).0 v.1, (ap is_result (sym v.1) ∙ h.is_result, row.result, h.at_line, reached))
 

@@ -15,10 +15,11 @@ use Rattle.dump.specs.declared.role.Role.TheVariants.{Definitions, References}
 use Rattle.flatten.specs.Flat.{MarkRowValue, ItemRowValue}
 use Rattle.flatten.specs.Steps.Borne.{IsBorneBy, MarkText}
 use Rattle.flatten.specs.Steps.Documents.{documents_in, hovers_in}
-use Rattle.flatten.specs.Steps.Items.{IsRowOf, item_pairs_of}
+use Rattle.flatten.specs.Steps.Items.{IsRowOf, placed_in}
 use Rattle.flatten.specs.Steps.Kinds.{AreKinds, AreThose, Takes, is_document, is_hover, is_moniker_edge, is_range, is_result_vertex, kept, said}
 use Rattle.flatten.specs.Steps.Marks.{IsMarkOfRange}
 use Rattle.flatten.specs.Steps.Numbers.{pairs_in, pairs_of}
+use Rattle.flatten.specs.Steps.Places.{placed_value}
 use Rattle.flatten.specs.Steps.Parents.{IsWithinLimit, interval_value, intervals_in}
 use Rattle.flatten.specs.Steps.Ranges.{range_lines}
 use Rattle.flatten.specs.Steps.Tables.{OfOne}
@@ -43,8 +44,8 @@ pub record AreTaken (elements rest : List ElementValue) (kinds : Kinds) : Type 0
   pub results : HasThose is_result_vertex elements rest kinds.results.items
   pub moniker_edges : HasThose is_moniker_edge elements rest kinds.moniker_edges.items
   pub result_pairs : HasSaid (pairs_in result_pairs_of elements) elements rest kinds.result_pairs.items
-  pub definitions : HasSaid (pairs_in (item_pairs_of Definitions) elements) elements rest kinds.definitions.items
-  pub references : HasSaid (pairs_in (item_pairs_of References) elements) elements rest kinds.references.items
+  pub definitions : HasSaid (placed_in Definitions elements) elements rest (map placed_value kinds.definitions.items)
+  pub references : HasSaid (placed_in References elements) elements rest (map placed_value kinds.references.items)
   pub intervals : HasSaid (intervals_in elements) elements rest (map interval_value kinds.intervals.items)
   pub within : All IsWithinLimit rest → All IsWithinLimit elements
 
@@ -59,10 +60,10 @@ has_more : (is : ElementValue → Bool) (elements rest : List ElementValue) (x :
 has_more is elements rest x old new has grown =
     ap (λ l. l ++ filter is rest) grown ∙ append_assoc (map said old) (kept (is x) x) (filter is rest) ∙ ap (λ l. map said old ++ l) (first_kept is x rest) ∙ has
 
-said_more : {Y : Type 0} (f : ElementValue → List Y) (elements rest : List ElementValue) (x : ElementValue) (old new : List Y) → HasSaid f elements (x ∷ rest) old → new ≡ old ++ f x → HasSaid f elements rest new
+pub said_more : {Y : Type 0} (f : ElementValue → List Y) (elements rest : List ElementValue) (x : ElementValue) (old new : List Y) → HasSaid f elements (x ∷ rest) old → new ≡ old ++ f x → HasSaid f elements rest new
 said_more f elements rest x old new has grown = ap (λ l. l ++ flat_map f rest) grown ∙ append_assoc old (f x) (flat_map f rest) ∙ has
 
-said_at : {Y : Type 0} (f : List ElementValue → ElementValue → List Y) (d e : List ElementValue) (x : ElementValue) (old new : List Y) → e ≡ d → new ≡ old ++ f e x → new ≡ old ++ f d x
+pub said_at : {Y : Type 0} (f : List ElementValue → ElementValue → List Y) (d e : List ElementValue) (x : ElementValue) (old new : List Y) → e ≡ d → new ≡ old ++ f e x → new ≡ old ++ f d x
 said_at f d e x old new same grown = grown ∙ ap (λ l. old ++ f l x) same
 
 pub taken_more : (elements rest : List ElementValue) (x : ElementValue) (old new : Kinds) → old.dump.now.elements ≡ elements → AreTaken elements (x ∷ rest) old → Takes old x new → AreTaken elements rest new
@@ -73,8 +74,8 @@ taken_more d rest x old new same a t = record {
   results = has_more is_result_vertex d rest x old.results.items new.results.items a.results t.results;
   moniker_edges = has_more is_moniker_edge d rest x old.moniker_edges.items new.moniker_edges.items a.moniker_edges t.moniker_edges;
   result_pairs = said_more (pairs_in result_pairs_of d) d rest x _ _ a.result_pairs (said_at (pairs_in result_pairs_of) d _ x _ _ same t.result_pairs);
-  definitions = said_more (pairs_in (item_pairs_of Definitions) d) d rest x _ _ a.definitions (said_at (pairs_in (item_pairs_of Definitions)) d _ x _ _ same t.definitions);
-  references = said_more (pairs_in (item_pairs_of References) d) d rest x _ _ a.references (said_at (pairs_in (item_pairs_of References)) d _ x _ _ same t.references);
+  definitions = said_more (placed_in Definitions d) d rest x _ _ a.definitions (said_at (placed_in Definitions) d _ x _ _ same t.definitions);
+  references = said_more (placed_in References d) d rest x _ _ a.references (said_at (placed_in References) d _ x _ _ same t.references);
   intervals = said_more (intervals_in d) d rest x _ _ a.intervals (said_at intervals_in d _ x _ _ same t.intervals);
   within = λ all. a.within (All-cons IsWithinLimit x rest t.within all);
 }
@@ -96,8 +97,8 @@ taken_all kinds free a =
       results = has_all is_result_vertex d kinds.results.items a.results;
       moniker_edges = has_all is_moniker_edge d kinds.moniker_edges.items a.moniker_edges;
       result_pairs = said_all (pairs_in result_pairs_of d) d _ a.result_pairs;
-      definitions = said_all (pairs_in (item_pairs_of Definitions) d) d _ a.definitions;
-      references = said_all (pairs_in (item_pairs_of References) d) d _ a.references;
+      definitions = said_all (placed_in Definitions d) d _ a.definitions;
+      references = said_all (placed_in References d) d _ a.references;
       intervals = said_all (intervals_in d) d _ a.intervals;
       within = a.within (All-nil IsWithinLimit);
     }

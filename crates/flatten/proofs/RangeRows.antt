@@ -1,6 +1,6 @@
 -- The rows of ranges and of bearers: one for each range, and one for each mark.
 use Rattle.std.proofs.Common.{◌≡◌, ◌⊎◌, inl, inr, ◌∙◌, ◌+◌, ℕ, Bool, true, false, not, List, [], ◌∷◌, map, refl, sym, ap, subst, arith}
-use Rattle.std.specs.Prelude.{◌↔◌, ◌&&◌, ◌||◌, Contains, Option, Some, None, Ok, option_map, option_and_then, slice_get}
+use Rattle.std.specs.Prelude.{◌↔◌, ◌&&◌, ◌||◌, Contains, IfSome, IfNone, Option, Some, None, Ok, option_map, option_and_then, slice_get}
 use Rattle.std.specs.List.{All, flat_map}
 use Rattle.positions.specs.Position.{PositionValue, IsBefore, is_before}
 use Rattle.positions.specs.Span.{SpanValue, Nests, nests, overlaps}
@@ -14,7 +14,8 @@ use Rattle.dump.specs.Places.{PlaceValue, IsAt, IsListing}
 use Rattle.dump.specs.Requests.{First}
 use Rattle.std.specs.Ordering.{nat_cmp}
 use Rattle.flatten.specs.Flat.{HasEachRange, RangeRowValue, ResultsValue, AreResults, IsParent, IsRangeRow, LiesIn, by_line, number_of, result_for}
-use Rattle.flatten.specs.Steps.Ranges.{line_with, range_lines}
+use Rattle.flatten.specs.Steps.Parents.{AreParents}
+use Rattle.flatten.specs.Steps.Ranges.{FoundRangeValue, IsFoundRange, IsRowWithParent, line_with, range_lines}
 use Rattle.flatten.specs.Steps.Tables.{container_uri, uri_of}
 use Rattle.flatten.proofs.Listing.{keyed_listing}
 use Rattle.flatten.proofs.Members.{flat_from, map_source, one_contains}
@@ -74,6 +75,20 @@ parent_one elements nested r (Some m) (Some n) f g = elim (f.3 g.0 g.2) [
     | inr other ↦ absurd (around_both elements nested f.0 g.0 more other)
   ]
 ]
+
+parent_is : (d : List ElementValue) (pairs : List (ℕ × ℕ)) → AreParents d pairs → (r : IdValue) (span : SpanValue) (n : ℕ) → vertex_at d r ≡ Some (range span) → number_of d r ≡ Some n → (o : Option ℕ) → IfSome o (λ m. Contains pairs (n, m)) → IfNone o ((m : ℕ) → Contains pairs (n, m) → ⊥) → IsParent d r o
+parent_is d pairs are r span n is at (Some m) some none = are.some r span n m is at some
+parent_is d pairs are r span n is at None some none = are.none r span n is at none
+
+-- the row of a range that was found, with its parent
+pub row_is : (d : List ElementValue) (pairs : List (ℕ × ℕ)) → AreParents d pairs → (found : FoundRangeValue) (row : RangeRowValue) → IsFoundRange d found → IsRowWithParent pairs found row → IsRangeRow d row
+row_is d pairs are found row f h = record {
+  range = f.range;
+  at_line = f.at_line ∙ ap (λ n. Some n) (sym h.is_line);
+  is_at = subst (IsAt d f.range) (sym h.is_place) f.is_at;
+  is_parent = parent_is d pairs are f.range found.place.span found.line f.is_at.span f.at_line row.parent h.some h.none;
+  are_results = subst (AreResults d f.range) (sym h.are_results) f.are_results;
+}
 
 -- ---- places
 

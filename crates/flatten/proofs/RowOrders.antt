@@ -1,5 +1,5 @@
 -- The orders of rows, and when rows are one.
-use Rattle.std.proofs.Common.{◌≡◌, ◌∙◌, arith, Bool, true, List, [], ◌∷◌, nat_eq, refl}
+use Rattle.std.proofs.Common.{◌≡◌, ◌∙◌, arith, Bool, true, false, List, [], ◌∷◌, nat_eq, refl}
 use Rattle.std.specs.Prelude.{ℕ, ◌==◌, ◌&&◌, string_bytes}
 use Rattle.std.specs.Cmp.{IsTotalOrder, back_total, both_tied, first_so, second_so, then_total, on_total, nat_cmp_total, unsigned_ties}
 use Rattle.std.specs.Cmp.Lexicographic.{on_texts, texts_ties, pointwise, slice_cmp}
@@ -174,7 +174,16 @@ mark_same x y e =
 -- ---- intervals
 
 abbrev pub same_interval : Interval → Interval → Bool
-same_interval a b = (a.document == b.document) && ((a.start == b.start) && ((a.«end» == b.«end») && (a.range == b.range)))
+same_interval a b = (a.document == b.document) && ((a.range == b.range) && ((a.start == b.start) && (a.«end» == b.«end»)))
+
+second_last : (a b c d : Bool) → (a && (b && (c && d))) ≡ (a && (c && (d && b)))
+second_last false b c d = refl
+second_last true true true true = refl
+second_last true true true false = refl
+second_last true true false d = refl
+second_last true false true true = refl
+second_last true false true false = refl
+second_last true false false d = refl
 
 pub interval_total : IsTotalOrder (under interval_value interval_cmp)
 interval_total =
@@ -186,7 +195,7 @@ back_ties m n = grind arith ∙ unsigned_ties n m
 
 pub interval_ties : (x y : Interval) → same_interval x y ≡ eq_by_cmp (under interval_value interval_cmp) x y
 interval_ties x y =
-    both_tied _ _ (nat_cmp x.document y.document) _ (unsigned_ties x.document y.document)
+    second_last (x.document == y.document) (x.range == y.range) (x.start == y.start) (x.«end» == y.«end») ∙ both_tied _ _ (nat_cmp x.document y.document) _ (unsigned_ties x.document y.document)
     (both_tied _ _ (nat_cmp x.start y.start) _ (unsigned_ties x.start y.start)
     (both_tied _ _ (nat_cmp y.«end» x.«end») _ (back_ties x.«end» y.«end») (unsigned_ties x.range y.range)))
 
@@ -194,8 +203,8 @@ pub interval_same : (x y : Interval) → same_interval x y ≡ true → interval
 interval_same x y e =
     let a = eq_of x.document y.document (first_so _ _ e) in
     let f = second_so (x.document == y.document) _ e in
-    let b = eq_of x.start y.start (first_so _ _ f) in
-    let g = second_so (x.start == y.start) _ f in
-    let c = eq_of x.«end» y.«end» (first_so _ _ g) in
-    let h = eq_of x.range y.range (second_so (x.«end» == y.«end») _ g) in
+    let h = eq_of x.range y.range (first_so _ _ f) in
+    let g = second_so (x.range == y.range) _ f in
+    let b = eq_of x.start y.start (first_so _ _ g) in
+    let c = eq_of x.«end» y.«end» (second_so (x.start == y.start) _ g) in
     λ i. record { document = a i; first = b i; last = c i; range = h i }

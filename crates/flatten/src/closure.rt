@@ -13,7 +13,10 @@ use crate::found::Found;
 use std::alloc::{AllocError, Global};
 
 /// The pairs in the order of their sources.
-pub(crate) fn by_source(alloc: Global, pairs: &[(u32, u32)]) -> Result<Vec<(u32, u32)>, AllocError>
+pub(crate) fn by_source<T: Copy>(
+    alloc: Global,
+    pairs: &[(u32, T)],
+) -> Result<Vec<(u32, T)>, AllocError>
     ensures all { IfOk result (λ sorted. IsPermutation pairs.now sorted.items) }
     ensures ordered { IfOk result (λ sorted. IsNonDecreasingBy (λ p. p.0) sorted.items) }
 {
@@ -23,7 +26,7 @@ pub(crate) fn by_source(alloc: Global, pairs: &[(u32, u32)]) -> Result<Vec<(u32,
 }
 
 /// How many of the pairs, which are in the order of their sources, have a source below this.
-fn count_below(pairs: &[(u32, u32)], source: u32) -> usize
+fn count_below<T>(pairs: &[(u32, T)], source: u32) -> usize
     requires { IsNonDecreasingBy (λ p. p.0) pairs.now }
     ensures bound { result ≤ length pairs.now }
     ensures point { IsPartitionPoint (λ p. nat_lt p.0 source ≡ true) (λ p. nat_lt p.0 source ≡ false) pairs.now result }
@@ -32,7 +35,7 @@ fn count_below(pairs: &[(u32, u32)], source: u32) -> usize
 }
 
 /// How many of the pairs, which are in the order of their sources, have this source or one below it.
-fn count_up_to(pairs: &[(u32, u32)], source: u32) -> usize
+fn count_up_to<T>(pairs: &[(u32, T)], source: u32) -> usize
     requires { IsNonDecreasingBy (λ p. p.0) pairs.now }
     ensures bound { result ≤ length pairs.now }
     ensures point { IsPartitionPoint (λ p. nat_le p.0 source ≡ true) (λ p. nat_le p.0 source ≡ false) pairs.now result }
@@ -41,7 +44,7 @@ fn count_up_to(pairs: &[(u32, u32)], source: u32) -> usize
 }
 
 /// The pairs out of this source, of pairs in the order of their sources.
-pub(crate) fn pairs_from(pairs: &[(u32, u32)], source: u32) -> &[(u32, u32)]
+pub(crate) fn pairs_from<T>(pairs: &[(u32, T)], source: u32) -> &[(u32, T)]
     requires { IsNonDecreasingBy (λ p. p.0) pairs.now }
     ensures { result.now ≡ filter (λ p. p.0 == source) pairs.now }
 {

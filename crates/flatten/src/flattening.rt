@@ -8,7 +8,7 @@ use crate::chains::Chains;
 use crate::documents::{document_rows, hover_rows};
 use crate::fault::FlattenFault;
 use crate::items::item_rows;
-use crate::kinds::kinds_of;
+use crate::kinds::{Gathered, gather};
 use crate::marks::{bearer_rows, mark_rows};
 use crate::ranges::range_rows;
 use crate::rows::Rows;
@@ -27,12 +27,12 @@ pub(crate) fn flatten_within<'a>(
     ensures profile { IfOk result (λ rows. rows.profile ≡ dump.now.profile) }
     ensures rows { IfOk result (λ rows. IsFlat dump.now.elements (rows_value rows)) }
 {
-    let kinds = kinds_of(alloc, dump)?;
+    let Gathered { kinds, ranges } = gather(alloc, dump)?;
     let documents = document_rows(alloc, &kinds)?;
     let hovers = hover_rows(alloc, &kinds)?;
     let items = item_rows(alloc, &kinds, limit)?;
+    let ranges = range_rows(alloc, dump, &ranges, &kinds.intervals)?;
     let mut chains = Chains::new(alloc, dump, borne(alloc, &kinds, limit)?)?;
-    let ranges = range_rows(alloc, &mut chains, &kinds.ranges, &kinds.intervals)?;
     let marks = mark_rows(alloc, &mut chains, &kinds.ranges, limit)?;
     let bearers = bearer_rows(alloc, &mut chains, limit)?;
     Ok(Rows {

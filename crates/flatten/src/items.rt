@@ -3,20 +3,20 @@ ghost use Rattle.std.specs.Prelude.{◌≡◌, ◌++◌, IfOk, OnOk, Contains, m
 ghost use Rattle.std.specs.List.{flat_map};
 ghost use Rattle.lsif.specs.Element.{id_value, id_values, element_value, vertex_value};
 ghost use Rattle.dump.specs.Places.{IsListing, place_cmp, result_pairs_of};
-ghost use Rattle.flatten.specs.Flat.{IsItemRow, is_result, item_cmp, role_index};
+ghost use Rattle.flatten.specs.Flat.{IsItemRow, is_result, item_cmp, number_of, role_index};
 ghost use Rattle.flatten.specs.Rows.{item_value};
-ghost use Rattle.flatten.specs.Steps.Items.{AddsListing, AreItems, AreSorted, IsReachedRow, IsRowOf, is_role, item_pairs_of, row_of, rows_of_pairs, rows_of_role};
+ghost use Rattle.flatten.specs.Steps.Items.{AddsListing, AreItems, AreSorted, IsReachedRow, IsRowOf, is_role, placed_in, placed_of_pair, row_of, rows_of_role, with_place};
 ghost use Rattle.flatten.specs.Steps.Kinds.{AreKinds};
 ghost use Rattle.flatten.specs.Steps.Numbers.{numbers_of_pair, pairs_in, pairs_of};
-ghost use Rattle.flatten.specs.Steps.Places.{place_value};
-ghost use Rattle.flatten.specs.Steps.Tables.{Adds, place_of, table_of};
+ghost use Rattle.flatten.specs.Steps.Places.{placed_value};
+ghost use Rattle.flatten.specs.Steps.Tables.{Adds, place_of};
 
 use crate::budget::{Budget, Budgets};
 use crate::closure::{by_source, closed, pairs_from};
 use crate::fault::FlattenFault;
 use crate::kinds::Kinds;
 use crate::numbers::{number_of, number_pair};
-use crate::places::{Place, place_at};
+use crate::places::{Place, place_of};
 use crate::rows::ItemRow;
 use dump::{CheckedDump, Role, container_law, ends_law, line_law, role_of, vertex_law};
 use lsif::{Edge, Element, Id, Property, Vertex};
@@ -64,30 +64,57 @@ fn is_role(role: Role, property: Option<Property>) -> bool
     role_of(property) == Some(role)
 }
 
-/// Adds the numbers of the result and the ranges that the element, where it's an `item` edge of the role, joins.
-pub(crate) fn add_items(
-    pairs: &mut Vec<(u32, u32)>,
-    dump: &CheckedDump,
+/// The number of the source with the place of the target, where each has one.
+fn placed<'a>(dump: &'a CheckedDump, source: &Id, target: &Id) -> Option<(u32, Place<'a>)>
+    ensures { option_map placed_value result ≡ with_place (number_of dump.now.elements (id_value source.now)) (place_of dump.now.elements (id_value target.now)) }
+{
+    match (number_of(dump, source), place_of(dump, target)) {
+        (Some(number), Some(place)) => Some((number, place)),
+        _ => None,
+    }
+}
+
+/// Adds the number of the source with the place of each target.
+fn add_places<'a>(
+    items: &mut Vec<(u32, Place<'a>)>,
+    dump: &'a CheckedDump,
+    source: &Id,
+    targets: &[Id],
+) -> Result<(), AllocError>
+    ensures { OnOk result (map placed_value items.new.items ≡ map placed_value items.old.items ++ flat_map (placed_of_pair dump.now.elements) (map (λ to. (id_value source.now, to)) (id_values targets.now))) }
+{
+    for target in targets {
+        if let Some(item) = placed(dump, source, target) {
+            items.push(item)?;
+        }
+    }
+    Ok(())
+}
+
+/// Adds the number of the result with the place of each range that the element, where it's an `item` edge of the role, joins to it.
+pub(crate) fn add_items<'a>(
+    items: &mut Vec<(u32, Place<'a>)>,
+    dump: &'a CheckedDump,
     role: Role,
     element: &Element,
 ) -> Result<(), AllocError>
-    ensures { OnOk result (pairs.new.items ≡ pairs.old.items ++ pairs_in (item_pairs_of role) dump.now.elements (element_value element.now)) }
+    ensures { OnOk result (map placed_value items.new.items ≡ map placed_value items.old.items ++ placed_in role dump.now.elements (element_value element.now)) }
 {
     match element {
         Element::Edge(_, Edge::Item(item)) if is_role(role, item.property) => {
-            add_pairs(pairs, dump, &item.source, &item.targets)
+            add_places(items, dump, &item.source, &item.targets)
         }
         _ => Ok(()),
     }
 }
 
-/// The items of results by numbers. The pairs are in the order of their sources.
+/// The results that `item` edges join, and the places of their items, by numbers: in the order of the results.
 #[derive(Drop)]
 struct Items<'a> {
     dump: &'a CheckedDump,
     results: Vec<(u32, u32)>,
-    definitions: Vec<(u32, u32)>,
-    references: Vec<(u32, u32)>,
+    definitions: Vec<(u32, Place<'a>)>,
+    references: Vec<(u32, Place<'a>)>,
 }
 
 /// What the `item` edges of the dump join.
@@ -103,38 +130,22 @@ fn items_of<'a>(alloc: Global, kinds: &Kinds<'a>) -> Result<Items<'a>, AllocErro
     })
 }
 
-/// Adds the row of the place, where there is one.
-fn add_row<'a>(
+/// Adds the rows of these places.
+fn add_rows<'a>(
     rows: &mut Vec<ItemRow<'a>>,
     number: u32,
     role: Role,
-    place: Option<Place<'a>>,
+    items: &[(u32, Place<'a>)],
 ) -> Result<(), AllocError>
-    ensures { OnOk result (map item_value rows.new.items ≡ map item_value rows.old.items ++ row_of number role (option_map place_value place.entry)) }
+    ensures { OnOk result (map item_value rows.new.items ≡ map item_value rows.old.items ++ map (row_of number role) items.now) }
 {
-    if let Some(place) = place {
+    for item in items {
         rows.push(ItemRow {
             result: number,
             role,
-            uri: place.uri,
-            span: place.span,
+            uri: item.1.uri,
+            span: item.1.span,
         })?;
-    }
-    Ok(())
-}
-
-/// Adds the rows of the places of the targets of these pairs.
-fn add_targets<'a>(
-    rows: &mut Vec<ItemRow<'a>>,
-    dump: &'a CheckedDump,
-    number: u32,
-    role: Role,
-    pairs: &[(u32, u32)],
-) -> Result<(), AllocError>
-    ensures { OnOk result (map item_value rows.new.items ≡ map item_value rows.old.items ++ rows_of_pairs number role (table_of (place_of dump.now.elements) dump.now.elements) pairs.now) }
-{
-    for pair in pairs {
-        add_row(rows, number, role, place_at(dump, pair.1))?;
     }
     Ok(())
 }
@@ -151,12 +162,12 @@ fn add_role<'a>(
     requires { AreSorted items.now }
     ensures { OnOk result (map item_value rows.new.items ≡ map item_value rows.old.items ++ rows_of_role number role items.now other) }
 {
-    let pairs = match role {
+    let found = match role {
         Role::Definitions => pairs_from(&items.definitions, other),
         Role::References => pairs_from(&items.references, other),
     };
-    budget.take(pairs.len())?;
-    add_targets(rows, items.dump, number, role, pairs)?;
+    budget.take(found.len())?;
+    add_rows(rows, number, role, found)?;
     Ok(())
 }
 

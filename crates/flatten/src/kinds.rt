@@ -2,9 +2,13 @@
 ghost use Rattle.std.specs.Prelude.{◌≡◌, ◌++◌, IfOk, OnOk, map};
 ghost use Rattle.lsif.specs.Element.{element_value};
 ghost use Rattle.flatten.specs.Steps.Kinds.{AreKinds, Takes, is_document, is_hover, is_moniker_edge, is_range, is_result_vertex, kept, said};
+ghost use Rattle.flatten.specs.Steps.Ranges.{AreFoundRanges, found_value};
 
+use crate::chains::Chains;
 use crate::items::{add_items, add_results};
 use crate::parents::{Interval, add_interval};
+use crate::places::Place;
+use crate::ranges::{FoundRange, add_found};
 use dump::{CheckedDump, Role};
 use lsif::{Edge, Element, Vertex};
 use std::alloc::{AllocError, Global};
@@ -21,9 +25,9 @@ pub(crate) struct Kinds<'a> {
     pub(crate) results: Vec<&'a Element>,
     /// The results that `item` edges with "referenceResults" join.
     pub(crate) result_pairs: Vec<(u32, u32)>,
-    /// The results and the ranges that `item` edges join, role by role.
-    pub(crate) definitions: Vec<(u32, u32)>,
-    pub(crate) references: Vec<(u32, u32)>,
+    /// The results, and the places of the ranges, that `item` edges join, role by role.
+    pub(crate) definitions: Vec<(u32, Place<'a>)>,
+    pub(crate) references: Vec<(u32, Place<'a>)>,
     pub(crate) intervals: Vec<Interval>,
     /// The edges `moniker` and `attach`.
     pub(crate) moniker_edges: Vec<&'a Element>,
@@ -104,10 +108,19 @@ fn add<'a>(kinds: &mut Kinds<'a>, element: &'a Element) -> Result<(), AllocError
     add_interval(&mut kinds.intervals, dump, element)
 }
 
-/// The elements of the dump, gone over once.
-pub(crate) fn kinds_of<'a>(alloc: Global, dump: &'a CheckedDump) -> Result<Kinds<'a>, AllocError>
-    ensures kinds { IfOk result (λ kinds. AreKinds kinds) }
-    ensures dump { IfOk result (λ kinds. kinds.dump.now ≡ dump.now) }
+/// What the pass over the elements gathers: the elements kind by kind, and the ranges that documents contain.
+#[derive(Drop)]
+pub(crate) struct Gathered<'a> {
+    pub(crate) kinds: Kinds<'a>,
+    pub(crate) ranges: Vec<FoundRange<'a>>,
+}
+
+/// The elements of the dump, gone over once. What stands together there is read together: the range, the edges that leave it,
+/// and what they lead to.
+pub(crate) fn gather<'a>(alloc: Global, dump: &'a CheckedDump) -> Result<Gathered<'a>, AllocError>
+    ensures kinds { IfOk result (λ gathered. AreKinds gathered.kinds) }
+    ensures ranges { IfOk result (λ gathered. AreFoundRanges dump.now.elements (map found_value gathered.ranges.items)) }
+    ensures dump { IfOk result (λ gathered. gathered.kinds.dump.now ≡ dump.now) }
 {
     let mut kinds = Kinds {
         dump,
@@ -121,8 +134,11 @@ pub(crate) fn kinds_of<'a>(alloc: Global, dump: &'a CheckedDump) -> Result<Kinds
         intervals: Vec::new(alloc),
         moniker_edges: Vec::new(alloc),
     };
+    let mut chains = Chains::new(alloc, dump, Vec::new(alloc))?;
+    let mut ranges = Vec::new(alloc);
     for element in dump.elements() {
         add(&mut kinds, element)?;
+        add_found(alloc, &mut ranges, &mut chains, element)?;
     }
-    Ok(kinds)
+    Ok(Gathered { kinds, ranges })
 }

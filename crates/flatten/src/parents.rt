@@ -17,13 +17,13 @@ use positions::Position;
 use std::alloc::{AllocError, Global};
 use std::cmp::Ordering;
 
-/// A range that isn't empty, by numbers: its document's, its start's and its end's in the order of positions, and its own.
+/// A range that isn't empty, by numbers: its document's, its own, and its start's and its end's in the order of positions.
 #[derive(Clone, Copy, PartialEq, Eq)]
 pub(crate) struct Interval {
     document: u32,
+    range: u32,
     start: u64,
     end: u64,
-    range: u32,
 }
 
 /// A number that keeps the order of positions.
@@ -41,9 +41,9 @@ fn interval_with(document: u32, range: u32, start: u64, end: u64) -> Option<Inte
     if start < end {
         Some(Interval {
             document,
+            range,
             start,
             end,
-            range,
         })
     } else {
         None

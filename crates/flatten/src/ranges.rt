@@ -9,9 +9,8 @@ ghost use Rattle.dump.specs.Places.{IsListing};
 ghost use Rattle.flatten.specs.Flat.{HasEachRange, IsRangeRow, by_line, number_of};
 ghost use Rattle.flatten.specs.Rows.{range_value};
 ghost use Rattle.flatten.specs.Steps.Chains.{AreChains};
-ghost use Rattle.flatten.specs.Steps.Kinds.{AreThose, is_range};
-ghost use Rattle.flatten.specs.Steps.Parents.{AreParents, IsWithinLimit, interval_value, intervals_in};
-ghost use Rattle.flatten.specs.Steps.Ranges.{range_lines};
+ghost use Rattle.flatten.specs.Steps.Parents.{IsWithinLimit, interval_value, intervals_in};
+ghost use Rattle.flatten.specs.Steps.Ranges.{AreFoundRanges, IsFoundRange, IsRowWithParent, found_value, range_lines};
 ghost use Rattle.flatten.specs.Steps.Tables.{container_uri};
 
 use crate::chains::Chains;
@@ -19,7 +18,7 @@ use crate::closure::pairs_from;
 use crate::numbers::number_of;
 use crate::parents::{Interval, parents};
 use crate::places::container_uri;
-use crate::results::numbers_along;
+use crate::results::{Results, numbers_along};
 use crate::rows::RangeRow;
 use dump::{CheckedDump, container_law, line_law, nesting_law, pick_law, vertex_law};
 use lsif::{Element, Id, Vertex};
@@ -38,62 +37,60 @@ fn target_of(pairs: &[(u32, u32)], number: u32) -> Option<u32>
     }
 }
 
-/// The row of the range of this number in the document of this uri.
-fn range_row<'a>(
+/// A range that a document contains, with its first results.
+#[derive(Clone, Copy)]
+pub(crate) struct FoundRange<'a> {
+    /// Its line in the dump, counted from 1.
+    line: u32,
+    /// The document's serialized URL.
+    uri: &'a str,
+    span: &'a Span,
+    results: Results,
+}
+
+/// The range of this number in the document of this uri.
+fn found_range<'a>(
     alloc: Global,
     chains: &mut Chains<'a>,
-    parents: &[(u32, u32)],
     number: u32,
     id: &'a Id,
     span: &'a Span,
     uri: &'a str,
-) -> Result<RangeRow<'a>, AllocError>
+) -> Result<FoundRange<'a>, AllocError>
     requires chains { AreChains chains.old }
-    requires sorted { IsNonDecreasingBy (λ p. p.0) parents.now }
-    requires parents { AreParents chains.old.dump.now.elements parents.now }
     requires faultless { IsFaultless (map Ok chains.old.dump.now.elements) }
     requires number { number_of chains.old.dump.now.elements (id_value id.now) ≡ Some number }
     requires range { vertex_at chains.old.dump.now.elements (id_value id.now) ≡ Some (range span.now) }
     requires uri { container_uri chains.old.dump.now.elements (id_value id.now) ≡ Some uri.now }
-    ensures row { IfOk result (λ row. (row.line ≡ number) × IsRangeRow chains.old.dump.now.elements (range_value row)) }
+    ensures found { IfOk result (λ found. (found.line ≡ number) × IsFoundRange chains.old.dump.now.elements (found_value found)) }
     ensures chains { OnOk result (AreChains chains.new) }
     ensures dump { chains.new.dump ≡ chains.old.dump }
-    ensures borne { chains.new.borne ≡ chains.old.borne }
 {
     container_law();
-    let found = numbers_along(chains.dump, chains.along(alloc, id)?);
-    Ok(RangeRow {
+    let results = numbers_along(chains.dump, chains.along(alloc, id)?);
+    Ok(FoundRange {
         line: number,
         uri,
         span,
-        parent: target_of(parents, number),
-        def: found.def,
-        refs: found.refs,
-        hover: found.hover,
-        decl: found.decl,
-        imp: found.imp,
+        results,
     })
 }
 
-/// Adds the row of the element, where it's a range that a document contains.
-fn add_range<'a>(
+/// Adds the element, where it's a range that a document contains.
+pub(crate) fn add_found<'a>(
     alloc: Global,
-    rows: &mut Vec<RangeRow<'a>>,
+    found: &mut Vec<FoundRange<'a>>,
     chains: &mut Chains<'a>,
-    parents: &[(u32, u32)],
     element: &'a Element,
 ) -> Result<(), AllocError>
     requires chains { AreChains chains.old }
-    requires sorted { IsNonDecreasingBy (λ p. p.0) parents.now }
-    requires parents { AreParents chains.old.dump.now.elements parents.now }
     requires faultless { IsFaultless (map Ok chains.old.dump.now.elements) }
     requires element { Contains chains.old.dump.now.elements (element_value element.now) }
-    requires rows { All (IsRangeRow chains.old.dump.now.elements) (map range_value rows.old.items) }
-    ensures lines { OnOk result (map (λ r. r.line) (map range_value rows.new.items) ≡ map (λ r. r.line) (map range_value rows.old.items) ++ range_lines chains.old.dump.now.elements (element_value element.now)) }
-    ensures rows { OnOk result (All (IsRangeRow chains.old.dump.now.elements) (map range_value rows.new.items)) }
+    requires found { All (IsFoundRange chains.old.dump.now.elements) (map found_value found.old.items) }
+    ensures lines { OnOk result (map (λ r. r.line) (map found_value found.new.items) ≡ map (λ r. r.line) (map found_value found.old.items) ++ range_lines chains.old.dump.now.elements (element_value element.now)) }
+    ensures found { OnOk result (All (IsFoundRange chains.old.dump.now.elements) (map found_value found.new.items)) }
     ensures chains { OnOk result (AreChains chains.new) }
     ensures dump { chains.new.dump ≡ chains.old.dump }
-    ensures borne { chains.new.borne ≡ chains.old.borne }
 {
     vertex_law();
     let Element::Vertex(id, Vertex::Range(span)) = element else {
@@ -103,37 +100,52 @@ fn add_range<'a>(
     else {
         return Ok(());
     };
-    rows.push(range_row(alloc, chains, parents, number, id, span, uri)?)?;
+    found.push(found_range(alloc, chains, number, id, span, uri)?)?;
     Ok(())
 }
 
-/// The rows of ranges: in the order of their lines.
+/// The row of the range. The pairs lead from the numbers of ranges to those of their parents.
+fn row_of<'a>(found: &FoundRange<'a>, parents: &[(u32, u32)]) -> RangeRow<'a>
+    requires { IsNonDecreasingBy (λ p. p.0) parents.now }
+    ensures { IsRowWithParent parents.now (found_value found.now) (range_value result) }
+{
+    let results = found.results;
+    RangeRow {
+        line: found.line,
+        uri: found.uri,
+        span: found.span,
+        parent: target_of(parents, found.line),
+        def: results.def,
+        refs: results.refs,
+        hover: results.hover,
+        decl: results.decl,
+        imp: results.imp,
+    }
+}
+
+/// The rows of ranges, which were found in the order of the elements: in the order of their lines.
 pub(crate) fn range_rows<'a>(
     alloc: Global,
-    chains: &mut Chains<'a>,
-    ranges: &[&'a Element],
+    dump: &'a CheckedDump,
+    found: &[FoundRange<'a>],
     intervals: &[Interval],
 ) -> Result<Vec<RangeRow<'a>>, AllocError>
-    requires chains { AreChains chains.old }
-    requires ranges { AreThose is_range chains.old.dump.now.elements ranges.now }
-    requires intervals { map interval_value intervals.now ≡ flat_map (intervals_in chains.old.dump.now.elements) chains.old.dump.now.elements }
-    requires within { All IsWithinLimit chains.old.dump.now.elements }
-    requires faultless { IsFaultless (map Ok chains.old.dump.now.elements) }
-    ensures rows { IfOk result (λ rows. IsListing by_line (IsRangeRow chains.old.dump.now.elements) (map range_value rows.items)) }
-    ensures each { IfOk result (λ rows. HasEachRange chains.old.dump.now.elements (map range_value rows.items)) }
-    ensures chains { OnOk result (AreChains chains.new) }
-    ensures dump { chains.new.dump ≡ chains.old.dump }
-    ensures borne { chains.new.borne ≡ chains.old.borne }
+    requires found { AreFoundRanges dump.now.elements (map found_value found.now) }
+    requires intervals { map interval_value intervals.now ≡ flat_map (intervals_in dump.now.elements) dump.now.elements }
+    requires within { All IsWithinLimit dump.now.elements }
+    requires faultless { IsFaultless (map Ok dump.now.elements) }
+    ensures rows { IfOk result (λ rows. IsListing by_line (IsRangeRow dump.now.elements) (map range_value rows.items)) }
+    ensures each { IfOk result (λ rows. HasEachRange dump.now.elements (map range_value rows.items)) }
 {
     container_law();
     line_law();
     nesting_law();
     pick_law();
     vertex_law();
-    let parents = parents(alloc, chains.dump, intervals)?;
-    let mut rows = Vec::with_capacity(alloc, ranges.len())?;
-    for element in ranges {
-        add_range(alloc, &mut rows, chains, &parents, element)?;
+    let parents = parents(alloc, dump, intervals)?;
+    let mut rows = Vec::with_capacity(alloc, found.len())?;
+    for range in found {
+        rows.push(row_of(range, &parents))?;
     }
     Ok(rows)
 }

@@ -1,5 +1,5 @@
 -- The places of results, as the walk by numbers gathers them.
-use Rattle.std.specs.Prelude.{◌≡◌, ◌==◌, ◌++◌, ℕ, Bool, true, false, List, [], ◌∷◌, map, filter, Option, Some, None, Contains, IsPermutation, get_or, if◌then◌else◌}
+use Rattle.std.specs.Prelude.{◌≡◌, ◌↔◌, ◌==◌, ◌++◌, ℕ, Bool, true, false, List, [], map, filter, Option, Some, None, Contains, IsPermutation, if◌then◌else◌}
 use Rattle.std.specs.List.{flat_map}
 use Rattle.std.specs.List.Sorted.{IsNonDecreasingBy}
 use Rattle.lsif.specs.declared.element.Property.{Property}
@@ -9,8 +9,10 @@ use Rattle.dump.specs.Walks.{Pair, Path}
 use Rattle.dump.specs.declared.role.Role.{Role}
 use Rattle.dump.specs.declared.role.Role.TheVariants.{Definitions, References}
 use Rattle.flatten.specs.Flat.{ItemRowValue, is_result, item_cmp, number_of}
-use Rattle.flatten.specs.Steps.Numbers.{pairs_of}
-use Rattle.flatten.specs.Steps.Tables.{place_of, table_of}
+use Rattle.flatten.specs.Steps.Numbers.{one_or_none, pairs_of}
+use Rattle.flatten.specs.Steps.Places.{place_value, placed_value}
+use Rattle.flatten.specs.Steps.Tables.{place_of}
+use Rattle.flatten.specs.declared.places.Place.{Place}
 use Rattle.flatten.specs.declared.items.Items.{Items}
 
 abbrev pub same_role : Role → Role → Bool
@@ -32,47 +34,53 @@ item_pairs_of role (edge i (item e)) = if is_role role e.property then map (λ t
 item_pairs_of role (edge i e) = []
 item_pairs_of role (vertex i v) = []
 
-abbrev pub pairs_by : Role → Items → List (ℕ × ℕ)
-pairs_by Definitions items = items.definitions.items
-pairs_by References items = items.references.items
+-- both, where each is known
+abbrev pub with_place : Option ℕ → Option PlaceValue → Option (ℕ × PlaceValue)
+with_place (Some number) (Some place) = Some (number, place)
+with_place (Some number) None = None
+with_place None place = None
 
--- the pairs are in the order of their sources
+-- the number of the first with the place of the second, where each has one
+abbrev pub placed_of_pair : List ElementValue → Pair → List (ℕ × PlaceValue)
+placed_of_pair elements p = one_or_none (with_place (number_of elements p.0) (place_of elements p.1))
+
+-- the numbers of results, and the places of ranges, that an `item` edge of the role joins
+abbrev pub placed_in : Role → List ElementValue → ElementValue → List (ℕ × PlaceValue)
+placed_in role elements x = flat_map (placed_of_pair elements) (item_pairs_of role x)
+
+abbrev pub placed_by : Role → List ElementValue → List (ℕ × PlaceValue)
+placed_by role elements = flat_map (placed_in role elements) elements
+
+abbrev pub items_by : Role → Items → List (ℕ × Place)
+items_by Definitions items = items.definitions.items
+items_by References items = items.references.items
+
+-- the results and the items are in the order of the results
 pub record AreSorted (items : Items) : Type 0 where
   pub results : IsNonDecreasingBy (λ p. p.0) items.results.items
-  pub each : (role : Role) → IsNonDecreasingBy (λ p. p.0) (pairs_by role items)
+  pub each : (role : Role) → IsNonDecreasingBy (λ p. p.0) (items_by role items)
 
 -- they are those of the dump's `item` edges
 pub record AreItems (elements : List ElementValue) (items : Items) : Type 0 where
   pub sorted : AreSorted items
   pub results : IsPermutation (pairs_of result_pairs_of elements) items.results.items
-  pub each : (role : Role) → IsPermutation (pairs_of (item_pairs_of role) elements) (pairs_by role items)
+  pub each : (role : Role) (p : ℕ × PlaceValue) → Contains (map placed_value (items_by role items)) p ↔ Contains (placed_by role elements) p
   pub same : items.dump.now.elements ≡ elements
 
--- the places of the dump's ranges at their numbers
-abbrev pub places_of : Items → List (Option PlaceValue)
-places_of items = table_of (place_of items.dump.now.elements) items.dump.now.elements
-
--- the row of the place, where there is one
-abbrev pub row_of : ℕ → Role → Option PlaceValue → List ItemRowValue
-row_of number role (Some place) = record { result = number; role = role; place = place } ∷ []
-row_of number role None = []
-
-abbrev pub rows_of_pairs : ℕ → Role → List (Option PlaceValue) → List (ℕ × ℕ) → List ItemRowValue
-rows_of_pairs number role places pairs = flat_map (λ p. row_of number role (get_or places p.1 None)) pairs
+-- the row of a result of this number for an item
+abbrev pub row_of : ℕ → Role → ℕ × Place → ItemRowValue
+row_of number role p = record { result = number; role = role; place = place_value p.1 }
 
 -- the rows of a result for the items of another one in a role
 abbrev pub rows_of_role : ℕ → Role → Items → ℕ → List ItemRowValue
-rows_of_role number role items other =
-    rows_of_pairs number role (places_of items) (filter (λ p. p.0 == other) (pairs_by role items))
+rows_of_role number role items other = map (row_of number role) (filter (λ p. p.0 == other) (items_by role items))
 
 -- the row of the result of this number for an item of one that it leads to
 pub record IsReachedRow (number : ℕ) (items : Items) (row : ItemRowValue) : Type 0 where
   pub other : ℕ
-  pub range : ℕ
   pub is_number : row.result ≡ number
   pub reached : Path items.results.items number other
-  pub joined : Contains (pairs_by row.role items) (other, range)
-  pub placed : get_or (places_of items) range None ≡ Some row.place
+  pub joined : Contains (map placed_value (items_by row.role items)) (other, row.place)
 
 -- the listing of the rows with the property was added
 pub record AddsListing (P : ItemRowValue → Type 0) (old new : List ItemRowValue) : Type 0 where

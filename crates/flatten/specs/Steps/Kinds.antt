@@ -8,8 +8,9 @@ use Rattle.flatten.specs.Flat.{is_result}
 use Rattle.dump.specs.Places.{result_pairs_of}
 use Rattle.dump.specs.declared.role.Role.TheVariants.{Definitions, References}
 use Rattle.std.specs.List.{All, flat_map}
-use Rattle.flatten.specs.Steps.Items.{item_pairs_of}
+use Rattle.flatten.specs.Steps.Items.{placed_by, placed_in}
 use Rattle.flatten.specs.Steps.Numbers.{pairs_in, pairs_of}
+use Rattle.flatten.specs.Steps.Places.{placed_value}
 use Rattle.flatten.specs.Steps.Parents.{IsWithinLimit, interval_value, intervals_in}
 use Rattle.flatten.specs.declared.kinds.Kinds.{Kinds}
 
@@ -60,8 +61,8 @@ pub record AreKinds (kinds : Kinds) : Type 0 where
   pub results : AreThose is_result_vertex kinds.dump.now.elements kinds.results.items
   pub moniker_edges : AreThose is_moniker_edge kinds.dump.now.elements kinds.moniker_edges.items
   pub result_pairs : kinds.result_pairs.items ≡ pairs_of result_pairs_of kinds.dump.now.elements
-  pub definitions : kinds.definitions.items ≡ pairs_of (item_pairs_of Definitions) kinds.dump.now.elements
-  pub references : kinds.references.items ≡ pairs_of (item_pairs_of References) kinds.dump.now.elements
+  pub definitions : map placed_value kinds.definitions.items ≡ placed_by Definitions kinds.dump.now.elements
+  pub references : map placed_value kinds.references.items ≡ placed_by References kinds.dump.now.elements
   pub intervals : map interval_value kinds.intervals.items ≡ flat_map (intervals_in kinds.dump.now.elements) kinds.dump.now.elements
   pub within : All IsWithinLimit kinds.dump.now.elements
 
@@ -73,7 +74,7 @@ pub record Takes (old : Kinds) (x : ElementValue) (new : Kinds) : Type 0 where
   pub results : map said new.results.items ≡ map said old.results.items ++ kept (is_result_vertex x) x
   pub moniker_edges : map said new.moniker_edges.items ≡ map said old.moniker_edges.items ++ kept (is_moniker_edge x) x
   pub result_pairs : new.result_pairs.items ≡ old.result_pairs.items ++ pairs_in result_pairs_of old.dump.now.elements x
-  pub definitions : new.definitions.items ≡ old.definitions.items ++ pairs_in (item_pairs_of Definitions) old.dump.now.elements x
-  pub references : new.references.items ≡ old.references.items ++ pairs_in (item_pairs_of References) old.dump.now.elements x
+  pub definitions : map placed_value new.definitions.items ≡ map placed_value old.definitions.items ++ placed_in Definitions old.dump.now.elements x
+  pub references : map placed_value new.references.items ≡ map placed_value old.references.items ++ placed_in References old.dump.now.elements x
   pub intervals : map interval_value new.intervals.items ≡ map interval_value old.intervals.items ++ intervals_in old.dump.now.elements x
   pub within : IsWithinLimit x

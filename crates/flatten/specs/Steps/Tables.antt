@@ -1,7 +1,7 @@
 -- What elements say by themselves, in tables that lead from numbers to it.
 use Rattle.std.specs.Prelude.{◌↔◌, ◌⊎◌, ℕ, List, ◌∷◌, map, Option, Some, None, Contains, option_map, option_and_then}
 use Rattle.positions.specs.Span.{SpanValue}
-use Rattle.lsif.specs.Element.{IdValue, VertexValue, document, range, ElementValue, vertex, edge}
+use Rattle.lsif.specs.Element.{IdValue, VertexValue, document, range, ElementValue}
 use Rattle.dump.specs.Graph.{vertex_at}
 use Rattle.dump.specs.Contained.{container}
 use Rattle.dump.specs.Places.{PlaceValue}
@@ -24,11 +24,14 @@ place_with span uri = record { uri = uri; span = span }
 abbrev pub container_uri : List ElementValue → IdValue → Option (List ℕ)
 container_uri elements r = option_and_then (λ d. uri_of (vertex_at elements d)) (container elements r)
 
--- where the element is a range: its place
-abbrev pub place_of : List ElementValue → ElementValue → Option PlaceValue
-place_of elements (vertex i (range span)) = option_map (place_with span) (container_uri elements i)
-place_of elements (vertex i v) = None
-place_of elements (edge i e) = None
+abbrev pub place_by : List ElementValue → IdValue → Option VertexValue → Option PlaceValue
+place_by elements x (Some (range span)) = option_map (place_with span) (container_uri elements x)
+place_by elements x (Some v) = None
+place_by elements x None = None
+
+-- where the vertex is a range that a document contains: its place
+abbrev pub place_of : List ElementValue → IdValue → Option PlaceValue
+place_of elements x = place_by elements x (vertex_at elements x)
 
 -- ---- rows that are added
 

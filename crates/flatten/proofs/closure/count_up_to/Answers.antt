@@ -3,4 +3,4 @@ use Rattle.std.proofs.lemmas.List.Sorted.{IsPartitionPoint-from_clause, IsPartit
 use Rattle.flatten.proofs.closure.count_up_to.Goals as goal
 
 pub returns-clause-point : goal.returns-clause-point
-returns-clause-point c = IsPartitionPoint-from_clause (λ (p : ℕ × ℕ). leb p.0 c.args.source) c.args.pairs.now _ c.partition_point.ensures.partitioned (IsPartitionedBy-leb (λ (p : ℕ × ℕ). p.0) c.args.pairs.now c.args.source c.requires) (λ a r q k. search rules)
+returns-clause-point g c = IsPartitionPoint-from_clause (λ (p : ℕ × _). leb p.0 c.args.source) c.args.pairs.now _ c.partition_point.ensures.partitioned (IsPartitionedBy-leb (λ (p : ℕ × _). p.0) c.args.pairs.now c.args.source c.requires) (λ a r q k. search rules)

@@ -1,0 +1,66 @@
+use Rattle.std.proofs.Common.{◌≡◌, ◌∙◌, ◌+◌, ◌++◌, [], ◌∷◌, map, drop, sym, ap, subst, append-nil}
+use Rattle.std.proofs.Math.ListN.{drop_of_length-le}
+use Rattle.std.specs.Borrow.{Bor}
+use Rattle.std.specs.Prelude.{Contains, Ok}
+use Rattle.std.specs.List.{All, flat_map}
+use Rattle.std.proofs.lemmas.List.Elements.{Contains-get_or}
+use Rattle.lsif.specs.Element.{element_value}
+use Rattle.dump.proofs.Lists.{drop_next}
+use Rattle.dump.specs.Fault.{IsFaultless}
+use Rattle.dump.specs.declared.checker.CheckedDump.{CheckedDump}
+use Rattle.flatten.specs.Steps.Ranges.{IsFoundRange, found_value, range_lines}
+use Rattle.flatten.proofs.Members.{contains_map}
+use Rattle.flatten.proofs.OfKinds.{AreTaken, said_at, said_more, taken_all, taken_more}
+use Rattle.flatten.proofs.kinds.gather.Goals as goal
+
+pub add_found-requires-clause-faultless : goal.add_found-requires-clause-faultless
+add_found-requires-clause-faultless c = subst (λ d. IsFaultless (map Ok d)) (sym (ap (λ v. v.elements) c.loop-element.invariant.5)) c.elements-element-items.ensures.faultless
+
+pub add_found-requires-clause-element : goal.add_found-requires-clause-element
+add_found-requires-clause-element c =
+    let items = c.elements-element-items.result.now in
+    let k = c.loop-element.element-index in
+    let x = c.element-item.result in
+    let here = contains_map element_value items x (subst (Contains items) (sym c.element-item.is) (Contains-get_or items k x c.loop-element-test.true)) in
+    subst (λ l. Contains l (element_value x)) (c.elements-element-items.ensures.value ∙ ap (λ v. v.elements) (sym c.loop-element.invariant.5)) here
+
+pub add_found-requires-clause-found : goal.add_found-requires-clause-found
+add_found-requires-clause-found c = subst (λ v. All (IsFoundRange v.elements) (map found_value c.loop-element.ranges.items)) (sym c.loop-element.invariant.5) c.loop-element.invariant.3
+
+pub loop-element-preserved : goal.loop-element-preserved
+loop-element-preserved c =
+    let d = c.args.dump.now.elements in
+    let items = c.elements-element-items.result.now in
+    let k = c.loop-element.element-index in
+    let x = c.element-item.result in
+    let rest = map element_value (drop (k + 1) items) in
+    let same = ap (λ v. v.elements) c.loop-element.invariant.5 in
+    let left : map element_value (drop k items) ≡ element_value x ∷ rest = ap (map element_value) (drop_next items k x c.loop-element-test.true c.element-item.is) in
+    let old = map (λ r. r.line) (map found_value c.loop-element.ranges.items) in
+    let new = map (λ r. r.line) (map found_value c.add_found.new.found.items) in (
+      taken_more d rest (element_value x) c.loop-element.kinds c.add.new.kinds (ap (λ v. v.elements) c.loop-element.invariant.1) (subst (λ l. AreTaken d l c.loop-element.kinds) left c.loop-element.invariant.0) c.in_ok-add.ensures.takes,
+      ap (λ (b : Bor CheckedDump). b.now) c.in_ok-add.ensures.dump ∙ c.loop-element.invariant.1,
+      said_more (range_lines d) d rest (element_value x) old new (subst (λ l. old ++ flat_map (range_lines d) l ≡ flat_map (range_lines d) d) left c.loop-element.invariant.2) (said_at range_lines d _ (element_value x) old new same c.in_ok-add_found.ensures.lines),
+      subst (λ e. All (IsFoundRange e) (map found_value c.add_found.new.found.items)) same c.in_ok-add_found.ensures.found,
+      c.in_ok-add_found.ensures.chains,
+      ap (λ (b : Bor CheckedDump). b.now) c.in_ok-add_found.ensures.dump ∙ c.loop-element.invariant.5,
+    )
+
+pub returns-clause-kinds : goal.returns-clause-kinds
+returns-clause-kinds c =
+    let d = c.args.dump.now.elements in
+    let kinds = c.loop-element.kinds in
+    let same : kinds.dump.now.elements ≡ d = ap (λ v. v.elements) c.loop-element.invariant.1 in
+    let empty = drop_of_length-le c.elements-element-items.result.now c.loop-element-test.false in
+    let all : AreTaken d [] kinds = subst (λ es. AreTaken d (map element_value es) kinds) empty c.loop-element.invariant.0 in
+    taken_all kinds (subst (λ e. IsFaultless (map Ok e)) (sym same) c.elements-element-items.ensures.faultless) (subst (λ e. AreTaken e [] kinds) (sym same) all)
+
+pub returns-clause-ranges : goal.returns-clause-ranges
+returns-clause-ranges c =
+    let d = c.args.dump.now.elements in
+    let lines = map (λ r. r.line) (map found_value c.loop-element.ranges.items) in
+    let empty = drop_of_length-le c.elements-element-items.result.now c.loop-element-test.false in
+    record {
+      lines = sym (append-nil lines) ∙ subst (λ es. lines ++ flat_map (range_lines d) (map element_value es) ≡ flat_map (range_lines d) d) empty c.loop-element.invariant.2;
+      each = c.loop-element.invariant.3;
+    }
