@@ -4,7 +4,7 @@ use Rattle.std.specs.Prelude.{◌↔◌, ℕ, Contains, Option, Ok}
 use Rattle.std.specs.Borrow.{Bor}
 use Rattle.std.specs.List.{All, flat_map}
 use Rattle.std.proofs.lemmas.List.{append_assoc}
-use Rattle.std.proofs.lemmas.List.Elements.{All-cons, All-nil, Contains-get_or}
+use Rattle.std.proofs.lemmas.List.Elements.{All-cons, All-nil}
 use Rattle.lsif.specs.declared.element.Element.{Element}
 use Rattle.lsif.specs.Element.{meta_data, project, document, range, result_set, definition_result, reference_result, declaration_result, implementation_result, hover_result, moniker, package_information, event, other_vertex, contains, next, definition, references, declaration, implementation, hover, moniker_edge, package_edge, attach, item, other_edge, ElementValue, vertex, edge}
 use Rattle.dump.proofs.Lists.{drop_next}
@@ -21,11 +21,10 @@ use Rattle.flatten.specs.Steps.Marks.{IsMarkOfRange}
 use Rattle.flatten.specs.Steps.Numbers.{pairs_in, pairs_of}
 use Rattle.flatten.specs.Steps.Places.{placed_value}
 use Rattle.flatten.specs.Steps.Parents.{IsWithinLimit, interval_value, intervals_in}
-use Rattle.flatten.specs.Steps.Ranges.{range_lines}
 use Rattle.flatten.specs.Steps.Tables.{OfOne}
 use Rattle.flatten.specs.declared.items.Items.{Items}
 use Rattle.flatten.specs.declared.kinds.Kinds.{Kinds}
-use Rattle.flatten.proofs.Members.{contains_map, filter_keeps, filter_source}
+use Rattle.flatten.proofs.Members.{filter_keeps, filter_source}
 
 -- ---- the pass over the elements
 
@@ -156,26 +155,6 @@ no_hover d (edge i k) e = refl
 pub hovers_of : (d : List ElementValue) (list : List (Bor Element)) → AreThose is_hover d list → flat_map (hovers_in d) (map said list) ≡ flat_map (hovers_in d) d
 hovers_of d list those = flat_those (hovers_in d) is_hover (no_hover d) d list those
 
-no_line : (d : List ElementValue) (x : ElementValue) → is_range x ≡ false → range_lines d x ≡ []
-no_line d (vertex i (meta_data b)) e = refl
-no_line d (vertex i project) e = refl
-no_line d (vertex i (document u)) e = refl
-no_line d (vertex i (range s)) e = cc
-no_line d (vertex i result_set) e = refl
-no_line d (vertex i definition_result) e = refl
-no_line d (vertex i reference_result) e = refl
-no_line d (vertex i declaration_result) e = refl
-no_line d (vertex i implementation_result) e = refl
-no_line d (vertex i (hover_result t)) e = refl
-no_line d (vertex i (moniker m)) e = refl
-no_line d (vertex i (package_information p)) e = refl
-no_line d (vertex i (event v)) e = refl
-no_line d (vertex i other_vertex) e = refl
-no_line d (edge i k) e = refl
-
-pub lines_of : (d : List ElementValue) (list : List (Bor Element)) → AreThose is_range d list → flat_map (range_lines d) (map said list) ≡ flat_map (range_lines d) d
-lines_of d list those = flat_those (range_lines d) is_range (no_line d) d list those
-
 no_attached : (d : List ElementValue) (x : ElementValue) → is_moniker_edge x ≡ false → pairs_in attach_pairs_of d x ≡ []
 no_attached d (edge i (contains a b)) e = refl
 no_attached d (edge i (next a b)) e = refl
@@ -252,10 +231,3 @@ mark_of_range d borne marks (edge i k) row h = absurd h
 
 pub marks_of_ranges : (d : List ElementValue) (borne : List (ℕ × ℕ)) (marks : List (Option MarkText)) (list : List (Bor Element)) → AreThose is_range d list → (row : MarkRowValue) → OfOne (IsMarkOfRange d borne marks) (map said list) row ↔ OfOne (IsMarkOfRange d borne marks) d row
 marks_of_ranges d borne marks list those = one_of_those (IsMarkOfRange d borne marks) is_range d list those (mark_of_range d borne marks)
-
--- ---- what is so of all, as it's so of those of a kind
-
--- one of those of a kind is one of all
-pub those_in : (is : ElementValue → Bool) (d : List ElementValue) (list : List (Bor Element)) (k : ℕ) (x : Bor Element) → AreThose is d list → k < length list → x ≡ get_or list k x → Contains d (said x)
-those_in is d list k x those lt e =
-    (filter_source is d (said x) (subst (λ l. Contains l (said x)) those (contains_map said list x (subst (Contains list) (sym e) (Contains-get_or list k x lt))))).0
