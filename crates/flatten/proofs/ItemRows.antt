@@ -62,10 +62,10 @@ module _ (number : ℕ) (items : Items) where
   abbrev pub IsRowFor : ℕ → ItemRowValue → Type 0
   IsRowFor other row = Contains (rows_of_role number Definitions items other ++ rows_of_role number References items other) row
 
-  pub reached_rows : (numbers : List ℕ) → ((y : ℕ) → Contains numbers y ↔ Path items.results.items number y) → (row : ItemRowValue) → OfOne IsRowFor numbers row ↔ IsReachedRow number items row
+  pub reached_rows : (numbers : List ℕ) → ((y : ℕ) → Contains numbers y ↔ Path items.results.now number y) → (row : ItemRowValue) → OfOne IsRowFor numbers row ↔ IsReachedRow number items row
   reached_rows numbers all row = (to, back)
     where
-      by_role : (role : Role) (other : ℕ) → Path items.results.items number other → IsRoleRow role other row → IsReachedRow number items row
+      by_role : (role : Role) (other : ℕ) → Path items.results.now number other → IsRoleRow role other row → IsReachedRow number items row
       by_role role other path h = record {
         other = other;
         is_number = h.is_number;
@@ -143,7 +143,7 @@ module _ (role : Role) where
 
 -- ---- items in the order of their results
 
-pub each_sorted : (items : Items) → IsNonDecreasingBy (λ p. p.0) items.definitions.items → IsNonDecreasingBy (λ p. p.0) items.references.items → (role : Role) → IsNonDecreasingBy (λ p. p.0) (items_by role items)
+pub each_sorted : (items : Items) → IsNonDecreasingBy (λ p. p.0) items.definitions.now → IsNonDecreasingBy (λ p. p.0) items.references.now → (role : Role) → IsNonDecreasingBy (λ p. p.0) (items_by role items)
 each_sorted items a b Definitions = a
 each_sorted items a b References = b
 
@@ -237,7 +237,7 @@ module _ (d : List ElementValue) (free : IsFaultless (map Ok d)) (vertices : (i 
     row_to i v row here (result, number, at, h) =
         let is = (vertices i v).1 here in
         let joined = are_numbers result_pairs_of d in
-        let path = wider items.results.items (pairs_of result_pairs_of d) (λ q c. Contains-permutation items.results.items (pairs_of result_pairs_of d) q (IsPermutation-sym (pairs_of result_pairs_of d) items.results.items are.results) c) number h.other h.reached in
+        let path = wider items.results.now (pairs_of result_pairs_of d) (λ q c. Contains-permutation items.results.now (pairs_of result_pairs_of d) q (IsPermutation-sym (pairs_of result_pairs_of d) items.results.now are.results) c) number h.other h.reached in
         let p = path_on d (result_pairs d) (pairs_of result_pairs_of d) joined ones i number h.other at path in
         let t = placed_to row.role h.other row.place ((are.each row.role (h.other, row.place)).0 h.joined) in
         let same : t.0 ≡ p.0 = ones t.0 p.0 h.other t.3 p.1 in
@@ -265,7 +265,7 @@ module _ (d : List ElementValue) (free : IsFaultless (map Ok d)) (vertices : (i 
         let reached : IsReachedRow row.result items row = record {
           other = p.0;
           is_number = refl;
-          reached = wider (pairs_of result_pairs_of d) items.results.items (λ q c. Contains-permutation (pairs_of result_pairs_of d) items.results.items q are.results c) row.result p.0 p.2;
+          reached = wider (pairs_of result_pairs_of d) items.results.now (λ q c. Contains-permutation (pairs_of result_pairs_of d) items.results.now q are.results c) row.result p.0 p.2;
           joined = (are.each row.role (p.0, row.place)).1 placed;
         } in
         (vertex h.result v.0, (vertices h.result v.0).0 v.1, (ap is_result (sym v.1) ∙ h.is_result, row.result, h.at_line, reached))

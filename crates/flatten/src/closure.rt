@@ -12,16 +12,21 @@ use crate::fault::FlattenFault;
 use crate::found::Found;
 use std::alloc::{AllocError, Global};
 
+/// Puts the pairs in the order of their sources.
+pub(crate) fn sort_by_source<T>(pairs: &mut Vec<(u32, T)>)
+    ensures all { IsPermutation pairs.old.items pairs.new.items }
+    ensures ordered { IsNonDecreasingBy (λ p. p.0) pairs.new.items }
+{
+    pairs.sort_unstable_by_key(|pair| pair.0);
+}
+
 /// The pairs in the order of their sources.
-pub(crate) fn by_source<T: Copy>(
-    alloc: Global,
-    pairs: &[(u32, T)],
-) -> Result<Vec<(u32, T)>, AllocError>
+pub(crate) fn by_source(alloc: Global, pairs: &[(u32, u32)]) -> Result<Vec<(u32, u32)>, AllocError>
     ensures all { IfOk result (λ sorted. IsPermutation pairs.now sorted.items) }
     ensures ordered { IfOk result (λ sorted. IsNonDecreasingBy (λ p. p.0) sorted.items) }
 {
     let mut sorted = Vec::from_slice(alloc, pairs)?;
-    sorted.sort_unstable_by_key(|pair| pair.0);
+    sort_by_source(&mut sorted);
     Ok(sorted)
 }
 

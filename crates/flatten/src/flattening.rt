@@ -27,14 +27,14 @@ pub(crate) fn flatten_within<'a>(
     ensures profile { IfOk result (λ rows. rows.profile ≡ dump.now.profile) }
     ensures rows { IfOk result (λ rows. IsFlat dump.now.elements (rows_value rows)) }
 {
-    let Gathered { kinds, ranges } = gather(alloc, dump)?;
+    let Gathered { mut kinds, ranges } = gather(alloc, dump)?;
     let documents = document_rows(alloc, &kinds)?;
     let hovers = hover_rows(alloc, &kinds)?;
-    let items = item_rows(alloc, &kinds, limit)?;
     let ranges = range_rows(alloc, dump, &ranges, &kinds.intervals)?;
     let mut chains = Chains::new(alloc, dump, borne(alloc, &kinds, limit)?)?;
     let marks = mark_rows(alloc, &mut chains, &kinds.ranges, limit)?;
     let bearers = bearer_rows(alloc, &mut chains, limit)?;
+    let items = item_rows(alloc, &mut kinds, limit)?;
     Ok(Rows {
         profile: dump.profile(),
         documents,

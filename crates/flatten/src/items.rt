@@ -1,18 +1,19 @@
 //! The places of results.
-ghost use Rattle.std.specs.Prelude.{◌≡◌, ◌++◌, IfOk, OnOk, Contains, map, option_map};
+ghost use Rattle.std.specs.Prelude.{◌≡◌, ◌++◌, Ok, IfOk, OnOk, Contains, map, option_map};
 ghost use Rattle.std.specs.List.{flat_map};
 ghost use Rattle.lsif.specs.Element.{id_value, id_values, element_value, vertex_value};
+ghost use Rattle.dump.specs.Fault.{IsFaultless};
 ghost use Rattle.dump.specs.Places.{IsListing, place_cmp, result_pairs_of};
 ghost use Rattle.flatten.specs.Flat.{IsItemRow, is_result, item_cmp, number_of, role_index};
 ghost use Rattle.flatten.specs.Rows.{item_value};
 ghost use Rattle.flatten.specs.Steps.Items.{AddsListing, AreItems, AreSorted, IsReachedRow, IsRowOf, is_role, placed_in, placed_of_pair, row_of, rows_of_role, with_place};
-ghost use Rattle.flatten.specs.Steps.Kinds.{AreKinds};
+ghost use Rattle.flatten.specs.Steps.Kinds.{AreKinds, AreThose, is_result_vertex};
 ghost use Rattle.flatten.specs.Steps.Numbers.{numbers_of_pair, pairs_in, pairs_of};
 ghost use Rattle.flatten.specs.Steps.Places.{placed_value};
 ghost use Rattle.flatten.specs.Steps.Tables.{Adds, place_of};
 
 use crate::budget::{Budget, Budgets};
-use crate::closure::{by_source, closed, pairs_from};
+use crate::closure::{closed, pairs_from, sort_by_source};
 use crate::fault::FlattenFault;
 use crate::kinds::Kinds;
 use crate::numbers::{number_of, number_pair};
@@ -109,25 +110,12 @@ pub(crate) fn add_items<'a>(
 }
 
 /// The results that `item` edges join, and the places of their items, by numbers: in the order of the results.
-#[derive(Drop)]
-struct Items<'a> {
+#[derive(Clone, Copy)]
+struct Items<'k, 'a> {
     dump: &'a CheckedDump,
-    results: Vec<(u32, u32)>,
-    definitions: Vec<(u32, Place<'a>)>,
-    references: Vec<(u32, Place<'a>)>,
-}
-
-/// What the `item` edges of the dump join.
-fn items_of<'a>(alloc: Global, kinds: &Kinds<'a>) -> Result<Items<'a>, AllocError>
-    requires { AreKinds kinds.now }
-    ensures { IfOk result (λ items. AreItems kinds.now.dump.now.elements items) }
-{
-    Ok(Items {
-        dump: kinds.dump,
-        results: by_source(alloc, &kinds.result_pairs)?,
-        definitions: by_source(alloc, &kinds.definitions)?,
-        references: by_source(alloc, &kinds.references)?,
-    })
+    results: &'k [(u32, u32)],
+    definitions: &'k [(u32, Place<'a>)],
+    references: &'k [(u32, Place<'a>)],
 }
 
 /// Adds the rows of these places.
@@ -153,7 +141,7 @@ fn add_rows<'a>(
 /// Adds the rows of the result of this number for the items in this role of the other. Each is taken from the budget.
 fn add_role<'a>(
     rows: &mut Vec<ItemRow<'a>>,
-    items: &Items<'a>,
+    items: &Items<'_, 'a>,
     number: u32,
     role: Role,
     other: u32,
@@ -163,8 +151,8 @@ fn add_role<'a>(
     ensures { OnOk result (map item_value rows.new.items ≡ map item_value rows.old.items ++ rows_of_role number role items.now other) }
 {
     let found = match role {
-        Role::Definitions => pairs_from(&items.definitions, other),
-        Role::References => pairs_from(&items.references, other),
+        Role::Definitions => pairs_from(items.definitions, other),
+        Role::References => pairs_from(items.references, other),
     };
     budget.take(found.len())?;
     add_rows(rows, number, role, found)?;
@@ -175,14 +163,14 @@ fn add_role<'a>(
 fn add_result<'a>(
     alloc: Global,
     rows: &mut Vec<ItemRow<'a>>,
-    items: &Items<'a>,
+    items: &Items<'_, 'a>,
     number: u32,
     budgets: &mut Budgets,
 ) -> Result<(), FlattenFault>
     requires { AreSorted items.now }
     ensures { OnOk result (Adds (map item_value rows.old.items) (IsReachedRow number items.now) (map item_value rows.new.items)) }
 {
-    let found = closed(alloc, number, &items.results, &mut budgets.pairs)?;
+    let found = closed(alloc, number, items.results, &mut budgets.pairs)?;
     for other in found.numbers() {
         add_role(
             rows,
@@ -221,7 +209,7 @@ fn is_result(vertex: &Vertex) -> bool
 fn add_element<'a>(
     alloc: Global,
     rows: &mut Vec<ItemRow<'a>>,
-    items: &Items<'a>,
+    items: &Items<'_, 'a>,
     element: &Element,
     budgets: &mut Budgets,
 ) -> Result<(), FlattenFault>
@@ -281,7 +269,7 @@ fn list_rows(rows: &mut Vec<ItemRow<'_>>)
 fn add_listed<'a>(
     alloc: Global,
     rows: &mut Vec<ItemRow<'a>>,
-    items: &Items<'a>,
+    items: &Items<'_, 'a>,
     element: &Element,
     budgets: &mut Budgets,
 ) -> Result<(), FlattenFault>
@@ -295,24 +283,47 @@ fn add_listed<'a>(
     Ok(())
 }
 
-/// The rows of the places of results: in order, each once.
-pub(crate) fn item_rows<'a>(
+/// The rows of the results among these elements: in order, each once.
+fn result_rows<'a>(
     alloc: Global,
-    kinds: &Kinds<'a>,
+    items: &Items<'_, 'a>,
+    results: &[&'a Element],
     limit: usize,
 ) -> Result<Vec<ItemRow<'a>>, FlattenFault>
-    requires { AreKinds kinds.now }
-    ensures { IfOk result (λ rows. IsListing item_cmp (IsItemRow kinds.now.dump.now.elements) (map item_value rows.items)) }
+    requires items { AreItems items.now.dump.now.elements items.now }
+    requires results { AreThose is_result_vertex items.now.dump.now.elements results.now }
+    requires faultless { IsFaultless (map Ok items.now.dump.now.elements) }
+    ensures { IfOk result (λ rows. IsListing item_cmp (IsItemRow items.now.dump.now.elements) (map item_value rows.items)) }
 {
     container_law();
     ends_law();
     line_law();
     vertex_law();
-    let items = items_of(alloc, kinds)?;
     let mut budgets = Budgets::new(limit);
     let mut rows = Vec::new(alloc);
-    for element in &kinds.results {
-        add_listed(alloc, &mut rows, &items, element, &mut budgets)?;
+    for element in results {
+        add_listed(alloc, &mut rows, items, element, &mut budgets)?;
     }
     Ok(rows)
+}
+
+/// The rows of the places of results: in order, each once. Puts what `item` edges join in the order of the results.
+pub(crate) fn item_rows<'a>(
+    alloc: Global,
+    kinds: &mut Kinds<'a>,
+    limit: usize,
+) -> Result<Vec<ItemRow<'a>>, FlattenFault>
+    requires { AreKinds kinds.old }
+    ensures { IfOk result (λ rows. IsListing item_cmp (IsItemRow kinds.old.dump.now.elements) (map item_value rows.items)) }
+{
+    sort_by_source(&mut kinds.result_pairs);
+    sort_by_source(&mut kinds.definitions);
+    sort_by_source(&mut kinds.references);
+    let items = Items {
+        dump: kinds.dump,
+        results: &kinds.result_pairs,
+        definitions: &kinds.definitions,
+        references: &kinds.references,
+    };
+    result_rows(alloc, &items, &kinds.results, limit)
 }

@@ -52,18 +52,18 @@ abbrev pub placed_by : Role → List ElementValue → List (ℕ × PlaceValue)
 placed_by role elements = flat_map (placed_in role elements) elements
 
 abbrev pub items_by : Role → Items → List (ℕ × Place)
-items_by Definitions items = items.definitions.items
-items_by References items = items.references.items
+items_by Definitions items = items.definitions.now
+items_by References items = items.references.now
 
 -- the results and the items are in the order of the results
 pub record AreSorted (items : Items) : Type 0 where
-  pub results : IsNonDecreasingBy (λ p. p.0) items.results.items
+  pub results : IsNonDecreasingBy (λ p. p.0) items.results.now
   pub each : (role : Role) → IsNonDecreasingBy (λ p. p.0) (items_by role items)
 
 -- they are those of the dump's `item` edges
 pub record AreItems (elements : List ElementValue) (items : Items) : Type 0 where
   pub sorted : AreSorted items
-  pub results : IsPermutation (pairs_of result_pairs_of elements) items.results.items
+  pub results : IsPermutation (pairs_of result_pairs_of elements) items.results.now
   pub each : (role : Role) (p : ℕ × PlaceValue) → Contains (map placed_value (items_by role items)) p ↔ Contains (placed_by role elements) p
   pub same : items.dump.now.elements ≡ elements
 
@@ -79,7 +79,7 @@ rows_of_role number role items other = map (row_of number role) (filter (λ p. p
 pub record IsReachedRow (number : ℕ) (items : Items) (row : ItemRowValue) : Type 0 where
   pub other : ℕ
   pub is_number : row.result ≡ number
-  pub reached : Path items.results.items number other
+  pub reached : Path items.results.now number other
   pub joined : Contains (map placed_value (items_by row.role items)) (other, row.place)
 
 -- the listing of the rows with the property was added

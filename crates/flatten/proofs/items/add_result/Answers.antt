@@ -27,6 +27,6 @@ returns c =
     let others = c.numbers-other-items.result.now in
     let start = map item_value c.args.rows.now.items in
     let rows = map item_value c.loop-other.rows.items in
-    let all : (y : ℕ) → Contains others y ↔ Path items.results.items number y = subst (λ ps. (y : ℕ) → Contains others y ↔ Path ps number y) c.deref.ensures.value (subst (λ ns. (y : ℕ) → Contains ns y ↔ Path c.deref.result.now number y) (sym c.numbers-other-items.ensures) c.in_ok-found.ensures) in
+    let all : (y : ℕ) → Contains others y ↔ Path items.results.now number y = subst (λ ns. (y : ℕ) → Contains ns y ↔ Path items.results.now number y) (sym c.numbers-other-items.ensures) c.in_ok-found.ensures in
     adds_same start (OfOne (IsRowFor number items) others) (IsReachedRow number items) rows (reached_rows number items others all)
     (adds_end (IsRowFor number items) start rows others c.loop-other.other-index (omega (arith, c.loop-other-test.false)) c.loop-other.invariant)

@@ -1,48 +1,21 @@
-use Rattle.std.proofs.Common.{[], map, sym, subst, arith}
-use Rattle.std.specs.Prelude.{Ok}
-use Rattle.std.proofs.lemmas.List.{length-map, take_all}
-use Rattle.dump.specs.Fault.{IsFaultless}
-use Rattle.dump.specs.Places.{IsListing}
-use Rattle.flatten.specs.Flat.{IsItemRow, item_cmp}
-use Rattle.flatten.specs.Rows.{item_value}
-use Rattle.flatten.specs.Steps.Items.{IsRowOf}
-use Rattle.flatten.specs.Steps.Kinds.{AreThose, is_result_vertex, said}
-use Rattle.flatten.specs.Steps.Tables.{OfOne}
-use Rattle.flatten.proofs.ItemListings.{listing_none, next_listing}
-use Rattle.flatten.proofs.ItemRows.{item_rows_are}
-use Rattle.flatten.proofs.Listing.{same_listing}
-use Rattle.flatten.proofs.NumberPairs.{number_ones}
-use Rattle.flatten.proofs.OfKinds.{rows_of_results}
+use Rattle.std.proofs.Common.{refl, sym, subst}
+use Rattle.std.specs.Prelude.{IsPermutation}
+use Rattle.std.specs.List.Sorted.{IsNonDecreasingBy}
+use Rattle.dump.specs.declared.role.Role.TheVariants.{Definitions, References}
+use Rattle.flatten.specs.Steps.Items.{placed_by}
+use Rattle.flatten.proofs.ItemRows.{each_role, each_sorted, placed_again}
 use Rattle.flatten.proofs.items.item_rows.Goals as goal
 
-pub loop-element-init : goal.loop-element-init
-loop-element-init c =
-    let items = c.in_ok-items.items in
-    let P = IsRowOf items.dump.now.elements items in
-    subst (λ l. IsListing item_cmp (OfOne P []) (map item_value l)) (sym c.new-rows.ensures.items) (listing_none item_cmp P)
-
-pub loop-element-preserved : goal.loop-element-preserved
-loop-element-preserved c =
-    let items = c.in_ok-items.items in
-    let e = items.dump.now.elements in
-    let same = c.in_ok-items.ensures.same in
-    let list = c.deref-element-items.result.now in
-    let those = subst (λ l. AreThose is_result_vertex l list) (sym same) (subst (AreThose is_result_vertex c.args.kinds.now.dump.now.elements) (sym c.deref-element-items.ensures.value) c.requires.results) in
-    next_listing e items list (subst (λ l. IsFaultless (map Ok l)) (sym same) c.requires.faultless) those c.loop-element.element-index c.element-item.result c.loop-element-test.true c.element-item.is
-    (map item_value c.loop-element.rows.items) (map item_value c.add_listed.new.rows.items) c.loop-element.invariant c.in_ok-add_listed.ensures
-
-pub returns : goal.returns
-returns c =
-    let d = c.args.kinds.now.dump.now.elements in
-    let items = c.in_ok-items.items in
-    let free = c.requires.faultless in
-    let same = c.in_ok-items.ensures.same in
-    let P = IsRowOf d items in
-    let rows = map item_value c.loop-element.rows.items in
-    let list = c.deref-element-items.result.now in
-    let those = subst (AreThose is_result_vertex d) (sym c.deref-element-items.ensures.value) c.requires.results in
-    let all = take_all c.loop-element.element-index (map said list) (omega (arith, c.loop-element-test.false, length-map list said)) in
-    let found = subst (λ l. IsListing item_cmp (OfOne (IsRowOf items.dump.now.elements items) l) rows) all c.loop-element.invariant in
-    same_listing item_cmp (OfOne P d) (IsItemRow d) rows
-    (item_rows_are d free (c.vertex_law.ensures d free) (number_ones d (c.line_law.ensures.one d)) (c.ends_law.ensures d free) (c.line_law.ensures.there d free) (c.container_law.ensures d free) items c.in_ok-items.ensures)
-    (same_listing item_cmp (OfOne P (map said list)) (OfOne P d) rows (rows_of_results d items list those) (subst (λ l. IsListing item_cmp (OfOne (IsRowOf l items) (map said list)) rows) same found))
+pub result_rows-requires-clause-items : goal.result_rows-requires-clause-items
+result_rows-requires-clause-items c =
+    let results = subst (IsNonDecreasingBy (λ p. p.0)) (sym c.deref.ensures.value) c.sort_by_source.ensures.ordered in
+    let definitions = subst (IsNonDecreasingBy (λ p. p.0)) (sym c.deref-2.ensures.value) c.sort_by_source-2.ensures.ordered in
+    let references = subst (IsNonDecreasingBy (λ p. p.0)) (sym c.deref-3.ensures.value) c.sort_by_source-3.ensures.ordered in
+    record {
+      sorted = record { results = results; each = each_sorted _ definitions references };
+      results = subst (λ xs. IsPermutation xs c.deref.result.now) c.requires.result_pairs (subst (IsPermutation c.args.kinds.now.result_pairs.items) (sym c.deref.ensures.value) c.sort_by_source.ensures.all);
+      each = each_role c.args.kinds.now.dump.now.elements _
+          (placed_again (placed_by Definitions c.args.kinds.now.dump.now.elements) c.args.kinds.now.definitions.items c.deref-2.result.now c.requires.definitions (subst (IsPermutation c.args.kinds.now.definitions.items) (sym c.deref-2.ensures.value) c.sort_by_source-2.ensures.all))
+          (placed_again (placed_by References c.args.kinds.now.dump.now.elements) c.args.kinds.now.references.items c.deref-3.result.now c.requires.references (subst (IsPermutation c.args.kinds.now.references.items) (sym c.deref-3.ensures.value) c.sort_by_source-3.ensures.all));
+      same = refl;
+    }

@@ -5,8 +5,8 @@ use Rattle.flatten.specs.Rows.{item_value}
 use Rattle.flatten.specs.Steps.Items.{IsRowOf}
 use Rattle.flatten.specs.Steps.Tables.{OfOne}
 use Rattle.flatten.specs.Steps.Kinds.{said}
-use Rattle.flatten.proofs.items.item_rows.Given as goal
+use Rattle.flatten.proofs.items.result_rows.Given as goal
 
 abbrev pub invariant-loop-element : goal.invariant-loop-element
 invariant-loop-element l =
-    IsListing item_cmp (OfOne (IsRowOf l.items.dump.now.elements l.items) (take l.element-index (map said l.element-items))) (map item_value l.rows.items)
+    IsListing item_cmp (OfOne (IsRowOf l.items.dump.now.elements l.items) (take l.element-index (map said l.results))) (map item_value l.rows.items)
