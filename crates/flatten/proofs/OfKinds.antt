@@ -1,5 +1,5 @@
 -- The elements of a dump, kind by kind.
-use Rattle.std.proofs.Common.{◌≡◌, ◌∙◌, ◌+◌, ◌<◌, Bool, true, false, cond, List, [], ◌∷◌, ◌++◌, length, get_or, drop, map, filter, refl, sym, ap, subst, append-nil}
+use Rattle.std.proofs.Common.{◌≡◌, ◌∙◌, Bool, true, false, cond, List, [], ◌∷◌, ◌++◌, map, filter, refl, sym, ap, subst, append-nil}
 use Rattle.std.specs.Prelude.{◌↔◌, ℕ, Contains, Option, Ok}
 use Rattle.std.specs.Borrow.{Bor}
 use Rattle.std.specs.List.{All, flat_map}
@@ -7,7 +7,6 @@ use Rattle.std.proofs.lemmas.List.{append_assoc}
 use Rattle.std.proofs.lemmas.List.Elements.{All-cons, All-nil}
 use Rattle.lsif.specs.declared.element.Element.{Element}
 use Rattle.lsif.specs.Element.{meta_data, project, document, range, result_set, definition_result, reference_result, declaration_result, implementation_result, hover_result, moniker, package_information, event, other_vertex, contains, next, definition, references, declaration, implementation, hover, moniker_edge, package_edge, attach, item, other_edge, ElementValue, vertex, edge}
-use Rattle.dump.proofs.Lists.{drop_next}
 use Rattle.dump.specs.Fault.{IsFaultless}
 use Rattle.dump.specs.Monikers.{attach_pairs_of}
 use Rattle.dump.specs.Places.{result_pairs_of}
@@ -172,12 +171,6 @@ no_attached d (vertex i v) e = refl
 
 pub attached_of : (d : List ElementValue) (list : List (Bor Element)) → AreThose is_moniker_edge d list → flat_map (pairs_in attach_pairs_of d) (map said list) ≡ pairs_of attach_pairs_of d
 attached_of d list those = flat_those (pairs_in attach_pairs_of d) is_moniker_edge (no_attached d) d list those
-
--- what those up to the next say, and those after it
-pub flat_more : {Y : Type 0} (f : ElementValue → List Y) (list : List (Bor Element)) (k : ℕ) (x : Bor Element) (old new all : List Y) → k < length list → x ≡ get_or list k x → old ++ flat_map f (map said (drop k list)) ≡ all → new ≡ old ++ f (said x)
-    → new ++ flat_map f (map said (drop (k + 1) list)) ≡ all
-flat_more f list k x old new all lt is so_far grown =
-    ap (λ l. l ++ flat_map f (map said (drop (k + 1) list))) grown ∙ append_assoc old (f (said x)) (flat_map f (map said (drop (k + 1) list))) ∙ ap (λ l. old ++ flat_map f (map said l)) (sym (drop_next list k x lt is)) ∙ so_far
 
 -- ---- what is so of one of all is so of one of a kind
 

@@ -65,7 +65,6 @@ pub record AreItems (elements : List ElementValue) (items : Items) : Type 0 wher
   pub sorted : AreSorted items
   pub results : IsPermutation (pairs_of result_pairs_of elements) items.results.now
   pub each : (role : Role) (p : ℕ × PlaceValue) → Contains (map placed_value (items_by role items)) p ↔ Contains (placed_by role elements) p
-  pub same : items.dump.now.elements ≡ elements
 
 -- the row of a result of this number for an item
 abbrev pub row_of : ℕ → Role → ℕ × Place → ItemRowValue

@@ -1,4 +1,4 @@
-use Rattle.std.proofs.Common.{refl, sym, subst}
+use Rattle.std.proofs.Common.{sym, subst}
 use Rattle.std.specs.Prelude.{IsPermutation}
 use Rattle.std.specs.List.Sorted.{IsNonDecreasingBy}
 use Rattle.dump.specs.declared.role.Role.TheVariants.{Definitions, References}
@@ -17,5 +17,4 @@ result_rows-requires-clause-items c =
       each = each_role c.args.kinds.now.dump.now.elements _
           (placed_again (placed_by Definitions c.args.kinds.now.dump.now.elements) c.args.kinds.now.definitions.items c.deref-2.result.now c.requires.definitions (subst (IsPermutation c.args.kinds.now.definitions.items) (sym c.deref-2.ensures.value) c.sort_by_source-2.ensures.all))
           (placed_again (placed_by References c.args.kinds.now.dump.now.elements) c.args.kinds.now.references.items c.deref-3.result.now c.requires.references (subst (IsPermutation c.args.kinds.now.references.items) (sym c.deref-3.ensures.value) c.sort_by_source-3.ensures.all));
-      same = refl;
     }
