@@ -2,18 +2,19 @@
 use Rattle.std.proofs.Common.{◌≡◌, ◌∙◌, ℕ, ◌+◌, ◌≤◌, inl, inr, Bool, true, false, cond, not, ◌==◌, List, [], ◌∷◌, ◌++◌, length, filter, map, reverse, refl, sym, ap, subst, arith}
 use Rattle.std.specs.List.{list_any}
 use Rattle.std.specs.Prelude.{◌||◌, Option, Some, None, option_and_then}
+use Rattle.std.specs.Option.{option_or}
 use Rattle.std.proofs.lemmas.List.{map-append, reverse-append}
 use Rattle.std.proofs.lemmas.List.Elements.{Contains-append_cases}
 use Rattle.lsif.specs.Element.{IdValue, ElementValue}
 use Rattle.dump.specs.Requests.{label_of}
 use Rattle.dump.specs.declared.request.Request.{Request}
 use Rattle.dump.specs.declared.request.Request.TheVariants.{Definition, References, Hover, Declaration, Implementation}
-use Rattle.dump.specs.Walks.{Pair, IsChain, ends, links, first_to, first_of_list, next_pairs, single_pairs}
+use Rattle.dump.specs.Walks.{Pair, IsChain, ends, links, first_to, first_of_list, next_pairs, single_in, single_pairs}
 use Rattle.flatten.specs.Flat.{AreResults, IsResult, number_of, result_for}
-use Rattle.flatten.specs.Steps.Chains.{AlongValue, AreAlong, AreFound, IsAfter, IsWalkBack, Leads, VertexAlongValue, first_by, nothing, or_else, or_later, own_of, own_result}
-use Rattle.flatten.specs.Steps.Results.{numbers_along}
+use Rattle.flatten.specs.Steps.Chains.{AlongValue, AreAlong, AreFound, IsAfter, IsWalkBack, Leads, VertexAlongValue, first_by, nothing, or_later, own_number, own_of, own_result, results_of}
 use Rattle.flatten.proofs.Members.{contains_one, not_in_nil}
-use Rattle.flatten.proofs.NumberPairs.{AreOnes}
+use Rattle.dump.proofs.Ends.{pair_of_first}
+use Rattle.flatten.proofs.NumberPairs.{AreOnes, HasEnds, HasNumber, HasVertexNumbers, have_numbers, single_ends}
 
 -- ---- chains
 
@@ -40,7 +41,7 @@ one_chain pairs x xs zs (links {y = y} {ys = ys} e c) d =
 
 -- ---- a vertex and what follows it
 
-or_nothing : (o : Option IdValue) → o ≡ or_else o None
+or_nothing : {X : Type 0} (o : Option X) → o ≡ option_or o None
 or_nothing (Some x) = refl
 or_nothing None = refl
 
@@ -137,22 +138,39 @@ first_by_list : (own : List Pair) (xs : List IdValue) → first_by (first_to own
 first_by_list own [] = refl
 first_by_list own (x ∷ xs) = by (first_by_list own xs) (first_to own x)
   where
-    by : first_by (first_to own) xs ≡ first_of_list own xs → (o : Option IdValue) → or_else o (first_by (first_to own) xs) ≡ elim o as (λ _. Option IdValue) [ Some r ↦ Some r | None ↦ first_of_list own xs ]
+    by : first_by (first_to own) xs ≡ first_of_list own xs → (o : Option IdValue) → option_or o (first_by (first_to own) xs) ≡ elim o as (λ _. Option IdValue) [ Some r ↦ Some r | None ↦ first_of_list own xs ]
     by rest (Some r) = refl
     by rest None = rest
 
-pub results_along : (elements : List ElementValue) (borne : List (ℕ × ℕ)) (x : IdValue) (along : AlongValue) → AreAlong elements borne x along → AreResults elements x (numbers_along elements along)
-results_along elements borne x along (xs, chain, is) = each
-  where
-    first : (request : Request) (o : Option IdValue) → o ≡ first_by (own_result elements request) xs → IsResult elements request x (option_and_then (number_of elements) o)
-    first request o e = (o, (xs, chain, e ∙ first_by_list (single_pairs (label_of request) elements) xs), refl)
+module _ (elements : List ElementValue) (has : HasEnds elements) (lined : HasVertexNumbers elements) where
+  result_number : (request : Request) (x y : IdValue) → own_result elements request x ≡ Some y → HasNumber elements y
+  result_number request x y e = (have_numbers (single_in (label_of request)) elements (single_ends (label_of request)) has lined x y (pair_of_first (single_pairs (label_of request) elements) x y e)).1
 
-    each : (request : Request) → IsResult elements request x (result_for request (numbers_along elements along))
-    each Definition = first Definition along.def (ap (λ (a : AlongValue). a.def) is)
-    each References = first References along.refs (ap (λ (a : AlongValue). a.refs) is)
-    each Hover = first Hover along.hover (ap (λ (a : AlongValue). a.hover) is)
-    each Declaration = first Declaration along.decl (ap (λ (a : AlongValue). a.decl) is)
-    each Implementation = first Implementation along.imp (ap (λ (a : AlongValue). a.imp) is)
+  -- the number of the first result is the first number of a result
+  first_number : (request : Request) (xs : List IdValue) → first_by (own_number elements request) xs ≡ option_and_then (number_of elements) (first_by (own_result elements request) xs)
+  first_number request [] = refl
+  first_number request (x ∷ xs) = by (own_result elements request x) refl (first_number request xs)
+    where
+      later : Option ℕ
+      later = first_by (own_number elements request) xs
+
+      by : (o : Option IdValue) → own_result elements request x ≡ o → later ≡ option_and_then (number_of elements) (first_by (own_result elements request) xs)
+          → option_or (option_and_then (number_of elements) o) later ≡ option_and_then (number_of elements) (option_or o (first_by (own_result elements request) xs))
+      by None e rest = rest
+      by (Some y) e rest = let n = result_number request x y e in ap (λ m. option_or m later) n.1 ∙ sym n.1
+
+  pub results_along : (borne : List (ℕ × ℕ)) (x : IdValue) (along : AlongValue) → AreAlong elements borne x along → AreResults elements x (results_of along)
+  results_along borne x along (xs, chain, is) = each
+    where
+      first : (request : Request) (o : Option ℕ) → o ≡ first_by (own_number elements request) xs → IsResult elements request x o
+      first request o e = (first_by (own_result elements request) xs, (xs, chain, first_by_list (single_pairs (label_of request) elements) xs), e ∙ first_number request xs)
+
+      each : (request : Request) → IsResult elements request x (result_for request (results_of along))
+      each Definition = first Definition along.def (ap (λ (a : AlongValue). a.def) is)
+      each References = first References along.refs (ap (λ (a : AlongValue). a.refs) is)
+      each Hover = first Hover along.hover (ap (λ (a : AlongValue). a.hover) is)
+      each Declaration = first Declaration along.decl (ap (λ (a : AlongValue). a.decl) is)
+      each Implementation = first Implementation along.imp (ap (λ (a : AlongValue). a.imp) is)
 
 -- whether a member passes, by the members that do
 pub any_filter : {X : Type 0} (p : X → Bool) (xs : List X) → not (length (filter p xs) == 0) ≡ list_any p xs

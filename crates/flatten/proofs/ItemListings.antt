@@ -1,28 +1,23 @@
 -- The rows of one result after those of the results before it.
-use Rattle.std.proofs.Common.{◌≡◌, ◌⊎◌, inl, inr, ⊎_elim, ◌∙◌, ℕ, ◌+◌, ◌<◌, Bool, true, false, List, [], ◌∷◌, ◌++◌, length, map, take, drop, get_or, refl, sym, ap, subst, arith}
-use Rattle.std.specs.Borrow.{Bor}
+use Rattle.std.proofs.Common.{◌≡◌, ◌⊎◌, inl, inr, ⊎_elim, ℕ, ◌+◌, ◌<◌, Bool, true, false, List, [], ◌∷◌, ◌++◌, length, map, take, drop, get_or, refl, sym, ap, subst}
 use Rattle.std.specs.Prelude.{◌↔◌, Contains, Option, Some, None, Ok}
 use Rattle.std.specs.List.{AllByRecursion, flat_map}
 use Rattle.std.specs.List.Sorted.{IsStrictlySortedBy}
 use Rattle.std.specs.Ordering.{nat_cmp, ordering_then}
 use Rattle.std.specs.declared.cmp.Ordering.{Ordering}
 use Rattle.std.specs.declared.cmp.Ordering.TheVariants.{Less}
-use Rattle.std.proofs.lemmas.List.{get_or-map, length-map, take-append-drop, take_more}
-use Rattle.std.proofs.lemmas.Grind.{flat_map-append}
+use Rattle.std.proofs.lemmas.List.{drop_more, take-append-drop, take_more}
 use Rattle.std.proofs.lemmas.List.Elements.{Contains-append_left, Contains-append_right, Contains-append_cases}
-use Rattle.lsif.specs.declared.element.Element.{Element}
 use Rattle.lsif.specs.Element.{ElementValue, vertex, edge}
-use Rattle.dump.proofs.Lists.{drop_next}
 use Rattle.dump.specs.Fault.{IsFaultless}
 use Rattle.dump.specs.Places.{IsListing, place_cmp}
 use Rattle.flatten.specs.declared.items.Items.{Items}
 use Rattle.flatten.specs.Flat.{ItemRowValue, is_result, item_cmp, number_of, role_index}
-use Rattle.flatten.specs.Steps.Items.{AddsListing, IsRowOf}
-use Rattle.flatten.specs.Steps.Kinds.{AreThose, is_result_vertex, said}
+use Rattle.flatten.specs.Steps.Items.{AddsListing, IsReachedRow, number_if, numbers_in}
+use Rattle.flatten.specs.Steps.Numbers.{one_or_none}
 use Rattle.flatten.specs.Steps.Tables.{Adds, OfOne}
 use Rattle.flatten.proofs.Listing.{same_listing}
-use Rattle.flatten.proofs.Members.{contains_cases, contains_head, contains_one, contains_tail, flat_from, not_in_nil, one_contains}
-use Rattle.flatten.proofs.OfKinds.{flat_those}
+use Rattle.flatten.proofs.Members.{contains_cases, contains_head, contains_one, contains_tail, not_in_nil}
 use Rattle.flatten.proofs.Rising.{SaysNumber, rises}
 
 -- ---- lists in order
@@ -85,51 +80,29 @@ listing_none cmp P = record { rises = tt; each = λ row. (λ at. absurd (not_in_
 
 -- ---- the numbers of results rise
 
-abbrev lines_if : Bool → Option ℕ → List ℕ
-lines_if true (Some n) = n ∷ []
-lines_if true None = []
-lines_if false o = []
+number_says : (o : Option ℕ) (b : Bool) → (one_or_none (number_if b o) ≡ []) ⊎ ((n : ℕ) × (o ≡ Some n) × (one_or_none (number_if b o) ≡ n ∷ []))
+number_says o false = inl refl
+number_says None true = inl refl
+number_says (Some n) true = inr (n, refl, refl)
 
--- where the element is a result: its number
-abbrev result_lines : List ElementValue → ElementValue → List ℕ
-result_lines d (vertex i v) = lines_if (is_result (Some v)) (number_of d i)
-result_lines d (edge i e) = []
-
-row_line : (d : List ElementValue) (items : Items) (x : ElementValue) (row : ItemRowValue) → IsRowOf d items x row → Contains (result_lines d x) row.result
-row_line d items (vertex i v) row (is, n, at, reached) =
-    subst (λ b. Contains (lines_if b (number_of d i)) row.result) (sym is) (subst (λ o. Contains (lines_if true o) row.result) (sym at) (one_contains n row.result (sym reached.is_number)))
-row_line d items (edge i e) row h = absurd h
-
-line_says : (o p : Option ℕ) (b : Bool) → o ≡ p → (lines_if b p ≡ []) ⊎ ((n : ℕ) × (o ≡ Some n) × (lines_if b p ≡ n ∷ []))
-line_says o p false e = inl refl
-line_says o None true e = inl refl
-line_says o (Some n) true e = inr (n, e, refl)
-
-result_says : (d : List ElementValue) → SaysNumber d (result_lines d)
-result_says d (vertex i v) = line_says (number_of d i) (number_of d i) (is_result (Some v)) refl
+result_says : (d : List ElementValue) → SaysNumber d (numbers_in d)
+result_says d (vertex i v) = number_says (number_of d i) (is_result (Some v))
 result_says d (edge i e) = inl refl
 
-no_result_line : (d : List ElementValue) (x : ElementValue) → is_result_vertex x ≡ false → result_lines d x ≡ []
-no_result_line d (vertex i v) e = ap (λ b. lines_if b (number_of d i)) e
-no_result_line d (edge i k) e = refl
+pub results_rise : (d : List ElementValue) → IsFaultless (map Ok d) → IsStrictlySortedBy nat_cmp (flat_map (numbers_in d) d)
+results_rise d free = rises d (numbers_in d) free (result_says d)
 
 item_less : (r s : ItemRowValue) → nat_cmp r.result s.result ≡ Less → item_cmp r s ≡ Less
 item_less r s e = ap (λ o. ordering_then o (ordering_then (nat_cmp (role_index r.role) (role_index s.role)) (place_cmp r.place s.place))) e
 
--- the rows of those up to the next, after its rows were added
-pub next_listing : (d : List ElementValue) (items : Items) (list : List (Bor Element)) → IsFaultless (map Ok d) → AreThose is_result_vertex d list → (k : ℕ) (x : Bor Element) → k < length list → x ≡ get_or list k x → (old new : List ItemRowValue)
-    → IsListing item_cmp (OfOne (IsRowOf d items) (take k (map said list))) old → AddsListing (IsRowOf d items (said x)) old new → IsListing item_cmp (OfOne (IsRowOf d items) (take (k + 1) (map said list))) new
-next_listing d items list free those k x lt is old new listed added =
-    let xs = map said list in
-    let f = result_lines d in
-    let short : k < length xs = omega (arith, lt, length-map list said) in
-    let here : get_or xs k (said x) ≡ said x = get_or-map said list k x (said x) lt ∙ ap said (sym is) in
-    let left : drop k xs ≡ said x ∷ drop (k + 1) xs = drop_next xs k (said x) short (sym here) in
-    let sorted : IsStrictlySortedBy nat_cmp (flat_map f xs) = subst (IsStrictlySortedBy nat_cmp) (sym (flat_those f is_result_vertex (no_result_line d) d list those)) (rises d f free (result_says d)) in
-    let cut : flat_map f xs ≡ flat_map f (take k xs) ++ flat_map f (drop k xs) = ap (flat_map f) (sym (take-append-drop k xs)) ∙ flat_map-append f (take k xs) (drop k xs) in
-    let more : take (k + 1) xs ≡ take k xs ++ said x ∷ [] = take_more xs k (said x) short ∙ ap (λ y. take k xs ++ y ∷ []) here in
-    subst (λ l. IsListing item_cmp (OfOne (IsRowOf d items) l) new) (sym more) (subst (IsListing item_cmp (OfOne (IsRowOf d items) (take k xs ++ said x ∷ []))) (sym added.grown)
-    (listing_more item_cmp (IsRowOf d items) (take k xs) (said x) old added.more listed added.listed (λ r s o p. item_less r s
-    (sorted_split nat_cmp (flat_map f (take k xs)) (flat_map f (drop k xs)) (subst (IsStrictlySortedBy nat_cmp) cut sorted) r.result s.result
-    (flat_from f (take k xs) o.0 r.result o.1 (row_line d items o.0 r o.2))
-    (flat_from f (drop k xs) (said x) s.result (subst (λ l. Contains l (said x)) (sym left) (contains_head (said x) (drop (k + 1) xs))) (row_line d items (said x) s p))))))
+-- the rows of the results up to the next, after its rows were added
+pub next_listing : (items : Items) (numbers : List ℕ) → IsStrictlySortedBy nat_cmp numbers → (k : ℕ) → k < length numbers → (old new : List ItemRowValue)
+    → IsListing item_cmp (OfOne (λ n. IsReachedRow n items) (take k numbers)) old → AddsListing (IsReachedRow (get_or numbers k 0) items) old new → IsListing item_cmp (OfOne (λ n. IsReachedRow n items) (take (k + 1) numbers)) new
+next_listing items numbers sorted k lt old new listed added =
+    let P = λ (n : ℕ). IsReachedRow n items in
+    let n = get_or numbers k 0 in
+    let cut : IsStrictlySortedBy nat_cmp (take k numbers ++ drop k numbers) = subst (IsStrictlySortedBy nat_cmp) (sym (take-append-drop k numbers)) sorted in
+    let here : Contains (drop k numbers) n = subst (λ l. Contains l n) (sym (drop_more numbers k 0 lt)) (contains_head n (drop (k + 1) numbers)) in
+    subst (λ l. IsListing item_cmp (OfOne P l) new) (sym (take_more numbers k 0 lt)) (subst (IsListing item_cmp (OfOne P (take k numbers ++ n ∷ []))) (sym added.grown)
+    (listing_more item_cmp P (take k numbers) n old added.more listed added.listed (λ r s o p. item_less r s
+    (subst (λ m. nat_cmp r.result m ≡ Less) (sym p.is_number) (subst (λ m. nat_cmp m n ≡ Less) (sym o.2.is_number) (sorted_split nat_cmp (take k numbers) (drop k numbers) cut o.0 n o.1 here))))))

@@ -1,5 +1,5 @@
 -- The places of results, by numbers and by ids.
-use Rattle.std.proofs.Common.{◌≡◌, ⊎_elim, ◌∙◌, ℕ, ◌+◌, ◌==◌, true, List, [], ◌∷◌, ◌++◌, filter, map, refl, sym, ap, subst, arith}
+use Rattle.std.proofs.Common.{◌≡◌, ⊎_elim, ◌∙◌, ℕ, ◌+◌, ◌==◌, Bool, true, false, List, [], ◌∷◌, ◌++◌, filter, map, refl, sym, ap, subst, arith}
 use Rattle.std.specs.Prelude.{◌↔◌, Contains, Option, Some, None, Ok, option_map, slice_get, IsPermutation}
 use Rattle.std.specs.List.{flat_map}
 use Rattle.std.specs.List.Sorted.{IsNonDecreasingBy}
@@ -16,7 +16,7 @@ use Rattle.dump.specs.declared.role.Role.{Role}
 use Rattle.dump.specs.declared.role.Role.TheVariants.{Definitions, References}
 use Rattle.flatten.specs.declared.items.Items.{Items}
 use Rattle.flatten.specs.Flat.{IsItemRow, ItemRowValue, is_result, number_of}
-use Rattle.flatten.specs.Steps.Items.{AreItems, IsReachedRow, IsRowOf, has_role, is_role, item_pairs_of, items_by, placed_by, placed_in, placed_of_pair, row_of, rows_of_role, same_role, with_place}
+use Rattle.flatten.specs.Steps.Items.{AreItems, IsReachedRow, has_role, is_role, item_pairs_of, items_by, number_if, numbers_in, placed_by, placed_in, placed_of_pair, row_of, rows_of_role, same_role, with_place}
 use Rattle.flatten.specs.Steps.Numbers.{pairs_of}
 use Rattle.flatten.specs.Steps.Places.{place_value, placed_value}
 use Rattle.flatten.specs.Steps.Tables.{OfOne, container_uri, place_by, place_of, place_with}
@@ -168,15 +168,10 @@ pub each_role : (d : List ElementValue) (items : Items) → AreBy d items Defini
 each_role d items a b Definitions = a
 each_role d items a b References = b
 
--- the rows of an element that is a result
-pub rows_of_result : (d : List ElementValue) (items : Items) (i : IdValue) (v : VertexValue) (number : ℕ) → is_result (Some v) ≡ true → number_of d i ≡ Some number → (row : ItemRowValue) → IsReachedRow number items row ↔ IsRowOf d items (vertex i v) row
-rows_of_result d items i v number is at row = (λ h. (is, number, at, h), back)
-  where
-    back : IsRowOf d items (vertex i v) row → IsReachedRow number items row
-    back (t, m, f, h) =
-        let e : ◌≡◌ {A = Option ℕ} (Some m) (Some number) = sym f ∙ at in
-        let same : m ≡ number = cc in
-        subst (λ k. IsReachedRow k items row) same h
+-- a number that is asked for
+asked_number : (b : Bool) (o : Option ℕ) (n : ℕ) → number_if b o ≡ Some n → (b ≡ true) × (o ≡ Some n)
+asked_number true o n e = (refl, e)
+asked_number false o n e = cc
 
 -- ---- places at numbers
 
@@ -233,8 +228,8 @@ module _ (d : List ElementValue) (free : IsFaultless (map Ok d)) (vertices : (i 
   -- ---- the rows of results
 
   module _ (items : Items) (are : AreItems d items) where
-    row_to : (i : IdValue) (v : VertexValue) (row : ItemRowValue) → Contains d (vertex i v) → IsRowOf d items (vertex i v) row → IsItemRow d row
-    row_to i v row here (result, number, at, h) =
+    row_to : (i : IdValue) (v : VertexValue) (number : ℕ) (row : ItemRowValue) → Contains d (vertex i v) → is_result (Some v) ≡ true → number_of d i ≡ Some number → IsReachedRow number items row → IsItemRow d row
+    row_to i v number row here result at h =
         let is = (vertices i v).1 here in
         let joined = are_numbers result_pairs_of d in
         let path = wider items.results.now (pairs_of result_pairs_of d) (λ q c. Contains-permutation items.results.now (pairs_of result_pairs_of d) q (IsPermutation-sym (pairs_of result_pairs_of d) items.results.now are.results) c) number h.other h.reached in
@@ -252,7 +247,7 @@ module _ (d : List ElementValue) (free : IsFaultless (map Ok d)) (vertices : (i 
     result_vertex None e = cc
     result_vertex (Some v) e = (v, refl)
 
-    row_from : (row : ItemRowValue) → IsItemRow d row → OfOne (IsRowOf d items) d row
+    row_from : (row : ItemRowValue) → IsItemRow d row → OfOne (λ n. IsReachedRow n items) (flat_map (numbers_in d) d) row
     row_from row h =
         let v = result_vertex (vertex_at d h.result) h.is_result in
         let other = h.is_place.0 in
@@ -268,11 +263,14 @@ module _ (d : List ElementValue) (free : IsFaultless (map Ok d)) (vertices : (i 
           reached = wider (pairs_of result_pairs_of d) items.results.now (λ q c. Contains-permutation (pairs_of result_pairs_of d) items.results.now q are.results c) row.result p.0 p.2;
           joined = (are.each row.role (p.0, row.place)).1 placed;
         } in
-        (vertex h.result v.0, (vertices h.result v.0).0 v.1, (ap is_result (sym v.1) ∙ h.is_result, row.result, h.at_line, reached))
+        let asked : number_if (is_result (Some v.0)) (number_of d h.result) ≡ Some row.result = ap (λ b. number_if b (number_of d h.result)) (ap is_result (sym v.1) ∙ h.is_result) ∙ h.at_line in
+        (row.result, flat_from (numbers_in d) d (vertex h.result v.0) row.result ((vertices h.result v.0).0 v.1) (one_in (number_if (is_result (Some v.0)) (number_of d h.result)) row.result asked), reached)
 
-    pub item_rows_are : (row : ItemRowValue) → OfOne (IsRowOf d items) d row ↔ IsItemRow d row
-    item_rows_are row = (λ o. by o.0 o.1 o.2, row_from row)
+    pub item_rows_are : (row : ItemRowValue) → OfOne (λ n. IsReachedRow n items) (flat_map (numbers_in d) d) row ↔ IsItemRow d row
+    item_rows_are row = (λ o. let f = flat_of (numbers_in d) d o.0 o.1 in by f.0 o.0 f.1 f.2 o.2, row_from row)
       where
-        by : (x : ElementValue) → Contains d x → IsRowOf d items x row → IsItemRow d row
-        by (vertex i v) here h = row_to i v row here h
-        by (edge i e) here h = absurd h
+        by : (x : ElementValue) (n : ℕ) → Contains d x → Contains (numbers_in d x) n → IsReachedRow n items row → IsItemRow d row
+        by (vertex i v) n here at h =
+            let a = asked_number (is_result (Some v)) (number_of d i) n (in_one (number_if (is_result (Some v)) (number_of d i)) n at) in
+            row_to i v n row here a.0 a.1 h
+        by (edge i e) n here at h = absurd (not_in_nil n at)

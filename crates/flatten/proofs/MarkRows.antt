@@ -13,7 +13,8 @@ use Rattle.dump.specs.Walks.{Pair, Path, IsChain, ends, links, next_pairs}
 use Rattle.flatten.specs.Flat.{BearerRowValue, IsBearerRow, IsMarkRow, MarkRowValue, AreResults, bearer_cmp, mark_cmp, number_of}
 use Rattle.flatten.specs.KeyTexts.{key_text, key_value}
 use Rattle.flatten.specs.Steps.Borne.{IsBorne, IsBorneBy, MarkText, mark_text, text_of}
-use Rattle.flatten.specs.Steps.Chains.{first_by, is_bearing, is_source, or_else, own_bearer}
+use Rattle.flatten.specs.Steps.Chains.{first_by, is_bearing, is_source, own_bearer}
+use Rattle.std.specs.Option.{option_or}
 use Rattle.flatten.specs.Steps.Marks as steps
 use Rattle.flatten.specs.Steps.Marks.{AreBorne, IsBearerFrom, IsBorneMark, IsBorneRow, IsMarkAlong, IsMarkOfNumber, IsMarkOfOne, IsMarkOfRange, IsMarkOfVertex, IsNextBearer, bearer_mark, marks_in, marks_of}
 use Rattle.flatten.specs.Steps.Numbers.{both_numbers, pairs_of}
@@ -390,12 +391,12 @@ module _ (d : List ElementValue) (borne : List (ℕ × ℕ)) (marks : List (Opti
   pub from_bearer : (x : IdValue) (xs : List IdValue) → IsChain (next_pairs d) x xs → IsFromBearer (first_by (own_bearer d borne) xs) xs
   from_bearer x xs (ends e) = by (is_bearing d borne x) refl
     where
-      by : (b : Bool) → is_bearing d borne x ≡ b → IsFromBearer (or_else (if b then Some x else None) None) (x ∷ [])
+      by : (b : Bool) → is_bearing d borne x ≡ b → IsFromBearer (option_or (if b then Some x else None) None) (x ∷ [])
       by true t = record { rest = x ∷ []; is_rest = ends e; shorter = omega arith; same = λ row. (λ h. h, λ h. h) }
       by false t = record { rest = []; is_rest = refl; shorter = omega arith; same = λ row. of_tail x [] row t }
   from_bearer x xs (links {y = y} {ys = ys} e c) = by (is_bearing d borne x) refl (from_bearer y ys c)
     where
-      by : (b : Bool) → is_bearing d borne x ≡ b → IsFromBearer (first_by (own_bearer d borne) ys) ys → IsFromBearer (or_else (if b then Some x else None) (first_by (own_bearer d borne) ys)) (x ∷ ys)
+      by : (b : Bool) → is_bearing d borne x ≡ b → IsFromBearer (first_by (own_bearer d borne) ys) ys → IsFromBearer (option_or (if b then Some x else None) (first_by (own_bearer d borne) ys)) (x ∷ ys)
       by true t r = record { rest = x ∷ ys; is_rest = links e c; shorter = omega arith; same = λ row. (λ h. h, λ h. h) }
       by false t r = record {
         rest = r.rest;

@@ -1,6 +1,6 @@
 -- Paths over pairs of ids, and over the pairs of their numbers.
-use Rattle.std.proofs.Common.{◌≡◌, ◌⊎◌, inl, inr, ⊎_elim, ◌∙◌, ◌+◌, List, [], ◌∷◌, refl, sym, ap, subst, arith}
-use Rattle.std.specs.Prelude.{ℕ, Contains, Option, Some, None, option_map, slice_get}
+use Rattle.std.proofs.Common.{◌≡◌, ◌⊎◌, inl, inr, ⊎_elim, ◌∙◌, ◌+◌, Bool, List, [], ◌∷◌, refl, sym, ap, subst, arith}
+use Rattle.std.specs.Prelude.{ℕ, Contains, Option, Some, None, option_map, slice_get, if◌then◌else◌}
 use Rattle.std.specs.List.{flat_map}
 use Rattle.lsif.specs.declared.element.Property.{Property}
 use Rattle.lsif.specs.declared.element.Property.TheVariants.{Definitions, References, ReferenceResults}
@@ -8,10 +8,12 @@ use Rattle.lsif.specs.Element.{IdValue, VertexValue, ItemValue, contains, next, 
 use Rattle.dump.specs.Graph.{vertex_at, ends, line_of}
 use Rattle.dump.specs.Monikers.{attach_pairs_of, moniker_pairs_of}
 use Rattle.dump.specs.Places.{joined_results, result_pairs_of}
-use Rattle.dump.specs.Walks.{Pair, Path, stays, goes}
+use Rattle.dump.specs.declared.single.SingleLabel.{SingleLabel}
+use Rattle.dump.specs.declared.single.SingleLabel.TheVariants as singles
+use Rattle.dump.specs.Walks.{Pair, Path, stays, goes, same_label, single_in}
 use Rattle.flatten.specs.Flat.{number_of}
 use Rattle.flatten.specs.Steps.Numbers.{both_numbers, one_or_none, numbers_of_pair, pairs_in, pairs_of}
-use Rattle.flatten.proofs.Members.{contains_head, contains_tail, contains_one, contains_cases, map_source, not_in_nil, flat_of, flat_from}
+use Rattle.flatten.proofs.Members.{contains_head, contains_tail, contains_one, contains_cases, in_if, map_source, not_in_nil, flat_of, flat_from}
 
 -- ---- numbers
 
@@ -133,6 +135,25 @@ attach_ends (edge i (attach from to)) x y at = ⊎_elim (λ (e : ◌≡◌ {A = 
 attach_ends (edge i (item e)) x y at = absurd (not_in_nil (x, y) at)
 attach_ends (edge i (other_edge from to)) x y at = absurd (not_in_nil (x, y) at)
 attach_ends (vertex i v) x y at = absurd (not_in_nil (x, y) at)
+
+-- what an edge of a label of one target joins are its ends
+joined_by : (b : Bool) (from to x y : IdValue) → Contains {X = Pair} (if b then (from, to) ∷ [] else []) (x, y) → Contains (from ∷ to ∷ []) x × Contains (from ∷ to ∷ []) y
+joined_by b from to x y at = two_ends from to x y (contains_one {X = Pair} (from, to) (x, y) (in_if b ((from, to) ∷ []) (x, y) at).1)
+
+pub single_ends : (label : SingleLabel) → AreEnds (single_in label)
+single_ends label (edge i (contains from to)) x y at = absurd (not_in_nil (x, y) at)
+single_ends label (edge i (next from to)) x y at = joined_by (same_label singles.Next label) from to x y at
+single_ends label (edge i (definition from to)) x y at = joined_by (same_label singles.Definition label) from to x y at
+single_ends label (edge i (references from to)) x y at = joined_by (same_label singles.References label) from to x y at
+single_ends label (edge i (declaration from to)) x y at = joined_by (same_label singles.Declaration label) from to x y at
+single_ends label (edge i (implementation from to)) x y at = joined_by (same_label singles.Implementation label) from to x y at
+single_ends label (edge i (hover from to)) x y at = joined_by (same_label singles.Hover label) from to x y at
+single_ends label (edge i (moniker_edge from to)) x y at = absurd (not_in_nil (x, y) at)
+single_ends label (edge i (package_edge from to)) x y at = joined_by (same_label singles.PackageInformation label) from to x y at
+single_ends label (edge i (attach from to)) x y at = absurd (not_in_nil (x, y) at)
+single_ends label (edge i (item e)) x y at = absurd (not_in_nil (x, y) at)
+single_ends label (edge i (other_edge from to)) x y at = absurd (not_in_nil (x, y) at)
+single_ends label (vertex i v) x y at = absurd (not_in_nil (x, y) at)
 
 -- a path over numbers from that of an id is one over ids
 pub path_on : (elements : List ElementValue) (pairs : List Pair) (numbers : List (ℕ × ℕ)) → AreNumbers elements pairs numbers → AreOnes elements → (x : IdValue) (i j : ℕ) → number_of elements x ≡ Some i → Path numbers i j

@@ -2,26 +2,23 @@
 use Rattle.std.proofs.Common.{◌≡◌, ◌∙◌, Bool, true, false, cond, List, [], ◌∷◌, ◌++◌, map, filter, refl, sym, ap, subst, append-nil}
 use Rattle.std.specs.Prelude.{◌↔◌, ℕ, Contains, Option, Ok}
 use Rattle.std.specs.Borrow.{Bor}
-use Rattle.std.specs.List.{All, flat_map}
+use Rattle.std.specs.List.{flat_map}
 use Rattle.std.proofs.lemmas.List.{append_assoc}
-use Rattle.std.proofs.lemmas.List.Elements.{All-cons, All-nil}
 use Rattle.lsif.specs.declared.element.Element.{Element}
 use Rattle.lsif.specs.Element.{meta_data, project, document, range, result_set, definition_result, reference_result, declaration_result, implementation_result, hover_result, moniker, package_information, event, other_vertex, contains, next, definition, references, declaration, implementation, hover, moniker_edge, package_edge, attach, item, other_edge, ElementValue, vertex, edge}
 use Rattle.dump.specs.Fault.{IsFaultless}
 use Rattle.dump.specs.Monikers.{attach_pairs_of}
 use Rattle.dump.specs.Places.{result_pairs_of}
 use Rattle.dump.specs.declared.role.Role.TheVariants.{Definitions, References}
-use Rattle.flatten.specs.Flat.{MarkRowValue, ItemRowValue}
+use Rattle.flatten.specs.Flat.{MarkRowValue}
 use Rattle.flatten.specs.Steps.Borne.{IsBorneBy, MarkText}
-use Rattle.flatten.specs.Steps.Documents.{documents_in, hovers_in}
-use Rattle.flatten.specs.Steps.Items.{IsRowOf, placed_in}
-use Rattle.flatten.specs.Steps.Kinds.{AreKinds, AreThose, Takes, is_document, is_hover, is_moniker_edge, is_range, is_result_vertex, kept, said}
+use Rattle.flatten.specs.Steps.Documents.{documents_in}
+use Rattle.flatten.specs.Steps.Items.{numbers_in, placed_in}
+use Rattle.flatten.specs.Steps.Kinds.{AreKinds, AreThose, Takes, is_document, is_moniker_edge, is_range, kept, said}
 use Rattle.flatten.specs.Steps.Marks.{IsMarkOfRange}
 use Rattle.flatten.specs.Steps.Numbers.{pairs_in, pairs_of}
 use Rattle.flatten.specs.Steps.Places.{placed_value}
-use Rattle.flatten.specs.Steps.Parents.{IsWithinLimit, interval_value, intervals_in}
 use Rattle.flatten.specs.Steps.Tables.{OfOne}
-use Rattle.flatten.specs.declared.items.Items.{Items}
 use Rattle.flatten.specs.declared.kinds.Kinds.{Kinds}
 use Rattle.flatten.proofs.Members.{filter_keeps, filter_source}
 
@@ -37,15 +34,12 @@ HasSaid f elements rest list = list ++ flat_map f rest ≡ flat_map f elements
 
 pub record AreTaken (elements rest : List ElementValue) (kinds : Kinds) : Type 0 where
   pub documents : HasThose is_document elements rest kinds.documents.items
-  pub hovers : HasThose is_hover elements rest kinds.hovers.items
   pub ranges : HasThose is_range elements rest kinds.ranges.items
-  pub results : HasThose is_result_vertex elements rest kinds.results.items
+  pub results : HasSaid (numbers_in elements) elements rest kinds.results.items
   pub moniker_edges : HasThose is_moniker_edge elements rest kinds.moniker_edges.items
   pub result_pairs : HasSaid (pairs_in result_pairs_of elements) elements rest kinds.result_pairs.items
   pub definitions : HasSaid (placed_in Definitions elements) elements rest (map placed_value kinds.definitions.items)
   pub references : HasSaid (placed_in References elements) elements rest (map placed_value kinds.references.items)
-  pub intervals : HasSaid (intervals_in elements) elements rest (map interval_value kinds.intervals.items)
-  pub within : All IsWithinLimit rest → All IsWithinLimit elements
 
 first_kept : (is : ElementValue → Bool) (x : ElementValue) (rest : List ElementValue) → kept (is x) x ++ filter is rest ≡ filter is (x ∷ rest)
 first_kept is x rest = by (is x)
@@ -67,21 +61,18 @@ said_at f d e x old new same grown = grown ∙ ap (λ l. old ++ f l x) same
 pub taken_more : (elements rest : List ElementValue) (x : ElementValue) (old new : Kinds) → old.dump.now.elements ≡ elements → AreTaken elements (x ∷ rest) old → Takes old x new → AreTaken elements rest new
 taken_more d rest x old new same a t = record {
   documents = has_more is_document d rest x old.documents.items new.documents.items a.documents t.documents;
-  hovers = has_more is_hover d rest x old.hovers.items new.hovers.items a.hovers t.hovers;
   ranges = has_more is_range d rest x old.ranges.items new.ranges.items a.ranges t.ranges;
-  results = has_more is_result_vertex d rest x old.results.items new.results.items a.results t.results;
+  results = said_more (numbers_in d) d rest x _ _ a.results (said_at numbers_in d _ x _ _ same t.results);
   moniker_edges = has_more is_moniker_edge d rest x old.moniker_edges.items new.moniker_edges.items a.moniker_edges t.moniker_edges;
   result_pairs = said_more (pairs_in result_pairs_of d) d rest x _ _ a.result_pairs (said_at (pairs_in result_pairs_of) d _ x _ _ same t.result_pairs);
   definitions = said_more (placed_in Definitions d) d rest x _ _ a.definitions (said_at (placed_in Definitions) d _ x _ _ same t.definitions);
   references = said_more (placed_in References d) d rest x _ _ a.references (said_at (placed_in References) d _ x _ _ same t.references);
-  intervals = said_more (intervals_in d) d rest x _ _ a.intervals (said_at intervals_in d _ x _ _ same t.intervals);
-  within = λ all. a.within (All-cons IsWithinLimit x rest t.within all);
 }
 
 has_all : (is : ElementValue → Bool) (elements : List ElementValue) (list : List (Bor Element)) → HasThose is elements [] list → AreThose is elements list
 has_all is elements list has = sym (append-nil (map said list)) ∙ has
 
-said_all : {Y : Type 0} (f : ElementValue → List Y) (elements : List ElementValue) (list : List Y) → HasSaid f elements [] list → list ≡ flat_map f elements
+pub said_all : {Y : Type 0} (f : ElementValue → List Y) (elements : List ElementValue) (list : List Y) → HasSaid f elements [] list → list ≡ flat_map f elements
 said_all f elements list has = sym (append-nil list) ∙ has
 
 pub taken_all : (kinds : Kinds) → IsFaultless (map Ok kinds.dump.now.elements) → AreTaken kinds.dump.now.elements [] kinds → AreKinds kinds
@@ -90,15 +81,12 @@ taken_all kinds free a =
     record {
       faultless = free;
       documents = has_all is_document d kinds.documents.items a.documents;
-      hovers = has_all is_hover d kinds.hovers.items a.hovers;
       ranges = has_all is_range d kinds.ranges.items a.ranges;
-      results = has_all is_result_vertex d kinds.results.items a.results;
+      results = said_all (numbers_in d) d _ a.results;
       moniker_edges = has_all is_moniker_edge d kinds.moniker_edges.items a.moniker_edges;
       result_pairs = said_all (pairs_in result_pairs_of d) d _ a.result_pairs;
       definitions = said_all (placed_in Definitions d) d _ a.definitions;
       references = said_all (placed_in References d) d _ a.references;
-      intervals = said_all (intervals_in d) d _ a.intervals;
-      within = a.within (All-nil IsWithinLimit);
     }
 
 -- ---- what all elements say is what those of a kind say
@@ -134,26 +122,6 @@ no_document (edge i k) e = refl
 pub documents_of : (d : List ElementValue) (list : List (Bor Element)) → AreThose is_document d list → flat_map documents_in (map said list) ≡ flat_map documents_in d
 documents_of d list those = flat_those documents_in is_document no_document d list those
 
-no_hover : (d : List ElementValue) (x : ElementValue) → is_hover x ≡ false → hovers_in d x ≡ []
-no_hover d (vertex i (meta_data b)) e = refl
-no_hover d (vertex i project) e = refl
-no_hover d (vertex i (document u)) e = refl
-no_hover d (vertex i (range s)) e = refl
-no_hover d (vertex i result_set) e = refl
-no_hover d (vertex i definition_result) e = refl
-no_hover d (vertex i reference_result) e = refl
-no_hover d (vertex i declaration_result) e = refl
-no_hover d (vertex i implementation_result) e = refl
-no_hover d (vertex i (hover_result t)) e = cc
-no_hover d (vertex i (moniker m)) e = refl
-no_hover d (vertex i (package_information p)) e = refl
-no_hover d (vertex i (event v)) e = refl
-no_hover d (vertex i other_vertex) e = refl
-no_hover d (edge i k) e = refl
-
-pub hovers_of : (d : List ElementValue) (list : List (Bor Element)) → AreThose is_hover d list → flat_map (hovers_in d) (map said list) ≡ flat_map (hovers_in d) d
-hovers_of d list those = flat_those (hovers_in d) is_hover (no_hover d) d list those
-
 no_attached : (d : List ElementValue) (x : ElementValue) → is_moniker_edge x ≡ false → pairs_in attach_pairs_of d x ≡ []
 no_attached d (edge i (contains a b)) e = refl
 no_attached d (edge i (next a b)) e = refl
@@ -179,13 +147,6 @@ one_of_those P is d list those passes row = (
   λ o. (o.0, (filter_source is d o.0 (subst (λ l. Contains l o.0) those o.1)).0, o.2),
   λ o. (o.0, subst (λ l. Contains l o.0) (sym those) (filter_keeps is d o.0 o.1 (passes o.0 row o.2)), o.2),
 )
-
-row_of_result : (d : List ElementValue) (items : Items) (x : ElementValue) (row : ItemRowValue) → IsRowOf d items x row → is_result_vertex x ≡ true
-row_of_result d items (vertex i v) row h = h.0
-row_of_result d items (edge i k) row h = absurd h
-
-pub rows_of_results : (d : List ElementValue) (items : Items) (list : List (Bor Element)) → AreThose is_result_vertex d list → (row : ItemRowValue) → OfOne (IsRowOf d items) (map said list) row ↔ OfOne (IsRowOf d items) d row
-rows_of_results d items list those = one_of_those (IsRowOf d items) is_result_vertex d list those (row_of_result d items)
 
 borne_by_edge : (d : List ElementValue) (attached : List (ℕ × ℕ)) (x : ElementValue) (row : ℕ × ℕ) → IsBorneBy d attached x row → is_moniker_edge x ≡ true
 borne_by_edge d attached (edge i (contains a b)) row h = absurd h

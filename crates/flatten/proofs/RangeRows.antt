@@ -15,7 +15,7 @@ use Rattle.dump.specs.Requests.{First}
 use Rattle.std.specs.Ordering.{nat_cmp}
 use Rattle.flatten.specs.Flat.{HasEachRange, RangeRowValue, ResultsValue, AreResults, IsParent, IsRangeRow, LiesIn, by_line, number_of, result_for}
 use Rattle.flatten.specs.Steps.Parents.{AreParents}
-use Rattle.flatten.specs.Steps.Ranges.{FoundRangeValue, IsFoundRange, IsRowWithParent, line_with, range_lines}
+use Rattle.flatten.specs.Steps.Ranges.{IsFoundRange, line_with, range_lines}
 use Rattle.flatten.specs.Steps.Tables.{container_uri, uri_of}
 use Rattle.flatten.proofs.Listing.{keyed_listing}
 use Rattle.flatten.proofs.Members.{flat_from, map_source, one_contains}
@@ -80,14 +80,14 @@ parent_is : (d : List ElementValue) (pairs : List (ℕ × ℕ)) → AreParents d
 parent_is d pairs are r span n is at (Some m) some none = are.some r span n m is at some
 parent_is d pairs are r span n is at None some none = are.none r span n is at none
 
--- the row of a range that was found, with its parent
-pub row_is : (d : List ElementValue) (pairs : List (ℕ × ℕ)) → AreParents d pairs → (found : FoundRangeValue) (row : RangeRowValue) → IsFoundRange d found → IsRowWithParent pairs found row → IsRangeRow d row
-row_is d pairs are found row f h = record {
+-- the row of a range that was found, with what a pair leads to as its parent
+pub row_is : (d : List ElementValue) (pairs : List (ℕ × ℕ)) → AreParents d pairs → (row : RangeRowValue) → IsFoundRange d row → IfSome row.parent (λ m. Contains pairs (row.line, m)) → IfNone row.parent ((m : ℕ) → Contains pairs (row.line, m) → ⊥) → IsRangeRow d row
+row_is d pairs are row f some none = record {
   range = f.range;
-  at_line = f.at_line ∙ ap (λ n. Some n) (sym h.is_line);
-  is_at = subst (IsAt d f.range) (sym h.is_place) f.is_at;
-  is_parent = parent_is d pairs are f.range found.place.span found.line f.is_at.span f.at_line row.parent h.some h.none;
-  are_results = subst (AreResults d f.range) (sym h.are_results) f.are_results;
+  at_line = f.at_line;
+  is_at = f.is_at;
+  is_parent = parent_is d pairs are f.range row.place.span row.line f.is_at.span f.at_line row.parent some none;
+  are_results = f.are_results;
 }
 
 -- ---- places

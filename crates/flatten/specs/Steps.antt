@@ -10,5 +10,4 @@ pub mod Numbers
 pub mod Parents
 pub mod Places
 pub mod Ranges
-pub mod Results
 pub mod Tables

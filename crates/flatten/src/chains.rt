@@ -1,8 +1,8 @@
 //! What vertices have along their chains of `next` edges.
-ghost use Rattle.std.specs.Prelude.{◌≡◌, IfOk, IfSome, OnOk, map, option_map};
+ghost use Rattle.std.specs.Prelude.{◌≡◌, IfOk, IfSome, OnOk, get_or, map, option_map};
 ghost use Rattle.std.specs.List.Sorted.{IsNonDecreasingBy};
 ghost use Rattle.lsif.specs.Element.{id_value};
-ghost use Rattle.flatten.specs.Steps.Chains.{AreAlong, AreChains, IsWalk, is_bearing, along_value, nothing, or_else, or_later, own_of};
+ghost use Rattle.flatten.specs.Steps.Chains.{AreAlong, AreChains, IsWalk, is_bearing, along_value, nothing, or_later, own_number, own_of};
 
 use crate::closure::pairs_from;
 use crate::numbers::number_of;
@@ -10,14 +10,15 @@ use dump::{CheckedDump, Request, chain_law, line_law};
 use lsif::Id;
 use std::alloc::{AllocError, Global};
 
-/// What the first members of a vertex's chain that have it have: the result of each request; and the first that bears marks itself.
+/// What the first members of a vertex's chain that have it have: the number of the result of each request; and the first that
+/// bears marks itself.
 #[derive(Clone, Copy)]
 pub(crate) struct Along<'a> {
-    pub(crate) def: Option<&'a Id>,
-    pub(crate) refs: Option<&'a Id>,
-    pub(crate) hover: Option<&'a Id>,
-    pub(crate) decl: Option<&'a Id>,
-    pub(crate) imp: Option<&'a Id>,
+    pub(crate) def: Option<u32>,
+    pub(crate) refs: Option<u32>,
+    pub(crate) hover: Option<u32>,
+    pub(crate) decl: Option<u32>,
+    pub(crate) imp: Option<u32>,
     pub(crate) bearer: Option<&'a Id>,
 }
 
@@ -34,7 +35,8 @@ pub(crate) struct Chains<'a> {
     pub(crate) dump: &'a CheckedDump,
     pub(crate) borne: Vec<(u32, u32)>,
     found: Vec<VertexAlong<'a>>,
-    /// At the number of each vertex of which something is found: where that stands in `found`. Elsewhere any number.
+    /// At the number of each vertex of which something is found: where that stands in `found`. Elsewhere any number. There are
+    /// as many as the greatest such number asks for.
     places: Vec<u32>,
 }
 
@@ -59,27 +61,17 @@ fn nothing<'a>() -> Along<'a>
     }
 }
 
-/// The first of the two that there is.
-fn or_else<'a>(own: Option<&'a Id>, later: Option<&'a Id>) -> Option<&'a Id>
-    ensures { option_map (λ i. id_value i.now) result ≡ or_else (option_map (λ i. id_value i.now) own.entry) (option_map (λ i. id_value i.now) later.entry) }
-{
-    match own {
-        Some(id) => Some(id),
-        None => later,
-    }
-}
-
 /// The one, or what it lacks from the other.
 fn or_later<'a>(own: Along<'a>, later: Along<'a>) -> Along<'a>
     ensures { along_value result ≡ or_later (along_value own.entry) (along_value later.entry) }
 {
     Along {
-        def: or_else(own.def, later.def),
-        refs: or_else(own.refs, later.refs),
-        hover: or_else(own.hover, later.hover),
-        decl: or_else(own.decl, later.decl),
-        imp: or_else(own.imp, later.imp),
-        bearer: or_else(own.bearer, later.bearer),
+        def: own.def.or(later.def),
+        refs: own.refs.or(later.refs),
+        hover: own.hover.or(later.hover),
+        decl: own.decl.or(later.decl),
+        imp: own.imp.or(later.imp),
+        bearer: own.bearer.or(later.bearer),
     }
 }
 
@@ -94,19 +86,38 @@ fn is_bearing(dump: &CheckedDump, borne: &[(u32, u32)], vertex: &Id) -> bool
     }
 }
 
+/// The number of the request's result of the vertex itself.
+fn own_number(dump: &CheckedDump, request: Request, vertex: &Id) -> Option<u32>
+    ensures { result ≡ own_number dump.now.elements request (id_value vertex.now) }
+{
+    number_of(dump, dump.result(request, vertex)?)
+}
+
 /// What the vertex itself has.
 fn own_of<'a>(dump: &'a CheckedDump, borne: &[(u32, u32)], vertex: &'a Id) -> Along<'a>
     requires { IsNonDecreasingBy (λ p. p.0) borne.now }
     ensures { along_value result ≡ own_of dump.now.elements borne.now (id_value vertex.now) }
 {
     Along {
-        def: dump.result(Request::Definition, vertex),
-        refs: dump.result(Request::References, vertex),
-        hover: dump.result(Request::Hover, vertex),
-        decl: dump.result(Request::Declaration, vertex),
-        imp: dump.result(Request::Implementation, vertex),
+        def: own_number(dump, Request::Definition, vertex),
+        refs: own_number(dump, Request::References, vertex),
+        hover: own_number(dump, Request::Hover, vertex),
+        decl: own_number(dump, Request::Declaration, vertex),
+        imp: own_number(dump, Request::Implementation, vertex),
         bearer: is_bearing(dump, borne, vertex).then_some(vertex),
     }
+}
+
+/// Sets the place at the number, after 0 at those numbers up to it at which none is set.
+fn set_place(places: &mut Vec<u32>, number: u32, place: u32) -> Result<(), AllocError>
+    ensures { OnOk result (get_or places.new.items number 0 ≡ place) }
+{
+    let number = number as usize;
+    if number >= places.len() {
+        places.resize(number + 1, 0)?;
+    }
+    places[number] = place;
+    Ok(())
 }
 
 impl<'a> Chains<'a> {
@@ -121,12 +132,12 @@ impl<'a> Chains<'a> {
         ensures dump { IfOk result (λ chains. chains.dump.now ≡ dump.now) }
         ensures borne { IfOk result (λ chains. chains.borne ≡ borne) }
     {
-        let places = Vec::from_elem(alloc, 0, dump.elements().len() + 1)?;
+        let count = dump.elements().len();
         Ok(Chains {
             dump,
             borne,
-            found: Vec::new(alloc),
-            places,
+            found: Vec::with_capacity(alloc, count / 8)?,
+            places: Vec::with_capacity(alloc, count + 1)?,
         })
     }
 
@@ -160,9 +171,7 @@ impl<'a> Chains<'a> {
                 vertex: number,
                 along,
             })?;
-            if (number as usize) < self.places.len() {
-                self.places[number as usize] = place;
-            }
+            set_place(&mut self.places, number, place)?;
         }
         Ok(())
     }

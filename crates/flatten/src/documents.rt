@@ -4,7 +4,6 @@ ghost use Rattle.std.specs.Cmp.Lexicographic.{slice_cmp};
 ghost use Rattle.std.specs.Ordering.{nat_cmp};
 ghost use Rattle.lsif.specs.Element.{element_value};
 ghost use Rattle.dump.specs.Places.{HasDocument, IsListing};
-ghost use Rattle.flatten.specs.Flat.{IsHoverRow, by_result};
 ghost use Rattle.flatten.specs.Rows.{document_value, hover_value};
 ghost use Rattle.flatten.specs.Steps.Documents.{documents_in, hovers_in};
 ghost use Rattle.flatten.specs.Steps.Kinds.{AreKinds};
@@ -12,7 +11,7 @@ ghost use Rattle.flatten.specs.Steps.Kinds.{AreKinds};
 use crate::kinds::Kinds;
 use crate::numbers::number_of;
 use crate::rows::{DocRow, HoverRow};
-use dump::{CheckedDump, line_law, vertex_law};
+use dump::{CheckedDump, vertex_law};
 use lsif::{Element, Vertex};
 use std::alloc::{AllocError, Global};
 
@@ -52,7 +51,7 @@ pub(crate) fn document_rows<'a>(
 }
 
 /// Adds the row of the element, where it's a hover result.
-fn add_hover<'a>(
+pub(crate) fn add_hover<'a>(
     rows: &mut Vec<HoverRow<'a>>,
     dump: &CheckedDump,
     element: &'a Element,
@@ -68,21 +67,4 @@ fn add_hover<'a>(
         }
     }
     Ok(())
-}
-
-/// The rows of hover results: in the order of their numbers.
-pub(crate) fn hover_rows<'a>(
-    alloc: Global,
-    kinds: &Kinds<'a>,
-) -> Result<Vec<HoverRow<'a>>, AllocError>
-    requires { AreKinds kinds.now }
-    ensures { IfOk result (λ rows. IsListing by_result (IsHoverRow kinds.now.dump.now.elements) (map hover_value rows.items)) }
-{
-    line_law();
-    vertex_law();
-    let mut rows = Vec::new(alloc);
-    for element in &kinds.hovers {
-        add_hover(&mut rows, kinds.dump, element)?;
-    }
-    Ok(rows)
 }

@@ -5,7 +5,7 @@ ghost use Rattle.flatten.specs.Rows.{rows_value};
 
 use crate::borne::borne;
 use crate::chains::Chains;
-use crate::documents::{document_rows, hover_rows};
+use crate::documents::document_rows;
 use crate::fault::FlattenFault;
 use crate::items::item_rows;
 use crate::kinds::{Gathered, gather};
@@ -27,10 +27,14 @@ pub(crate) fn flatten_within<'a>(
     ensures profile { IfOk result (λ rows. rows.profile ≡ dump.now.profile) }
     ensures rows { IfOk result (λ rows. IsFlat dump.now.elements (rows_value rows)) }
 {
-    let Gathered { mut kinds, ranges } = gather(alloc, dump)?;
+    let Gathered {
+        mut kinds,
+        hovers,
+        ranges,
+        intervals,
+    } = gather(alloc, dump)?;
     let documents = document_rows(alloc, &kinds)?;
-    let hovers = hover_rows(alloc, &kinds)?;
-    let ranges = range_rows(alloc, dump, &ranges, &kinds.intervals)?;
+    let ranges = range_rows(alloc, dump, ranges, intervals)?;
     let mut chains = Chains::new(alloc, dump, borne(alloc, &kinds, limit)?)?;
     let marks = mark_rows(alloc, &mut chains, &kinds.ranges, limit)?;
     let bearers = bearer_rows(alloc, &mut chains, limit)?;

@@ -6,8 +6,8 @@ ghost use Rattle.dump.specs.Fault.{IsFaultless};
 ghost use Rattle.dump.specs.Places.{IsListing, place_cmp, result_pairs_of};
 ghost use Rattle.flatten.specs.Flat.{IsItemRow, is_result, item_cmp, number_of, role_index};
 ghost use Rattle.flatten.specs.Rows.{item_value};
-ghost use Rattle.flatten.specs.Steps.Items.{AddsListing, AreItems, AreSorted, IsReachedRow, IsRowOf, is_role, placed_in, placed_of_pair, row_of, rows_of_role, with_place};
-ghost use Rattle.flatten.specs.Steps.Kinds.{AreKinds, AreThose, is_result_vertex};
+ghost use Rattle.flatten.specs.Steps.Items.{AddsListing, AreItems, AreSorted, IsReachedRow, is_role, numbers_in, placed_in, placed_of_pair, result_number, row_of, rows_of_role, with_place};
+ghost use Rattle.flatten.specs.Steps.Kinds.{AreKinds};
 ghost use Rattle.flatten.specs.Steps.Numbers.{numbers_of_pair, pairs_in, pairs_of};
 ghost use Rattle.flatten.specs.Steps.Places.{placed_value};
 ghost use Rattle.flatten.specs.Steps.Tables.{Adds, place_of};
@@ -23,6 +23,43 @@ use dump::{CheckedDump, Role, container_law, ends_law, line_law, role_of, vertex
 use lsif::{Edge, Element, Id, Property, Vertex};
 use std::alloc::{AllocError, Global};
 use std::cmp::Ordering;
+
+/// Whether the vertex is a result that `item` edges leave.
+fn is_result(vertex: &Vertex) -> bool
+    ensures { result ≡ is_result (Some (vertex_value vertex.now)) }
+{
+    matches!(
+        vertex,
+        Vertex::DefinitionResult
+            | Vertex::ReferenceResult
+            | Vertex::DeclarationResult
+            | Vertex::ImplementationResult
+    )
+}
+
+/// The number of the element, where it's such a result.
+fn result_number(dump: &CheckedDump, element: &Element) -> Option<u32>
+    ensures { result ≡ result_number dump.now.elements (element_value element.now) }
+{
+    match element {
+        Element::Vertex(id, vertex) if is_result(vertex) => number_of(dump, id),
+        _ => None,
+    }
+}
+
+/// Adds the number of the element, where it's such a result.
+pub(crate) fn add_number(
+    numbers: &mut Vec<u32>,
+    dump: &CheckedDump,
+    element: &Element,
+) -> Result<(), AllocError>
+    ensures { OnOk result (numbers.new.items ≡ numbers.old.items ++ numbers_in dump.now.elements (element_value element.now)) }
+{
+    if let Some(number) = result_number(dump, element) {
+        numbers.push(number)?;
+    }
+    Ok(())
+}
 
 /// Adds the numbers of the source with each target.
 fn add_pairs(
@@ -112,7 +149,6 @@ pub(crate) fn add_items<'a>(
 /// The results that `item` edges join, and the places of their items, by numbers: in the order of the results.
 #[derive(Clone, Copy)]
 struct Items<'k, 'a> {
-    dump: &'a CheckedDump,
     results: &'k [(u32, u32)],
     definitions: &'k [(u32, Place<'a>)],
     references: &'k [(u32, Place<'a>)],
@@ -192,39 +228,6 @@ fn add_result<'a>(
     Ok(())
 }
 
-/// Whether the vertex is a result that `item` edges leave.
-fn is_result(vertex: &Vertex) -> bool
-    ensures { result ≡ is_result (Some (vertex_value vertex.now)) }
-{
-    matches!(
-        vertex,
-        Vertex::DefinitionResult
-            | Vertex::ReferenceResult
-            | Vertex::DeclarationResult
-            | Vertex::ImplementationResult
-    )
-}
-
-/// Adds the rows of the element, where it's such a result.
-fn add_element<'a>(
-    alloc: Global,
-    rows: &mut Vec<ItemRow<'a>>,
-    items: &Items<'_, 'a>,
-    element: &Element,
-    budgets: &mut Budgets,
-) -> Result<(), FlattenFault>
-    requires { AreSorted items.now }
-    ensures { OnOk result (Adds (map item_value rows.old.items) (IsRowOf items.now.dump.now.elements items.now (element_value element.now)) (map item_value rows.new.items)) }
-{
-    match element {
-        Element::Vertex(id, vertex) if is_result(vertex) => match number_of(items.dump, id) {
-            Some(number) => add_result(alloc, rows, items, number, budgets),
-            None => Ok(()),
-        },
-        _ => Ok(()),
-    }
-}
-
 /// The place of a role in the order of roles.
 fn role_index(role: Role) -> u32
     ensures { result ≡ role_index role }
@@ -265,44 +268,46 @@ fn list_rows(rows: &mut Vec<ItemRow<'_>>)
     rows.dedup();
 }
 
-/// Adds the rows of the element, where it's such a result: in order, each once.
+/// Adds the rows of the result of this number: in order, each once.
 fn add_listed<'a>(
     alloc: Global,
     rows: &mut Vec<ItemRow<'a>>,
     items: &Items<'_, 'a>,
-    element: &Element,
+    number: u32,
     budgets: &mut Budgets,
 ) -> Result<(), FlattenFault>
     requires { AreSorted items.now }
-    ensures { OnOk result (AddsListing (IsRowOf items.now.dump.now.elements items.now (element_value element.now)) (map item_value rows.old.items) (map item_value rows.new.items)) }
+    ensures { OnOk result (AddsListing (IsReachedRow number items.now) (map item_value rows.old.items) (map item_value rows.new.items)) }
 {
     let mut more = Vec::new(alloc);
-    add_element(alloc, &mut more, items, element, budgets)?;
+    add_result(alloc, &mut more, items, number, budgets)?;
     list_rows(&mut more);
     rows.append(&mut more)?;
     Ok(())
 }
 
-/// The rows of the results among these elements: in order, each once.
+/// The rows of the results of these numbers, which are all there are: in order, each once.
 fn result_rows<'a>(
     alloc: Global,
+    dump: &CheckedDump,
     items: &Items<'_, 'a>,
-    results: &[&'a Element],
+    results: &[u32],
     limit: usize,
 ) -> Result<Vec<ItemRow<'a>>, FlattenFault>
-    requires items { AreItems items.now.dump.now.elements items.now }
-    requires results { AreThose is_result_vertex items.now.dump.now.elements results.now }
-    requires faultless { IsFaultless (map Ok items.now.dump.now.elements) }
-    ensures { IfOk result (λ rows. IsListing item_cmp (IsItemRow items.now.dump.now.elements) (map item_value rows.items)) }
+    requires items { AreItems dump.now.elements items.now }
+    requires results { results.now ≡ flat_map (numbers_in dump.now.elements) dump.now.elements }
+    requires faultless { IsFaultless (map Ok dump.now.elements) }
+    ensures { IfOk result (λ rows. IsListing item_cmp (IsItemRow dump.now.elements) (map item_value rows.items)) }
 {
     container_law();
     ends_law();
     line_law();
     vertex_law();
     let mut budgets = Budgets::new(limit);
-    let mut rows = Vec::new(alloc);
-    for element in results {
-        add_listed(alloc, &mut rows, items, element, &mut budgets)?;
+    let count = items.definitions.len() + items.references.len();
+    let mut rows = Vec::with_capacity(alloc, count)?;
+    for number in results {
+        add_listed(alloc, &mut rows, items, *number, &mut budgets)?;
     }
     Ok(rows)
 }
@@ -320,10 +325,9 @@ pub(crate) fn item_rows<'a>(
     sort_by_source(&mut kinds.definitions);
     sort_by_source(&mut kinds.references);
     let items = Items {
-        dump: kinds.dump,
         results: &kinds.result_pairs,
         definitions: &kinds.definitions,
         references: &kinds.references,
     };
-    result_rows(alloc, &items, &kinds.results, limit)
+    result_rows(alloc, kinds.dump, &items, &kinds.results, limit)
 }

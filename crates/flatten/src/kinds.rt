@@ -1,34 +1,39 @@
 //! What rows are made of, gathered in one pass over the elements.
 ghost use Rattle.std.specs.Prelude.{◌≡◌, ◌++◌, IfOk, OnOk, map};
+ghost use Rattle.std.specs.List.{All, flat_map};
 ghost use Rattle.lsif.specs.Element.{element_value};
-ghost use Rattle.flatten.specs.Steps.Kinds.{AreKinds, Takes, is_document, is_hover, is_moniker_edge, is_range, is_result_vertex, kept, said};
-ghost use Rattle.flatten.specs.Steps.Ranges.{AreFoundRanges, found_value};
+ghost use Rattle.dump.specs.Places.{IsListing};
+ghost use Rattle.flatten.specs.Flat.{IsHoverRow, by_result};
+ghost use Rattle.flatten.specs.Rows.{hover_value, range_value};
+ghost use Rattle.flatten.specs.Steps.Kinds.{AreKinds, Takes, is_document, is_moniker_edge, is_range, kept, said};
+ghost use Rattle.flatten.specs.Steps.Parents.{IsWithinLimit, interval_value, intervals_in};
+ghost use Rattle.flatten.specs.Steps.Ranges.{AreFoundRanges};
 
 use crate::chains::Chains;
-use crate::items::{add_items, add_results};
+use crate::documents::add_hover;
+use crate::items::{add_items, add_number, add_results};
 use crate::parents::{Interval, add_interval};
 use crate::places::Place;
-use crate::ranges::{FoundRange, add_found};
-use dump::{CheckedDump, Role};
+use crate::ranges::add_found;
+use crate::rows::{HoverRow, RangeRow};
+use dump::{CheckedDump, Role, vertex_law};
 use lsif::{Edge, Element, Vertex};
 use std::alloc::{AllocError, Global};
 
-/// What the rows of a dump are made of, in the order of the elements' lines: elements, kind by kind; and by numbers what `item`
-/// edges join, and the ranges that aren't empty.
+/// What the rows of a dump are made of, in the order of the elements' lines: elements, kind by kind; and by numbers the results,
+/// and what `item` edges join.
 #[derive(Drop)]
 pub(crate) struct Kinds<'a> {
     pub(crate) dump: &'a CheckedDump,
     pub(crate) documents: Vec<&'a Element>,
-    pub(crate) hovers: Vec<&'a Element>,
     pub(crate) ranges: Vec<&'a Element>,
     /// The results that `item` edges leave.
-    pub(crate) results: Vec<&'a Element>,
+    pub(crate) results: Vec<u32>,
     /// The results that `item` edges with "referenceResults" join.
     pub(crate) result_pairs: Vec<(u32, u32)>,
     /// The results, and the places of the ranges, that `item` edges join, role by role.
     pub(crate) definitions: Vec<(u32, Place<'a>)>,
     pub(crate) references: Vec<(u32, Place<'a>)>,
-    pub(crate) intervals: Vec<Interval>,
     /// The edges `moniker` and `attach`.
     pub(crate) moniker_edges: Vec<&'a Element>,
 }
@@ -39,32 +44,10 @@ fn is_document(element: &Element) -> bool
     matches!(element, Element::Vertex(_, Vertex::Document(_)))
 }
 
-fn is_hover(element: &Element) -> bool
-    ensures { result ≡ is_hover (element_value element.now) }
-{
-    matches!(element, Element::Vertex(_, Vertex::HoverResult(_)))
-}
-
 fn is_range(element: &Element) -> bool
     ensures { result ≡ is_range (element_value element.now) }
 {
     matches!(element, Element::Vertex(_, Vertex::Range(_)))
-}
-
-/// Whether the element is a result that `item` edges leave.
-fn is_result(element: &Element) -> bool
-    ensures { result ≡ is_result_vertex (element_value element.now) }
-{
-    matches!(
-        element,
-        Element::Vertex(
-            _,
-            Vertex::DefinitionResult
-                | Vertex::ReferenceResult
-                | Vertex::DeclarationResult
-                | Vertex::ImplementationResult
-        )
-    )
 }
 
 /// Whether the element is an edge `moniker` or `attach`.
@@ -97,48 +80,62 @@ fn add<'a>(kinds: &mut Kinds<'a>, element: &'a Element) -> Result<(), AllocError
     ensures dump { kinds.new.dump ≡ kinds.old.dump }
 {
     keep(&mut kinds.documents, element, is_document(element))?;
-    keep(&mut kinds.hovers, element, is_hover(element))?;
     keep(&mut kinds.ranges, element, is_range(element))?;
-    keep(&mut kinds.results, element, is_result(element))?;
     keep(&mut kinds.moniker_edges, element, is_moniker_edge(element))?;
     let dump = kinds.dump;
+    add_number(&mut kinds.results, dump, element)?;
     add_results(&mut kinds.result_pairs, dump, element)?;
     add_items(&mut kinds.definitions, dump, Role::Definitions, element)?;
-    add_items(&mut kinds.references, dump, Role::References, element)?;
-    add_interval(&mut kinds.intervals, dump, element)
+    add_items(&mut kinds.references, dump, Role::References, element)
 }
 
-/// What the pass over the elements gathers: the elements kind by kind, and the ranges that documents contain.
+/// What the pass over the elements gathers: the elements kind by kind, the rows of hover results, the ranges that documents
+/// contain, as rows without a parent, and those of them that aren't empty, as intervals.
 #[derive(Drop)]
 pub(crate) struct Gathered<'a> {
     pub(crate) kinds: Kinds<'a>,
-    pub(crate) ranges: Vec<FoundRange<'a>>,
+    pub(crate) hovers: Vec<HoverRow<'a>>,
+    pub(crate) ranges: Vec<RangeRow<'a>>,
+    pub(crate) intervals: Vec<Interval>,
 }
 
 /// The elements of the dump, gone over once. What stands together there is read together: the range, the edges that leave it,
-/// and what they lead to.
+/// and what they lead to. There's room for as many ranges and items as a quarter of the elements, which is more than most dumps
+/// have, so that lists of these are seldom moved as they grow.
 pub(crate) fn gather<'a>(alloc: Global, dump: &'a CheckedDump) -> Result<Gathered<'a>, AllocError>
     ensures kinds { IfOk result (λ gathered. AreKinds gathered.kinds) }
-    ensures ranges { IfOk result (λ gathered. AreFoundRanges dump.now.elements (map found_value gathered.ranges.items)) }
+    ensures hovers { IfOk result (λ gathered. IsListing by_result (IsHoverRow dump.now.elements) (map hover_value gathered.hovers.items)) }
+    ensures ranges { IfOk result (λ gathered. AreFoundRanges dump.now.elements (map range_value gathered.ranges.items)) }
+    ensures intervals { IfOk result (λ gathered. map interval_value gathered.intervals.items ≡ flat_map (intervals_in dump.now.elements) dump.now.elements) }
+    ensures within { IfOk result (λ gathered. All IsWithinLimit dump.now.elements) }
     ensures dump { IfOk result (λ gathered. gathered.kinds.dump.now ≡ dump.now) }
 {
+    vertex_law();
+    let room = dump.elements().len() / 4;
     let mut kinds = Kinds {
         dump,
         documents: Vec::new(alloc),
-        hovers: Vec::new(alloc),
-        ranges: Vec::new(alloc),
+        ranges: Vec::with_capacity(alloc, room)?,
         results: Vec::new(alloc),
         result_pairs: Vec::new(alloc),
-        definitions: Vec::new(alloc),
-        references: Vec::new(alloc),
-        intervals: Vec::new(alloc),
+        definitions: Vec::with_capacity(alloc, room)?,
+        references: Vec::with_capacity(alloc, room)?,
         moniker_edges: Vec::new(alloc),
     };
     let mut chains = Chains::new(alloc, dump, Vec::new(alloc))?;
-    let mut ranges = Vec::new(alloc);
+    let mut hovers = Vec::new(alloc);
+    let mut ranges = Vec::with_capacity(alloc, room)?;
+    let mut intervals = Vec::with_capacity(alloc, room)?;
     for element in dump.elements() {
         add(&mut kinds, element)?;
+        add_hover(&mut hovers, dump, element)?;
         add_found(alloc, &mut ranges, &mut chains, element)?;
+        add_interval(&mut intervals, dump, element)?;
     }
-    Ok(Gathered { kinds, ranges })
+    Ok(Gathered {
+        kinds,
+        hovers,
+        ranges,
+        intervals,
+    })
 }

@@ -18,7 +18,6 @@ mod numbers;
 mod parents;
 mod places;
 mod ranges;
-mod results;
 mod rows;
 
 pub use closure::reach;

@@ -18,7 +18,6 @@ use crate::chains::Chains;
 use crate::closure::pairs_from;
 use crate::fault::FlattenFault;
 use crate::numbers::{id_of, number_of};
-use crate::results::numbers_along;
 use crate::rows::{BearerRow, MarkRow};
 use dump::{CheckedDump, chain_law, ends_law, line_law, pick_law, vertex_law};
 use lsif::{Element, Id, MonikerKind, Vertex};
@@ -230,6 +229,7 @@ fn add_bearer<'a>(
     mark: MarkRow,
 ) -> Result<(), AllocError>
     requires chains { AreChains chains.old }
+    requires faultless { IsFaultless (map Ok chains.old.dump.now.elements) }
     requires borne { IsBorneRow chains.old.dump.now.elements (mark_row_value mark) }
     requires rows { All (IsBearerRow chains.old.dump.now.elements) (map bearer_value rows.old.items) }
     ensures marks { OnOk result (map bearer_mark (map bearer_value rows.new.items) ≡ map bearer_mark (map bearer_value rows.old.items) ++ mark_row_value mark ∷ []) }
@@ -238,20 +238,22 @@ fn add_bearer<'a>(
     ensures dump { chains.new.dump ≡ chains.old.dump }
     ensures borne { chains.new.borne ≡ chains.old.borne }
 {
+    ends_law();
+    line_law();
     let MarkRow { range, kind, key } = mark;
     let Some(id) = id_of(chains.dump, range) else {
         return Ok(());
     };
-    let found = numbers_along(chains.dump, chains.along(alloc, id)?);
+    let along = chains.along(alloc, id)?;
     rows.push(BearerRow {
         line: range,
         key,
         kind,
-        def: found.def,
-        refs: found.refs,
-        hover: found.hover,
-        decl: found.decl,
-        imp: found.imp,
+        def: along.def,
+        refs: along.refs,
+        hover: along.hover,
+        decl: along.decl,
+        imp: along.imp,
     })?;
     Ok(())
 }

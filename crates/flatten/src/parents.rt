@@ -9,7 +9,7 @@ ghost use Rattle.lsif.specs.Element.{id_value, element_value};
 ghost use Rattle.flatten.specs.Steps.Kinds.{AreThose, is_range};
 ghost use Rattle.flatten.specs.Steps.Parents.{AreLinks, AreParents, AreIntervals, IsLinkPair, IsOpenBefore, IsWithinLimit, encloses, interval_cmp, interval_of, interval_value, interval_with, intervals_in};
 
-use crate::closure::by_source;
+use crate::closure::sort_by_source;
 use crate::numbers::number_of;
 use dump::{CheckedDump, container_law, line_law, nesting_law, vertex_law};
 use lsif::{Element, Id, Vertex};
@@ -127,7 +127,7 @@ fn links(alloc: Global, intervals: &[Interval]) -> Result<Vec<Option<usize>>, Al
     ensures links { IfOk result (λ links. AreLinks (map interval_value intervals.now) links.items) }
     ensures length { IfOk result (λ links. length links.items ≡ length intervals.now) }
 {
-    let mut links = Vec::new(alloc);
+    let mut links = Vec::with_capacity(alloc, intervals.len())?;
     for index in 0..intervals.len() {
         let open = enclosing(intervals, &links, index);
         links.push(open)?;
@@ -145,7 +145,7 @@ fn link_pairs(
     requires links { AreLinks (map interval_value intervals.now) links.now }
     ensures { IfOk result (λ pairs. (p : ℕ × ℕ) → Contains pairs.items p ↔ IsLinkPair (map interval_value intervals.now) links.now (length links.now) p) }
 {
-    let mut pairs = Vec::new(alloc);
+    let mut pairs = Vec::with_capacity(alloc, links.len())?;
     for (inner, link) in links.iter().enumerate() {
         if let Some(outer) = link {
             pairs.push((intervals[inner].range, intervals[*outer].range))?;
@@ -159,9 +159,9 @@ fn link_pairs(
 pub(crate) fn parents(
     alloc: Global,
     dump: &CheckedDump,
-    intervals: &[Interval],
+    intervals: Vec<Interval>,
 ) -> Result<Vec<(u32, u32)>, AllocError>
-    requires intervals { map interval_value intervals.now ≡ flat_map (intervals_in dump.now.elements) dump.now.elements }
+    requires intervals { map interval_value intervals.items ≡ flat_map (intervals_in dump.now.elements) dump.now.elements }
     requires within { All IsWithinLimit dump.now.elements }
     requires faultless { IsFaultless (map Ok dump.now.elements) }
     ensures sorted { IfOk result (λ pairs. IsNonDecreasingBy (λ p. p.0) pairs.items) }
@@ -171,8 +171,10 @@ pub(crate) fn parents(
     line_law();
     nesting_law();
     vertex_law();
-    let mut intervals = Vec::from_slice(alloc, intervals)?;
+    let mut intervals = intervals;
     list_intervals(&mut intervals);
     let links = links(alloc, &intervals)?;
-    by_source(alloc, &link_pairs(alloc, &intervals, &links)?)
+    let mut pairs = link_pairs(alloc, &intervals, &links)?;
+    sort_by_source(&mut pairs);
+    Ok(pairs)
 }

@@ -10,7 +10,7 @@ ghost use Rattle.flatten.specs.Flat.{HasEachRange, IsRangeRow, by_line, number_o
 ghost use Rattle.flatten.specs.Rows.{range_value};
 ghost use Rattle.flatten.specs.Steps.Chains.{AreChains};
 ghost use Rattle.flatten.specs.Steps.Parents.{IsWithinLimit, interval_value, intervals_in};
-ghost use Rattle.flatten.specs.Steps.Ranges.{AreFoundRanges, IsFoundRange, IsRowWithParent, found_value, range_lines};
+ghost use Rattle.flatten.specs.Steps.Ranges.{AreFoundRanges, IsFoundRange, range_lines};
 ghost use Rattle.flatten.specs.Steps.Tables.{container_uri};
 
 use crate::chains::Chains;
@@ -18,9 +18,8 @@ use crate::closure::pairs_from;
 use crate::numbers::number_of;
 use crate::parents::{Interval, parents};
 use crate::places::container_uri;
-use crate::results::{Results, numbers_along};
 use crate::rows::RangeRow;
-use dump::{CheckedDump, container_law, line_law, nesting_law, pick_law, vertex_law};
+use dump::{CheckedDump, container_law, ends_law, line_law, nesting_law, pick_law, vertex_law};
 use lsif::{Element, Id, Vertex};
 use positions::Span;
 use std::alloc::{AllocError, Global};
@@ -37,18 +36,7 @@ fn target_of(pairs: &[(u32, u32)], number: u32) -> Option<u32>
     }
 }
 
-/// A range that a document contains, with its first results.
-#[derive(Clone, Copy)]
-pub(crate) struct FoundRange<'a> {
-    /// Its line in the dump, counted from 1.
-    line: u32,
-    /// The document's serialized URL.
-    uri: &'a str,
-    span: &'a Span,
-    results: Results,
-}
-
-/// The range of this number in the document of this uri.
+/// The row of the range of this number in the document of this uri, with its first results, but without a parent.
 fn found_range<'a>(
     alloc: Global,
     chains: &mut Chains<'a>,
@@ -56,39 +44,46 @@ fn found_range<'a>(
     id: &'a Id,
     span: &'a Span,
     uri: &'a str,
-) -> Result<FoundRange<'a>, AllocError>
+) -> Result<RangeRow<'a>, AllocError>
     requires chains { AreChains chains.old }
     requires faultless { IsFaultless (map Ok chains.old.dump.now.elements) }
     requires number { number_of chains.old.dump.now.elements (id_value id.now) ≡ Some number }
     requires range { vertex_at chains.old.dump.now.elements (id_value id.now) ≡ Some (range span.now) }
     requires uri { container_uri chains.old.dump.now.elements (id_value id.now) ≡ Some uri.now }
-    ensures found { IfOk result (λ found. (found.line ≡ number) × IsFoundRange chains.old.dump.now.elements (found_value found)) }
+    ensures found { IfOk result (λ found. (found.line ≡ number) × IsFoundRange chains.old.dump.now.elements (range_value found)) }
     ensures chains { OnOk result (AreChains chains.new) }
     ensures dump { chains.new.dump ≡ chains.old.dump }
 {
     container_law();
-    let results = numbers_along(chains.dump, chains.along(alloc, id)?);
-    Ok(FoundRange {
+    ends_law();
+    line_law();
+    let along = chains.along(alloc, id)?;
+    Ok(RangeRow {
         line: number,
         uri,
         span,
-        results,
+        parent: None,
+        def: along.def,
+        refs: along.refs,
+        hover: along.hover,
+        decl: along.decl,
+        imp: along.imp,
     })
 }
 
 /// Adds the element, where it's a range that a document contains.
 pub(crate) fn add_found<'a>(
     alloc: Global,
-    found: &mut Vec<FoundRange<'a>>,
+    found: &mut Vec<RangeRow<'a>>,
     chains: &mut Chains<'a>,
     element: &'a Element,
 ) -> Result<(), AllocError>
     requires chains { AreChains chains.old }
     requires faultless { IsFaultless (map Ok chains.old.dump.now.elements) }
     requires element { Contains chains.old.dump.now.elements (element_value element.now) }
-    requires found { All (IsFoundRange chains.old.dump.now.elements) (map found_value found.old.items) }
-    ensures lines { OnOk result (map (λ r. r.line) (map found_value found.new.items) ≡ map (λ r. r.line) (map found_value found.old.items) ++ range_lines chains.old.dump.now.elements (element_value element.now)) }
-    ensures found { OnOk result (All (IsFoundRange chains.old.dump.now.elements) (map found_value found.new.items)) }
+    requires found { All (IsFoundRange chains.old.dump.now.elements) (map range_value found.old.items) }
+    ensures lines { OnOk result (map (λ r. r.line) (map range_value found.new.items) ≡ map (λ r. r.line) (map range_value found.old.items) ++ range_lines chains.old.dump.now.elements (element_value element.now)) }
+    ensures found { OnOk result (All (IsFoundRange chains.old.dump.now.elements) (map range_value found.new.items)) }
     ensures chains { OnOk result (AreChains chains.new) }
     ensures dump { chains.new.dump ≡ chains.old.dump }
 {
@@ -104,34 +99,15 @@ pub(crate) fn add_found<'a>(
     Ok(())
 }
 
-/// The row of the range. The pairs lead from the numbers of ranges to those of their parents.
-fn row_of<'a>(found: &FoundRange<'a>, parents: &[(u32, u32)]) -> RangeRow<'a>
-    requires { IsNonDecreasingBy (λ p. p.0) parents.now }
-    ensures { IsRowWithParent parents.now (found_value found.now) (range_value result) }
-{
-    let results = found.results;
-    RangeRow {
-        line: found.line,
-        uri: found.uri,
-        span: found.span,
-        parent: target_of(parents, found.line),
-        def: results.def,
-        refs: results.refs,
-        hover: results.hover,
-        decl: results.decl,
-        imp: results.imp,
-    }
-}
-
-/// The rows of ranges, which were found in the order of the elements: in the order of their lines.
+/// The rows of ranges, which were found in the order of the elements, with their parents: in the order of their lines.
 pub(crate) fn range_rows<'a>(
     alloc: Global,
-    dump: &'a CheckedDump,
-    found: &[FoundRange<'a>],
-    intervals: &[Interval],
+    dump: &CheckedDump,
+    found: Vec<RangeRow<'a>>,
+    intervals: Vec<Interval>,
 ) -> Result<Vec<RangeRow<'a>>, AllocError>
-    requires found { AreFoundRanges dump.now.elements (map found_value found.now) }
-    requires intervals { map interval_value intervals.now ≡ flat_map (intervals_in dump.now.elements) dump.now.elements }
+    requires found { AreFoundRanges dump.now.elements (map range_value found.items) }
+    requires intervals { map interval_value intervals.items ≡ flat_map (intervals_in dump.now.elements) dump.now.elements }
     requires within { All IsWithinLimit dump.now.elements }
     requires faultless { IsFaultless (map Ok dump.now.elements) }
     ensures rows { IfOk result (λ rows. IsListing by_line (IsRangeRow dump.now.elements) (map range_value rows.items)) }
@@ -143,9 +119,9 @@ pub(crate) fn range_rows<'a>(
     pick_law();
     vertex_law();
     let parents = parents(alloc, dump, intervals)?;
-    let mut rows = Vec::with_capacity(alloc, found.len())?;
-    for range in found {
-        rows.push(row_of(range, &parents))?;
+    let mut rows = found;
+    for row in rows.iter_mut() {
+        row.parent = target_of(&parents, row.line);
     }
     Ok(rows)
 }

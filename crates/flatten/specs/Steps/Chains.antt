@@ -1,50 +1,50 @@
 -- What vertices have along their chains, as the walk finds it.
-use Rattle.std.specs.Prelude.{◌≡◌, ◌==◌, ℕ, Bool, false, List, [], ◌∷◌, Option, Some, None, map, option_map, if◌then◌else◌, reverse, Contains}
+use Rattle.std.specs.Prelude.{◌≡◌, ◌==◌, ℕ, Bool, false, List, [], ◌∷◌, Option, Some, None, map, option_and_then, option_map, if◌then◌else◌, reverse, Contains}
 use Rattle.std.specs.List.{list_any}
+use Rattle.std.specs.Option.{option_or}
 use Rattle.std.specs.List.Sorted.{IsNonDecreasingBy}
 use Rattle.lsif.specs.Element.{IdValue, id_value, ElementValue}
 use Rattle.dump.specs.Requests.{label_of}
 use Rattle.dump.specs.declared.request.Request.TheVariants.{Definition, References, Hover, Declaration, Implementation}
 use Rattle.dump.specs.declared.request.Request.{Request}
 use Rattle.dump.specs.Walks.{IsChain, first_to, next_pairs, single_pairs}
-use Rattle.flatten.specs.Flat.{number_of}
+use Rattle.flatten.specs.Flat.{ResultsValue, number_of}
 use Rattle.flatten.specs.declared.chains.Along.{Along}
 use Rattle.flatten.specs.declared.chains.Chains.{Chains}
 use Rattle.flatten.specs.declared.chains.VertexAlong.{VertexAlong}
 
 pub record AlongValue : Type 0 where
-  pub def : Option IdValue
-  pub refs : Option IdValue
-  pub hover : Option IdValue
-  pub decl : Option IdValue
-  pub imp : Option IdValue
+  pub def : Option ℕ
+  pub refs : Option ℕ
+  pub hover : Option ℕ
+  pub decl : Option ℕ
+  pub imp : Option ℕ
   pub bearer : Option IdValue
 
 abbrev pub along_value : Along → AlongValue
 along_value a = record {
-  def = option_map (λ i. id_value i.now) a.def;
-  refs = option_map (λ i. id_value i.now) a.refs;
-  hover = option_map (λ i. id_value i.now) a.hover;
-  decl = option_map (λ i. id_value i.now) a.decl;
-  imp = option_map (λ i. id_value i.now) a.imp;
+  def = a.def;
+  refs = a.refs;
+  hover = a.hover;
+  decl = a.decl;
+  imp = a.imp;
   bearer = option_map (λ i. id_value i.now) a.bearer;
 }
+
+abbrev pub results_of : AlongValue → ResultsValue
+results_of a = record { definition = a.def; references = a.refs; hover = a.hover; declaration = a.decl; implementation = a.imp }
 
 abbrev pub nothing : AlongValue
 nothing = record { def = None; refs = None; hover = None; decl = None; imp = None; bearer = None }
 
-abbrev pub or_else : Option IdValue → Option IdValue → Option IdValue
-or_else (Some x) later = Some x
-or_else None later = later
-
 abbrev pub or_later : AlongValue → AlongValue → AlongValue
 or_later a b = record {
-  def = or_else a.def b.def;
-  refs = or_else a.refs b.refs;
-  hover = or_else a.hover b.hover;
-  decl = or_else a.decl b.decl;
-  imp = or_else a.imp b.imp;
-  bearer = or_else a.bearer b.bearer;
+  def = option_or a.def b.def;
+  refs = option_or a.refs b.refs;
+  hover = option_or a.hover b.hover;
+  decl = option_or a.decl b.decl;
+  imp = option_or a.imp b.imp;
+  bearer = option_or a.bearer b.bearer;
 }
 
 -- a pair of these has the number as its source
@@ -59,32 +59,36 @@ is_bearing elements borne x = is_source borne (number_of elements x)
 abbrev pub own_result : List ElementValue → Request → IdValue → Option IdValue
 own_result elements request x = first_to (single_pairs (label_of request) elements) x
 
+-- the number of the request's result of the vertex itself
+abbrev pub own_number : List ElementValue → Request → IdValue → Option ℕ
+own_number elements request x = option_and_then (number_of elements) (own_result elements request x)
+
 abbrev pub own_bearer : List ElementValue → List (ℕ × ℕ) → IdValue → Option IdValue
 own_bearer elements borne x = if is_bearing elements borne x then Some x else None
 
 -- what the vertex itself has
 abbrev pub own_of : List ElementValue → List (ℕ × ℕ) → IdValue → AlongValue
 own_of elements borne x = record {
-  def = own_result elements Definition x;
-  refs = own_result elements References x;
-  hover = own_result elements Hover x;
-  decl = own_result elements Declaration x;
-  imp = own_result elements Implementation x;
+  def = own_number elements Definition x;
+  refs = own_number elements References x;
+  hover = own_number elements Hover x;
+  decl = own_number elements Declaration x;
+  imp = own_number elements Implementation x;
   bearer = own_bearer elements borne x;
 }
 
 -- what the first member of a list that has something has
-abbrev pub first_by : (IdValue → Option IdValue) → List IdValue → Option IdValue
+abbrev pub first_by : {X : Type 0} → (IdValue → Option X) → List IdValue → Option X
 first_by own [] = None
-first_by own (x ∷ xs) = or_else (own x) (first_by own xs)
+first_by own (x ∷ xs) = option_or (own x) (first_by own xs)
 
 abbrev pub firsts_by : List ElementValue → List (ℕ × ℕ) → List IdValue → AlongValue
 firsts_by elements borne xs = record {
-  def = first_by (own_result elements Definition) xs;
-  refs = first_by (own_result elements References) xs;
-  hover = first_by (own_result elements Hover) xs;
-  decl = first_by (own_result elements Declaration) xs;
-  imp = first_by (own_result elements Implementation) xs;
+  def = first_by (own_number elements Definition) xs;
+  refs = first_by (own_number elements References) xs;
+  hover = first_by (own_number elements Hover) xs;
+  decl = first_by (own_number elements Declaration) xs;
+  imp = first_by (own_number elements Implementation) xs;
   bearer = first_by (own_bearer elements borne) xs;
 }
 

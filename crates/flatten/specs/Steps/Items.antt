@@ -15,6 +15,19 @@ use Rattle.flatten.specs.Steps.Tables.{place_of}
 use Rattle.flatten.specs.declared.places.Place.{Place}
 use Rattle.flatten.specs.declared.items.Items.{Items}
 
+-- the number, where it's asked for
+abbrev pub number_if : Bool → Option ℕ → Option ℕ
+number_if true number = number
+number_if false number = None
+
+-- the number of a result that `item` edges leave
+abbrev pub result_number : List ElementValue → ElementValue → Option ℕ
+result_number elements (vertex i v) = number_if (is_result (Some v)) (number_of elements i)
+result_number elements (edge i e) = None
+
+abbrev pub numbers_in : List ElementValue → ElementValue → List ℕ
+numbers_in elements x = one_or_none (result_number elements x)
+
 abbrev pub same_role : Role → Role → Bool
 same_role Definitions Definitions = true
 same_role References References = true
@@ -86,8 +99,3 @@ pub record AddsListing (P : ItemRowValue → Type 0) (old new : List ItemRowValu
   pub more : List ItemRowValue
   pub listed : IsListing item_cmp P more
   pub grown : new ≡ old ++ more
-
--- such a row of the element, where it's a result
-abbrev pub IsRowOf : List ElementValue → Items → ElementValue → ItemRowValue → Type 0
-IsRowOf elements items (vertex i v) row = (is_result (Some v) ≡ true) × (number : ℕ) × (number_of elements i ≡ Some number) × IsReachedRow number items row
-IsRowOf elements items (edge i e) row = ⊥

@@ -1,17 +1,15 @@
 -- The elements of a dump, kind by kind, and what they say by numbers.
 use Rattle.std.specs.Borrow.{Bor}
-use Rattle.std.specs.Prelude.{◌≡◌, ◌++◌, Bool, true, false, List, [], ◌∷◌, map, filter, Some, Ok}
+use Rattle.std.specs.Prelude.{◌≡◌, ◌++◌, Bool, true, false, List, [], ◌∷◌, map, filter, Ok}
 use Rattle.lsif.specs.declared.element.Element.{Element}
-use Rattle.lsif.specs.Element.{document, range, hover_result, moniker_edge, attach, ElementValue, vertex, edge, element_value}
+use Rattle.lsif.specs.Element.{document, range, moniker_edge, attach, ElementValue, vertex, edge, element_value}
 use Rattle.dump.specs.Fault.{IsFaultless}
-use Rattle.flatten.specs.Flat.{is_result}
 use Rattle.dump.specs.Places.{result_pairs_of}
 use Rattle.dump.specs.declared.role.Role.TheVariants.{Definitions, References}
-use Rattle.std.specs.List.{All, flat_map}
-use Rattle.flatten.specs.Steps.Items.{placed_by, placed_in}
+use Rattle.std.specs.List.{flat_map}
+use Rattle.flatten.specs.Steps.Items.{numbers_in, placed_by, placed_in}
 use Rattle.flatten.specs.Steps.Numbers.{pairs_in, pairs_of}
 use Rattle.flatten.specs.Steps.Places.{placed_value}
-use Rattle.flatten.specs.Steps.Parents.{IsWithinLimit, interval_value, intervals_in}
 use Rattle.flatten.specs.declared.kinds.Kinds.{Kinds}
 
 abbrev pub said : Bor Element → ElementValue
@@ -22,20 +20,10 @@ is_document (vertex i (document uri)) = true
 is_document (vertex i v) = false
 is_document (edge i e) = false
 
-abbrev pub is_hover : ElementValue → Bool
-is_hover (vertex i (hover_result contents)) = true
-is_hover (vertex i v) = false
-is_hover (edge i e) = false
-
 abbrev pub is_range : ElementValue → Bool
 is_range (vertex i (range span)) = true
 is_range (vertex i v) = false
 is_range (edge i e) = false
-
--- a result that `item` edges leave
-abbrev pub is_result_vertex : ElementValue → Bool
-is_result_vertex (vertex i v) = is_result (Some v)
-is_result_vertex (edge i e) = false
 
 -- an edge `moniker` or `attach`
 abbrev pub is_moniker_edge : ElementValue → Bool
@@ -56,25 +44,19 @@ AreThose is elements list = map said list ≡ filter is elements
 pub record AreKinds (kinds : Kinds) : Type 0 where
   pub faultless : IsFaultless (map Ok kinds.dump.now.elements)
   pub documents : AreThose is_document kinds.dump.now.elements kinds.documents.items
-  pub hovers : AreThose is_hover kinds.dump.now.elements kinds.hovers.items
   pub ranges : AreThose is_range kinds.dump.now.elements kinds.ranges.items
-  pub results : AreThose is_result_vertex kinds.dump.now.elements kinds.results.items
+  pub results : kinds.results.items ≡ flat_map (numbers_in kinds.dump.now.elements) kinds.dump.now.elements
   pub moniker_edges : AreThose is_moniker_edge kinds.dump.now.elements kinds.moniker_edges.items
   pub result_pairs : kinds.result_pairs.items ≡ pairs_of result_pairs_of kinds.dump.now.elements
   pub definitions : map placed_value kinds.definitions.items ≡ placed_by Definitions kinds.dump.now.elements
   pub references : map placed_value kinds.references.items ≡ placed_by References kinds.dump.now.elements
-  pub intervals : map interval_value kinds.intervals.items ≡ flat_map (intervals_in kinds.dump.now.elements) kinds.dump.now.elements
-  pub within : All IsWithinLimit kinds.dump.now.elements
 
 -- the element was added to the list of its kind, and what it says by numbers
 pub record Takes (old : Kinds) (x : ElementValue) (new : Kinds) : Type 0 where
   pub documents : map said new.documents.items ≡ map said old.documents.items ++ kept (is_document x) x
-  pub hovers : map said new.hovers.items ≡ map said old.hovers.items ++ kept (is_hover x) x
   pub ranges : map said new.ranges.items ≡ map said old.ranges.items ++ kept (is_range x) x
-  pub results : map said new.results.items ≡ map said old.results.items ++ kept (is_result_vertex x) x
+  pub results : new.results.items ≡ old.results.items ++ numbers_in old.dump.now.elements x
   pub moniker_edges : map said new.moniker_edges.items ≡ map said old.moniker_edges.items ++ kept (is_moniker_edge x) x
   pub result_pairs : new.result_pairs.items ≡ old.result_pairs.items ++ pairs_in result_pairs_of old.dump.now.elements x
   pub definitions : map placed_value new.definitions.items ≡ map placed_value old.definitions.items ++ placed_in Definitions old.dump.now.elements x
   pub references : map placed_value new.references.items ≡ map placed_value old.references.items ++ placed_in References old.dump.now.elements x
-  pub intervals : map interval_value new.intervals.items ≡ map interval_value old.intervals.items ++ intervals_in old.dump.now.elements x
-  pub within : IsWithinLimit x

@@ -1,13 +1,20 @@
-use Rattle.std.proofs.Common.{◌≡◌, ◌++◌, map, drop}
-use Rattle.std.specs.List.{All, flat_map}
+use Rattle.std.proofs.Common.{◌≡◌, map, drop}
+use Rattle.std.specs.List.{All}
 use Rattle.lsif.specs.Element.{element_value}
+use Rattle.flatten.specs.Rows.{hover_value, range_value}
 use Rattle.flatten.specs.Steps.Chains.{AreChains}
-use Rattle.flatten.specs.Steps.Ranges.{IsFoundRange, found_value, range_lines}
-use Rattle.flatten.proofs.OfKinds.{AreTaken}
+use Rattle.flatten.specs.Steps.Documents.{hovers_in}
+use Rattle.flatten.specs.Steps.Parents.{IsWithinLimit, interval_value, intervals_in}
+use Rattle.flatten.specs.Steps.Ranges.{IsFoundRange, range_lines}
+use Rattle.flatten.proofs.OfKinds.{AreTaken, HasSaid}
 use Rattle.flatten.proofs.kinds.gather.Given as goal
 
 abbrev pub invariant-loop-element : goal.invariant-loop-element
 invariant-loop-element l =
-    AreTaken l.dump.elements (map element_value (drop l.element-index l.element-items)) l.kinds × (l.kinds.dump.now ≡ l.dump)
-    × (map (λ r. r.line) (map found_value l.ranges.items) ++ flat_map (range_lines l.dump.elements) (map element_value (drop l.element-index l.element-items)) ≡ flat_map (range_lines l.dump.elements) l.dump.elements)
-    × All (IsFoundRange l.dump.elements) (map found_value l.ranges.items) × AreChains l.chains × (l.chains.dump.now ≡ l.dump)
+    let rest = map element_value (drop l.element-index l.element-items) in
+    AreTaken l.dump.elements rest l.kinds × (l.kinds.dump.now ≡ l.dump)
+    × HasSaid (range_lines l.dump.elements) l.dump.elements rest (map (λ r. r.line) (map range_value l.ranges.items))
+    × All (IsFoundRange l.dump.elements) (map range_value l.ranges.items) × AreChains l.chains × (l.chains.dump.now ≡ l.dump)
+    × HasSaid (hovers_in l.dump.elements) l.dump.elements rest (map hover_value l.hovers.items)
+    × HasSaid (intervals_in l.dump.elements) l.dump.elements rest (map interval_value l.intervals.items)
+    × (All IsWithinLimit rest → All IsWithinLimit l.dump.elements)

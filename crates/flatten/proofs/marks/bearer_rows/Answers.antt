@@ -1,6 +1,8 @@
 use Rattle.std.proofs.Common.{Bor, ◌∙◌, ◌++◌, map, reverse, refl, sym, ap, subst, arith, append-nil}
+use Rattle.std.specs.Prelude.{Ok}
 use Rattle.std.specs.List.{All}
 use Rattle.std.proofs.lemmas.List.Elements.{All-nil}
+use Rattle.dump.specs.Fault.{IsFaultless}
 use Rattle.dump.specs.Places.{IsListing}
 use Rattle.dump.specs.declared.checker.CheckedDump.{CheckedDump}
 use Rattle.flatten.specs.Flat.{IsBearerRow, mark_cmp}
@@ -35,6 +37,9 @@ add_bearer-requires-clause-borne c =
     let inv = c.loop-mark.invariant in
     subst (λ (b : Bor CheckedDump). IsBorneRow b.now.elements (mark_row_value c.in-Some.mark)) (sym inv.3)
     (next_is mark_row_value (IsBorneRow c.args.chains.now.dump.now.elements) (map bearer_mark (map bearer_value c.loop-mark.rows.items)) c.loop-mark.left.items c.pop.new.self.items c.in-Some.mark c.in-Some.ensures.items inv.0)
+
+pub add_bearer-requires-clause-faultless : goal.add_bearer-requires-clause-faultless
+add_bearer-requires-clause-faultless c = subst (λ (b : Bor CheckedDump). IsFaultless (map Ok b.now.elements)) (sym c.loop-mark.invariant.3) c.requires.faultless
 
 pub loop-mark-preserved : goal.loop-mark-preserved
 loop-mark-preserved c =

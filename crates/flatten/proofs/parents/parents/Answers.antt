@@ -1,13 +1,12 @@
-use Rattle.std.proofs.Common.{◌≡◌, ◌∙◌, ◌+◌, ℕ, List, length, map, ap, sym, subst, arith}
+use Rattle.std.proofs.Common.{◌≡◌, ◌+◌, ℕ, List, length, map, ap, sym, subst, arith}
 use Rattle.std.specs.Prelude.{◌↔◌, Contains, IsPermutation, Some, option_map}
 use Rattle.std.specs.List.{slice_get}
 use Rattle.std.proofs.lemmas.List.{length-map}
 use Rattle.std.proofs.lemmas.List.Sorted.{Contains-permutation, IsPermutation-sym}
-use Rattle.std.proofs.lemmas.Result.{IfOk-weaker}
 use Rattle.lsif.specs.Element.{IdValue, VertexValue, ElementValue, vertex}
 use Rattle.dump.specs.Graph.{vertex_at, line_of}
 use Rattle.dump.specs.Places.{IsListing}
-use Rattle.flatten.specs.Steps.Parents.{AreIntervals, AreLinks, AreParents, IsLinkPair, interval_cmp, interval_value}
+use Rattle.flatten.specs.Steps.Parents.{AreIntervals, AreLinks, IsLinkPair, interval_cmp, interval_value}
 use Rattle.flatten.proofs.Intervals.{are_intervals, are_parents}
 use Rattle.flatten.proofs.NumberPairs.{HasVertexNumbers, number_ones}
 use Rattle.flatten.proofs.parents.parents.Goals as goal
@@ -23,7 +22,7 @@ links-requires c =
     let vertices = c.vertex_law.ensures d free in
     let ones = number_ones d (c.line_law.ensures.one d) in
     let numbers = lined d (c.line_law.ensures.there d free) in
-    let listed = subst (λ xs. IsListing interval_cmp (Contains xs) sorted) (ap (map interval_value) c.in_ok-intervals.ensures.items ∙ c.requires.intervals) c.list_intervals.ensures in
+    let listed = subst (λ xs. IsListing interval_cmp (Contains xs) sorted) c.requires.intervals c.list_intervals.ensures in
     subst (λ xs. AreIntervals (map interval_value xs)) (sym c.deref.ensures.value)
     (are_intervals d c.requires.within vertices ones numbers (c.container_law.ensures d free) (c.nesting_law.ensures d free) sorted listed)
 
@@ -38,16 +37,14 @@ returns-clause-parents c =
     let items = c.list_intervals.new.intervals.items in
     let sorted = map interval_value items in
     let links = c.in_ok-links.links.items in
-    let pairs = c.in_ok-link_pairs.field-0.items in
+    let pairs = c.in_ok-pairs.pairs.items in
     let vertices = c.vertex_law.ensures d free in
     let ones = number_ones d (c.line_law.ensures.one d) in
     let numbers = lined d (c.line_law.ensures.there d free) in
-    let listed = subst (λ xs. IsListing interval_cmp (Contains xs) sorted) (ap (map interval_value) c.in_ok-intervals.ensures.items ∙ c.requires.intervals) c.list_intervals.ensures in
+    let listed = subst (λ xs. IsListing interval_cmp (Contains xs) sorted) c.requires.intervals c.list_intervals.ensures in
     let are : AreLinks sorted links = subst (λ xs. AreLinks (map interval_value xs) links) c.deref.ensures.value c.in_ok-links.ensures.links in
     let same : length links ≡ length sorted = omega (arith, c.in_ok-links.ensures.length, c.deref.ensures.len, length-map items interval_value) in
-    let of_items = subst (λ xs. (p : ℕ × ℕ) → Contains pairs p ↔ IsLinkPair (map interval_value xs) c.deref-3.result.now (length c.deref-3.result.now) p) c.deref-2.ensures.value c.in_ok-link_pairs.ensures in
+    let of_items = subst (λ xs. (p : ℕ × ℕ) → Contains pairs p ↔ IsLinkPair (map interval_value xs) c.deref-3.result.now (length c.deref-3.result.now) p) c.deref-2.ensures.value c.in_ok-pairs.ensures in
     let each = subst (λ xs. (p : ℕ × ℕ) → Contains pairs p ↔ IsLinkPair sorted xs (length xs) p) c.deref-3.ensures.value of_items in
-    IfOk-weaker c.by_source.result (λ r. IsPermutation c.deref-4.result.now r.items) (λ r. AreParents d r.items) (λ r h.
-    are_parents d c.requires.within vertices ones numbers (c.container_law.ensures d free) (c.nesting_law.ensures d free) sorted listed links are same r.items
-    (moved pairs r.items (IsLinkPair sorted links (length links)) each (subst (λ xs. IsPermutation xs r.items) c.deref-4.ensures.value h)))
-    c.by_source.ensures.all
+    are_parents d c.requires.within vertices ones numbers (c.container_law.ensures d free) (c.nesting_law.ensures d free) sorted listed links are same c.sort_by_source.new.pairs.items
+    (moved pairs c.sort_by_source.new.pairs.items (IsLinkPair sorted links (length links)) each c.sort_by_source.ensures.all)

@@ -5,7 +5,8 @@ use Rattle.std.proofs.lemmas.List.{map-append}
 use Rattle.std.proofs.lemmas.List.Elements.{All-push}
 use Rattle.lsif.specs.Element.{element_value, id_value, range, vertex}
 use Rattle.dump.specs.Graph.{vertex_at}
-use Rattle.flatten.specs.Steps.Ranges.{IsFoundRange, found_value}
+use Rattle.flatten.specs.Rows.{range_value}
+use Rattle.flatten.specs.Steps.Ranges.{IsFoundRange}
 use Rattle.flatten.proofs.ranges.add_found.Goals as goal
 
 pub found_range-requires-clause-range : goal.found_range-requires-clause-range
@@ -22,5 +23,5 @@ returns-clause-found c =
     let d = c.args.chains.now.dump.now.elements in
     let old = c.args.found.now.items in
     let row = c.in_ok-found_range.field-0 in
-    let pushed : map found_value c.push.new.self.items ≡ map found_value old ++ found_value row ∷ [] = ap (map found_value) c.in_ok-push.ensures.items ∙ map-append found_value old (row ∷ []) in
-    subst (All (IsFoundRange d)) (sym pushed) (All-push (IsFoundRange d) (map found_value old) (found_value row) c.requires.found c.in_ok-found_range.ensures.found.1)
+    let pushed : map range_value c.push.new.self.items ≡ map range_value old ++ range_value row ∷ [] = ap (map range_value) c.in_ok-push.ensures.items ∙ map-append range_value old (row ∷ []) in
+    subst (All (IsFoundRange d)) (sym pushed) (All-push (IsFoundRange d) (map range_value old) (range_value row) c.requires.found c.in_ok-found_range.ensures.found.1)

@@ -1,11 +1,11 @@
-use Rattle.std.proofs.Common.{◌≡◌, ◌++◌, map, drop}
+use Rattle.std.proofs.Common.{map, take}
 use Rattle.std.specs.List.{All}
 use Rattle.flatten.specs.Flat.{IsRangeRow}
 use Rattle.flatten.specs.Rows.{range_value}
-use Rattle.flatten.specs.Steps.Ranges.{found_value}
+use Rattle.flatten.specs.Steps.Ranges.{AreFoundRanges}
 use Rattle.flatten.proofs.ranges.range_rows.Given as goal
 
-abbrev pub invariant-loop-range : goal.invariant-loop-range
-invariant-loop-range l =
-    (map (λ r. r.line) (map range_value l.rows.items) ++ map (λ r. r.line) (map found_value (drop l.range-index l.found)) ≡ map (λ r. r.line) (map found_value l.found))
-    × All (IsRangeRow l.dump.elements) (map range_value l.rows.items)
+abbrev pub invariant-loop-row : goal.invariant-loop-row
+invariant-loop-row l =
+    let rows = map range_value l.row-items in
+    AreFoundRanges l.dump.elements rows × All (IsRangeRow l.dump.elements) (take l.row-index rows)

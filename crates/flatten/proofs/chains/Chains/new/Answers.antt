@@ -7,4 +7,4 @@ pub returns-clause-chains : goal.returns-clause-chains
 returns-clause-chains c =
     let d = c.args.dump.now.elements in
     let borne = c.args.borne.items in
-    record { sorted = c.requires; found = subst (λ l. AreFound d borne (map vertex_along_value l)) (sym c.new.ensures.items) (found_first d borne) }
+    record { sorted = c.requires; found = subst (λ l. AreFound d borne (map vertex_along_value l)) (sym c.in_ok-with_capacity.ensures.items) (found_first d borne) }
