@@ -1,7 +1,9 @@
 #!/usr/bin/env bash
-# Measures what it costs to make a dump flat, beside what it costs to read and check the same dump, in one run: the medians for
-# dumps of many documents of four sizes, which are taken in turn, with the exponents by which both grew, and for dumps whose ranges or
-# chains are in rising or falling order.
+# Measures what it costs to make a dump flat, beside what it costs to read and check the same dump, in one run: the least of some
+# times for dumps of many documents of four sizes, which are taken in turn, with the exponents by which they grew, and for dumps whose
+# ranges or chains are in rising or falling order. A dump is made flat twice: right after it was checked, when the processor's caches
+# still have a small dump whole and of a great one a part; and once more when something else was read, so that dumps of all sizes come
+# from memory.
 # usage: bench/flatten.sh [RUNS]      (default 9)
 # It builds and proves a small program over the crates of this repository, in a copy beside /tmp, which takes some minutes.
 set -eu
@@ -10,7 +12,8 @@ runs=${1:-9}
 . "$top/bench/dumps.sh"
 
 build_program flats "lsif dump flatten" "$program_check" <<'EOP'
-//! Checks each dump that the file `commands` names, makes it flat, and prints the microseconds of both and the number of ranges.
+//! Checks each dump that the file `commands` names, makes it flat, and once more when the caches hold something else, and prints the
+//! microseconds of the three and the number of ranges.
 #![tactic(auto)]
 use dump::{CheckedDump, Checker};
 use flatten::flatten;
@@ -21,7 +24,22 @@ use std::rt::{Clock, Files};
 use std::time::Instant;
 use std::{fs, io};
 
-fn measure<R: Alloc<A = Global> + Files + Print + Clock>(rt: &R, name: &str) -> io::Result<()> {
+/// More bytes than a processor's caches hold.
+const OTHERS: usize = 134217728;
+
+/// Reads other bytes into the caches, all of them 1.
+fn read_others(others: &[u8]) -> io::Result<()> {
+    if others.iter().step_by(64).any(|byte| *byte != 1) {
+        return Err(bad());
+    }
+    Ok(())
+}
+
+fn measure<R: Alloc<A = Global> + Files + Print + Clock>(
+    rt: &R,
+    name: &str,
+    others: &[u8],
+) -> io::Result<()> {
     let body = fs::read(rt, name)?;
     let start = Instant::now(rt)?;
     let dump = check(rt.alloc(), &body)?;
@@ -29,54 +47,66 @@ fn measure<R: Alloc<A = Global> + Files + Print + Clock>(rt: &R, name: &str) -> 
     let start = Instant::now(rt)?;
     let rows = flatten(rt.alloc(), &dump).map_err(|_| bad())?;
     let flat = start.elapsed(rt)?;
-    println!(rt; "{} {} {}", checked.as_nanos() / 1000, flat.as_nanos() / 1000, rows.ranges.len())?;
+    let count = rows.ranges.len();
+    drop(rows);
+    read_others(others)?;
+    let start = Instant::now(rt)?;
+    let rows = flatten(rt.alloc(), &dump).map_err(|_| bad())?;
+    let again = start.elapsed(rt)?;
+    if rows.ranges.len() != count {
+        return Err(bad());
+    }
+    println!(rt; "{} {} {} {}", checked.as_nanos() / 1000, flat.as_nanos() / 1000, again.as_nanos() / 1000, count)?;
     Ok(())
 }
 
 fn run<R: Alloc<A = Global> + Files + Print + Clock>(rt: &R) -> io::Result<()> {
+    let others = Vec::from_elem(rt.alloc(), 1, OTHERS)?;
     let text = fs::read_to_string(rt, "commands")?;
     for line in text.lines() {
-        measure(rt, line)?;
+        measure(rt, line, &others)?;
     }
     Ok(())
 }
 EOP
 
-# Takes each of these dumps in turn, so many times, and prints a row for each: the medians of both times, and how they grew with
-# the elements since the row before.
+# Takes each of these dumps in turn, so many times, and prints a row for each: the least of the times, and how they grew with the
+# elements since the row before.
 measure_dumps() {
     for _ in $(seq "$runs"); do printf '%s\n' "$@"; done >"$folder/commands"
     (cd "$folder" && "$built") | paste -d' ' "$folder/commands" - >"$folder/times"
     for name in "$@"; do
         elements=$(grep -c '' "$folder/$name")
-        checked=$(median 2 "$name") flat=$(median 3 "$name") ranges=$(median 4 "$name")
-        print_row "$name" "$elements" "$ranges" "$checked" "$flat"
-        last="$elements $checked $flat"
+        times="$(least 2 "$name") $(least 3 "$name") $(least 4 "$name")"
+        print_row "$name" "$elements" "$(least 5 "$name")" "$times" "${last-}"
+        last="$elements $times"
     done
 }
 
-# The median of what the times of this dump have in a column.
-median() {
-    awk -v name="$2" -v column="$1" '$1 == name { print $column }' "$folder/times" | sort -n | awk '{ all[NR] = $1 } END { print all[int((NR + 1) / 2)] }'
+# The least of what the times of this dump have in a column.
+least() {
+    awk -v name="$2" -v column="$1" '$1 == name { print $column }' "$folder/times" | sort -n | head -n 1
 }
 
 print_row() {
-    echo "$@" "${last-}" | awk '
-        function exponent(now, before) { return sprintf("%.2f", log(now / before) / log($2 / $6)) }
-        { printf "%-15s %8d %8d %9.1f ms %9.1f ms %7.3f", $1, $2, $3, $4 / 1000, $5 / 1000, $5 / $4 }
-        NF > 5 { printf " %9s %9s", exponent($4, $7), exponent($5, $8) }
+    echo "$@" | awk '
+        function exponent(now, before) { return sprintf("%.2f", log(now / before) / log($2 / $7)) }
+        { printf "%-15s %8d %8d %9.1f ms %9.1f ms %7.3f %9.1f ms", $1, $2, $3, $4 / 1000, $5 / 1000, $5 / $4, $6 / 1000 }
+        NF > 6 { printf " %9s %9s %9s", exponent($4, $8), exponent($5, $9), exponent($6, $10) }
         { print "" }'
 }
 
-printf '%-15s %8s %8s %12s %12s %7s %9s %9s\n' dump elements ranges checking flattening ratio checking flattening
+# The exponent by which what stands in this column of the times grew from 10,000 to 80,000 elements.
+growth() {
+    awk -v first="$(least "$1" documents-10000)" -v last="$(least "$1" documents-80000)" 'BEGIN { printf "%.2f", log(last / first) / log(8) }'
+}
+
+printf '%-15s %8s %8s %12s %12s %7s %12s %29s\n' dump elements ranges checking flattening ratio 'from memory' 'exponents of the three'
 for count in 10000 20000 40000 80000; do
     make_dump "$count" >"$folder/documents-$count"
 done
 measure_dumps documents-10000 documents-20000 documents-40000 documents-80000
-awk -v least="$(median 3 documents-10000)" -v most="$(median 3 documents-80000)" \
-    -v least_checked="$(median 2 documents-10000)" -v most_checked="$(median 2 documents-80000)" 'BEGIN {
-        printf "from 10000 to 80000 elements: exponent %.2f of flattening, %.2f of checking\n", log(most / least) / log(8), log(most_checked / least_checked) / log(8)
-    }'
+echo "from 10000 to 80000 elements: exponent $(growth 2) of checking, $(growth 3) of flattening, $(growth 4) of flattening from memory"
 for order in rising falling; do
     make_ranges 49000 49000 "$order" >"$folder/ranges-$order"
     make_chain 49000 "$order" >"$folder/chain-$order"
