@@ -1,7 +1,7 @@
 -- What vertices have along their chains, from one member to the one before it.
-use Rattle.std.proofs.Common.{◌≡◌, ◌∙◌, ℕ, ◌+◌, ◌≤◌, inl, inr, Bool, true, false, cond, not, ◌==◌, List, [], ◌∷◌, ◌++◌, length, filter, map, reverse, refl, sym, ap, subst, arith}
+use Rattle.std.proofs.Common.{◌≡◌, ◌∙◌, ℕ, ◌+◌, ◌≤◌, inl, inr, ⊎_elim, Bool, true, false, ◌==◌, List, [], ◌∷◌, ◌++◌, length, map, reverse, refl, sym, ap, subst, arith}
 use Rattle.std.specs.List.{list_any}
-use Rattle.std.specs.Prelude.{◌||◌, Option, Some, None, option_and_then}
+use Rattle.std.specs.Prelude.{◌||◌, Contains, IfSome, IfNone, Option, Some, None, is_some, option_and_then}
 use Rattle.std.specs.Option.{option_or}
 use Rattle.std.proofs.lemmas.List.{map-append, reverse-append}
 use Rattle.std.proofs.lemmas.List.Elements.{Contains-append_cases}
@@ -12,7 +12,8 @@ use Rattle.dump.specs.declared.request.Request.TheVariants.{Definition, Referenc
 use Rattle.dump.specs.Walks.{Pair, IsChain, ends, links, first_to, first_of_list, next_pairs, single_in, single_pairs}
 use Rattle.flatten.specs.Flat.{AreResults, IsResult, number_of, result_for}
 use Rattle.flatten.specs.Steps.Chains.{AlongValue, AreAlong, AreFound, IsAfter, IsWalkBack, Leads, VertexAlongValue, first_by, nothing, or_later, own_number, own_of, own_result, results_of}
-use Rattle.flatten.proofs.Members.{contains_one, not_in_nil}
+use Rattle.flatten.proofs.Listing.{eq_of}
+use Rattle.flatten.proofs.Members.{contains_cases, contains_head, contains_one, contains_tail, not_in_nil}
 use Rattle.dump.proofs.Ends.{pair_of_first}
 use Rattle.flatten.proofs.NumberPairs.{AreOnes, HasEnds, HasNumber, HasVertexNumbers, have_numbers, single_ends}
 
@@ -172,11 +173,22 @@ module _ (elements : List ElementValue) (has : HasEnds elements) (lined : HasVer
       each Declaration = first Declaration along.decl (ap (λ (a : AlongValue). a.decl) is)
       each Implementation = first Implementation along.imp (ap (λ (a : AlongValue). a.imp) is)
 
--- whether a member passes, by the members that do
-pub any_filter : {X : Type 0} (p : X → Bool) (xs : List X) → not (length (filter p xs) == 0) ≡ list_any p xs
-any_filter p [] = refl
-any_filter p (x ∷ xs) = by (any_filter p xs) (p x)
+-- whether a vertex is the source of a pair, by what its pairs lead to
+pub is_source_by : (pairs : List (ℕ × ℕ)) (n : ℕ) (o : Option ℕ) → IfSome o (λ m. Contains pairs (n, m)) → IfNone o ((m : ℕ) → Contains pairs (n, m) → ⊥) → is_some o ≡ list_any (λ p. p.0 == n) pairs
+is_source_by pairs n (Some m) some none = sym (passes pairs some)
   where
-    by : not (length (filter p xs) == 0) ≡ list_any p xs → (b : Bool) → not (length (cond b (x ∷ filter p xs) (filter p xs)) == 0) ≡ (b || list_any p xs)
-    by rest true = grind arith
-    by rest false = rest
+    passes : (ps : List (ℕ × ℕ)) → Contains ps (n, m) → list_any (λ p. p.0 == n) ps ≡ true
+    passes [] at = absurd (not_in_nil (n, m) at)
+    passes (p ∷ ps) at = ⊎_elim
+        (λ (e : p ≡ (n, m)). let same : p.0 ≡ n = ap (λ (q : ℕ × ℕ). q.0) e in let t : (p.0 == n) ≡ true = grind (arith, same) in ap (λ b. b || list_any (λ q. q.0 == n) ps) t)
+        (λ (t : Contains ps (n, m)). let r = passes ps t in grind (arith, r))
+        (contains_cases p ps (n, m) at)
+is_source_by pairs n None some none = sym (fails pairs none)
+  where
+    fails : (ps : List (ℕ × ℕ)) → ((m : ℕ) → Contains ps (n, m) → ⊥) → list_any (λ p. p.0 == n) ps ≡ false
+    fails [] never = refl
+    fails (p ∷ ps) never = by (p.0 == n) refl (fails ps (λ m at. never m (contains_tail p ps (n, m) at)))
+      where
+        by : (b : Bool) → (p.0 == n) ≡ b → list_any (λ q. q.0 == n) ps ≡ false → ((p.0 == n) || list_any (λ q. q.0 == n) ps) ≡ false
+        by true e rest = let number : p.0 ≡ n = eq_of p.0 n e in absurd (never p.1 (subst (Contains (p ∷ ps)) (λ i. (number i, p.1)) (contains_head p ps)))
+        by false e rest = ap (λ b. b || list_any (λ q. q.0 == n) ps) e ∙ rest

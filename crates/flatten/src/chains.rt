@@ -4,7 +4,7 @@ ghost use Rattle.std.specs.List.Sorted.{IsNonDecreasingBy};
 ghost use Rattle.lsif.specs.Element.{id_value};
 ghost use Rattle.flatten.specs.Steps.Chains.{AreAlong, AreChains, IsWalk, is_bearing, along_value, nothing, or_later, own_number, own_of};
 
-use crate::closure::pairs_from;
+use crate::closure::target_of;
 use crate::numbers::number_of;
 use dump::{CheckedDump, Request, chain_law, line_law};
 use lsif::Id;
@@ -81,7 +81,7 @@ fn is_bearing(dump: &CheckedDump, borne: &[(u32, u32)], vertex: &Id) -> bool
     ensures { result ≡ is_bearing dump.now.elements borne.now (id_value vertex.now) }
 {
     match number_of(dump, vertex) {
-        Some(number) => !pairs_from(borne, number).is_empty(),
+        Some(number) => target_of(borne, number).is_some(),
         None => false,
     }
 }

@@ -1,5 +1,5 @@
 //! What pairs of numbers lead to.
-ghost use Rattle.std.specs.Prelude.{◌≡◌, ◌==◌, ◌≤◌, ◌↔◌, ℕ, nat_lt, nat_le, true, false, length, map, filter, Contains, IsPermutation, IfOk, OnOk};
+ghost use Rattle.std.specs.Prelude.{◌≡◌, ◌==◌, ◌≤◌, ◌↔◌, ℕ, nat_lt, nat_le, true, false, length, map, filter, Contains, IsPermutation, IfOk, OnOk, IfSome, IfNone};
 ghost use Rattle.std.specs.List.Sorted.{IsNonDecreasingBy, IsPartitionPoint};
 ghost use Rattle.std.specs.Ordering.{nat_cmp};
 ghost use Rattle.dump.specs.Places.{IsListing};
@@ -39,13 +39,19 @@ fn count_below<T>(pairs: &[(u32, T)], source: u32) -> usize
     pairs.partition_point(|pair| pair.0 < source)
 }
 
-/// How many of the pairs, which are in the order of their sources, have this source or one below it.
-fn count_up_to<T>(pairs: &[(u32, T)], source: u32) -> usize
-    requires { IsNonDecreasingBy (λ p. p.0) pairs.now }
+/// How many of the pairs, which are in the order of their sources, have this source or one below it, where so many have one below it.
+fn count_up_to<T>(pairs: &[(u32, T)], source: u32, below: usize) -> usize
+    requires sorted { IsNonDecreasingBy (λ p. p.0) pairs.now }
+    requires bound { below ≤ length pairs.now }
+    requires point { IsPartitionPoint (λ p. nat_lt p.0 source ≡ true) (λ p. nat_lt p.0 source ≡ false) pairs.now below }
     ensures bound { result ≤ length pairs.now }
     ensures point { IsPartitionPoint (λ p. nat_le p.0 source ≡ true) (λ p. nat_le p.0 source ≡ false) pairs.now result }
 {
-    pairs.partition_point(|pair| pair.0 <= source)
+    let mut count = below;
+    while count < pairs.len() && pairs[count].0 == source {
+        count += 1;
+    }
+    count
 }
 
 /// The pairs out of this source, of pairs in the order of their sources.
@@ -54,8 +60,18 @@ pub(crate) fn pairs_from<T>(pairs: &[(u32, T)], source: u32) -> &[(u32, T)]
     ensures { result.now ≡ filter (λ p. p.0 == source) pairs.now }
 {
     let start = count_below(pairs, source);
-    let end = count_up_to(pairs, source);
+    let end = count_up_to(pairs, source, start);
     &pairs[start..end]
+}
+
+/// The target of the first pair out of this source, of pairs in the order of their sources.
+pub(crate) fn target_of(pairs: &[(u32, u32)], source: u32) -> Option<u32>
+    requires { IsNonDecreasingBy (λ p. p.0) pairs.now }
+    ensures some { IfSome result (λ m. Contains pairs.now (source, m)) }
+    ensures none { IfNone result ((m : ℕ) → Contains pairs.now (source, m) → ⊥) }
+{
+    let pair = pairs.get(count_below(pairs, source))?;
+    (pair.0 == source).then_some(pair.1)
 }
 
 /// Adds the targets of the pairs.

@@ -1,7 +1,6 @@
 //! The rows of ranges.
-ghost use Rattle.std.specs.Prelude.{◌≡◌, ◌++◌, ℕ, Some, Ok, IfOk, OnOk, IfSome, IfNone, Contains, map};
+ghost use Rattle.std.specs.Prelude.{◌≡◌, ◌++◌, Some, Ok, IfOk, OnOk, Contains, map};
 ghost use Rattle.std.specs.List.{All, flat_map};
-ghost use Rattle.std.specs.List.Sorted.{IsNonDecreasingBy};
 ghost use Rattle.lsif.specs.Element.{id_value, element_value, range};
 ghost use Rattle.dump.specs.Fault.{IsFaultless};
 ghost use Rattle.dump.specs.Graph.{vertex_at};
@@ -14,7 +13,7 @@ ghost use Rattle.flatten.specs.Steps.Ranges.{AreFoundRanges, IsFoundRange, range
 ghost use Rattle.flatten.specs.Steps.Tables.{container_uri};
 
 use crate::chains::Chains;
-use crate::closure::pairs_from;
+use crate::closure::target_of;
 use crate::numbers::number_of;
 use crate::parents::{Interval, parents};
 use crate::places::container_uri;
@@ -23,18 +22,6 @@ use dump::{CheckedDump, container_law, ends_law, line_law, nesting_law, pick_law
 use lsif::{Element, Id, Vertex};
 use positions::Span;
 use std::alloc::{AllocError, Global};
-
-/// The target of the first pair out of the number.
-fn target_of(pairs: &[(u32, u32)], number: u32) -> Option<u32>
-    requires { IsNonDecreasingBy (λ p. p.0) pairs.now }
-    ensures some { IfSome result (λ m. Contains pairs.now (number, m)) }
-    ensures none { IfNone result ((m : ℕ) → Contains pairs.now (number, m) → ⊥) }
-{
-    match pairs_from(pairs, number).first() {
-        Some(pair) => Some(pair.1),
-        None => None,
-    }
-}
 
 /// The row of the range of this number in the document of this uri, with its first results, but without a parent.
 fn found_range<'a>(
