@@ -1,5 +1,5 @@
 -- The rows of one result after those of the results before it.
-use Rattle.std.proofs.Common.{◌≡◌, ◌⊎◌, inl, inr, ⊎_elim, ℕ, ◌+◌, ◌<◌, Bool, true, false, List, [], ◌∷◌, ◌++◌, length, map, take, drop, get_or, refl, sym, ap, subst}
+use Rattle.std.proofs.Common.{◌≡◌, ◌∙◌, ◌⊎◌, inl, inr, ⊎_elim, ℕ, ◌+◌, ◌<◌, Bool, true, false, List, [], ◌∷◌, ◌++◌, length, map, take, drop, get_or, refl, sym, ap, subst}
 use Rattle.std.specs.Prelude.{◌↔◌, Contains, Option, Some, None, Ok}
 use Rattle.std.specs.List.{AllByRecursion, flat_map}
 use Rattle.std.specs.List.Sorted.{IsStrictlySortedBy}
@@ -7,14 +7,16 @@ use Rattle.std.specs.Ordering.{nat_cmp, ordering_then}
 use Rattle.std.specs.declared.cmp.Ordering.{Ordering}
 use Rattle.std.specs.declared.cmp.Ordering.TheVariants.{Less}
 use Rattle.std.proofs.lemmas.List.{drop_more, take-append-drop, take_more}
-use Rattle.std.proofs.lemmas.List.Elements.{Contains-append_left, Contains-append_right, Contains-append_cases}
+use Rattle.std.proofs.lemmas.List.Elements.{All-head, All-tail, Contains-append_left, Contains-append_right, Contains-append_cases}
 use Rattle.lsif.specs.Element.{ElementValue, vertex, edge}
 use Rattle.dump.specs.Fault.{IsFaultless}
 use Rattle.dump.specs.Places.{IsListing, place_cmp}
+use Rattle.flatten.specs.declared.items.FoundItem.{FoundItem}
 use Rattle.flatten.specs.declared.items.Items.{Items}
 use Rattle.flatten.specs.Flat.{ItemRowValue, is_result, item_cmp, number_of, role_index}
-use Rattle.flatten.specs.Steps.Items.{AddsListing, IsReachedRow, number_if, numbers_in}
+use Rattle.flatten.specs.Steps.Items.{AddsListing, AreNumberedRows, IsReachedRow, found_value, numbers_value, number_if, numbers_in}
 use Rattle.flatten.specs.Steps.Numbers.{one_or_none}
+use Rattle.flatten.specs.Steps.Places.{IsNumbered, by_numbers, place_value}
 use Rattle.flatten.specs.Steps.Tables.{Adds, OfOne}
 use Rattle.flatten.proofs.Listing.{same_listing}
 use Rattle.flatten.proofs.Members.{contains_cases, contains_head, contains_one, contains_tail, not_in_nil}
@@ -106,3 +108,13 @@ next_listing items numbers sorted k lt old new listed added =
     subst (λ l. IsListing item_cmp (OfOne P l) new) (sym (take_more numbers k 0 lt)) (subst (IsListing item_cmp (OfOne P (take k numbers ++ n ∷ []))) (sym added.grown)
     (listing_more item_cmp P (take k numbers) n old added.more listed added.listed (λ r s o p. item_less r s
     (subst (λ m. nat_cmp r.result m ≡ Less) (sym p.is_number) (subst (λ m. nat_cmp m n ≡ Less) (sym o.2.is_number) (sorted_split nat_cmp (take k numbers) (drop k numbers) cut o.0 n o.1 here))))))
+
+-- ---- rows that are found
+
+-- where the numbers are those of the spans, the rows that they say are those of the spans
+pub same_values : (rows : List FoundItem) → AreNumberedRows rows → map numbers_value rows ≡ map found_value rows
+same_values [] are = refl
+same_values (r ∷ rows) are =
+    let here : by_numbers r.place ≡ place_value r.place = All-head (λ (f : FoundItem). IsNumbered f.place) r rows are in
+    let first : numbers_value r ≡ found_value r = λ i. record { result = r.result; role = r.role; place = here i } in
+    ap (λ x. x ∷ map numbers_value rows) first ∙ ap (λ xs. found_value r ∷ xs) (same_values rows (All-tail (λ (f : FoundItem). IsNumbered f.place) r rows are))

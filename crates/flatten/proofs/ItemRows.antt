@@ -3,7 +3,7 @@ use Rattle.std.proofs.Common.{◌≡◌, ⊎_elim, ◌∙◌, ℕ, ◌+◌, ◌=
 use Rattle.std.specs.Prelude.{◌↔◌, Contains, Option, Some, None, Ok, option_map, slice_get, IsPermutation}
 use Rattle.std.specs.List.{flat_map}
 use Rattle.std.specs.List.Sorted.{IsNonDecreasingBy}
-use Rattle.std.proofs.lemmas.List.Elements.{Contains-append_left, Contains-append_right, Contains-append_cases}
+use Rattle.std.proofs.lemmas.List.Elements.{All-contains_itself, All-weaker, Contains-append_left, Contains-append_right, Contains-append_cases}
 use Rattle.std.proofs.lemmas.List.Sorted.{Contains-permutation, IsPermutation-sym}
 use Rattle.std.proofs.lemmas.Map.Views.{exact_unsigned_eq}
 use Rattle.positions.specs.Span.{SpanValue}
@@ -16,9 +16,9 @@ use Rattle.dump.specs.declared.role.Role.{Role}
 use Rattle.dump.specs.declared.role.Role.TheVariants.{Definitions, References}
 use Rattle.flatten.specs.declared.items.Items.{Items}
 use Rattle.flatten.specs.Flat.{IsItemRow, ItemRowValue, is_result, number_of}
-use Rattle.flatten.specs.Steps.Items.{AreItems, IsReachedRow, has_role, is_role, item_pairs_of, items_by, number_if, numbers_in, placed_by, placed_in, placed_of_pair, row_of, rows_of_role, same_role, with_place}
+use Rattle.flatten.specs.Steps.Items.{AreItems, AreNumbered, IsReachedRow, has_role, is_role, item_pairs_of, items_by, number_if, numbers_in, placed_by, placed_in, placed_of_pair, row_of, rows_of_role, same_role, with_places}
 use Rattle.flatten.specs.Steps.Numbers.{pairs_of}
-use Rattle.flatten.specs.Steps.Places.{place_value, placed_value}
+use Rattle.flatten.specs.Steps.Places.{IsNumbered, place_value, placed_value, placed_values, twice}
 use Rattle.flatten.specs.Steps.Tables.{OfOne, container_uri, place_by, place_of, place_with}
 use Rattle.flatten.specs.declared.places.Place.{Place}
 use Rattle.flatten.proofs.Closures.{wider}
@@ -148,25 +148,61 @@ each_sorted items a b Definitions = a
 each_sorted items a b References = b
 
 -- those of a list are those of the list in another order
-pub placed_again : (all : List (ℕ × PlaceValue)) (list sorted : List (ℕ × Place)) → map placed_value list ≡ all → IsPermutation list sorted → (p : ℕ × PlaceValue) → Contains (map placed_value sorted) p ↔ Contains all p
+pub placed_again : (all : List (ℕ × (PlaceValue × PlaceValue))) (list sorted : List (ℕ × Place)) → map placed_values list ≡ all → IsPermutation list sorted → (p : ℕ × (PlaceValue × PlaceValue)) → Contains (map placed_values sorted) p ↔ Contains all p
 placed_again all list sorted is same p = (to, back)
   where
-    to : Contains (map placed_value sorted) p → Contains all p
+    to : Contains (map placed_values sorted) p → Contains all p
     to at =
-        let m = map_source placed_value sorted p at in
-        subst (λ l. Contains l p) is (subst (Contains (map placed_value list)) m.2 (contains_map placed_value list m.0 (Contains-permutation sorted list m.0 (IsPermutation-sym list sorted same) m.1)))
+        let m = map_source placed_values sorted p at in
+        subst (λ l. Contains l p) is (subst (Contains (map placed_values list)) m.2 (contains_map placed_values list m.0 (Contains-permutation sorted list m.0 (IsPermutation-sym list sorted same) m.1)))
 
-    back : Contains all p → Contains (map placed_value sorted) p
+    back : Contains all p → Contains (map placed_values sorted) p
     back at =
-        let m = map_source placed_value list p (subst (λ l. Contains l p) (sym is) at) in
-        subst (Contains (map placed_value sorted)) m.2 (contains_map placed_value sorted m.0 (Contains-permutation list sorted m.0 same m.1))
+        let m = map_source placed_values list p (subst (λ l. Contains l p) (sym is) at) in
+        subst (Contains (map placed_values sorted)) m.2 (contains_map placed_values sorted m.0 (Contains-permutation list sorted m.0 same m.1))
 
 abbrev AreBy : List ElementValue → Items → Role → Type 0
-AreBy d items role = (p : ℕ × PlaceValue) → Contains (map placed_value (items_by role items)) p ↔ Contains (placed_by role d) p
+AreBy d items role = (p : ℕ × (PlaceValue × PlaceValue)) → Contains (map placed_values (items_by role items)) p ↔ Contains (placed_by role d) p
 
 pub each_role : (d : List ElementValue) (items : Items) → AreBy d items Definitions → AreBy d items References → (role : Role) → AreBy d items role
 each_role d items a b Definitions = a
 each_role d items a b References = b
+
+-- the places that stand by a number are one
+twice_of : (a : Option ℕ) (b : Option PlaceValue) (p : ℕ × (PlaceValue × PlaceValue)) → with_places a (option_map twice b) ≡ Some p → p.1.1 ≡ p.1.0
+twice_of (Some m) (Some q) p e = let same : ◌≡◌ {A = ℕ × (PlaceValue × PlaceValue)} (m, twice q) p = cc in subst (λ (r : ℕ × (PlaceValue × PlaceValue)). r.1.1 ≡ r.1.0) same refl
+twice_of (Some m) None p e = cc
+twice_of None b p e = cc
+
+placed_twice : (d : List ElementValue) (role : Role) (p : ℕ × (PlaceValue × PlaceValue)) → Contains (placed_by role d) p → p.1.1 ≡ p.1.0
+placed_twice d role p at =
+    let e = flat_of (placed_in role d) d p at in
+    let q = flat_of (placed_of_pair d) (item_pairs_of role e.0) p e.2 in
+    twice_of (number_of d q.0.0) (place_of d q.0.1) p (in_one (with_places (number_of d q.0.0) (option_map twice (place_of d q.0.1))) p q.2)
+
+module _ (d : List ElementValue) (items : Items) (by : (role : Role) → AreBy d items role) where
+  -- each place has the numbers of its span
+  numbered_in : (role : Role) (p : ℕ × Place) → Contains (items_by role items) p → IsNumbered p.1
+  numbered_in role p at = placed_twice d role (placed_values p) ((by role (placed_values p)).0 (contains_map placed_values (items_by role items) p at))
+
+  pub are_numbered : AreNumbered items
+  are_numbered role = All-weaker (Contains (items_by role items)) (λ (p : ℕ × Place). IsNumbered p.1) (numbered_in role) (items_by role items) (All-contains_itself (items_by role items))
+
+  -- the items by the spans of their places
+  pub placed_each : (role : Role) (p : ℕ × PlaceValue) → Contains (map placed_value (items_by role items)) p ↔ Contains (placed_by role d) (p.0, twice p.1)
+  placed_each role p = (to, back)
+    where
+      to : Contains (map placed_value (items_by role items)) p → Contains (placed_by role d) (p.0, twice p.1)
+      to at =
+          let m = map_source placed_value (items_by role items) p at in
+          let n = numbered_in role m.0 m.1 in
+          let one : placed_values m.0 ≡ (m.0.0, twice (place_value m.0.1)) = λ i. (m.0.0, (place_value m.0.1, n i)) in
+          subst (Contains (placed_by role d)) (one ∙ ap (λ (q : ℕ × PlaceValue). (q.0, twice q.1)) m.2) ((by role (placed_values m.0)).0 (contains_map placed_values (items_by role items) m.0 m.1))
+
+      back : Contains (placed_by role d) (p.0, twice p.1) → Contains (map placed_value (items_by role items)) p
+      back at =
+          let m = map_source placed_values (items_by role items) (p.0, twice p.1) ((by role (p.0, twice p.1)).1 at) in
+          subst (Contains (map placed_value (items_by role items))) (ap (λ (q : ℕ × (PlaceValue × PlaceValue)). (q.0, q.1.0)) m.2) (contains_map placed_value (items_by role items) m.0 m.1)
 
 -- a number that is asked for
 asked_number : (b : Bool) (o : Option ℕ) (n : ℕ) → number_if b o ≡ Some n → (b ≡ true) × (o ≡ Some n)
@@ -206,24 +242,25 @@ module _ (d : List ElementValue) (free : IsFaultless (map Ok d)) (vertices : (i 
   place_from : (r : IdValue) (place : PlaceValue) → IsAt d r place → place_of d r ≡ Some place
   place_from r place h = ap (place_by d r) h.span ∙ ap (option_map (place_with place.span)) (uri_of_at d containers r place h)
 
-  with_both : (a : Option ℕ) (b : Option PlaceValue) (n : ℕ) (place : PlaceValue) → with_place a b ≡ Some (n, place) → (a ≡ Some n) × (b ≡ Some place)
-  with_both (Some m) (Some q) n place e = let same : ◌≡◌ {A = ℕ × PlaceValue} (m, q) (n, place) = cc in (ap (λ p. Some p.0) same, ap (λ p. Some p.1) same)
+  with_both : (a : Option ℕ) (b : Option PlaceValue) (n : ℕ) (place : PlaceValue) → with_places a (option_map twice b) ≡ Some (n, twice place) → (a ≡ Some n) × (b ≡ Some place)
+  with_both (Some m) (Some q) n place e = let same : ◌≡◌ {A = ℕ × (PlaceValue × PlaceValue)} (m, twice q) (n, twice place) = cc in (ap (λ p. Some p.0) same, ap (λ p. Some p.1.0) same)
   with_both (Some m) None n place e = cc
   with_both None b n place e = cc
 
   -- the item of a result by its number, and where it lies
-  placed_to : (role : Role) (n : ℕ) (place : PlaceValue) → Contains (placed_by role d) (n, place) → (x r : IdValue) × Contains (flat_map (item_pairs_of role) d) (x, r) × (number_of d x ≡ Some n) × IsAt d r place
+  placed_to : (role : Role) (n : ℕ) (place : PlaceValue) → Contains (placed_by role d) (n, twice place) → (x r : IdValue) × Contains (flat_map (item_pairs_of role) d) (x, r) × (number_of d x ≡ Some n) × IsAt d r place
   placed_to role n place at =
-      let e = flat_of (placed_in role d) d (n, place) at in
-      let p = flat_of (placed_of_pair d) (item_pairs_of role e.0) (n, place) e.2 in
-      let b = with_both (number_of d p.0.0) (place_of d p.0.1) n place (in_one (with_place (number_of d p.0.0) (place_of d p.0.1)) (n, place) p.2) in
+      let e = flat_of (placed_in role d) d (n, twice place) at in
+      let p = flat_of (placed_of_pair d) (item_pairs_of role e.0) (n, twice place) e.2 in
+      let b = with_both (number_of d p.0.0) (place_of d p.0.1) n place (in_one (with_places (number_of d p.0.0) (option_map twice (place_of d p.0.1))) (n, twice place) p.2) in
       (p.0.0, p.0.1, flat_from (item_pairs_of role) d e.0 p.0 e.1 p.1, b.0, place_by_to p.0.1 (vertex_at d p.0.1) place refl b.1)
 
-  placed_from : (role : Role) (x r : IdValue) (n : ℕ) (place : PlaceValue) → Contains (flat_map (item_pairs_of role) d) (x, r) → number_of d x ≡ Some n → IsAt d r place → Contains (placed_by role d) (n, place)
+  placed_from : (role : Role) (x r : IdValue) (n : ℕ) (place : PlaceValue) → Contains (flat_map (item_pairs_of role) d) (x, r) → number_of d x ≡ Some n → IsAt d r place → Contains (placed_by role d) (n, twice place)
   placed_from role x r n place at number h =
       let e = flat_of (item_pairs_of role) d (x, r) at in
-      let both : with_place (number_of d x) (place_of d r) ≡ Some (n, place) = ap (λ a. with_place a (place_of d r)) number ∙ ap (with_place (Some n)) (place_from r place h) in
-      flat_from (placed_in role d) d e.0 (n, place) e.1 (flat_from (placed_of_pair d) (item_pairs_of role e.0) (x, r) (n, place) e.2 (one_in (with_place (number_of d x) (place_of d r)) (n, place) both))
+      let places = option_map twice (place_of d r) in
+      let both : with_places (number_of d x) places ≡ Some (n, twice place) = ap (λ a. with_places a places) number ∙ ap (λ o. with_places (Some n) (option_map twice o)) (place_from r place h) in
+      flat_from (placed_in role d) d e.0 (n, twice place) e.1 (flat_from (placed_of_pair d) (item_pairs_of role e.0) (x, r) (n, twice place) e.2 (one_in (with_places (number_of d x) places) (n, twice place) both))
 
   -- ---- the rows of results
 

@@ -17,7 +17,7 @@ use Rattle.flatten.specs.Steps.Items.{numbers_in, placed_in}
 use Rattle.flatten.specs.Steps.Kinds.{AreKinds, AreThose, Takes, is_document, is_moniker_edge, is_range, kept, said}
 use Rattle.flatten.specs.Steps.Marks.{IsMarkOfRange}
 use Rattle.flatten.specs.Steps.Numbers.{pairs_in, pairs_of}
-use Rattle.flatten.specs.Steps.Places.{placed_value}
+use Rattle.flatten.specs.Steps.Places.{placed_values}
 use Rattle.flatten.specs.Steps.Tables.{OfOne}
 use Rattle.flatten.specs.declared.kinds.Kinds.{Kinds}
 use Rattle.flatten.proofs.Members.{filter_keeps, filter_source}
@@ -38,8 +38,8 @@ pub record AreTaken (elements rest : List ElementValue) (kinds : Kinds) : Type 0
   pub results : HasSaid (numbers_in elements) elements rest kinds.results.items
   pub moniker_edges : HasThose is_moniker_edge elements rest kinds.moniker_edges.items
   pub result_pairs : HasSaid (pairs_in result_pairs_of elements) elements rest kinds.result_pairs.items
-  pub definitions : HasSaid (placed_in Definitions elements) elements rest (map placed_value kinds.definitions.items)
-  pub references : HasSaid (placed_in References elements) elements rest (map placed_value kinds.references.items)
+  pub definitions : HasSaid (placed_in Definitions elements) elements rest (map placed_values kinds.definitions.items)
+  pub references : HasSaid (placed_in References elements) elements rest (map placed_values kinds.references.items)
 
 first_kept : (is : ElementValue → Bool) (x : ElementValue) (rest : List ElementValue) → kept (is x) x ++ filter is rest ≡ filter is (x ∷ rest)
 first_kept is x rest = by (is x)

@@ -17,10 +17,9 @@ use Rattle.dump.specs.declared.role.Role.TheVariants.{Definitions, References}
 use Rattle.dump.proofs.OnePicks.{place_total}
 use Rattle.flatten.specs.declared.parents.Interval.{Interval}
 use Rattle.flatten.specs.declared.rows.DocRow.{DocRow}
-use Rattle.flatten.specs.declared.rows.ItemRow.{ItemRow}
 use Rattle.flatten.specs.declared.rows.MarkRow.{MarkRow}
-use Rattle.flatten.specs.Flat.{item_cmp, kind_index, mark_cmp, role_index}
-use Rattle.flatten.specs.Rows.{document_value, item_value, mark_value}
+use Rattle.flatten.specs.Flat.{ItemRowValue, item_cmp, kind_index, mark_cmp, role_index}
+use Rattle.flatten.specs.Rows.{document_value, mark_value}
 use Rattle.flatten.specs.Steps.Parents.{interval_cmp, interval_value}
 use Rattle.flatten.proofs.Listing.{eq_of, under}
 
@@ -98,27 +97,25 @@ role_same Definitions References e = cc
 role_same References Definitions e = cc
 role_same References References e = refl
 
-abbrev pub same_item : ItemRow → ItemRow → Bool
-same_item a b = (a.result == b.result) && (same_role a.role b.role && same_place (item_value a).place (item_value b).place)
+abbrev same_item : ItemRowValue → ItemRowValue → Bool
+same_item a b = (a.result == b.result) && (same_role a.role b.role && same_place a.place b.place)
 
-pub item_total : IsTotalOrder (under item_value item_cmp)
-item_total = then_total (on_total (λ (r : ItemRow). r.result) nat_cmp_total) (then_total (on_total (λ (r : ItemRow). role_index r.role) nat_cmp_total) (on_total (λ (r : ItemRow). (item_value r).place) place_total))
+pub item_total : {X : Type 0} (f : X → ItemRowValue) → IsTotalOrder (under f item_cmp)
+item_total f = on_total f (then_total (on_total (λ (r : ItemRowValue). r.result) nat_cmp_total) (then_total (on_total (λ (r : ItemRowValue). role_index r.role) nat_cmp_total) (on_total (λ (r : ItemRowValue). r.place) place_total)))
 
-pub item_ties : (x y : ItemRow) → same_item x y ≡ eq_by_cmp (under item_value item_cmp) x y
+item_ties : (x y : ItemRowValue) → same_item x y ≡ is_eq (item_cmp x y)
 item_ties x y =
-    let p = (item_value x).place in
-    let q = (item_value y).place in
-    both_tied (x.result == y.result) (same_role x.role y.role && same_place p q) (nat_cmp x.result y.result) (ordering_then (nat_cmp (role_index x.role) (role_index y.role)) (place_cmp p q)) (unsigned_ties x.result y.result)
-    (both_tied (same_role x.role y.role) (same_place p q) (nat_cmp (role_index x.role) (role_index y.role)) (place_cmp p q) (role_ties x.role y.role) (place_ties p q))
+    both_tied (x.result == y.result) (same_role x.role y.role && same_place x.place y.place) (nat_cmp x.result y.result) (ordering_then (nat_cmp (role_index x.role) (role_index y.role)) (place_cmp x.place y.place)) (unsigned_ties x.result y.result)
+    (both_tied (same_role x.role y.role) (same_place x.place y.place) (nat_cmp (role_index x.role) (role_index y.role)) (place_cmp x.place y.place) (role_ties x.role y.role) (place_ties x.place y.place))
 
-pub item_same : (x y : ItemRow) → same_item x y ≡ true → item_value x ≡ item_value y
-item_same x y e =
-    let p = (item_value x).place in
-    let q = (item_value y).place in
-    let a = eq_of x.result y.result (first_so (x.result == y.result) (same_role x.role y.role && same_place p q) e) in
-    let f = second_so (x.result == y.result) (same_role x.role y.role && same_place p q) e in
-    let b = role_same x.role y.role (first_so (same_role x.role y.role) (same_place p q) f) in
-    let c = place_same p q (second_so (same_role x.role y.role) (same_place p q) f) in
+-- rows that no order tells apart are one
+pub item_same : (x y : ItemRowValue) → is_eq (item_cmp x y) ≡ true → x ≡ y
+item_same x y tied =
+    let e : same_item x y ≡ true = item_ties x y ∙ tied in
+    let a = eq_of x.result y.result (first_so (x.result == y.result) (same_role x.role y.role && same_place x.place y.place) e) in
+    let f = second_so (x.result == y.result) (same_role x.role y.role && same_place x.place y.place) e in
+    let b = role_same x.role y.role (first_so (same_role x.role y.role) (same_place x.place y.place) f) in
+    let c = place_same x.place y.place (second_so (same_role x.role y.role) (same_place x.place y.place) f) in
     λ i. record { result = a i; role = b i; place = c i }
 
 -- ---- marks

@@ -1,15 +1,15 @@
 //! The places of results.
 ghost use Rattle.std.specs.Prelude.{◌≡◌, ◌++◌, Ok, IfOk, OnOk, Contains, map, option_map};
-ghost use Rattle.std.specs.List.{flat_map};
+ghost use Rattle.std.specs.List.{All, flat_map};
 ghost use Rattle.lsif.specs.Element.{id_value, id_values, element_value, vertex_value};
 ghost use Rattle.dump.specs.Fault.{IsFaultless};
-ghost use Rattle.dump.specs.Places.{IsListing, place_cmp, result_pairs_of};
+ghost use Rattle.dump.specs.Places.{IsListing, result_pairs_of};
 ghost use Rattle.flatten.specs.Flat.{IsItemRow, is_result, item_cmp, number_of, role_index};
 ghost use Rattle.flatten.specs.Rows.{item_value};
-ghost use Rattle.flatten.specs.Steps.Items.{AddsListing, AreItems, AreSorted, IsReachedRow, is_role, numbers_in, placed_in, placed_of_pair, result_number, row_of, rows_of_role, with_place};
+ghost use Rattle.flatten.specs.Steps.Items.{AddsListing, AreItems, AreNumbered, AreNumberedRows, AreSorted, IsReachedRow, found_value, is_role, numbers_in, numbers_value, placed_in, placed_of_pair, result_number, row_of, rows_of_role, with_places};
 ghost use Rattle.flatten.specs.Steps.Kinds.{AreKinds};
 ghost use Rattle.flatten.specs.Steps.Numbers.{numbers_of_pair, pairs_in, pairs_of};
-ghost use Rattle.flatten.specs.Steps.Places.{placed_value};
+ghost use Rattle.flatten.specs.Steps.Places.{IsNumbered, placed_values, twice};
 ghost use Rattle.flatten.specs.Steps.Tables.{Adds, place_of};
 
 use crate::budget::{Budget, Budgets};
@@ -17,7 +17,7 @@ use crate::closure::{closed, pairs_from, sort_by_source};
 use crate::fault::FlattenFault;
 use crate::kinds::Kinds;
 use crate::numbers::{number_of, number_pair};
-use crate::places::{Place, place_of};
+use crate::places::{Place, place_of, place_order};
 use crate::rows::ItemRow;
 use dump::{CheckedDump, Role, container_law, ends_law, line_law, role_of, vertex_law};
 use lsif::{Edge, Element, Id, Property, Vertex};
@@ -104,7 +104,7 @@ fn is_role(role: Role, property: Option<Property>) -> bool
 
 /// The number of the source with the place of the target, where each has one.
 fn placed<'a>(dump: &'a CheckedDump, source: &Id, target: &Id) -> Option<(u32, Place<'a>)>
-    ensures { option_map placed_value result ≡ with_place (number_of dump.now.elements (id_value source.now)) (place_of dump.now.elements (id_value target.now)) }
+    ensures { option_map placed_values result ≡ with_places (number_of dump.now.elements (id_value source.now)) (option_map twice (place_of dump.now.elements (id_value target.now))) }
 {
     match (number_of(dump, source), place_of(dump, target)) {
         (Some(number), Some(place)) => Some((number, place)),
@@ -119,7 +119,7 @@ fn add_places<'a>(
     source: &Id,
     targets: &[Id],
 ) -> Result<(), AllocError>
-    ensures { OnOk result (map placed_value items.new.items ≡ map placed_value items.old.items ++ flat_map (placed_of_pair dump.now.elements) (map (λ to. (id_value source.now, to)) (id_values targets.now))) }
+    ensures { OnOk result (map placed_values items.new.items ≡ map placed_values items.old.items ++ flat_map (placed_of_pair dump.now.elements) (map (λ to. (id_value source.now, to)) (id_values targets.now))) }
 {
     for target in targets {
         if let Some(item) = placed(dump, source, target) {
@@ -136,7 +136,7 @@ pub(crate) fn add_items<'a>(
     role: Role,
     element: &Element,
 ) -> Result<(), AllocError>
-    ensures { OnOk result (map placed_value items.new.items ≡ map placed_value items.old.items ++ placed_in role dump.now.elements (element_value element.now)) }
+    ensures { OnOk result (map placed_values items.new.items ≡ map placed_values items.old.items ++ placed_in role dump.now.elements (element_value element.now)) }
 {
     match element {
         Element::Edge(_, Edge::Item(item)) if is_role(role, item.property) => {
@@ -154,21 +154,31 @@ struct Items<'k, 'a> {
     references: &'k [(u32, Place<'a>)],
 }
 
+/// The row of a place, with what the rows are put in order by.
+#[derive(Clone, Copy)]
+struct FoundItem<'a> {
+    result: u32,
+    role: Role,
+    place: Place<'a>,
+}
+
 /// Adds the rows of these places.
 fn add_rows<'a>(
-    rows: &mut Vec<ItemRow<'a>>,
+    rows: &mut Vec<FoundItem<'a>>,
     number: u32,
     role: Role,
     items: &[(u32, Place<'a>)],
 ) -> Result<(), AllocError>
-    ensures { OnOk result (map item_value rows.new.items ≡ map item_value rows.old.items ++ map (row_of number role) items.now) }
+    requires rows { AreNumberedRows rows.old.items }
+    requires items { All (λ p. IsNumbered p.1) items.now }
+    ensures rows { OnOk result (map found_value rows.new.items ≡ map found_value rows.old.items ++ map (row_of number role) items.now) }
+    ensures numbered { OnOk result (AreNumberedRows rows.new.items) }
 {
     for item in items {
-        rows.push(ItemRow {
+        rows.push(FoundItem {
             result: number,
             role,
-            uri: item.1.uri,
-            span: item.1.span,
+            place: item.1,
         })?;
     }
     Ok(())
@@ -176,15 +186,18 @@ fn add_rows<'a>(
 
 /// Adds the rows of the result of this number for the items in this role of the other. Each is taken from the budget.
 fn add_role<'a>(
-    rows: &mut Vec<ItemRow<'a>>,
+    rows: &mut Vec<FoundItem<'a>>,
     items: &Items<'_, 'a>,
     number: u32,
     role: Role,
     other: u32,
     budget: &mut Budget,
 ) -> Result<(), FlattenFault>
-    requires { AreSorted items.now }
-    ensures { OnOk result (map item_value rows.new.items ≡ map item_value rows.old.items ++ rows_of_role number role items.now other) }
+    requires sorted { AreSorted items.now }
+    requires items { AreNumbered items.now }
+    requires rows { AreNumberedRows rows.old.items }
+    ensures rows { OnOk result (map found_value rows.new.items ≡ map found_value rows.old.items ++ rows_of_role number role items.now other) }
+    ensures numbered { OnOk result (AreNumberedRows rows.new.items) }
 {
     let found = match role {
         Role::Definitions => pairs_from(items.definitions, other),
@@ -198,13 +211,16 @@ fn add_role<'a>(
 /// Adds the rows of the result of this number. It has its own items, and those of the results that it leads to.
 fn add_result<'a>(
     alloc: Global,
-    rows: &mut Vec<ItemRow<'a>>,
+    rows: &mut Vec<FoundItem<'a>>,
     items: &Items<'_, 'a>,
     number: u32,
     budgets: &mut Budgets,
 ) -> Result<(), FlattenFault>
-    requires { AreSorted items.now }
-    ensures { OnOk result (Adds (map item_value rows.old.items) (IsReachedRow number items.now) (map item_value rows.new.items)) }
+    requires sorted { AreSorted items.now }
+    requires items { AreNumbered items.now }
+    requires rows { AreNumberedRows rows.old.items }
+    ensures rows { OnOk result (Adds (map found_value rows.old.items) (IsReachedRow number items.now) (map found_value rows.new.items)) }
+    ensures numbered { OnOk result (AreNumberedRows rows.new.items) }
 {
     let found = closed(alloc, number, items.results, &mut budgets.pairs)?;
     for other in found.numbers() {
@@ -238,22 +254,13 @@ fn role_index(role: Role) -> u32
     }
 }
 
-/// By uri (its bytes), then start, then end.
-fn place_order(a: &ItemRow<'_>, b: &ItemRow<'_>) -> Ordering
-    ensures { result ≡ place_cmp (item_value a.now).place (item_value b.now).place }
-{
-    let ends = a.span.end().cmp(&b.span.end());
-    let starts = a.span.start().cmp(&b.span.start());
-    a.uri.cmp(b.uri).then(starts.then(ends))
-}
-
 /// By result, then role, then place.
-fn order(a: &ItemRow<'_>, b: &ItemRow<'_>) -> Ordering
-    ensures { result ≡ item_cmp (item_value a.now) (item_value b.now) }
+fn order(a: &FoundItem<'_>, b: &FoundItem<'_>) -> Ordering
+    ensures { result ≡ item_cmp (numbers_value a.now) (numbers_value b.now) }
 {
     match a.result.cmp(&b.result) {
         Ordering::Equal => match role_index(a.role).cmp(&role_index(b.role)) {
-            Ordering::Equal => place_order(a, b),
+            Ordering::Equal => place_order(&a.place, &b.place),
             roles => roles,
         },
         results => results,
@@ -261,11 +268,27 @@ fn order(a: &ItemRow<'_>, b: &ItemRow<'_>) -> Ordering
 }
 
 /// Puts the rows in order, each once.
-fn list_rows(rows: &mut Vec<ItemRow<'_>>)
-    ensures { IsListing item_cmp (Contains (map item_value rows.old.items)) (map item_value rows.new.items) }
+fn list_items(rows: &mut Vec<FoundItem<'_>>)
+    requires { AreNumberedRows rows.old.items }
+    ensures { IsListing item_cmp (Contains (map found_value rows.old.items)) (map found_value rows.new.items) }
 {
     rows.sort_unstable_by(|a, b| order(a, b));
-    rows.dedup();
+    rows.dedup_by(|later, earlier| order(later, earlier) == Ordering::Equal);
+}
+
+/// Adds the rows as they are kept.
+fn add_item_rows<'a>(rows: &mut Vec<ItemRow<'a>>, found: &[FoundItem<'a>]) -> Result<(), AllocError>
+    ensures { OnOk result (map item_value rows.new.items ≡ map item_value rows.old.items ++ map found_value found.now) }
+{
+    for item in found {
+        rows.push(ItemRow {
+            result: item.result,
+            role: item.role,
+            uri: item.place.uri,
+            span: item.place.span,
+        })?;
+    }
+    Ok(())
 }
 
 /// Adds the rows of the result of this number: in order, each once.
@@ -276,13 +299,14 @@ fn add_listed<'a>(
     number: u32,
     budgets: &mut Budgets,
 ) -> Result<(), FlattenFault>
-    requires { AreSorted items.now }
+    requires sorted { AreSorted items.now }
+    requires items { AreNumbered items.now }
     ensures { OnOk result (AddsListing (IsReachedRow number items.now) (map item_value rows.old.items) (map item_value rows.new.items)) }
 {
-    let mut more = Vec::new(alloc);
-    add_result(alloc, &mut more, items, number, budgets)?;
-    list_rows(&mut more);
-    rows.append(&mut more)?;
+    let mut found = Vec::new(alloc);
+    add_result(alloc, &mut found, items, number, budgets)?;
+    list_items(&mut found);
+    add_item_rows(rows, &found)?;
     Ok(())
 }
 

@@ -1,6 +1,6 @@
 -- The places of results, as the walk by numbers gathers them.
-use Rattle.std.specs.Prelude.{◌≡◌, ◌↔◌, ◌==◌, ◌++◌, ℕ, Bool, true, false, List, [], map, filter, Option, Some, None, Contains, IsPermutation, if◌then◌else◌}
-use Rattle.std.specs.List.{flat_map}
+use Rattle.std.specs.Prelude.{◌≡◌, ◌↔◌, ◌==◌, ◌++◌, ℕ, Bool, true, false, List, [], map, filter, Option, Some, None, Contains, IsPermutation, if◌then◌else◌, option_map}
+use Rattle.std.specs.List.{All, flat_map}
 use Rattle.std.specs.List.Sorted.{IsNonDecreasingBy}
 use Rattle.lsif.specs.declared.element.Property.{Property}
 use Rattle.lsif.specs.Element.{item, ElementValue, vertex, edge}
@@ -10,9 +10,10 @@ use Rattle.dump.specs.declared.role.Role.{Role}
 use Rattle.dump.specs.declared.role.Role.TheVariants.{Definitions, References}
 use Rattle.flatten.specs.Flat.{ItemRowValue, is_result, item_cmp, number_of}
 use Rattle.flatten.specs.Steps.Numbers.{one_or_none, pairs_of}
-use Rattle.flatten.specs.Steps.Places.{place_value, placed_value}
+use Rattle.flatten.specs.Steps.Places.{IsNumbered, by_numbers, place_value, placed_value, twice}
 use Rattle.flatten.specs.Steps.Tables.{place_of}
 use Rattle.flatten.specs.declared.places.Place.{Place}
+use Rattle.flatten.specs.declared.items.FoundItem.{FoundItem}
 use Rattle.flatten.specs.declared.items.Items.{Items}
 
 -- the number, where it's asked for
@@ -48,20 +49,20 @@ item_pairs_of role (edge i e) = []
 item_pairs_of role (vertex i v) = []
 
 -- both, where each is known
-abbrev pub with_place : Option ℕ → Option PlaceValue → Option (ℕ × PlaceValue)
-with_place (Some number) (Some place) = Some (number, place)
-with_place (Some number) None = None
-with_place None place = None
+abbrev pub with_places : Option ℕ → Option (PlaceValue × PlaceValue) → Option (ℕ × (PlaceValue × PlaceValue))
+with_places (Some number) (Some places) = Some (number, places)
+with_places (Some number) None = None
+with_places None places = None
 
--- the number of the first with the place of the second, where each has one
-abbrev pub placed_of_pair : List ElementValue → Pair → List (ℕ × PlaceValue)
-placed_of_pair elements p = one_or_none (with_place (number_of elements p.0) (place_of elements p.1))
+-- the number of the first with the place of the second, by its span and by its numbers, where each has one
+abbrev pub placed_of_pair : List ElementValue → Pair → List (ℕ × (PlaceValue × PlaceValue))
+placed_of_pair elements p = one_or_none (with_places (number_of elements p.0) (option_map twice (place_of elements p.1)))
 
 -- the numbers of results, and the places of ranges, that an `item` edge of the role joins
-abbrev pub placed_in : Role → List ElementValue → ElementValue → List (ℕ × PlaceValue)
+abbrev pub placed_in : Role → List ElementValue → ElementValue → List (ℕ × (PlaceValue × PlaceValue))
 placed_in role elements x = flat_map (placed_of_pair elements) (item_pairs_of role x)
 
-abbrev pub placed_by : Role → List ElementValue → List (ℕ × PlaceValue)
+abbrev pub placed_by : Role → List ElementValue → List (ℕ × (PlaceValue × PlaceValue))
 placed_by role elements = flat_map (placed_in role elements) elements
 
 abbrev pub items_by : Role → Items → List (ℕ × Place)
@@ -73,11 +74,29 @@ pub record AreSorted (items : Items) : Type 0 where
   pub results : IsNonDecreasingBy (λ p. p.0) items.results.now
   pub each : (role : Role) → IsNonDecreasingBy (λ p. p.0) (items_by role items)
 
+-- each place has the numbers of its span
+abbrev pub AreNumbered : Items → Type 0
+AreNumbered items = (role : Role) → All (λ p. IsNumbered p.1) (items_by role items)
+
 -- they are those of the dump's `item` edges
 pub record AreItems (elements : List ElementValue) (items : Items) : Type 0 where
   pub sorted : AreSorted items
+  pub numbered : AreNumbered items
   pub results : IsPermutation (pairs_of result_pairs_of elements) items.results.now
-  pub each : (role : Role) (p : ℕ × PlaceValue) → Contains (map placed_value (items_by role items)) p ↔ Contains (placed_by role elements) p
+  pub each : (role : Role) (p : ℕ × PlaceValue) → Contains (map placed_value (items_by role items)) p ↔ Contains (placed_by role elements) (p.0, twice p.1)
+
+-- ---- the rows that are found
+
+abbrev pub found_value : FoundItem → ItemRowValue
+found_value f = record { result = f.result; role = f.role; place = place_value f.place }
+
+-- the row that the numbers of the place say
+abbrev pub numbers_value : FoundItem → ItemRowValue
+numbers_value f = record { result = f.result; role = f.role; place = by_numbers f.place }
+
+-- the place of each row has the numbers of its span
+abbrev pub AreNumberedRows : List FoundItem → Type 0
+AreNumberedRows rows = All (λ f. IsNumbered f.place) rows
 
 -- the row of a result of this number for an item
 abbrev pub row_of : ℕ → Role → ℕ × Place → ItemRowValue

@@ -9,7 +9,7 @@ use Rattle.dump.specs.declared.role.Role.TheVariants.{Definitions, References}
 use Rattle.std.specs.List.{flat_map}
 use Rattle.flatten.specs.Steps.Items.{numbers_in, placed_by, placed_in}
 use Rattle.flatten.specs.Steps.Numbers.{pairs_in, pairs_of}
-use Rattle.flatten.specs.Steps.Places.{placed_value}
+use Rattle.flatten.specs.Steps.Places.{placed_values}
 use Rattle.flatten.specs.declared.kinds.Kinds.{Kinds}
 
 abbrev pub said : Bor Element → ElementValue
@@ -48,8 +48,8 @@ pub record AreKinds (kinds : Kinds) : Type 0 where
   pub results : kinds.results.items ≡ flat_map (numbers_in kinds.dump.now.elements) kinds.dump.now.elements
   pub moniker_edges : AreThose is_moniker_edge kinds.dump.now.elements kinds.moniker_edges.items
   pub result_pairs : kinds.result_pairs.items ≡ pairs_of result_pairs_of kinds.dump.now.elements
-  pub definitions : map placed_value kinds.definitions.items ≡ placed_by Definitions kinds.dump.now.elements
-  pub references : map placed_value kinds.references.items ≡ placed_by References kinds.dump.now.elements
+  pub definitions : map placed_values kinds.definitions.items ≡ placed_by Definitions kinds.dump.now.elements
+  pub references : map placed_values kinds.references.items ≡ placed_by References kinds.dump.now.elements
 
 -- the element was added to the list of its kind, and what it says by numbers
 pub record Takes (old : Kinds) (x : ElementValue) (new : Kinds) : Type 0 where
@@ -58,5 +58,5 @@ pub record Takes (old : Kinds) (x : ElementValue) (new : Kinds) : Type 0 where
   pub results : new.results.items ≡ old.results.items ++ numbers_in old.dump.now.elements x
   pub moniker_edges : map said new.moniker_edges.items ≡ map said old.moniker_edges.items ++ kept (is_moniker_edge x) x
   pub result_pairs : new.result_pairs.items ≡ old.result_pairs.items ++ pairs_in result_pairs_of old.dump.now.elements x
-  pub definitions : map placed_value new.definitions.items ≡ map placed_value old.definitions.items ++ placed_in Definitions old.dump.now.elements x
-  pub references : map placed_value new.references.items ≡ map placed_value old.references.items ++ placed_in References old.dump.now.elements x
+  pub definitions : map placed_values new.definitions.items ≡ map placed_values old.definitions.items ++ placed_in Definitions old.dump.now.elements x
+  pub references : map placed_values new.references.items ≡ map placed_values old.references.items ++ placed_in References old.dump.now.elements x
