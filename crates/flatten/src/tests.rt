@@ -143,13 +143,3 @@ fn key_texts(rt: HostRuntime) -> Result<(), Fail> {
     }
     Ok(())
 }
-
-#[test]
-fn keys_apart(rt: HostRuntime) -> Result<(), Fail> {
-    for (i, row) in KEYS.iter().enumerate() {
-        for other in &KEYS[i + 1..] {
-            assert!(rt; row.3 != other.3, "{} {}", row.0, row.1);
-        }
-    }
-    Ok(())
-}
