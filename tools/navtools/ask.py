@@ -1,69 +1,21 @@
-"""Asks for the definition, the references or the hover at a place. LINE and COLUMN count from 1, COLUMN in characters."""
+"""Asks the server, and prints places as compilers do: what stands at a place, from 1 and in characters, or the tags of a name."""
 
 import argparse
-import json
 import os
-import string
 import sys
 from typing import Any, Optional
-from urllib.parse import quote, unquote, urlencode
 
-from navtools.curl import PROJECT, request
+from navtools.curl import BadCall, NoReply, address, project_of, reply_of, request, server_of
+from navtools.places import Maps, lines_of, maps_of, path_of, place_line, place_of, units, uri_of
+from navtools.tags import folders_of, place_of_tag
 
-KEPT = "".join(c for c in string.punctuation if c not in "\"#<>?`{}%\\")
-
-
-def units(text: str) -> int:
-    """The length of a text in UTF-16 code units."""
-    return len(text.encode("utf-16-le", "surrogatepass")) // 2
-
-
-def characters(text: str, count: int) -> int:
-    """How many whole characters the first `count` UTF-16 code units of a line have; beyond its end units count as such."""
-    for index, character in enumerate(text):
-        if count <= 0:
-            return index
-        count -= units(character)
-    return len(text) + max(count, 0)
-
-
-def line_of(path: str, line: int) -> Optional[str]:
-    """A line of a file, counted from 1, without its end; None where there is none."""
-    with open(path, encoding="utf-8", newline="\n") as text:
-        lines = text.read().split("\n")
-    return lines[line - 1].removesuffix("\r") if 1 <= line <= len(lines) else None
-
-
-def uri_of(path: str, maps: list[tuple[str, str]]) -> str:
-    """The document's address: that of the first map whose folder has the file, else the file's own."""
-    path = os.path.abspath(path)
-    for root, folder in maps:
-        inside = os.path.relpath(path, os.path.abspath(folder))
-        if inside.split(os.sep)[0] != os.pardir:
-            return root.rstrip("/") + "/" + quote(inside, safe=KEPT)
-    return "file://" + quote(path, safe=KEPT)
-
-
-def path_of(uri: str, maps: list[tuple[str, str]]) -> str:
-    """The path of a document, from the folder that the call was made in where it lies there."""
-    path = unquote(uri[7:]) if uri.startswith("file:///") else uri
-    for root, folder in maps:
-        if uri.startswith(root.rstrip("/") + "/"):
-            path = os.path.abspath(os.path.join(folder, unquote(uri[len(root.rstrip("/")) + 1:])))
-            break
-    inside = os.path.relpath(path) if os.path.isabs(path) else path
-    return path if inside.startswith(os.pardir) else inside
-
-
-def place_line(place: dict[str, Any], maps: list[tuple[str, str]], utf16: bool) -> str:
-    """`path:line:column` of a place, from 1; with `utf16`, or where its file can't be read, in UTF-16 code units, else in characters."""
-    path, start = path_of(place["uri"], maps), place["start"]
-    column = start["character"]
-    try:
-        column = column if utf16 else characters(line_of(path, start["line"] + 1) or "", column)
-    except (OSError, UnicodeDecodeError):
-        pass
-    return f"{path}:{start['line'] + 1}:{column + 1}"
+KINDS = {
+    "definition": "where it's defined",
+    "declaration": "where it's declared, of a dump of profile 2",
+    "implementation": "where it's implemented, of a dump of profile 2",
+    "references": "where it's used",
+    "hover": "what is said of it",
+}
 
 
 def hover_text(contents: Any) -> str:
@@ -73,53 +25,89 @@ def hover_text(contents: Any) -> str:
     return contents if isinstance(contents, str) else contents["value"]
 
 
-def url_of(call: argparse.Namespace, maps: list[tuple[str, str]]) -> str:
-    """The request's address; raises ValueError with what is wrong of the call."""
-    if not PROJECT.fullmatch(call.project):
-        raise ValueError("a project is 1 to 64 characters of a-z 0-9 _ -")
-    text = line_of(call.file, call.line)
+def position_url(call: argparse.Namespace, maps: Maps) -> str:
+    """The address of a query at a position."""
+    lines = lines_of(call.file)
+    text = lines[call.line - 1] if 1 <= call.line <= len(lines) else None
     if text is None or not 1 <= call.column <= (units(text) if call.utf16 else len(text)) + 1:
-        raise ValueError(f"{call.file} has no line {call.line} with a column {call.column}")
+        raise BadCall(f"{call.file} has no line {call.line} with a column {call.column}")
     character = call.column - 1 if call.utf16 else units(text[:call.column - 1])
-    asked = {"uri": uri_of(call.file, maps), "line": call.line - 1, "character": character}
-    return f"{call.url.rstrip('/')}/projects/{call.project}/{call.what}?{urlencode(asked)}"
+    parameters = {"uri": uri_of(call.file, maps), "line": call.line - 1, "character": character}
+    if call.what == "references" and call.no_declaration:
+        parameters["declaration"] = "no"
+    return address(call.url, f"/projects/{call.project}/{call.what}", parameters)
 
 
-def show(reply: dict[str, Any], maps: list[tuple[str, str]], utf16: bool) -> int:
-    """Prints the reply of an answered query, a place of several projects once; answers 1 where it's empty."""
-    if "contents" in reply:
-        lines = [] if reply["contents"] is None else [hover_text(reply["contents"])]
-    else:
-        lines = list(dict.fromkeys(place_line(place, maps, utf16) for place in reply["places"]))
-    for line in lines:
-        print(line)
-    return 0 if lines else 1
+def names_url(call: argparse.Namespace) -> str:
+    """The address of a query for names."""
+    parameters = {"name": call.name} if call.prefix is None else {"prefix": call.prefix}
+    if not call.all_projects:
+        parameters["project"] = call.project
+    return address(call.url, "/names", parameters)
+
+
+def is_whole_file(place: dict[str, Any], file: str, maps: Maps) -> bool:
+    """Whether a place is all of the file."""
+    lines = lines_of(file)
+    last = max((number for number, line in enumerate(lines) if line), default=0)
+    start, end = ((place[name]["line"], place[name]["character"]) for name in ("start", "end"))
+    return path_of(place["uri"], maps) == os.path.abspath(file) and start == (0, 0) and end >= (last, units(lines[last]))
+
+
+def found_lines(call: argparse.Namespace, maps: Maps, folders: dict[str, str]) -> list[str]:
+    """What is printed of the answer, a place of several projects once."""
+    if call.what == "names":
+        tags = reply_of(request(names_url(call), []))["tags"]
+        places = [(tag, place_of_tag(tag, folders.get(tag["project"], os.curdir))) for tag in tags]
+        return [f"{place_line(place, call.utf16)}: {tag['name']}" for tag, place in places]
+    try:
+        reply = reply_of(request(position_url(call, maps), []))
+    except NoReply as fault:
+        raise NoReply(f"{fault}: {uri_of(call.file, maps)}") from None
+    if call.what == "hover":
+        return [] if reply["contents"] is None else [hover_text(reply["contents"])]
+    places = reply["places"]
+    if call.what != "references" and len(places) == 1 and is_whole_file(places[0], call.file, maps):
+        print(f"ask: nothing but a range over all of {call.file} covers this place", file=sys.stderr)
+    return list(dict.fromkeys(place_line(place_of(place, maps), call.utf16) for place in places))
+
+
+def words_parser() -> argparse.ArgumentParser:
+    """What the command line may be."""
+    parser = argparse.ArgumentParser(prog="ask", description=__doc__)
+    parser.add_argument("--map", action="append", default=[], metavar="URI=FOLDER", help="documents below URI are the files of FOLDER")
+    parser.add_argument("--tags", action="append", default=[], metavar="PROJECT=FOLDER", help="the tags file of PROJECT was made in FOLDER")
+    parser.add_argument("--utf16", action="store_true", help="COLUMN and the columns printed count UTF-16 code units, as those of VS Code do")
+    parser.add_argument("url", metavar="URL")
+    parser.add_argument("project", metavar="PROJECT")
+    kinds = parser.add_subparsers(dest="what", metavar="WHAT", required=True, help="what to ask for; each has --help")
+    for kind, text in KINDS.items():
+        one = kinds.add_parser(kind, help=text, description=f"At a place: {text}.")
+        if kind == "references":
+            one.add_argument("--no-declaration", action="store_true", help="without the declaration itself")
+        one.add_argument("file", metavar="FILE")
+        one.add_argument("line", metavar="LINE", type=int)
+        one.add_argument("column", metavar="COLUMN", type=int)
+    one = kinds.add_parser("names", help="the tags of a name", description="The tags of a name, or those whose names begin with a text.")
+    one.add_argument("--all-projects", action="store_true", help="those of all projects, and not of PROJECT alone")
+    text = one.add_mutually_exclusive_group(required=True)
+    text.add_argument("name", metavar="NAME", nargs="?")
+    text.add_argument("--prefix", metavar="TEXT")
+    return parser
 
 
 def main(words: Optional[list[str]] = None) -> int:
     """Reads the command line; answers 0 with an answer, 1 with an empty one, 2 at a fault."""
-    parser = argparse.ArgumentParser(prog="ask", description=__doc__)
-    parser.add_argument("--map", action="append", default=[], metavar="URI=FOLDER", help="documents below URI are the files of FOLDER")
-    parser.add_argument("--utf16", action="store_true", help="COLUMN and the columns printed count UTF-16 code units, as those of VS Code do")
-    parser.add_argument("url", metavar="URL")
-    parser.add_argument("project", metavar="PROJECT")
-    parser.add_argument("what", choices=["definition", "references", "hover"])
-    parser.add_argument("file", metavar="FILE")
-    parser.add_argument("line", metavar="LINE", type=int)
-    parser.add_argument("column", metavar="COLUMN", type=int)
-    call = parser.parse_args(words)
-    maps = [(uri, folder) for uri, _, folder in (text.partition("=") for text in call.map)]
+    call = words_parser().parse_args(words)
     try:
-        answer = request(url_of(call, maps), [])
-        if answer.curl != 0:
-            raise ValueError(answer.message or "no answer")
-        reply = json.loads(answer.body)
-        if answer.status != 200:
-            raise ValueError(f"{reply['fault']} {reply['text']}: {uri_of(call.file, maps)}")
-        return show(reply, maps, call.utf16)
+        call.url, call.project = server_of(call.url), project_of(call.project)
+        lines = found_lines(call, maps_of(call.map), folders_of(call.tags))
     except OSError as fault:
-        message = f"{fault.filename}: {fault.strerror}"
-    except (ValueError, KeyError) as fault:
-        message = str(fault)
-    print(f"ask: {message}", file=sys.stderr)
-    return 2
+        print(f"ask: {fault.filename}: {fault.strerror}", file=sys.stderr)
+        return 2
+    except (BadCall, NoReply) as fault:
+        print(f"ask: {fault}", file=sys.stderr)
+        return 2
+    for line in lines:
+        print(line)
+    return 0 if lines else 1

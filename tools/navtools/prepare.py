@@ -29,9 +29,13 @@ STRIPPED = {
 }
 WITH_EFFECT = {
     "vertex": {"metaData", "project", "document", "range", "resultSet", "definitionResult", "referenceResult", "hoverResult",
-               "moniker", "packageInformation", "$event", "declarationResult", "implementationResult"},
+               "moniker", "packageInformation", "$event"},
     "edge": {"contains", "next", "moniker", "packageInformation", "attach", "item", "textDocument/definition",
-             "textDocument/references", "textDocument/hover", "textDocument/declaration", "textDocument/implementation"},
+             "textDocument/references", "textDocument/hover"},
+}
+WITH_EFFECT_IN_TWO = {
+    "vertex": {"declarationResult", "implementationResult"},
+    "edge": {"textDocument/declaration", "textDocument/implementation"},
 }
 
 
@@ -55,6 +59,11 @@ class Survey:
     merged: dict[Id, Id] = field(default_factory=dict)
 
 
+def refuse_constant(text: str) -> None:
+    """Refuses NaN, Infinity and -Infinity, which aren't JSON."""
+    raise ValueError(text)
+
+
 def is_id(value: Any) -> bool:
     """Whether a JSON value has the form of an id."""
     return type(value) in (int, str)
@@ -76,7 +85,7 @@ def elements(source: BinaryIO, name: str, progress: bool) -> Iterator[tuple[byte
 def element_of(line: bytes, place: str) -> Element:
     """The element of a line; `place` begins the message where there is none."""
     try:
-        value = json.loads(line.decode("utf-8"))
+        value = json.loads(line.decode("utf-8"), parse_constant=refuse_constant)
     except (UnicodeDecodeError, ValueError, RecursionError):
         raise NotADump(f"{place}: not JSON") from None
     if isinstance(value, list):
@@ -214,44 +223,49 @@ def write_dump(source: BinaryIO, out: BinaryIO, name: str, survey: Survey, strip
     return count
 
 
-def summary(survey: Survey, written: int) -> list[str]:
-    """What was changed, and which limits of the server the prepared dump goes over."""
-    lines = [f"version {survey.version} -> {VERSION}; equal ranges merged {len(survey.merged)} of {len(survey.spans)}; "
-             f"elements {survey.elements} -> {written}"]
-    for what, number, most, code in (("elements", written, MOST_ELEMENTS, "L20"),
-                                     ("bytes", survey.body_bytes, MOST_BODY_BYTES, "H04"),
-                                     ("bytes in the longest line", survey.longest_line, MOST_LINE_BYTES, "L01")):
-        if number > most:
-            lines.append(f"over the limits: {number} {what}, the server takes {most} ({code})")
-    return lines
+def summary(survey: Survey, written: int) -> str:
+    """What was changed."""
+    return (f"version {survey.version} -> {VERSION}; equal ranges merged {len(survey.merged)} of {len(survey.spans)}; "
+            f"elements {survey.elements} -> {written}")
 
 
-def report(survey: Survey) -> list[str]:
-    """Which ranges were merged, and which labels have no effect; lines and characters count from 0."""
+def excesses(survey: Survey, written: int) -> list[str]:
+    """Which limits of the server the prepared dump goes over."""
+    return [f"over the limits: {number} {what}, the server takes {most} ({code})"
+            for what, number, most, code in (("elements", written, MOST_ELEMENTS, "L20"),
+                                             ("bytes", survey.body_bytes, MOST_BODY_BYTES, "H04"),
+                                             ("bytes in the longest line", survey.longest_line, MOST_LINE_BYTES, "L01"))
+            if number > most]
+
+
+def report(survey: Survey, profile: str) -> list[str]:
+    """Which ranges were merged, and which labels have no effect in the profile; lines and characters count from 0."""
     lines = []
     for own, kept in survey.merged.items():
         span, uri = survey.spans[own], survey.documents[survey.containers[own]]
         lines.append(f"merged: {uri} line {span[0]} character {span[1]}: range {json.dumps(own)} into {json.dumps(kept)}")
     for (kind, label), count in sorted(survey.labels.items()):
-        if label not in WITH_EFFECT[kind]:
+        if label not in WITH_EFFECT[kind] and not (profile == "2" and label in WITH_EFFECT_IN_TWO[kind]):
             lines.append(f"no effect: {kind} {label}, {count}")
     return lines
 
 
-def prepare(source: BinaryIO, name: str, target: str, strip: bool, full: bool) -> None:
-    """Prepares the dump in `source` into the file `target`, or onto the standard output where that is `-`."""
+def prepare(source: BinaryIO, name: str, call: argparse.Namespace) -> int:
+    """Prepares the dump in `source` into the file `call.output`, or onto the standard output where that is `-`; answers the exit status."""
     big = os.fstat(source.fileno()).st_size > PROGRESS_BYTES and sys.stderr.isatty()
-    survey = survey_dump(source, name, strip, big)
+    survey = survey_dump(source, name, call.strip, big)
     source.seek(0)
-    if target == "-":
-        written = write_dump(source, sys.stdout.buffer, name, survey, strip)
-    elif os.path.exists(target) and not os.path.isfile(target):
-        with open(target, "wb") as out:
-            written = write_dump(source, out, name, survey, strip)
+    if call.output == "-":
+        written = write_dump(source, sys.stdout.buffer, name, survey, call.strip)
+    elif os.path.exists(call.output) and not os.path.isfile(call.output):
+        with open(call.output, "wb") as out:
+            written = write_dump(source, out, name, survey, call.strip)
     else:
-        written = write_beside(source, name, os.path.realpath(target), survey, strip)
-    for line in summary(survey, written) + (report(survey) if full else []):
+        written = write_beside(source, name, os.path.realpath(call.output), survey, call.strip)
+    over = excesses(survey, written)
+    for line in [summary(survey, written), *over, *(report(survey, call.profile) if call.report else [])]:
         print(f"prepare-lsif: {line}", file=sys.stderr)
+    return 1 if over else 0
 
 
 def write_beside(source: BinaryIO, name: str, target: str, survey: Survey, strip: bool) -> int:
@@ -269,10 +283,11 @@ def write_beside(source: BinaryIO, name: str, target: str, survey: Survey, strip
 
 
 def main(words: Optional[list[str]] = None) -> int:
-    """Reads the command line and answers the exit status."""
+    """Reads the command line; answers 0, 1 where the prepared dump is over a limit of the server, and 2 where there is none."""
     parser = argparse.ArgumentParser(prog="prepare-lsif", description=__doc__, formatter_class=argparse.RawDescriptionHelpFormatter)
     parser.add_argument("--strip", action="store_true", help="drop folding ranges, document symbols, links and diagnostics")
     parser.add_argument("--report", action="store_true", help="say which ranges were merged and which labels have no effect")
+    parser.add_argument("--profile", choices=["1", "2"], default="1", help="of which profile the report speaks, 1 without it")
     parser.add_argument("input", metavar="IN", help="the indexer's dump, or - for the standard input")
     parser.add_argument("output", metavar="OUT", help="the prepared dump, or - for the standard output")
     call = parser.parse_args(words)
@@ -283,8 +298,7 @@ def main(words: Optional[list[str]] = None) -> int:
                 shutil.copyfileobj(given, copy)
                 copy.seek(0)
                 given = copy
-            prepare(given, name, call.output, call.strip, call.report)
-        return 0
+            return prepare(given, name, call)
     except BrokenPipeError:
         os.dup2(os.open(os.devnull, os.O_WRONLY), sys.stdout.fileno())
         return 141

@@ -9,8 +9,9 @@ import unittest
 from contextlib import redirect_stderr, redirect_stdout
 from typing import Any
 from unittest import mock
+from urllib.parse import quote
 
-from navtools import ask, curl, prepare, upload
+from navtools import ask, curl, places, prepare, tags, upload
 
 TOP = os.path.dirname(os.path.dirname(os.path.dirname(os.path.abspath(__file__))))
 RAW = os.path.join(TOP, "demo", "crate.raw.lsif")
@@ -78,7 +79,9 @@ class Prepare(unittest.TestCase):
             self.assertIn("merged: file:///a.rs line 0 character 4: range 6 into 3", said)
 
     def test_input_that_is_no_dump(self) -> None:
-        for body in (b"", b"hello\n", b"[]\n", b"{}\n", b'{"id":1,"type":"vertex","label":"document"}\n', b"\xff\n"):
+        for body in (b"", b"hello\n", b"[]\n", b"{}\n", b'{"id":1,"type":"vertex","label":"document"}\n', b"\xff\n",
+                     b'{"id":1,"type":"vertex","label":"metaData","version":"0.6.0","x":NaN}\n',
+                     b'{"id":1,"type":"vertex","label":"metaData","version":"0.6.0","x":[-Infinity]}\n'):
             status, out, said = self.prepared(body)
             self.assertEqual((status, out, said.count("\n")), (2, None, 1))
 
@@ -92,8 +95,16 @@ class Prepare(unittest.TestCase):
                            (b"".join([rows[0], *rows[20:41]]), ["1048577 bytes in the longest line, the server takes 1048576 (L01)"]),
                            (b"".join(rows[:9] + rows[42:]), [])):
             status, out, said = self.prepared(body)
-            self.assertEqual((status, out == body), (0, True))
+            self.assertEqual((status, out == body), (1 if over else 0, True))
             self.assertEqual([text.partition("limits: ")[2] for text in said.splitlines()[1:]], over)
+
+    def test_labels_of_a_profile(self) -> None:
+        rows = ['{"id":1,"type":"vertex","label":"metaData","version":"0.6.0"}', '{"id":2,"type":"vertex","label":"declarationResult"}',
+                '{"id":3,"type":"vertex","label":"textDocument/declaration"}', '{"id":4,"type":"edge","label":"textDocument/implementation","outV":2,"inV":3}']
+        other = "prepare-lsif: no effect: vertex textDocument/declaration, 1"
+        one = ["prepare-lsif: no effect: edge textDocument/implementation, 1", "prepare-lsif: no effect: vertex declarationResult, 1", other]
+        for words, labels in ([], one), (["--profile", "1"], one), (["--profile", "2"], [other]):
+            self.assertEqual(self.prepared("\n".join(rows).encode(), "--report", *words)[2].splitlines()[1:], labels)
 
     def test_a_broken_pipe(self) -> None:
         tool = os.path.join(TOP, "tools", "prepare-lsif")
@@ -103,57 +114,130 @@ class Prepare(unittest.TestCase):
         self.assertNotIn(b"Traceback", said)
 
 
-class Ask(unittest.TestCase):
+class Places(unittest.TestCase):
     TEXT = "e\u0301 \U0001f600x"
 
     def test_columns(self) -> None:
-        self.assertEqual([ask.units(self.TEXT[:n]) for n in range(6)], [0, 1, 2, 3, 5, 6])
-        self.assertEqual([ask.characters(self.TEXT, n) for n in (0, 1, 2, 3, 5, 6, 8)], [0, 1, 2, 3, 4, 5, 7])
+        self.assertEqual([places.units(self.TEXT[:n]) for n in range(6)], [0, 1, 2, 3, 5, 6])
+        self.assertEqual([places.characters(self.TEXT, n) for n in (0, 1, 2, 3, 5, 6, 8)], [0, 1, 2, 3, 4, 5, 7])
+
+    def test_addresses(self) -> None:
+        maps = places.maps_of(["file:///src/x=/tmp/x", "http://h/y/=/tmp/x/y=z"])
+        for uri, path in (("file:///a%20b/c+%C3%A9.rs", "/a b/c+\u00e9.rs"), ("file:///src/x/a.rs", "/tmp/x/a.rs"), ("file:///src/x/y%3Dz/a", "/tmp/x/y=z/a")):
+            self.assertEqual(places.path_of(uri, maps), path)
+            self.assertEqual(places.path_of(places.uri_of(path, maps), maps), path)
+        self.assertEqual(places.uri_of("/tmp/x/a b", maps), "file:///src/x/a%20b")
+        self.assertEqual([places.path_of(uri, maps) for uri in ("http://h/y/b", "http://h/b", "file://host/b")], ["/tmp/x/y=z/b", None, None])
+
+    def test_tags(self) -> None:
+        lines = ["int f;", "  /* a/b\\c */ f()", "f() $", "int f;", ""]
+        for address, fields, line in (("3", [], 2), ("/^int f;$/", [], 0), ("?^int f;$?", [], 3), ("4;/^int f;$/", [], 3), ("4;/a\\/b\\\\c/", [], 1),
+                                      ("/^int/", [], 0), ("/ f()$/", [], 1), ("/^f() \\$$/", [], 2), ("/gone/", [], 0), ("/gone/", [["line", "4"]], 3),
+                                      ("2;/gone/", [["line", "4"]], 1), ("/", [["line", "0"]], 0)):
+            self.assertEqual(tags.line_at({"address": address, "fields": fields}, lines), line, address)
+
+
+class Ask(unittest.TestCase):
+    AT = ["http://127.0.0.1:1", "app"]
+
+    def asked(self, words: list[str], reply: dict[str, Any]) -> tuple[int, str, str, str]:
+        """The status, the address that was asked, and what was printed of a reply."""
+        answer = curl.Answer(0, 404 if "fault" in reply else 200, json.dumps(reply).encode(), "")
+        with mock.patch.object(ask, "request", return_value=answer) as request, redirect_stdout(io.StringIO()) as said, \
+                redirect_stderr(io.StringIO()) as warned:
+            status = ask.main(words)
+        return status, request.call_args.args[0], said.getvalue(), warned.getvalue()
+
+    def place(self, file: str, start: tuple[int, int], end: tuple[int, int]) -> dict[str, Any]:
+        """An answer with one place, which two projects have."""
+        place = {"uri": places.uri_of(file, []), **{name: {"line": at[0], "character": at[1]} for name, at in (("start", start), ("end", end))}}
+        return {"places": [{**place, "project": project} for project in ("app", "other")]}
 
     def test_columns_of_a_file(self) -> None:
         with tempfile.NamedTemporaryFile("w", encoding="utf-8", newline="") as file:
-            file.write(f"first\r\n{self.TEXT}\r\n")
+            file.write(f"first\r\n{Places.TEXT}\r\n")
             file.flush()
             for words, column, character in ([], 4, 3), ([], 5, 5), ([], 6, 6), (["--utf16"], 6, 5), (["--utf16"], 7, 6):
-                place = {"project": "app", "uri": ask.uri_of(file.name, []), "start": {"line": 1, "character": character},
-                         "end": {"line": 1, "character": character}}
-                asked, said = self.asked([*words, "http://127.0.0.1:1", "app", "definition", file.name, "2", str(column)], place)
-                self.assertEqual(asked.rsplit("&", 2)[1:], ["line=1", f"character={character}"])
+                status, asked, said, _ = self.asked([*words, *self.AT, "definition", file.name, "2", str(column)],
+                                                    self.place(file.name, (1, character), (1, character)))
+                self.assertEqual((status, asked.rsplit("&", 2)[1:]), (0, ["line=1", f"character={character}"]))
                 self.assertEqual((said.count("\n"), said.rsplit(":", 2)[1:]), (1, ["2", f"{column}\n"]))
             for words, column in ([], 7), (["--utf16"], 8), ([], 0):
-                with redirect_stderr(io.StringIO()) as said:
-                    self.assertEqual(ask.main([*words, "http://127.0.0.1:1", "app", "hover", file.name, "2", str(column)]), 2)
-                self.assertIn(f"has no line 2 with a column {column}\n", said.getvalue())
+                with redirect_stderr(io.StringIO()) as warned:
+                    self.assertEqual(ask.main([*words, *self.AT, "hover", file.name, "2", str(column)]), 2)
+                self.assertIn(f"has no line 2 with a column {column}\n", warned.getvalue())
 
-    def asked(self, words: list[str], place: dict[str, Any]) -> tuple[str, str]:
-        """The address that was asked, and what was printed of an answer with one place, which two projects have."""
-        answer = curl.Answer(0, 200, json.dumps({"places": [place, {**place, "project": "other"}]}).encode(), "")
-        with mock.patch.object(ask, "request", return_value=answer) as request, redirect_stdout(io.StringIO()) as said:
-            self.assertEqual(ask.main(words), 0)
-        return request.call_args.args[0], said.getvalue()
+    def test_each_request(self) -> None:
+        with tempfile.NamedTemporaryFile() as file:
+            file.write(b"f();\nf();\n")
+            file.flush()
+            self.each_request(file.name)
 
-    def test_addresses(self) -> None:
-        self.assertEqual(ask.uri_of("/a b/c+é.rs", []), "file:///a%20b/c+%C3%A9.rs")
-        maps = [("file:///src/x", "/tmp/x")]
-        self.assertEqual((ask.uri_of("/tmp/x/a.rs", maps), ask.path_of("file:///src/x/a.rs", maps)), ("file:///src/x/a.rs", "/tmp/x/a.rs"))
+    def each_request(self, name: str) -> None:
+        at = [name, "1", "1"]
+        uri = "uri=" + quote(places.uri_of(name, []), safe="") + "&line=0&character=0"
+        found, tag = self.place(name, (1, 0), (1, 1)), {"name": "f", "file": "no/file", "address": "3", "fields": [], "project": "app"}
+        place = f"{name}:2:1\n"
+        for words, path, reply, status, said in (
+                (["definition", *at], f"/projects/app/definition?{uri}", found, 0, place),
+                (["declaration", *at], f"/projects/app/declaration?{uri}", found, 0, place),
+                (["implementation", *at], f"/projects/app/implementation?{uri}", {"places": []}, 1, ""),
+                (["references", *at], f"/projects/app/references?{uri}", found, 0, place),
+                (["references", "--no-declaration", *at], f"/projects/app/references?{uri}&declaration=no", found, 0, place),
+                (["hover", *at], f"/projects/app/hover?{uri}", {"contents": [{"language": "c", "value": "f"}, "d"]}, 0, "f\n\nd\n"),
+                (["hover", *at], f"/projects/app/hover?{uri}", {"contents": None}, 1, ""),
+                (["names", "f"], "/names?name=f&project=app", {"tags": [tag]}, 0, "no/file:3:1: f\n"),
+                (["names", "--prefix", "a b"], "/names?prefix=a+b&project=app", {"tags": []}, 1, ""),
+                (["names", "--all-projects", "f"], "/names?name=f", {"tags": [{**tag, "project": "lib"}]}, 0, "/lib/no/file:3:1: f\n")):
+            with self.subTest(words):
+                self.assertEqual(self.asked(["--tags", "lib=/lib", *self.AT, *words], reply), (status, self.AT[0] + path, said, ""))
+
+    def test_a_place_that_is_the_whole_file(self) -> None:
+        with tempfile.NamedTemporaryFile("w") as file:
+            file.write("mod a;\nab\n\n")
+            file.flush()
+            for what, end, warns in (("definition", (3, 0), True), ("definition", (1, 2), True), ("definition", (1, 1), False), ("references", (3, 0), False)):
+                reply = self.place(file.name, (0, 0), end)
+                status, _, said, warned = self.asked([*self.AT, what, file.name, "2", "1"], {"places": reply["places"][:1]})
+                self.assertEqual((status, said, warned), (0, f"{file.name}:1:1\n", f"ask: nothing but a range over all of {file.name} covers this place\n" * warns))
+
+    def test_what_is_refused(self) -> None:
+        reply = self.asked([*self.AT, "hover", RAW, "1", "1"], {"fault": "D01", "text": "project has no dump"})
+        self.assertEqual((reply[0], reply[3]), (2, f"ask: D01 project has no dump: {places.uri_of(RAW, [])}\n"))
+        with tempfile.NamedTemporaryFile() as file:
+            file.write(b"\xff")
+            file.flush()
+            rows = [(words, f"not the address of a server, as http://127.0.0.1:8080: {words[0]!r}") for words in (
+                ["http://[::1", "app", "names", "f"], ["127.0.0.1:8080", "app", "names", "f"], ["http://h:99999", "app", "names", "f"],
+                ["http://h/?a", "app", "names", "f"], ["http://h /", "app", "names", "f"], ["ftp://h", "app", "names", "f"])]
+            rows += [(["http://h", "A b", "names", "f"], "a project is 1 to 64 characters of a-z 0-9 _ -, not 'A b'"),
+                     (["--tags", "a", *self.AT, "names", "f"], "--tags takes PROJECT=FOLDER, neither of them empty"),
+                     (["--tags", "=b", *self.AT, "names", "f"], "a project is 1 to 64 characters of a-z 0-9 _ -, not ''"),
+                     ([*self.AT, "hover", file.name, "1", "1"], f"{file.name}: not UTF-8"),
+                     ([*self.AT, "hover", "no/file", "1", "1"], "no/file: No such file or directory")]
+            rows += [(["--map", text, *self.AT, "hover", RAW, "1", "1"], "--map takes URI=FOLDER, neither of them empty") for text in ("foo", "=foo", "foo=")]
+            for words, message in rows:
+                with self.subTest(words), redirect_stderr(io.StringIO()) as warned:
+                    self.assertEqual((ask.main(words), warned.getvalue()), (2, f"ask: {message}\n"))
 
 
 class Upload(unittest.TestCase):
     def test_the_key(self) -> None:
         with tempfile.NamedTemporaryFile() as file:
-            self.assertEqual(upload.key_of(file.name), "e3b0c44298fc1c149afbf4c8996fb924")
+            self.assertEqual(upload.made_key(file.name, None), "e3b0c44298fc1c149afbf4c8996fb924")
             file.write(b"abc")
             file.flush()
-            self.assertEqual([upload.key_of(file.name) for _ in range(2)], ["ba7816bf8f01cfea414140de5dae2223"] * 2)
+            self.assertEqual([upload.made_key(file.name, profile) for profile in (None, "1", "2")],
+                             ["ba7816bf8f01cfea414140de5dae2223", "ba7816bf8f01cfea414140de5dae2223", "ba7816bf8f01cfea414140de5dae2223-2"])
 
-    def uploaded(self, words: list[str], *ends: tuple[int, int]) -> tuple[int, list[list[str]], list[float]]:
+    def uploaded(self, words: list[str], *ends: tuple[int, int], part: str = "tags") -> tuple[int, list[list[str]], list[float]]:
         """The status of an upload of `abc` whose requests end so, by curl's status and the reply's; the calls of curl, and the waits."""
         done = [subprocess.CompletedProcess([], status, b"{}\n%03d" % code, b"no answer") for status, code in ends]
         with tempfile.NamedTemporaryFile() as file, mock.patch("subprocess.run", side_effect=done) as run, mock.patch("time.sleep") as sleep, \
                 redirect_stdout(io.StringIO()), redirect_stderr(io.StringIO()):
             file.write(b"abc")
             file.flush()
-            status = upload.main("tags", [*words, "http://127.0.0.1:1/", "app", file.name])
+            status = upload.main(part, [*words, "http://127.0.0.1:1/", "app", file.name])
             calls = [[word.replace(file.name, "FILE") for word in call.args[0]] for call in run.call_args_list]
         return status, calls, [call.args[0] for call in sleep.call_args_list]
 
@@ -163,6 +247,8 @@ class Upload(unittest.TestCase):
         self.assertEqual(call[-5:], ["--header", "Expect:", "--upload-file", "FILE",
                                      "http://127.0.0.1:1/projects/app/tags?key=ba7816bf8f01cfea414140de5dae2223"])
         self.assertEqual(self.uploaded(["--key", "k1"], (0, 200))[1][0][-1], "http://127.0.0.1:1/projects/app/tags?key=k1")
+        self.assertEqual(self.uploaded(["--profile", "2"], (0, 200), part="lsif")[1][0][-1],
+                         "http://127.0.0.1:1/projects/app/lsif?key=ba7816bf8f01cfea414140de5dae2223-2&profile=2")
 
     def test_sending_again(self) -> None:
         for end in (7, 0), (52, 0), (56, 0), (28, 0), (0, 503):
@@ -176,9 +262,13 @@ class Upload(unittest.TestCase):
             self.assertEqual((self.uploaded(["--retry"], end)[0], len(self.uploaded(["--retry"], end)[1])), (status, 1))
 
     def test_what_is_refused(self) -> None:
-        for words in ["http://127.0.0.1:1", "No Project", RAW], ["http://127.0.0.1:1", "app", "no/file"]:
+        for words, message in ((["http://h", "No Project", RAW], "a project is 1 to 64 characters of a-z 0-9 _ -, not 'No Project'"),
+                               (["http://h", "app", "no/file"], "no/file: No such file or directory"),
+                               (["http://[::1", "app", RAW], "not the address of a server, as http://127.0.0.1:8080: 'http://[::1'"),
+                               (["--key", "a b", "http://h", "app", RAW], "a key is 1 to 64 characters of A-Z a-z 0-9 _ -, not 'a b'"),
+                               (["--key", "", "http://h", "app", RAW], "a key is 1 to 64 characters of A-Z a-z 0-9 _ -, not ''")):
             with redirect_stderr(io.StringIO()) as said:
-                self.assertEqual((upload.main("lsif", words), said.getvalue().count("\n")), (2, 1))
+                self.assertEqual((upload.main("lsif", words), said.getvalue()), (2, f"upload-lsif: {message}\n"))
 
 
 if __name__ == "__main__":

@@ -1,0 +1,93 @@
+"""Documents and the files that they are, and columns in characters and in UTF-16 code units."""
+
+import os
+import string
+from dataclasses import dataclass
+from typing import Any, Optional
+from urllib.parse import quote, unquote
+
+from navtools.curl import BadCall
+
+KEPT = "".join(c for c in string.punctuation if c not in "\"#<>?`{}%\\")
+Maps = list[tuple[str, str]]
+
+
+def units(text: str) -> int:
+    """The length of a text in UTF-16 code units."""
+    return len(text.encode("utf-16-le", "surrogatepass")) // 2
+
+
+def characters(text: str, count: int) -> int:
+    """How many whole characters the first `count` UTF-16 code units of a line have; beyond its end units count as such."""
+    for index, character in enumerate(text):
+        if count <= 0:
+            return index
+        count -= units(character)
+    return len(text) + max(count, 0)
+
+
+def lines_of(path: str) -> list[str]:
+    """The lines of a file without their ends; the last one is empty where a line feed ends the file."""
+    with open(path, encoding="utf-8", newline="\n") as text:
+        try:
+            return [line.removesuffix("\r") for line in text.read().split("\n")]
+        except UnicodeDecodeError:
+            raise BadCall(f"{path}: not UTF-8") from None
+
+
+def maps_of(texts: list[str]) -> Maps:
+    """The pairs of a URI and a folder, each written as `URI=FOLDER`."""
+    maps = [(uri.rstrip("/"), os.path.abspath(folder)) for uri, _, folder in (text.partition("=") for text in texts) if uri and folder]
+    if len(maps) != len(texts):
+        raise BadCall("--map takes URI=FOLDER, neither of them empty")
+    return maps
+
+
+def uri_of(path: str, maps: Maps) -> str:
+    """The document's address: that of the first map whose folder has the file, else the file's own."""
+    path = os.path.abspath(path)
+    for root, folder in maps:
+        inside = os.path.relpath(path, folder)
+        if inside.split(os.sep)[0] != os.pardir:
+            return root + "/" + quote(inside, safe=KEPT)
+    return "file://" + quote(path, safe=KEPT)
+
+
+def path_of(uri: str, maps: Maps) -> Optional[str]:
+    """The whole path of a document's file; None where its address is no file's."""
+    for root, folder in maps:
+        if uri.startswith(root + "/"):
+            return os.path.normpath(os.path.join(folder, unquote(uri[len(root) + 1:])))
+    return unquote(uri[7:]) if uri.startswith("file:///") else None
+
+
+def shown(path: str) -> str:
+    """A path as it's printed: from the folder that the call was made in where the file lies there."""
+    inside = os.path.relpath(path)
+    return path if inside.split(os.sep)[0] == os.pardir else inside
+
+
+@dataclass(frozen=True)
+class Place:
+    """A place in a file, or in a document that is no file; the line and the character count from 0, the character in UTF-16 code units."""
+
+    name: str
+    line: int
+    character: int
+
+
+def place_of(found: dict[str, Any], maps: Maps) -> Place:
+    """The start of a place that the server found."""
+    return Place(path_of(found["uri"], maps) or found["uri"], found["start"]["line"], found["start"]["character"])
+
+
+def place_line(place: Place, utf16: bool) -> str:
+    """`path:line:column` of a place, from 1; with `utf16`, or where its file can't be read, in UTF-16 code units, else in characters."""
+    column = place.character
+    if not utf16:
+        try:
+            column = characters(lines_of(place.name)[place.line], column)
+        except (OSError, BadCall, IndexError):
+            pass
+    name = shown(place.name) if os.path.isabs(place.name) else place.name
+    return f"{name}:{place.line + 1}:{column + 1}"

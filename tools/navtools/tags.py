@@ -1,0 +1,61 @@
+"""Tags that the server found, and the places that their addresses lead to (tags(5))."""
+
+import os
+import re
+from typing import Any, Optional
+
+from navtools.curl import BadCall, project_of
+from navtools.places import Place, lines_of, units
+
+ADDRESS = re.compile(r"(?P<line>[0-9]+)?;?(?:(?P<mark>[/?])(?P<pattern>.*)(?P=mark))?", re.DOTALL)
+
+
+def folders_of(texts: list[str]) -> dict[str, str]:
+    """The folder in which each project's tags file was made, written as `PROJECT=FOLDER`."""
+    folders = {}
+    for project, _, folder in (text.partition("=") for text in texts):
+        if not folder:
+            raise BadCall("--tags takes PROJECT=FOLDER, neither of them empty")
+        folders[project_of(project)] = os.path.abspath(folder)
+    return folders
+
+
+def line_by(pattern: str, lines: list[str], first: int, backwards: bool) -> Optional[int]:
+    """The line that a pattern finds, from a line on, or from the end back: `^` at its beginning and `$` at its end alone are more than themselves."""
+    at_end = re.search(r"(?<!\\)(\\\\)*\$$", pattern) is not None
+    text = re.sub(r"\\(.)", r"\1", pattern.removeprefix("^")[:-1 if at_end else None])
+    order = range(len(lines) - 1, -1, -1) if backwards else [*range(first, len(lines)), *range(first)]
+    for index in order:
+        line = lines[index]
+        if pattern.startswith("^"):
+            found = line == text if at_end else line.startswith(text)
+        else:
+            found = line.endswith(text) if at_end else text in line
+        if found:
+            return index
+    return None
+
+
+def line_at(tag: dict[str, Any], lines: list[str]) -> int:
+    """The line of a tag in its file, from 0: by the address, else by the field `line`, else the first."""
+    parts = ADDRESS.fullmatch(tag["address"])
+    first = int(parts["line"]) - 1 if parts and parts["line"] else None
+    if parts and parts["mark"]:
+        found = line_by(parts["pattern"], lines, min(first or 0, len(lines)), parts["mark"] == "?")
+        if found is not None:
+            return found
+    if first is None:
+        first = next((int(value) - 1 for name, value in tag["fields"] if name == "line" and value.isdecimal()), 0)
+    return max(first, 0)
+
+
+def place_of_tag(tag: dict[str, Any], folder: str) -> Place:
+    """The place of a tag's name, whose file is named from a folder; the beginning of the line where the name isn't on it."""
+    path = os.path.normpath(os.path.join(folder, tag["file"]))
+    try:
+        lines = lines_of(path)
+    except (OSError, BadCall):
+        lines = []
+    line = line_at(tag, lines)
+    before, name, _ = (lines[line] if line < len(lines) else "").partition(tag["name"])
+    return Place(path, line, units(before) if name else 0)
