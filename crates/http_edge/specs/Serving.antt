@@ -1,5 +1,5 @@
 -- What serving a stream reads, answers and writes.
-use Rattle.std.specs.Prelude.{◌≡◌, ◌≢◌, ℕ, ◌+◌, ◌⊎◌, List, [], ◌∷◌, ◌++◌, length, Option, Some, None, Result, Ok, Err, ⊤}
+use Rattle.std.specs.Prelude.{◌≡◌, ◌≢◌, ℕ, ◌+◌, ◌⊎◌, Bool, List, [], ◌∷◌, ◌++◌, length, Option, Some, None, Result, Ok, Err, ⊤}
 use Rattle.lsif.specs.Streams.{Output, Moves, AtEnd, SameCounts, OneFailure, OneZeroWrite}
 use Rattle.http_edge.specs.Requests.{MessageValue, request, refused}
 use Rattle.tables.specs.State.{State}
@@ -26,7 +26,7 @@ StopsWell limit bytes messages left =
 -- ---- answers
 
 -- a message may have this answer: a request the machine's reply; a refusal itself, or in its place that memory ran out
-abbrev pub MayAnswer : Type 0 → State → MessageValue → AnswerValue → Type 0
+abbrev pub MayAnswer : Bool → State → MessageValue → AnswerValue → Type 0
 MayAnswer store_may_refuse m (request q) (replied r) = MayReply store_may_refuse m q r
 MayAnswer store_may_refuse m (request q) (turned_away refusal) = ⊥
 MayAnswer store_may_refuse m (refused refusal) (replied r) = r ≡ out_of_memory
@@ -45,7 +45,7 @@ left_after m states (request q) (turned_away refusal) = states
 left_after m states (refused refusal) answer = states
 
 -- the messages may have these answers, one after the other, and then the machine is in that state
-abbrev pub Run : Type 0 → State → List MessageValue → List AnswerValue → State → Type 0
+abbrev pub Run : Bool → State → List MessageValue → List AnswerValue → State → Type 0
 Run store_may_refuse m [] [] n = n ≡ m
 Run store_may_refuse m (message ∷ messages) (answer ∷ answers) n =
     MayAnswer store_may_refuse m message answer × Run store_may_refuse (answered m message answer) messages answers n
@@ -72,7 +72,7 @@ IsBegun limit bytes messages left =
 -- what a call that serves at most so many requests reads, answers and writes, from one state of the machine to another: the
 -- messages that it reads, and their answers; where the writer failed, the last answer was cut
 abbrev pub Serves :
-    Type 0 → ℕ → State → Option (List ℕ) → Option (List ℕ) → Output → Output → List MessageValue → List AnswerValue → State → Result ℕ ServeFault → Type 0
+    Bool → ℕ → State → Option (List ℕ) → Option (List ℕ) → Output → Output → List MessageValue → List AnswerValue → State → Result ℕ ServeFault → Type 0
 Serves store_may_refuse limit m left left' output output' messages answers n (Ok count) =
     (bytes : List ℕ) × Moves left left' bytes × StopsWell limit bytes messages left' × (count ≡ length messages)
     × Run store_may_refuse m messages answers n × Writes output (texts answers) output'

@@ -149,13 +149,13 @@ struct Counting {
 }
 
 impl Desk for Counting {
-    ghost use Rattle.std.specs.Prelude.{⊤};
+    ghost use Rattle.std.specs.Prelude.{true};
 
     ghost stands = { λ _ _. ⊥ };
 
     ghost may_leave = { λ _ _. ⊥ };
 
-    ghost store_may_refuse = { ⊤ };
+    ghost store_may_refuse = { true };
 
     fn apply(&mut self, _: &Command<'_>) -> Reply {
         self.commands = self.commands.saturating_add(1);
