@@ -3,7 +3,8 @@ use Rattle.std.specs.Prelude.{◌≡◌, ◌≢◌, ℕ, ◌+◌, ◌⊎◌, Boo
 use Rattle.lsif.specs.Streams.{Output, Moves, AtEnd, SameCounts, OneFailure, OneZeroWrite}
 use Rattle.http_edge.specs.Requests.{MessageValue, request, refused}
 use Rattle.tables.specs.State.{State}
-use Rattle.desk.specs.Reply.{out_of_memory}
+use Rattle.desk.specs.Reply.{ReplyValue, out_of_memory}
+use Rattle.desk.specs.Requests.{RequestValue}
 use Rattle.desk.specs.Runs.{MayReply, moved, left}
 use Rattle.lsif.specs.Sending.{Writes, WritesTo}
 use Rattle.std.specs.List.{flat_map}
@@ -57,6 +58,19 @@ abbrev pub left_by : State → List State → List MessageValue → List AnswerV
 left_by m states (message ∷ messages) (answer ∷ answers) = left_by (answered m message answer) (left_after m states message answer) messages answers
 left_by m states [] answers = states
 left_by m states (message ∷ messages) [] = states
+
+-- the requests among the messages, and the replies to them among the answers
+abbrev pub requests_in : List MessageValue → List RequestValue
+requests_in [] = []
+requests_in (request q ∷ messages) = q ∷ requests_in messages
+requests_in (refused refusal ∷ messages) = requests_in messages
+
+abbrev pub replies_in : List MessageValue → List AnswerValue → List ReplyValue
+replies_in (request q ∷ messages) (replied r ∷ answers) = r ∷ replies_in messages answers
+replies_in (request q ∷ messages) (turned_away refusal ∷ answers) = replies_in messages answers
+replies_in (refused refusal ∷ messages) (answer ∷ answers) = replies_in messages answers
+replies_in (message ∷ messages) [] = []
+replies_in [] answers = []
 
 -- the answers as they're written
 abbrev pub texts : List AnswerValue → List ℕ
