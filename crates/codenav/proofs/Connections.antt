@@ -1,5 +1,5 @@
 -- Connections of a server, one after the other.
-use Rattle.std.proofs.Common.{ℕ, List, [], Option, None, Err, Result, refl}
+use Rattle.std.proofs.Common.{ℕ, Bool, List, [], Option, None, Err, Result, refl}
 use Rattle.tables.specs.State.{State}
 use Rattle.lsif.specs.Streams.{Output}
 use Rattle.http_edge.specs.Serving.{Serves}
@@ -14,9 +14,9 @@ unheard = record { messages = []; answers = [] }
 abbrev unknown : Output
 unknown = record { taken = None; failures = 0; zero_writes = 0 }
 
-pub stays : (store_may_refuse : Type 0) (m : State) → ServesConnection store_may_refuse m unheard m
+pub stays : (store_may_refuse : Bool) (m : State) → ServesConnection store_may_refuse m unheard m
 stays store_may_refuse m = (None, None, unknown, unknown, Err Memory, (refl, refl, refl, refl, refl))
 
-pub serves : (store_may_refuse : Type 0) (m n : State) (c : ConnectionValue) (left left' : Option (List ℕ)) (output output' : Output) (result : Result ℕ ServeFault)
+pub serves : (store_may_refuse : Bool) (m n : State) (c : ConnectionValue) (left left' : Option (List ℕ)) (output output' : Output) (result : Result ℕ ServeFault)
     → Serves store_may_refuse most_requests m left left' output output' c.messages c.answers n result → ServesConnection store_may_refuse m c n
 serves store_may_refuse m n c left left' output output' result h = (left, left', output, output', result, h)

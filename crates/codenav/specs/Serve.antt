@@ -1,5 +1,5 @@
 -- What `codenav serve` answers its connections.
-use Rattle.std.specs.Prelude.{◌≡◌, ℕ, ◌+◌, ◌-◌, ◌<◌, min, nat_lt, List, [], ◌∷◌, Option, Some, None, Result, Ok, Err, if◌then◌else◌}
+use Rattle.std.specs.Prelude.{◌≡◌, ℕ, ◌+◌, ◌-◌, ◌<◌, min, nat_lt, Bool, List, [], ◌∷◌, Option, Some, None, Result, Ok, Err, if◌then◌else◌}
 use Rattle.tables.specs.State.{State}
 use Rattle.lsif.specs.Streams.{Output}
 use Rattle.http_edge.specs.Replies.{AnswerValue}
@@ -20,14 +20,14 @@ pub record ConnectionValue : Type 0 where
 
 -- a connection takes the machine from one state to another: its one request is served, as far as it can be read and its reply be
 -- written
-abbrev pub ServesConnection : Type 0 → State → ConnectionValue → State → Type 0
+abbrev pub ServesConnection : Bool → State → ConnectionValue → State → Type 0
 ServesConnection store_may_refuse m c n =
     (left : Option (List ℕ)) × (left' : Option (List ℕ)) × (output : Output) × (output' : Output) × (result : Result ℕ ServeFault)
     × Serves store_may_refuse most_requests m left left' output output' c.messages c.answers n result
 
 -- connections, the newest first, take it from one state to another: each is served from the state in which the one before
 -- it ended
-abbrev pub ServesEach : Type 0 → State → List ConnectionValue → State → Type 0
+abbrev pub ServesEach : Bool → State → List ConnectionValue → State → Type 0
 ServesEach store_may_refuse m [] n = n ≡ m
 ServesEach store_may_refuse m (c ∷ before) n =
     (mid : State) × ServesEach store_may_refuse m before mid × ServesConnection store_may_refuse mid c n

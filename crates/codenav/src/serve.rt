@@ -1,5 +1,5 @@
 //! `codenav serve`: the replies to the requests of connections.
-ghost use Rattle.std.specs.Prelude.{◌≡◌, ◌+◌, ◌-◌, ◌^◌, ◌<◌, List, Err, IfErr, length};
+ghost use Rattle.std.specs.Prelude.{◌≡◌, ◌+◌, ◌-◌, ◌^◌, ◌<◌, false, List, Err, IfErr, length};
 ghost use Rattle.tables.specs.State.{State, nothing};
 ghost use Rattle.lsif.specs.Streams.{CanCount};
 ghost use Rattle.http_edge.specs.Serving.{CountsRead, CountsWrite, Serves, left_by};
@@ -178,7 +178,7 @@ where
     L::Stream: OpenStream + Read + Write,
     requires { listener.old.accepted + requests < 2 ^ 64 }
     ensures { (connections : List ConnectionValue) × (n : State) × CountsServed requests (length connections) listener.old.accepted result listener.new.accepted
-        × ServesEach ⊥ nothing connections n }
+        × ServesEach false nothing connections n }
 {
     let mut desk = PlainDesk::new(alloc);
     serve_connections(alloc, &mut desk, clock, limits, listener, requests)

@@ -84,12 +84,12 @@ abbrev pub after_stop : LeftValue → Moment → Moment
 after_stop l t = record { now = l.state; left = record { state = l.state; commands = [] } ∷ []; counted = l.commands ++ t.counted }
 
 -- one event more; where a store may refuse, that may be the reply
-abbrev pub Goes : Type 0 → Moment → Event → Moment → Type 0
+abbrev pub Goes : Bool → Moment → Event → Moment → Type 0
 Goes store_may_refuse t (sent c r) u = MayReply store_may_refuse t.now (command c) r × (u ≡ after_reply (is_refusal r) c t)
 Goes store_may_refuse t stop u = (l : LeftValue) × Contains t.left l × (u ≡ after_stop l t)
 
 -- a life from the empty state: its events, and the moment to which they lead
-abbrev pub Life : Type 0 → List Event → Moment → Type 0
+abbrev pub Life : Bool → List Event → Moment → Type 0
 Life store_may_refuse [] u = u ≡ first_moment
 Life store_may_refuse (e ∷ es) u = (t : Moment) × Life store_may_refuse es t × Goes store_may_refuse t e u
 
@@ -99,6 +99,7 @@ Life store_may_refuse (e ∷ es) u = (t : Moment) × Life store_may_refuse es t 
 pub record IsPlain (t : Moment) : Type 0 where
   pub dump : (project : List ℕ) → t.now.dump project ≡ plain_dump (once t.counted) project
   pub tags : (project : List ℕ) → t.now.tags project ≡ plain_tags (once t.counted) project
+  pub kept : (project key : List ℕ) → t.now.kept project key ≡ plain_kept (once t.counted) project key
 
 -- the events with those of a run; a query is none
 abbrev pub with_run : List RequestValue → List ReplyValue → List Event → List Event

@@ -1,5 +1,5 @@
 -- Runs of the machine, with refusals in between, because memory ran out or the store refused; and what a stop may leave.
-use Rattle.std.specs.Prelude.{◌≡◌, ◌⊎◌, List, [], ◌∷◌, ◌++◌, if◌then◌else◌}
+use Rattle.std.specs.Prelude.{◌≡◌, ◌⊎◌, Bool, true, List, [], ◌∷◌, ◌++◌, if◌then◌else◌}
 use Rattle.desk.specs.Answers.{Answers}
 use Rattle.desk.specs.Machine.{reply_to, after, is_new}
 use Rattle.tables.specs.State.{State}
@@ -12,8 +12,8 @@ Replies m (command c) r = r ≡ reply_to m c
 Replies m (query q) r = Answers m q r
 
 -- the machine may give this reply: its own, or that memory was refused, or, where the store may refuse, that it did
-abbrev pub MayReply : Type 0 → State → RequestValue → ReplyValue → Type 0
-MayReply store_may_refuse m q r = (store_may_refuse × (r ≡ store_refused)) ⊎ (r ≡ out_of_memory) ⊎ Replies m q r
+abbrev pub MayReply : Bool → State → RequestValue → ReplyValue → Type 0
+MayReply store_may_refuse m q r = ((store_may_refuse ≡ true) × (r ≡ store_refused)) ⊎ (r ≡ out_of_memory) ⊎ Replies m q r
 
 -- the state after this reply: a refusal leaves it
 abbrev pub moved : State → RequestValue → ReplyValue → State
@@ -21,7 +21,7 @@ moved m (command c) r = if is_refusal r then m else after m c
 moved m (query q) r = m
 
 -- the machine may give these replies to these requests, one after another, and is then in this state
-abbrev pub Run : Type 0 → State → List RequestValue → List ReplyValue → State → Type 0
+abbrev pub Run : Bool → State → List RequestValue → List ReplyValue → State → Type 0
 Run store_may_refuse m [] [] n = n ≡ m
 Run store_may_refuse m (q ∷ qs) (r ∷ rs) n = MayReply store_may_refuse m q r × Run store_may_refuse (moved m q r) qs rs n
 Run store_may_refuse m [] (r ∷ rs) n = ⊥

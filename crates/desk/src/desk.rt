@@ -6,7 +6,7 @@ use crate::upload::Upload;
 /// What serves requests. It stands for states of the abstract machine: a reply is the machine's, and it then stands for
 /// the machine's next state; or it is a refusal, S01 or S02, and nothing changed.
 pub trait Desk {
-    ghost use Rattle.std.specs.Prelude.{◌≡◌, ℕ, true, List, [], ◌∷◌, ◌++◌};
+    ghost use Rattle.std.specs.Prelude.{◌≡◌, ℕ, Bool, true, List, [], ◌∷◌, ◌++◌};
     ghost use Rattle.tables.specs.State.{State};
     ghost use Rattle.desk.specs.Reply.{out_of_memory};
     ghost use Rattle.desk.specs.Requests as requests;
@@ -20,7 +20,7 @@ pub trait Desk {
     ghost may_leave: { Self → List State → Type 0 };
 
     /// Whether it keeps its state in a store, which may refuse.
-    ghost store_may_refuse: { Type 0 };
+    ghost store_may_refuse: { Bool };
 
     /// Serves a command. The reply is made before the command has its effect.
     fn apply(&mut self, command: &Command<'_>) -> Reply

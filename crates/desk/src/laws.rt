@@ -1,5 +1,5 @@
 //! What is true of the machine.
-ghost use Rattle.std.specs.Prelude.{◌≡◌, ◌↔◌, ◌⊎◌, ℕ, Bool, true, IsTrue, List, None, Some, Ok, Err, map};
+ghost use Rattle.std.specs.Prelude.{◌≡◌, ◌↔◌, ◌⊎◌, ℕ, Bool, true, List, Contains, None, Some, Ok, Err, map};
 ghost use Rattle.dump.specs.declared.fault.LineFault as dumps;
 ghost use Rattle.dump.specs.Fault.{IsFault};
 ghost use Rattle.dump.specs.Lines.{dump_of};
@@ -14,7 +14,7 @@ ghost use Rattle.desk.specs.Machine.{reply_of};
 ghost use Rattle.tables.specs.State.{Accepted, State};
 ghost use Rattle.desk.specs.Reply.{ReplyValue, is_refusal};
 ghost use Rattle.desk.specs.Requests.{CommandValue, QueryValue, RequestValue, command};
-ghost use Rattle.desk.specs.Retries.{Event, IsPlain, Life, Moment, once, plain_kept, states_left, with_run};
+ghost use Rattle.desk.specs.Retries.{Event, sent, IsPlain, Life, Moment, once, plain_kept, states_left, with_run};
 ghost use Rattle.desk.specs.Runs.{MayReply, Run, left_by};
 
 use dump::{fault_law, listing_law, pick_law};
@@ -41,15 +41,21 @@ pub fn answer_law()
     pick_law();
 }
 
-/// In every life the dumps and the tags are what plain writing leaves of the commands that count, each once. A command whose
-/// key one of these has is refused, or has the reply that was made for that one. And a run goes on with a life, which may be
-/// stopped in the states that the run leaves; so this holds of each desk.
+/// In every life the state is what plain writing leaves of the commands that count, each once. A command whose key one of these
+/// has is refused, or has the reply that was made for that one. So where a command was accepted (only then does a command's
+/// reply have the status 200), each later one of its project and key is refused by S01 or S02, or has that very reply, whatever
+/// stops there were. And a run goes on with a life, which may be stopped in the states that the run leaves; so this holds of
+/// each desk.
 pub fn retry_law()
-    ensures parts { (store_may_refuse : Bool) (events : List Event) (t : Moment) → Life (IsTrue store_may_refuse) events t → IsPlain t }
+    ensures parts { (store_may_refuse : Bool) (events : List Event) (t : Moment) → Life store_may_refuse events t → IsPlain t }
     ensures again { (store_may_refuse : Bool) (events : List Event) (t : Moment) (c : CommandValue) (r : ReplyValue) (kept : Accepted)
-        → Life (IsTrue store_may_refuse) events t → MayReply (IsTrue store_may_refuse) t.now (command c) r
+        → Life store_may_refuse events t → MayReply store_may_refuse t.now (command c) r
         → plain_kept (once t.counted) c.project c.key ≡ Some kept → (is_refusal r ≡ true) ⊎ (r ≡ reply_of kept) }
+    ensures first { (store_may_refuse : Bool) (events : List Event) (t : Moment) (c later : CommandValue) (r reply : ReplyValue)
+        → Life store_may_refuse events t → Contains events (sent c r) → r.status ≡ 200
+        → later.project ≡ c.project → later.key ≡ c.key → MayReply store_may_refuse t.now (command later) reply
+        → (is_refusal reply ≡ true) ⊎ (reply ≡ r) }
     ensures runs { (store_may_refuse : Bool) (events : List Event) (t : Moment) (requests : List RequestValue) (replies : List ReplyValue) (n : State)
-        → Life (IsTrue store_may_refuse) events t → Run (IsTrue store_may_refuse) t.now requests replies n
-        → (u : Moment) × Life (IsTrue store_may_refuse) (with_run requests replies events) u × (u.now ≡ n) × (states_left u ≡ left_by t.now (states_left t) requests replies) }
+        → Life store_may_refuse events t → Run store_may_refuse t.now requests replies n
+        → (u : Moment) × Life store_may_refuse (with_run requests replies events) u × (u.now ≡ n) × (states_left u ≡ left_by t.now (states_left t) requests replies) }
 {}

@@ -1,5 +1,5 @@
 //! A desk that keeps what it accepted in memory.
-ghost use Rattle.std.specs.Prelude.{◌≡◌, ◌&&◌, ℕ, true, List, IfOk, OnOk, OnErr, Some, None, is_err, is_some, option_map, bytes_eq, string_bytes, if◌then◌else◌};
+ghost use Rattle.std.specs.Prelude.{◌≡◌, ◌&&◌, ℕ, true, false, List, IfOk, OnOk, OnErr, Some, None, is_err, is_some, option_map, bytes_eq, string_bytes, if◌then◌else◌};
 ghost use Rattle.desk.specs.Answers.{Answers, AnswersAt, AnswersPlaces, AnswersHover, reference_roles};
 ghost use Rattle.desk.specs.Machine.{after, reply_of, reply_to};
 ghost use Rattle.tables.specs.State.{State, nothing, accepted, changed, dump_after, tags_after};
@@ -320,7 +320,7 @@ impl Desk for PlainDesk {
 
     ghost may_leave = { λ d states. Unit {0} };
 
-    ghost store_may_refuse = { ⊥ };
+    ghost store_may_refuse = { false };
 
     fn apply(&mut self, command: &Command<'_>) -> Reply {
         match self.serve(command) {

@@ -4,6 +4,7 @@ pub mod FieldLemmas
 pub mod HeadLemmas
 pub mod MessageLemmas
 pub mod MovedLemmas
+pub mod OneLists
 pub mod PairLemmas
 pub mod Paths
 pub mod Phrases
@@ -11,4 +12,5 @@ pub mod ReplyLemmas
 pub mod RequestLemmas
 pub mod Rows
 pub mod Runs
+pub mod ServedRuns
 pub mod Sures

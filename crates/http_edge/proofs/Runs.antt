@@ -1,5 +1,5 @@
 -- Runs that go on by one message, and what surely comes first.
-use Rattle.std.proofs.Common.{◌≡◌, ℕ, ◌-◌, ◌<◌, inl, inr, List, [], ◌∷◌, ◌++◌, length, Option, None, refl, sym, ◌∙◌, ap, arith, append_assoc, append-nil, subst, suc}
+use Rattle.std.proofs.Common.{◌≡◌, ℕ, ◌-◌, ◌<◌, inl, inr, Bool, List, [], ◌∷◌, ◌++◌, length, Option, None, refl, sym, ◌∙◌, ap, arith, append_assoc, append-nil, subst, suc}
 use Rattle.desk.specs.Machine.{after}
 use Rattle.tables.specs.State.{State}
 use Rattle.desk.specs.Reply.{out_of_memory}
@@ -13,14 +13,14 @@ use Rattle.http_edge.specs.Steps.Serving.{Gives}
 use Rattle.http_edge.proofs.MessageLemmas.{settles-append}
 use Rattle.http_edge.proofs.Sures.{requests-split, gives_first, served_first}
 
-pub run-snoc : (s : Type 0) (m : State) (messages : List MessageValue) (answers : List AnswerValue) (n : State) (message : MessageValue) (answer : AnswerValue)
+pub run-snoc : (s : Bool) (m : State) (messages : List MessageValue) (answers : List AnswerValue) (n : State) (message : MessageValue) (answer : AnswerValue)
     → Run s m messages answers n → MayAnswer s n message answer → Run s m (messages ++ message ∷ []) (answers ++ answer ∷ []) (answered n message answer)
 run-snoc s m [] [] n message answer r a = (subst (λ (x : State). MayAnswer s x message answer) r a, ap (λ (x : State). answered x message answer) r)
 run-snoc s m (i ∷ messages) (b ∷ answers) n message answer r a = (r.0, run-snoc s (answered m i b) messages answers n message answer r.1 a)
 run-snoc s m [] (b ∷ answers) n message answer r a = absurd r
 run-snoc s m (i ∷ messages) [] n message answer r a = absurd r
 
-pub left-snoc : (s : Type 0) (m : State) (states : List State) (messages : List MessageValue) (answers : List AnswerValue) (n : State) (message : MessageValue) (answer : AnswerValue)
+pub left-snoc : (s : Bool) (m : State) (states : List State) (messages : List MessageValue) (answers : List AnswerValue) (n : State) (message : MessageValue) (answer : AnswerValue)
     → Run s m messages answers n → left_by m states (messages ++ message ∷ []) (answers ++ answer ∷ []) ≡ left_after n (left_by m states messages answers) message answer
 left-snoc s m states [] [] n message answer r = ap (λ (x : State). left_after x states message answer) (sym r)
 left-snoc s m states (i ∷ messages) (b ∷ answers) n message answer r = left-snoc s (answered m i b) (left_after m states i b) messages answers n message answer r.1
@@ -33,7 +33,7 @@ texts-snoc (b ∷ answers) answer = ap (λ l. answer_text b ++ l) (texts-snoc an
 
 -- ---- where the request couldn't be read for want of memory
 
-pub out_of_memory_may : (s : Type 0) (m : State) (message : MessageValue) → MayAnswer s m message (replied out_of_memory)
+pub out_of_memory_may : (s : Bool) (m : State) (message : MessageValue) → MayAnswer s m message (replied out_of_memory)
 out_of_memory_may s m (request q) = inr (inl refl)
 out_of_memory_may s m (refused refusal) = refl
 

@@ -1,9 +1,10 @@
 -- What serving a stream reads, answers and writes.
-use Rattle.std.specs.Prelude.{◌≡◌, ◌≢◌, ℕ, ◌+◌, ◌⊎◌, List, [], ◌∷◌, ◌++◌, length, Option, Some, None, Result, Ok, Err, ⊤}
+use Rattle.std.specs.Prelude.{◌≡◌, ◌≢◌, ℕ, ◌+◌, ◌⊎◌, Bool, List, [], ◌∷◌, ◌++◌, length, Option, Some, None, Result, Ok, Err, ⊤}
 use Rattle.lsif.specs.Streams.{Output, Moves, AtEnd, SameCounts, OneFailure, OneZeroWrite}
 use Rattle.http_edge.specs.Requests.{MessageValue, request, refused}
 use Rattle.tables.specs.State.{State}
-use Rattle.desk.specs.Reply.{out_of_memory}
+use Rattle.desk.specs.Reply.{ReplyValue, out_of_memory}
+use Rattle.desk.specs.Requests.{RequestValue}
 use Rattle.desk.specs.Runs.{MayReply, moved, left}
 use Rattle.lsif.specs.Sending.{Writes, WritesTo}
 use Rattle.std.specs.List.{flat_map}
@@ -26,7 +27,7 @@ StopsWell limit bytes messages left =
 -- ---- answers
 
 -- a message may have this answer: a request the machine's reply; a refusal itself, or in its place that memory ran out
-abbrev pub MayAnswer : Type 0 → State → MessageValue → AnswerValue → Type 0
+abbrev pub MayAnswer : Bool → State → MessageValue → AnswerValue → Type 0
 MayAnswer store_may_refuse m (request q) (replied r) = MayReply store_may_refuse m q r
 MayAnswer store_may_refuse m (request q) (turned_away refusal) = ⊥
 MayAnswer store_may_refuse m (refused refusal) (replied r) = r ≡ out_of_memory
@@ -45,7 +46,7 @@ left_after m states (request q) (turned_away refusal) = states
 left_after m states (refused refusal) answer = states
 
 -- the messages may have these answers, one after the other, and then the machine is in that state
-abbrev pub Run : Type 0 → State → List MessageValue → List AnswerValue → State → Type 0
+abbrev pub Run : Bool → State → List MessageValue → List AnswerValue → State → Type 0
 Run store_may_refuse m [] [] n = n ≡ m
 Run store_may_refuse m (message ∷ messages) (answer ∷ answers) n =
     MayAnswer store_may_refuse m message answer × Run store_may_refuse (answered m message answer) messages answers n
@@ -57,6 +58,19 @@ abbrev pub left_by : State → List State → List MessageValue → List AnswerV
 left_by m states (message ∷ messages) (answer ∷ answers) = left_by (answered m message answer) (left_after m states message answer) messages answers
 left_by m states [] answers = states
 left_by m states (message ∷ messages) [] = states
+
+-- the requests among the messages, and the replies to them among the answers
+abbrev pub requests_in : List MessageValue → List RequestValue
+requests_in [] = []
+requests_in (request q ∷ messages) = q ∷ requests_in messages
+requests_in (refused refusal ∷ messages) = requests_in messages
+
+abbrev pub replies_in : List MessageValue → List AnswerValue → List ReplyValue
+replies_in (request q ∷ messages) (replied r ∷ answers) = r ∷ replies_in messages answers
+replies_in (request q ∷ messages) (turned_away refusal ∷ answers) = replies_in messages answers
+replies_in (refused refusal ∷ messages) (answer ∷ answers) = replies_in messages answers
+replies_in (message ∷ messages) [] = []
+replies_in [] answers = []
 
 -- the answers as they're written
 abbrev pub texts : List AnswerValue → List ℕ
@@ -72,7 +86,7 @@ IsBegun limit bytes messages left =
 -- what a call that serves at most so many requests reads, answers and writes, from one state of the machine to another: the
 -- messages that it reads, and their answers; where the writer failed, the last answer was cut
 abbrev pub Serves :
-    Type 0 → ℕ → State → Option (List ℕ) → Option (List ℕ) → Output → Output → List MessageValue → List AnswerValue → State → Result ℕ ServeFault → Type 0
+    Bool → ℕ → State → Option (List ℕ) → Option (List ℕ) → Output → Output → List MessageValue → List AnswerValue → State → Result ℕ ServeFault → Type 0
 Serves store_may_refuse limit m left left' output output' messages answers n (Ok count) =
     (bytes : List ℕ) × Moves left left' bytes × StopsWell limit bytes messages left' × (count ≡ length messages)
     × Run store_may_refuse m messages answers n × Writes output (texts answers) output'

@@ -5,6 +5,7 @@ mod commands;
 mod fields;
 mod forms;
 mod head;
+mod laws;
 mod parameters;
 mod queries;
 mod reading;
@@ -14,6 +15,7 @@ mod request;
 mod route;
 mod serve;
 
+pub use laws::{requests_law, run_law};
 pub use reply::phrase_law;
 pub use route::route_law;
 pub use serve::{ServeFault, serve_stream};

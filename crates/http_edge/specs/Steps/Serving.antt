@@ -86,7 +86,7 @@ NextMessage held left held' left' (Err e) =
 
 -- what was read of a message has this answer from each state that a desk stood for, which then stands for the next one, and leaves at a stop
 -- one of those of which it left one and of the next
-pub record Responds (store_may_refuse : Type 0) (stood stands : State → Type 0) (old_leaves new_leaves : List State → Type 0) (asked : Result Asked AllocError) (given : AnswerValue) : Type 0 where
+pub record Responds (store_may_refuse : Bool) (stood stands : State → Type 0) (old_leaves new_leaves : List State → Type 0) (asked : Result Asked AllocError) (given : AnswerValue) : Type 0 where
   pub answer : (m : State) (message : MessageValue) → stood m → Says asked message → MayAnswer store_may_refuse m message given
   pub state : (m : State) (message : MessageValue) → stood m → Says asked message → stands (answered m message given)
   pub left : (m : State) (states : List State) (message : MessageValue) → stood m → old_leaves states → Says asked message → new_leaves (left_after m states message given)

@@ -1,7 +1,7 @@
 //! Streams of requests over a desk that only counts them. In a table's row `|` stands for CR LF, `=>` comes before the
 //! names of the replies, and a row that begins with `#` says something of those below it.
 use super::*;
-use crate::{phrase_law, route_law};
+use crate::{phrase_law, requests_law, route_law, run_law};
 use desk::{Code, Command, Query, Upload};
 use lsif::Counted;
 use std::io;
@@ -149,13 +149,13 @@ struct Counting {
 }
 
 impl Desk for Counting {
-    ghost use Rattle.std.specs.Prelude.{⊤};
+    ghost use Rattle.std.specs.Prelude.{true};
 
     ghost stands = { λ _ _. ⊥ };
 
     ghost may_leave = { λ _ _. ⊥ };
 
-    ghost store_may_refuse = { ⊤ };
+    ghost store_may_refuse = { true };
 
     fn apply(&mut self, _: &Command<'_>) -> Reply {
         self.commands = self.commands.saturating_add(1);
@@ -480,7 +480,9 @@ fn expect_tables(alloc: Global, differences: &mut String) -> Result<(), Fail> {
 #[test]
 fn refusals(rt: HostRuntime) -> Result<(), Fail> {
     phrase_law();
+    requests_law();
     route_law();
+    run_law();
     let mut differences = String::new(rt.alloc());
     expect_tables(rt.alloc(), &mut differences)?;
     assert_eq!(rt; differences.as_str(), "");
