@@ -15,7 +15,7 @@ const REQUEST: &str = r#"{"id":#,"type":"edge","label":"textDocument/$0","outV":
 
 /// The forms of elements by the first word of their short form. In a form, `#` is the line's number, and `$0`, `$1` and so on
 /// are the words. What has another first word is a vertex of that label.
-const FORMS: [(&str, &str); 20] = [
+const FORMS: &[(&str, &str)] = &[
     (
         "metaData",
         r#"{"id":#,"type":"vertex","label":"metaData","version":"0.6.0","positionEncoding":"utf-16"}"#,
@@ -460,7 +460,7 @@ item 7 4 2
 contains 2 3,4,5";
 
 /// The dumps by their names.
-const SAMPLES: [(&str, &str); 21] = [
+const SAMPLES: &[(&str, &str)] = &[
     ("base", BASE),
     ("nested", NESTED),
     ("touching", TOUCHING),
@@ -487,8 +487,8 @@ const SAMPLES: [(&str, &str); 21] = [
 /// The dump of this name.
 fn sample(name: &str) -> Result<&'static str, Fail> {
     for (other, lines) in SAMPLES {
-        if other == name {
-            return Ok(lines);
+        if *other == name {
+            return Ok(*lines);
         }
     }
     Err(Fail::from("no dump of this name"))
@@ -501,8 +501,8 @@ fn form(short: &'static str) -> &'static str {
     }
     let (name, _) = short.split_once(' ').unwrap_or((short, ""));
     for (other, form) in FORMS {
-        if other == name {
-            return form;
+        if *other == name {
+            return *form;
         }
     }
     VERTEX
@@ -520,16 +520,22 @@ fn element(alloc: Global, number: usize, short: &'static str) -> Result<String, 
     Ok(text)
 }
 
+/// Puts the line of a change in the place of another, or behind the last.
+fn change(lines: &mut Vec<&'static str>, change: &'static str) -> Result<(), Fail> {
+    let (number, line) = change.split_once(' ').ok_or("no line")?;
+    let place = number.parse::<usize>()?.checked_sub(1).ok_or("no line 0")?;
+    match lines.get_mut(place) {
+        Some(old) => *old = line,
+        None => lines.push(line)?,
+    }
+    Ok(())
+}
+
 /// The lines of the dump of this name with other lines, which may be beyond its last.
 fn changed(alloc: Global, name: &str, changes: &'static str) -> Result<Vec<&'static str>, Fail> {
     let mut lines: Vec<&str> = sample(name)?.lines().collect(alloc)?;
-    for change in changes.split(" | ").filter(|change| !change.is_empty()) {
-        let (number, line) = change.split_once(' ').ok_or("no line")?;
-        let place = number.parse::<usize>()?.checked_sub(1).ok_or("no line 0")?;
-        match lines.get_mut(place) {
-            Some(old) => *old = line,
-            None => lines.push(line)?,
-        }
+    for other in changes.split(" | ").filter(|change| !change.is_empty()) {
+        change(&mut lines, other)?;
     }
     Ok(lines)
 }
