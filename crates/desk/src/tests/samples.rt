@@ -508,13 +508,18 @@ fn form(short: &'static str) -> &'static str {
     VERTEX
 }
 
+/// The text with a word in the place of its mark, `$` and the word's number.
+fn filled(alloc: Global, text: &str, number: usize, word: &str) -> Result<String, Fail> {
+    let mark = format!(in alloc; "${number}")?;
+    Ok(text.replace(alloc, mark.as_str(), word)?)
+}
+
 /// The line of this number.
 fn element(alloc: Global, number: usize, short: &'static str) -> Result<String, Fail> {
     let id = format!(in alloc; "{number}")?;
     let mut text = form(short).replace(alloc, "#", id.as_str())?;
     for (k, word) in short.split(' ').enumerate() {
-        let mark = format!(in alloc; "${k}")?;
-        text = text.as_str().replace(alloc, mark.as_str(), word)?;
+        text = filled(alloc, text.as_str(), k, word)?;
     }
     text.push('\n')?;
     Ok(text)
