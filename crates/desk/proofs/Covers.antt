@@ -96,7 +96,7 @@ other_nests false false false over back e = cc
 position_total : IsTotalOrder position_cmp
 position_total = then_total (on_total (λ p. p.line) nat_cmp_total) (on_total (λ p. p.character) nat_cmp_total)
 
-inner_total : IsTotalOrder inner_order
+pub inner_total : IsTotalOrder inner_order
 inner_total = then_total (back_total (on_total (λ s. s.start) position_total)) (on_total (λ s. s.«end») position_total)
 
 pub span_total : IsTotalOrder by_span
@@ -196,7 +196,7 @@ range_is v w h = some_is v w (ap span_of h)
     some_is e f h = cc
 
 -- the range lies in the document, has this span, and covers the position
-abbrev Lies : List ElementValue → IdValue → PositionValue → RangeValue → Type 0
+abbrev pub Lies : List ElementValue → IdValue → PositionValue → RangeValue → Type 0
 Lies d doc p r = (is_in d doc r.id ≡ true) × Covers r.span p × (vertex_at d r.id ≡ Some (range r.span))
 
 abbrev pub VertexIs : List ElementValue → Type 0
@@ -224,10 +224,10 @@ module _ (d : List ElementValue) (doc : IdValue) (p : PositionValue) (vertices :
   lies_of (vertex i other_vertex) r here at = absurd (not_in_nil r at)
   lies_of (edge i e) r here at = absurd (not_in_nil r at)
 
-  lies_to : (r : RangeValue) → Contains (covering_in d doc p) r → Lies d doc p r
+  pub lies_to : (r : RangeValue) → Contains (covering_in d doc p) r → Lies d doc p r
   lies_to r at = let f = flat_of (covering_of d doc p) d r at in lies_of f.0 r f.1 f.2
 
-  lies_from : (r : RangeValue) → Lies d doc p r → Contains (covering_in d doc p) r
+  pub lies_from : (r : RangeValue) → Lies d doc p r → Contains (covering_in d doc p) r
   lies_from r h =
       let test = and_of (covers r.span p) (is_in d doc r.id) (covers_from r.span p h.1) h.0 in
       flat_from (covering_of d doc p) d (vertex r.id (range r.span)) r ((vertices r.id (range r.span)).0 h.2)
@@ -241,14 +241,14 @@ module _ (d : List ElementValue) (doc : IdValue) (p : PositionValue) (nested : I
       let apart : r.id ≡ s.id → ⊥ = λ h. let k : true ≡ false = sym (same_id_self s.id) ∙ subst (λ z. same_id z s.id ≡ false) h other in cc in
       nested doc r.id s.id r.span s.span at_r.0 at_s.0 at_r.2 at_s.2 apart
 
-  two : (r s : RangeValue) → Lies d doc p r → Lies d doc p s → r.span ≡ s.span → r ≡ s
+  pub two : (r s : RangeValue) → Lies d doc p r → Lies d doc p s → r.span ≡ s.span → r ≡ s
   two r s at_r at_s same = by (same_id r.id s.id) refl
     where
       by : (t : Bool) → same_id r.id s.id ≡ t → r ≡ s
       by true e = let k = same_id_eq r.id s.id e in λ i. record { id = k i; span = same i }
       by false e = let k : true ≡ false = sym (conflicts_itself s.span) ∙ subst (λ z. conflicts z s.span ≡ false) same (clear r s at_r at_s e) in cc
 
-  within : (r s : RangeValue) → Lies d doc p r → Lies d doc p s → inner_order r.span s.span ≡ Less → IsWithin r.span s.span
+  pub within : (r s : RangeValue) → Lies d doc p r → Lies d doc p s → inner_order r.span s.span ≡ Less → IsWithin r.span s.span
   within r s at_r at_s less = (by (same_id r.id s.id) refl, unlike)
     where
       back : nests s.span r.span ≡ false

@@ -55,7 +55,7 @@ placed_to d law r span place (Some v) e at is =
     let p = at_to (vertex_at d v) span place at in
     record { container = v; uri = p.0; contained = (law v r).1 e; span = is ∙ ap (λ s. Some (range s)) p.1 }
 
-spanned_to : (d : List ElementValue) → HasContainers d → (r : IdValue) (place : PlaceValue) (v : Option VertexValue) → vertex_at d r ≡ v → Contains (places_spanned d r v) place → IsAt d r place
+pub spanned_to : (d : List ElementValue) → HasContainers d → (r : IdValue) (place : PlaceValue) (v : Option VertexValue) → vertex_at d r ≡ v → Contains (places_spanned d r v) place → IsAt d r place
 spanned_to d law r place None is at = absurd (not_in_nil place at)
 spanned_to d law r place (Some (range span)) is at = placed_to d law r span place (container d r) refl at is
 spanned_to d law r place (Some (document s)) is at = absurd (not_in_nil place at)
@@ -72,7 +72,7 @@ spanned_to d law r place (Some (package_information p)) is at = absurd (not_in_n
 spanned_to d law r place (Some (event v)) is at = absurd (not_in_nil place at)
 spanned_to d law r place (Some other_vertex) is at = absurd (not_in_nil place at)
 
-range_from : (d : List ElementValue) → HasContainers d → (r : IdValue) (place : PlaceValue) → IsAt d r place → Contains (places_of_range d r) place
+pub range_from : (d : List ElementValue) → HasContainers d → (r : IdValue) (place : PlaceValue) → IsAt d r place → Contains (places_of_range d r) place
 range_from d law r place there =
     subst (λ v. Contains (places_spanned d r v) place) (sym there.span)
     (subst (λ o. Contains (places_in d place.span o) place) (sym ((law there.container r).0 there.contained)) (at_from (vertex_at d there.container) place there.uri))
@@ -89,13 +89,13 @@ role_eq roles.References roles.References e = refl
 role_eq roles.Definitions roles.References e = cc
 role_eq roles.References roles.Definitions e = cc
 
-wanted_to : (in_roles : List Role) (o : Option Role) → is_wanted in_roles o ≡ true → (role : Role) × (o ≡ Some role) × Contains in_roles role
+pub wanted_to : (in_roles : List Role) (o : Option Role) → is_wanted in_roles o ≡ true → (role : Role) × (o ≡ Some role) × Contains in_roles role
 wanted_to in_roles None e = cc
 wanted_to in_roles (Some role) e =
     let a = any_of (λ r. same_role r role) in_roles e in
     (role, refl, subst (Contains in_roles) (role_eq a.0 role a.2) a.1)
 
-wanted_from : (in_roles : List Role) (o : Option Role) (role : Role) → o ≡ Some role → Contains in_roles role → is_wanted in_roles o ≡ true
+pub wanted_from : (in_roles : List Role) (o : Option Role) (role : Role) → o ≡ Some role → Contains in_roles role → is_wanted in_roles o ≡ true
 wanted_from in_roles o role e at = ap (is_wanted in_roles) e ∙ any_from (λ r. same_role r role) in_roles role at (role_self role)
 
 pub line_to : (lines : List ℕ) (o : Option ℕ) → is_line_in lines o ≡ true → (k : ℕ) × (o ≡ Some k) × Contains lines k

@@ -1,13 +1,14 @@
 pub mod Answers
 pub mod Bodies
 pub mod Found
+pub mod Indexes
 pub mod Joins
 pub mod Judging
 pub mod Machine
 pub mod Names
-pub mod Steps
 pub mod Reply
 pub mod Requests
 pub mod Retries
 pub mod Runs
+pub mod Steps
 pub mod Uploads

@@ -9,6 +9,7 @@ ghost use Rattle.tags.specs.Judging.{HasTags, HasFault};
 ghost use Rattle.tags.specs.Values.{TagValue};
 ghost use Rattle.tags.specs.declared.code.LineFault as tags;
 ghost use Rattle.desk.specs.Answers.{Answers};
+ghost use Rattle.desk.specs.Indexes.{IsIndex};
 ghost use Rattle.desk.specs.Judging.{judged_dump, judged_tags};
 ghost use Rattle.desk.specs.Machine.{reply_of};
 ghost use Rattle.tables.specs.State.{Accepted, State};
@@ -39,6 +40,15 @@ pub fn answer_law()
 {
     listing_law();
     pick_law();
+}
+
+/// In every life each dump has no fault, the tags of a project are those of a text, and finitely many projects have a part. From
+/// each such state each query has a reply.
+pub fn reply_law()
+    ensures index { (store_may_refuse : Bool) (events : List Event) (t : Moment) → Life store_may_refuse events t → IsIndex t.now }
+    ensures reply { (m : State) → IsIndex m → (query : QueryValue) → (r : ReplyValue) × Answers m query r }
+{
+    judgement_law();
 }
 
 /// In every life the state is what plain writing leaves of the commands that count, each once. A command whose key one of these

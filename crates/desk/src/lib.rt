@@ -23,7 +23,7 @@ mod walks;
 
 pub use code::Code;
 pub use desk::Desk;
-pub use laws::{answer_law, judgement_law, retry_law};
+pub use laws::{answer_law, judgement_law, reply_law, retry_law};
 pub use names::{DocUri, Key, ProjectName, read_number};
 pub use plain::PlainDesk;
 pub use reply::Reply;

@@ -1,7 +1,7 @@
 //! Requests to a desk in memory with their replies, and each of the crate's functions called once.
 use crate::{
     Command, Desk, DocUri, Key, PlainDesk, ProjectName, Query, Reply, Request, RunFault,
-    answer_law, judgement_law, read_number, retry_law, run,
+    answer_law, judgement_law, read_number, reply_law, retry_law, run,
 };
 use lsif::Profile;
 use positions::Position;
@@ -251,6 +251,7 @@ definition lib file:///a.ts 2:1";
     assert_eq!(rt; found.as_str(), wanted);
     judgement_law();
     answer_law();
+    reply_law();
     retry_law();
     Ok(())
 }
