@@ -160,15 +160,17 @@ def expect(what: str, found, wanted) -> None:
 
 def calls(program: Program) -> None:
     """Calls that end by themselves, and words that are refused."""
-    for words, output, error, status in CALLS:
-        expect(f"{words}", program.run(words), (output, error, status))
+    found = [(words, program.run(words), (output, error, status)) for words, output, error, status in CALLS]
     for words, text in REFUSALS:
         output, error, status = program.run(words)
         is_text = error.startswith(text) and error.endswith("For more information, try '--help'.\n")
-        expect(f"{words}", (output, is_text, status), ("", True, 2))
+        found.append((words, (output, is_text or error, status), ("", True, 2)))
     for words, text in HELP:
         output, error, status = program.run(words)
-        expect(f"{words}", (text in output, error, status), (True, "", 0))
+        found.append((words, (text in output or output, error, status), (True, "", 0)))
+    wrong = [f"{words}: {answer!r} and not {wanted!r}" for words, answer, wanted in found if answer != wanted]
+    if wrong:
+        raise Wrong("\n".join(wrong))
 
 
 def full_outputs(program: Program) -> None:
