@@ -13,6 +13,8 @@ mod reply;
 mod request;
 mod route;
 mod serve;
+#[cfg(test)]
+mod tests;
 
 pub use reply::phrase_law;
 pub use route::route_law;
