@@ -449,6 +449,3 @@ pub fn read_call<'a, S: AsStr>(alloc: Global, words: &'a [S]) -> Result<Call<'a>
     let mut command = command(alloc)?;
     read_words(&mut command, words)
 }
-
-#[cfg(test)]
-mod tests;

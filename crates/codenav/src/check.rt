@@ -44,6 +44,3 @@ pub fn check_lsif<R: Source, W: Sink>(
     let report = judge(alloc, profile, r)?;
     send(alloc, report, w)
 }
-
-#[cfg(test)]
-mod tests;

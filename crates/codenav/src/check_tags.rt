@@ -121,6 +121,3 @@ pub fn check_tags<R: Source, W: Sink>(
     let report = judge(alloc, r)?;
     send(alloc, report, w)
 }
-
-#[cfg(test)]
-mod tests;

@@ -6,9 +6,9 @@ mod check;
 mod check_tags;
 mod replay;
 mod report;
-#[cfg(test)]
-mod samples;
 mod serve;
+#[cfg(test)]
+mod tests;
 mod timed;
 
 use call::{Call, CallFault, read_call};
@@ -30,6 +30,15 @@ use timed::Limits;
 
 /// The status of a call that could not be carried out.
 const FAILED: u8 = 2;
+
+/// How many seconds one read or one write of a connection may wait.
+const WAIT_SECONDS: u64 = 10;
+
+/// How many seconds a connection may take, from when it was accepted.
+const WHOLE_SECONDS: u64 = 120;
+
+/// How many seconds one read of what a client still sends may wait, when its reply was written.
+const REST_SECONDS: u64 = 1;
 
 fn main(rt: HostRuntime) -> ExitCode {
     ExitCode::from(run(&rt))
@@ -143,9 +152,9 @@ fn serve_port<R: Alloc<A = Global> + Clock + Net + Print + Eprint>(
         return fail(rt, "cannot write the output");
     }
     let limits = Limits {
-        wait: Duration::from_secs(10),
-        whole: Duration::from_secs(120),
-        rest: Duration::from_secs(1),
+        wait: Duration::from_secs(WAIT_SECONDS),
+        whole: Duration::from_secs(WHOLE_SECONDS),
+        rest: Duration::from_secs(REST_SECONDS),
     };
     let mut counted = CountedListener::new(&listener);
     match serve(rt.alloc(), rt, limits, &mut counted, requests) {

@@ -27,6 +27,3 @@ pub fn replay<R: Source, W: Sink>(alloc: Global, r: &mut R, w: &mut W) -> Result
     let mut desk = PlainDesk::new(alloc);
     serve_stream(alloc, &mut desk, r, w, MOST_REQUESTS)
 }
-
-#[cfg(test)]
-mod tests;

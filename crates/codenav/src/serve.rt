@@ -183,6 +183,3 @@ where
     let mut desk = PlainDesk::new(alloc);
     serve_connections(alloc, &mut desk, clock, limits, listener, requests)
 }
-
-#[cfg(test)]
-mod tests;

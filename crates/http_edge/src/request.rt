@@ -144,6 +144,3 @@ pub(crate) fn read_request<'b>(
     let parameters = Parameters::read(alloc, query)?;
     read_route(alloc, route, project, &parameters)
 }
-
-#[cfg(test)]
-mod tests;

@@ -107,6 +107,3 @@ pub(crate) fn find_route<'p>(router: &Router<Route>, path: &'p str) -> Option<(R
 pub fn route_law()
     ensures { (path : List ℕ) (route : Route) (project : List ℕ) → (route_of path ≡ Some (route, project)) ↔ IsPathOf route project path }
 {}
-
-#[cfg(test)]
-mod tests;

@@ -150,6 +150,3 @@ pub fn serve_stream<D: Desk, R: Source, W: Sink>(
     let mut reader = MessageReader::new(alloc)?;
     serve(&mut reader, desk, r, w, limit)
 }
-
-#[cfg(test)]
-mod tests;

@@ -1,13 +1,18 @@
 //! Connections on loopback and clients that take their time, and what they're replied.
-use super::*;
-use crate::samples::{BASE, reply, text_of};
+use super::samples::{BASE, reply, text_of};
+use crate::serve::{CountedListener, ServerFault, serve, serve_connection};
+use crate::timed::Limits;
+use desk::PlainDesk;
+use std::alloc::Global;
 use std::cell::Cell;
 use std::io;
-use std::io::ErrorKind;
-use std::net::{Ipv4Addr, Net, Shutdown, SocketAddr, TcpListener, TcpStream};
+use std::io::{ErrorKind, Read, Write};
+use std::net::{
+    Ipv4Addr, Net, OpenListener, OpenStream, Shutdown, SocketAddr, TcpListener, TcpStream,
+};
 use std::process::Abort;
 use std::test::Fail;
-use std::time::Duration;
+use std::time::{Clock, Duration};
 
 /// Requests without a body, each with the end of its reply's status line, the length of the reply's body and the body.
 /// They are asked of an index that has the base dump, in the project `app`.
@@ -158,35 +163,85 @@ impl Clock for Moved<'_> {
     }
 }
 
-/// A client that sends one byte in so much time, and takes no byte.
+/// The request of a client that takes its time.
+const REQUEST: &[u8] = b"GET /projects HTTP/1.1\r\n\r\n";
+
+/// What a client takes its time for: for each byte that it sends, that it takes of the reply, or that it sends after the reply.
+#[derive(Clone, Copy, Debug, PartialEq, Eq)]
+enum Slowness {
+    Sends,
+    Takes,
+    SendsOn,
+}
+
+/// What is seen of a connection to such a client.
+#[derive(Drop)]
+struct Seen {
+    now: Cell<Duration>,
+    has_asked: Cell<bool>,
+    /// How many bytes it sent or took while it took its time.
+    moved: Cell<u32>,
+    /// How long the last read and the last write may wait.
+    read_wait: Cell<Duration>,
+    write_wait: Cell<Duration>,
+}
+
+/// A client that takes so much time for each byte.
 #[derive(Drop)]
 struct Trickle<'a> {
-    now: &'a Cell<Duration>,
+    seen: &'a Seen,
+    slowness: Slowness,
     each: Duration,
-    /// How many bytes it sent.
-    sent: &'a Cell<u32>,
-    /// How long the last read may wait.
-    wait: &'a Cell<Duration>,
+}
+
+impl Trickle<'_> {
+    /// Takes the time of a byte, or fails where that is longer than what may be waited for.
+    fn take_time(&self, wait: Duration) -> io::Result<()> {
+        self.seen
+            .now
+            .set(self.seen.now.get().saturating_add(self.each));
+        if wait < self.each {
+            return Err(io::Error::from(ErrorKind::WouldBlock));
+        }
+        self.seen.moved.set(self.seen.moved.get().saturating_add(1));
+        Ok(())
+    }
 }
 
 impl Read for Trickle<'_> {
     fn read(&mut self, buf: &mut [u8]) -> io::Result<usize> {
-        self.now.set(self.now.get().saturating_add(self.each));
-        if self.wait.get() < self.each {
-            return Err(io::Error::from(ErrorKind::WouldBlock));
+        let has_asked = self.seen.has_asked.get();
+        let is_slow = match self.slowness {
+            Slowness::Sends => true,
+            Slowness::Takes => false,
+            Slowness::SendsOn => has_asked,
+        };
+        if is_slow {
+            self.take_time(self.seen.read_wait.get())?;
+            return match buf.first_mut() {
+                Some(byte) => {
+                    *byte = b'G';
+                    Ok(1)
+                }
+                None => Ok(0),
+            };
         }
-        match buf.first_mut() {
-            Some(byte) => *byte = b'G',
-            None => return Ok(0),
+        if has_asked || buf.len() < REQUEST.len() {
+            return Ok(0);
         }
-        self.sent.set(self.sent.get().saturating_add(1));
-        Ok(1)
+        buf[..REQUEST.len()].copy_from_slice(REQUEST);
+        self.seen.has_asked.set(true);
+        Ok(REQUEST.len())
     }
 }
 
 impl Write for Trickle<'_> {
-    fn write(&mut self, _bytes: &[u8]) -> io::Result<usize> {
-        Ok(0)
+    fn write(&mut self, bytes: &[u8]) -> io::Result<usize> {
+        if self.slowness != Slowness::Takes || bytes.is_empty() {
+            return Ok(bytes.len());
+        }
+        self.take_time(self.seen.write_wait.get())?;
+        Ok(1)
     }
 
     fn flush(&mut self) -> io::Result<()> {
@@ -196,52 +251,78 @@ impl Write for Trickle<'_> {
 
 impl OpenStream for Trickle<'_> {
     fn set_read_timeout(&self, wait: Option<Duration>) -> io::Result<()> {
-        self.wait.set(wait.unwrap_or(Duration::ZERO));
+        self.seen.read_wait.set(wait.unwrap_or(Duration::ZERO));
+        Ok(())
+    }
+
+    fn set_write_timeout(&self, wait: Option<Duration>) -> io::Result<()> {
+        self.seen.write_wait.set(wait.unwrap_or(Duration::ZERO));
+        Ok(())
+    }
+
+    fn shutdown(&self, _how: Shutdown) -> io::Result<()> {
         Ok(())
     }
 
     fn try_clone(&self) -> io::Result<Self> {
         Ok(Trickle {
-            now: self.now,
+            seen: self.seen,
+            slowness: self.slowness,
             each: self.each,
-            sent: self.sent,
-            wait: self.wait,
         })
     }
 }
 
-/// How many bytes of a client that sends one in so many milliseconds are read, and how many milliseconds the last read
-/// may wait.
-fn trickled(alloc: Global, each: u64) -> Result<(u32, u128), Fail> {
-    let (now, sent, wait) = (
-        Cell::new(Duration::from_secs(7)),
-        Cell::new(0),
-        Cell::new(Duration::ZERO),
-    );
-    let client = Trickle {
-        now: &now,
-        each: Duration::from_millis(each),
-        sent: &sent,
-        wait: &wait,
+/// How many bytes a client moves that takes so many milliseconds for each, and how many milliseconds the last read or write may
+/// wait.
+fn trickled(alloc: Global, slowness: Slowness, each: u64) -> Result<(u32, u128), Fail> {
+    let seen = Seen {
+        now: Cell::new(Duration::from_secs(7)),
+        has_asked: Cell::new(false),
+        moved: Cell::new(0),
+        read_wait: Cell::new(Duration::ZERO),
+        write_wait: Cell::new(Duration::ZERO),
     };
-    let clock = Moved { now: &now };
+    let client = Trickle {
+        seen: &seen,
+        slowness,
+        each: Duration::from_millis(each),
+    };
+    let clock = Moved { now: &seen.now };
+    let limits = Limits {
+        rest: Duration::from_millis(30),
+        ..limits(50, 200)
+    };
     let mut desk = PlainDesk::new(alloc);
-    serve_connection(alloc, &mut desk, &clock, limits(50, 200), client)?;
-    Ok((sent.get(), wait.get().as_millis()))
+    serve_connection(alloc, &mut desk, &clock, limits, client)?;
+    let wait = match slowness {
+        Slowness::Takes => seen.write_wait.get(),
+        Slowness::Sends | Slowness::SendsOn => seen.read_wait.get(),
+    };
+    Ok((seen.moved.get(), wait.as_millis()))
 }
 
-/// Clients that send a byte now and then are given up when a byte takes longer than 50 ms, or all of them 200 ms.
+/// Clients that send or take a byte now and then are given up when a byte takes longer than 50 ms, after the reply 30 ms, or all
+/// of the connection 200 ms.
 #[test]
 fn trickles(rt: HostRuntime) -> Result<(), Fail> {
-    // the time of a byte, the bytes that are read, and what the last read may wait
-    for (each, count, wait) in [
-        (40, 5, 40),
-        (50, 4, 50),
-        (51, 0, 50),
-        (30, 6, 20),
-        (100, 0, 50),
+    // the time of a byte, the bytes that are moved, and what the last read or write may wait
+    for (slowness, each, count, wait) in [
+        (Slowness::Sends, 40, 5, 40),
+        (Slowness::Sends, 50, 4, 50),
+        (Slowness::Sends, 51, 0, 50),
+        (Slowness::Sends, 30, 6, 20),
+        (Slowness::Sends, 100, 0, 50),
+        (Slowness::Takes, 40, 5, 40),
+        (Slowness::Takes, 50, 4, 50),
+        (Slowness::Takes, 51, 0, 50),
+        (Slowness::Takes, 30, 6, 20),
+        (Slowness::SendsOn, 20, 10, 20),
+        (Slowness::SendsOn, 30, 6, 20),
+        (Slowness::SendsOn, 31, 0, 30),
     ] {
-        assert_eq!(rt; trickled(rt.alloc(), each)?, (count, wait), "{each}");
+        let found = trickled(rt.alloc(), slowness, each)?;
+        assert_eq!(rt; found, (count, wait), "{slowness:?}: {each}");
     }
     Ok(())
 }

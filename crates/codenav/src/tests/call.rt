@@ -1,5 +1,7 @@
 //! The calls of the program, and words that are none.
-use super::*;
+use crate::call::{Call, CallFault, read_call};
+use clap::Error;
+use std::alloc::Global;
 use std::test::Fail;
 
 /// The words of a call behind the program's name, parted by `|`, and what is read of them: the call, written in the same

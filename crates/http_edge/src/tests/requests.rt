@@ -1,8 +1,10 @@
-//! What requests ask. In a table's row `=>` comes before what is asked, or before the reply of a desk.
-use super::*;
+//! What request lines ask. In a table's row `=>` comes before what is asked.
+use crate::refusal::Refusal;
+use crate::request::{Asked, read_request};
 use crate::route::router;
-use desk::{Desk, DocUri, PlainDesk, ProjectName};
+use desk::{DocUri, ProjectName, Query, Request};
 use positions::Position;
+use std::alloc::{AllocError, Global};
 use std::test::Fail;
 
 /// Queries and removals, and what is refused before the desk.
@@ -83,33 +85,6 @@ prefix=a%00b => D03
 name=a&project=ZED => D03
 name=a&project= => D03
 name=a&project=zed&project=zed => D03
-"#;
-
-/// Requests of one desk, with the body of uploads after `|`, and its replies' bodies. A kept key hides no bad parameter.
-const SERVED: &str = r#"
-PUT /projects/app/lsif?key=k1|{"id":1,"type":"vertex","label":"metaData","version":"0.6.0","positionEncoding":"utf-16"} => {"accepted":"lsif","count":1}
-GET /projects/app/profile| => {"profile":1}
-PUT /projects/app/lsif?key=k2&profile=2|{"id":1,"type":"vertex","label":"metaData","version":"0.6.0","positionEncoding":"utf-16"} => {"accepted":"lsif","count":1}
-GET /projects/app/profile| => {"profile":2}
-PUT /projects/app/lsif?profile=1&key=k3|{"id":1,"type":"vertex","label":"metaData","version":"0.6.0","positionEncoding":"utf-16"} => {"accepted":"lsif","count":1}
-GET /projects/app/profile| => {"profile":1}
-PUT /projects/app/lsif?key=k3&profile=3| => D03
-PUT /projects/app/lsif?key=k3&profile=01| => D03
-PUT /projects/app/lsif?key=k3&profile=1&profile=1| => D03
-PUT /projects/app/lsif?key=k3&key=k3| => D03
-PUT /projects/app/lsif?%6bey=k3&key=k3| => D03
-PUT /projects/app%2D/lsif?key=k3| => D03
-PUT /projects/app/lsif| => D03
-PUT /projects/app/tags?profile=1| => D03
-PUT /projects/APP/tags?key=k4| => D03
-PUT /projects/app/tags?key=k4&key=k4| => D03
-PUT /projects/app/tags?key=k3&profile=3| => {"accepted":"lsif","count":1}
-PUT /projects/app/tags?key=k4&profile=3| => {"accepted":"tags","count":0}
-GET /projects| => {"projects":[{"dump":true,"name":"app","tags":true}]}
-DELETE /projects/app?key=k4&key=k4| => D03
-DELETE /projects/app?key=k4| => {"accepted":"tags","count":0}
-DELETE /projects/app?key=k5| => {"removed":true}
-GET /projects| => {"projects":[]}
 "#;
 
 /// A query at a position, as tables write it.
@@ -229,6 +204,20 @@ fn note(differences: &mut String, row: &str, text: &str, wanted: &str) -> Result
     differences.push('\n')
 }
 
+/// What a request line asks, in a text.
+fn text_of_line(alloc: Global, line: &str) -> Result<String, Fail> {
+    let found = asked(alloc, line)?;
+    Ok(asked_text(alloc, &found)?)
+}
+
+/// Adds to the differences what a row asks, which has this text before it.
+fn expect_row(alloc: Global, differences: &mut String, before: &str, row: &str) -> Result<(), Fail> {
+    let (part, wanted) = row.split_once(" => ").ok_or("no row")?;
+    let line = format!(in alloc; "{before}{part}")?;
+    let text = text_of_line(alloc, line.as_str())?;
+    Ok(note(differences, line.as_str(), text.as_str(), wanted)?)
+}
+
 /// Adds to the differences what the rows of a table ask, which have this text before them.
 fn expect_asked(
     alloc: Global,
@@ -237,66 +226,21 @@ fn expect_asked(
     table: &str,
 ) -> Result<(), Fail> {
     for row in table.trim_matches('\n').lines() {
-        let (part, wanted) = row.split_once(" => ").ok_or("no row")?;
-        let line = format!(in alloc; "{before}{part}")?;
-        let found = asked(alloc, line.as_str())?;
-        let text = asked_text(alloc, &found)?;
-        note(differences, line.as_str(), text.as_str(), wanted)?;
+        expect_row(alloc, differences, before, row)?;
     }
     Ok(())
-}
-
-/// Adds to the differences what the rows of each table ask.
-fn expect_tables(alloc: Global, differences: &mut String) -> Result<(), Fail> {
-    expect_asked(alloc, differences, "", ASKED)?;
-    expect_asked(alloc, differences, "GET /projects/app/", AT_POSITION)?;
-    expect_asked(alloc, differences, "GET /names?", OF_TAGS)
 }
 
 #[test]
 fn requests(rt: HostRuntime) -> Result<(), Fail> {
     let mut differences = String::new(rt.alloc());
-    expect_tables(rt.alloc(), &mut differences)?;
-    assert_eq!(rt; differences.as_str(), "");
-    Ok(())
-}
-
-/// The body of a desk's reply to what is asked, or the refusal.
-fn served_text(
-    alloc: Global,
-    desk: &mut PlainDesk,
-    asked: Asked<'_>,
-    body: &str,
-) -> Result<String, AllocError> {
-    let reply = match asked {
-        Asked::Upload(mut upload) => {
-            let _ = upload.piece(body.as_bytes());
-            desk.finish_upload(upload)
-        }
-        Asked::Request(Request::Command(command)) => desk.apply(&command),
-        Asked::Request(Request::Query(query)) => desk.ask(&query),
-        Asked::Refused(refusal) => return refusal_text(alloc, refusal),
-    };
-    String::from_str(alloc, reply.body())
-}
-
-/// Adds to the differences what one desk replies to the rows.
-fn expect_served(alloc: Global, differences: &mut String) -> Result<(), Fail> {
-    let mut desk = PlainDesk::new(alloc);
-    for row in SERVED.trim_matches('\n').lines() {
-        let (request, wanted) = row.split_once(" => ").ok_or("no row")?;
-        let (line, body) = request.split_once("|").ok_or("no body")?;
-        let found = asked(alloc, line)?;
-        let text = served_text(alloc, &mut desk, found, body)?;
-        note(differences, line, text.as_str(), wanted)?;
+    for (before, table) in [
+        ("", ASKED),
+        ("GET /projects/app/", AT_POSITION),
+        ("GET /names?", OF_TAGS),
+    ] {
+        expect_asked(rt.alloc(), &mut differences, before, table)?;
     }
-    Ok(())
-}
-
-#[test]
-fn uploads_and_removals(rt: HostRuntime) -> Result<(), Fail> {
-    let mut differences = String::new(rt.alloc());
-    expect_served(rt.alloc(), &mut differences)?;
     assert_eq!(rt; differences.as_str(), "");
     Ok(())
 }

@@ -1,8 +1,11 @@
 //! The bytes that are written for streams of requests, also for streams that are cut, and over readers and writers that
 //! fail.
-use super::*;
-use crate::samples::{BASE, Pieces, Slow, changed, in_pieces, reply, slow_writer};
+use super::samples::{BASE, Pieces, Slow, changed, in_pieces, reply, slow_writer};
+use crate::replay::replay;
+use desk::PlainDesk;
+use http_edge::{ServeFault, serve_stream};
 use lsif::Counted;
+use std::alloc::Global;
 use std::process::Abort;
 use std::test::Fail;
 
@@ -93,7 +96,7 @@ contains 2>[3]",
 /// Streams, parted by empty lines, each over an index that is empty at first: what is asked, what is uploaded after ` < `,
 /// and after ` => ` the status and the body of the reply. A dump has its name, and after ` | ` each line that is another, as in
 /// the reports of dumps; in tags, `>` stands for a tab and ` | ` for the end of a line.
-const STREAMS: &str = r#"
+const FIRST: &str = r#"
 PUT /projects/app/lsif?key=k1 < base => 200 {"accepted":"lsif","count":11}
 GET /projects/app/definition?uri=file:///a.ts&line=2&character=1 => 200 {"places":[{"end":{"character":7,"line":0},"project":"app","start":{"character":4,"line":0},"uri":"file:///a.ts"}]}
 GET /projects/app/definition?uri=file:///a.ts&line=2&character=3 => 200 {"places":[]}
@@ -120,6 +123,14 @@ GET /projects/app/definition?uri=file:///n.ts&line=0&character=6 => 200 {"places
 PUT /projects/app/lsif?key=k1 < touching => 200 {"accepted":"lsif","count":15}
 GET /projects/app/definition?uri=file:///u.ts&line=0&character=5 => 200 {"places":[{"end":{"character":9,"line":0},"project":"app","start":{"character":5,"line":0},"uri":"file:///u.ts"}]}
 
+PUT /projects/app/lsif?key=k1 < base => 200 {"accepted":"lsif","count":11}
+PUT /projects/app/lsif?key=k2 < base | 11 - => 422 {"fault":"E01","line":3,"text":"range in no document"}
+GET /projects/app/definition?uri=file:///a.ts&line=2&character=1 => 200 {"places":[{"end":{"character":7,"line":0},"project":"app","start":{"character":4,"line":0},"uri":"file:///a.ts"}]}
+PUT /projects/app/lsif?key=k2 < base => 200 {"accepted":"lsif","count":11}
+"#;
+
+/// Further streams, written in the same way: references, joins between projects, hovers, names and profiles.
+const FURTHER: &str = r#"
 PUT /projects/app/lsif?key=k1 < cycle => 200 {"accepted":"lsif","count":13}
 GET /projects/app/references?uri=file:///c.ts&line=1&character=0&declaration=yes => 200 {"places":[{"end":{"character":1,"line":0},"project":"app","start":{"character":0,"line":0},"uri":"file:///c.ts"},{"end":{"character":1,"line":1},"project":"app","start":{"character":0,"line":1},"uri":"file:///c.ts"}]}
 GET /projects/app/references?uri=file:///c.ts&line=1&character=0&declaration=no => 200 {"places":[{"end":{"character":1,"line":1},"project":"app","start":{"character":0,"line":1},"uri":"file:///c.ts"}]}
@@ -147,11 +158,6 @@ GET /projects/app/implementation?uri=file:///app.ts&line=1&character=0 => 200 {"
 GET /projects/lib/profile => 200 {"profile":2}
 PUT /projects/lib/lsif?key=k2&profile=3 < exporting => 400 {"fault":"D03","text":"bad parameter"}
 
-PUT /projects/app/lsif?key=k1 < base => 200 {"accepted":"lsif","count":11}
-PUT /projects/app/lsif?key=k2 < base | 11 - => 422 {"fault":"E01","line":3,"text":"range in no document"}
-GET /projects/app/definition?uri=file:///a.ts&line=2&character=1 => 200 {"places":[{"end":{"character":7,"line":0},"project":"app","start":{"character":4,"line":0},"uri":"file:///a.ts"}]}
-PUT /projects/app/lsif?key=k2 < base => 200 {"accepted":"lsif","count":11}
-
 PUT /projects/app/lsif?key=k1 < hovered => 200 {"accepted":"lsif","count":6}
 GET /projects/app/hover?uri=file:///h.ts&line=0&character=0 => 200 {"contents":[{"language":"c","value":"f"},"d"]}
 GET /projects/app/hover?uri=file:///h.ts&line=0&character=3 => 200 {"contents":null}
@@ -165,6 +171,26 @@ GET /names?prefix=a&project=zed => 200 {"tags":[]}
 GET /names?name=a&prefix=a => 400 {"fault":"D03","text":"bad parameter"}
 GET /names => 400 {"fault":"D03","text":"bad parameter"}
 GET /projects => 200 {"projects":[{"dump":false,"name":"app","tags":true},{"dump":false,"name":"lib","tags":true}]}
+
+PUT /projects/app/lsif?key=k1 < base => 200 {"accepted":"lsif","count":11}
+PUT /projects/app/lsif?key=k2&profile=2 < nested => 200 {"accepted":"lsif","count":8}
+GET /projects/app/profile => 200 {"profile":2}
+PUT /projects/app/lsif?profile=1&key=k3 < base => 200 {"accepted":"lsif","count":11}
+GET /projects/app/profile => 200 {"profile":1}
+PUT /projects/app/lsif?key=k3&profile=3 < => 400 {"fault":"D03","text":"bad parameter"}
+PUT /projects/app/lsif?key=k3&profile=01 < => 400 {"fault":"D03","text":"bad parameter"}
+PUT /projects/app/lsif?key=k3&profile=1&profile=1 < => 400 {"fault":"D03","text":"bad parameter"}
+PUT /projects/app/lsif?key=k3&key=k3 < => 400 {"fault":"D03","text":"bad parameter"}
+PUT /projects/app/lsif?%6bey=k3&key=k3 < => 400 {"fault":"D03","text":"bad parameter"}
+PUT /projects/app/tags?profile=1 < => 400 {"fault":"D03","text":"bad parameter"}
+PUT /projects/app/tags?key=k4&key=k4 < => 400 {"fault":"D03","text":"bad parameter"}
+PUT /projects/app/tags?key=k3&profile=3 < => 200 {"accepted":"lsif","count":11}
+PUT /projects/app/tags?key=k4&profile=3 < => 200 {"accepted":"tags","count":0}
+GET /projects => 200 {"projects":[{"dump":true,"name":"app","tags":true}]}
+DELETE /projects/app?key=k4&key=k4 => 400 {"fault":"D03","text":"bad parameter"}
+DELETE /projects/app?key=k4 => 200 {"accepted":"tags","count":0}
+DELETE /projects/app?key=k5 => 200 {"removed":true}
+GET /projects => 200 {"projects":[]}
 "#;
 
 /// The stream that readers and writers fail in: uploads under keys, one of them a second time, and tags.
@@ -178,11 +204,37 @@ GET /names?prefix=aA => 200 {"tags":[{"address":"/a\\/b/","fields":[],"file":"f.
 PUT /projects/app/tags?key=k4 < tags \q>f.c>/a\/b/;">f => 422 {"fault":"T05","line":1,"text":"bad escape"}
 "#;
 
-/// An upload of a base dump, and a query of it.
-const BASE_TWICE: &str = r#"
-PUT /projects/app/lsif?key=k1 < base => 200 {"accepted":"lsif","count":11}
+/// Commands whose reply the writer fails to take, each with what is asked before it and after it. What comes after shows that the
+/// command had its effect: another command under its key gets its reply, and changes nothing.
+const CUT: [(&str, &str, &str); 3] = [
+    (
+        "",
+        r#"PUT /projects/app/lsif?key=k1 < base => 200 {"accepted":"lsif","count":11}"#,
+        r#"
+GET /projects => 200 {"projects":[{"dump":true,"name":"app","tags":false}]}
+PUT /projects/app/lsif?key=k1 < nested => 200 {"accepted":"lsif","count":11}
 GET /projects/app/definition?uri=file:///a.ts&line=2&character=1 => 200 {"places":[{"end":{"character":7,"line":0},"project":"app","start":{"character":4,"line":0},"uri":"file:///a.ts"}]}
-"#;
+"#,
+    ),
+    (
+        "",
+        r#"PUT /projects/app/tags?key=k1 < tags a>f.c>1 => 200 {"accepted":"tags","count":1}"#,
+        r#"
+GET /projects => 200 {"projects":[{"dump":false,"name":"app","tags":true}]}
+PUT /projects/app/tags?key=k1 < tags b>f.c>1 | c>f.c>2 => 200 {"accepted":"tags","count":1}
+GET /names?name=b => 200 {"tags":[]}
+"#,
+    ),
+    (
+        r#"PUT /projects/app/lsif?key=k1 < base => 200 {"accepted":"lsif","count":11}"#,
+        r#"DELETE /projects/app?key=k2 => 200 {"removed":true}"#,
+        r#"
+GET /projects => 200 {"projects":[]}
+PUT /projects/app/lsif?key=k2 < base => 200 {"removed":true}
+GET /projects => 200 {"projects":[]}
+"#,
+    ),
+];
 
 /// An upload whose body isn't JSON, of 66 bytes, of which 61 are the head.
 const SHORT_PUT: &str =
@@ -274,7 +326,13 @@ fn replay_over(
 }
 
 /// Asserts what is answered and written for a stream, whose bytes are read and written so many at a time.
-fn expect<R: AllocGlobal + Abort>(rt: &R, stream: &[u8], most: usize, count: usize, wanted: &str) {
+pub(crate) fn expect<R: AllocGlobal + Abort>(
+    rt: &R,
+    stream: &[u8],
+    most: usize,
+    count: usize,
+    wanted: &str,
+) {
     let (answer, written, _) = replay_over(rt.alloc(), in_pieces(stream, most), most, 0);
     assert_eq!(rt;
         str::from_utf8(&written).unwrap_or("not UTF-8"),
@@ -284,17 +342,64 @@ fn expect<R: AllocGlobal + Abort>(rt: &R, stream: &[u8], most: usize, count: usi
     assert_eq!(rt; answer.map(|served| served as usize), Ok(count), "{wanted}");
 }
 
-/// Streams that come whole.
-#[test]
-fn all_rows(rt: HostRuntime) -> Result<(), Fail> {
-    for rows in STREAMS.split("\n\n") {
+/// Asserts that a dump of so many elements is accepted, and the places of a request at the first position of `file:///a.ts`: the
+/// first character of so many lines.
+pub(crate) fn expect_places<R: AllocGlobal + Abort>(
+    rt: &R,
+    dump: &str,
+    request: &str,
+    elements: u32,
+    lines: u32,
+) -> Result<(), Fail> {
+    let alloc = rt.alloc();
+    let length = dump.len();
+    let upload = format!(in alloc;
+        "PUT /projects/app/lsif?key=k1 HTTP/1.1\r\nContent-Length: {length}\r\n\r\n{dump}"
+    )?;
+    let query = format!(in alloc;
+        "GET /projects/app/{request}?uri=file:///a.ts&line=0&character=0 HTTP/1.1\r\n\r\n"
+    )?;
+    let stream = format!(in alloc; "{upload}{query}")?;
+    let mut places = String::from_str(alloc, "200 {\"places\":[")?;
+    for line in 0..lines {
+        let place = format!(in alloc;
+            "{{\"end\":{{\"character\":1,\"line\":{line}}},\"project\":\"app\",\"start\":{{\"character\":0,\"line\":{line}}},\"uri\":\"file:///a.ts\"}},"
+        )?;
+        places.push_str(place.as_str())?;
+    }
+    places.pop();
+    places.push_str("]}")?;
+    let accepted = format!(in alloc; "200 {{\"accepted\":\"lsif\",\"count\":{elements}}}")?;
+    let mut wanted = reply_of(alloc, accepted.as_str())?;
+    wanted.push_str(reply_of(alloc, places.as_str())?.as_str())?;
+    expect(rt, stream.as_bytes(), 1_000_000, 2, wanted.as_str());
+    Ok(())
+}
+
+/// Asserts what is written for streams that come whole, and for no bytes.
+fn expect_streams<R: AllocGlobal + Abort>(rt: &R, streams: &'static str) -> Result<(), Fail> {
+    for rows in streams.split("\n\n") {
         let (requests, replies) = exchange(rt.alloc(), rows, usize::MAX)?;
         let count = rows.trim_matches('\n').lines().count();
         for most in [1, 7, 1_000_000] {
-            expect(&rt, requests.as_bytes(), most, count, replies.as_str());
+            expect(rt, requests.as_bytes(), most, count, replies.as_str());
         }
     }
-    expect(&rt, b"", 1, 0, "");
+    expect(rt, b"", 1, 0, "");
+    Ok(())
+}
+
+/// Uploads of dumps, what is refused of them, and requests for definitions.
+#[test]
+fn replay_first(rt: HostRuntime) -> Result<(), Fail> {
+    expect_streams(&rt, FIRST)?;
+    expect_streams(&rt, UPLOADS)
+}
+
+/// Every other request; `replay_first` has those for definitions in one project.
+#[test]
+fn all_rows(rt: HostRuntime) -> Result<(), Fail> {
+    expect_streams(&rt, FURTHER)?;
     expect(&rt, PROJECTS.as_bytes(), 1, 1, NO_PROJECTS);
     Ok(())
 }
@@ -348,9 +453,8 @@ fn serve_over(
     (answer, taken)
 }
 
-/// A reader that fails at any byte of an upload: it has no effect. A writer that fails at the reply to one: it has its effect,
-/// and sent again it gets the kept reply.
-fn effects<R: AllocGlobal + Abort>(rt: &R) -> Result<(), Fail> {
+/// A reader that fails at any byte of an upload: it has no effect.
+fn without_effect<R: AllocGlobal + Abort>(rt: &R) {
     let mut desk = PlainDesk::new(rt.alloc());
     for fails_at in 1..67 {
         let (answer, written) = serve_over(rt.alloc(), &mut desk, SHORT_PUT, fails_at, 0);
@@ -360,21 +464,52 @@ fn effects<R: AllocGlobal + Abort>(rt: &R) -> Result<(), Fail> {
     let (answer, written) = serve_over(rt.alloc(), &mut desk, PROJECTS, 0, 0);
     assert_eq!(rt; answer, Ok(1));
     assert_eq!(rt; written.as_slice(), NO_PROJECTS.as_bytes());
-    let (upload, _) = exchange(rt.alloc(), BASE_TWICE, 1)?;
-    let (answer, written) = serve_over(rt.alloc(), &mut desk, upload.as_str(), 0, 1);
-    assert_eq!(rt; answer, Err(ServeFault::Write));
-    assert!(rt; written.is_empty());
-    let (again, replies) = exchange(rt.alloc(), BASE_TWICE, 2)?;
-    let (answer, written) = serve_over(rt.alloc(), &mut desk, again.as_str(), 0, 0);
-    assert_eq!(rt; answer, Ok(2));
-    assert_eq!(rt; written.as_slice(), replies.as_bytes());
+}
+
+/// Asserts what is written for the requests of these rows over a desk.
+fn expect_over<R: AllocGlobal + Abort>(
+    rt: &R,
+    desk: &mut PlainDesk,
+    rows: &'static str,
+    row: &str,
+) -> Result<(), Fail> {
+    let (requests, replies) = exchange(rt.alloc(), rows, usize::MAX)?;
+    let (_, written) = serve_over(rt.alloc(), desk, requests.as_str(), 0, 0);
+    assert_eq!(rt;
+        str::from_utf8(&written).unwrap_or("not UTF-8"),
+        replies.as_str(),
+        "{row}"
+    );
+    Ok(())
+}
+
+/// A writer that fails at the first byte of the reply to a command, or at a later one: the command has its effect.
+fn with_effect<R: AllocGlobal + Abort>(rt: &R) -> Result<(), Fail> {
+    for (before, row, after) in CUT {
+        let (command, wanted) = exchange(rt.alloc(), row, 1)?;
+        for taken in [0, 1, 9, 20, wanted.len().saturating_sub(1)] {
+            let mut desk = PlainDesk::new(rt.alloc());
+            expect_over(rt, &mut desk, before, row)?;
+            let fails_at = u32::try_from(taken)?.saturating_add(1);
+            let (answer, written) = serve_over(
+                rt.alloc(),
+                &mut desk,
+                command.as_str(),
+                0,
+                fails_at,
+            );
+            assert_eq!(rt; answer, Err(ServeFault::Write), "{taken}: {row}");
+            let front = wanted.get(..taken).ok_or("no such place")?;
+            assert_eq!(rt; written.as_slice(), front.as_bytes(), "{taken}: {row}");
+            expect_over(rt, &mut desk, after, row)?;
+        }
+    }
     Ok(())
 }
 
 /// A reader that fails at each of its reads: the requests that came whole are answered.
 fn readers_that_fail<R: AllocGlobal + Abort>(rt: &R) -> Result<(), Fail> {
-    let (stream, whole) = exchange(rt.alloc(), UPLOADS, 7)?;
-    expect(rt, stream.as_bytes(), 1_000_000, 7, whole.as_str());
+    let (stream, _) = exchange(rt.alloc(), UPLOADS, 7)?;
     let reads = u32::try_from(stream.len() / 100)?;
     for fails_at in 1..=reads {
         let mut reader = in_pieces(stream.as_bytes(), 100);
@@ -412,7 +547,8 @@ fn writers_that_fail<R: AllocGlobal + Abort>(rt: &R) -> Result<(), Fail> {
 #[test]
 fn cut_and_failed(rt: HostRuntime) -> Result<(), Fail> {
     cut_streams(&rt)?;
-    effects(&rt)?;
+    without_effect(&rt);
+    with_effect(&rt)?;
     readers_that_fail(&rt)?;
     writers_that_fail(&rt)
 }

@@ -1,6 +1,6 @@
 //! Reports of dumps with vertices and edges of each label, with ids that are numbers and with ids that are texts.
-use super::{BOTH, expect_rows};
-use crate::samples::BASE;
+use super::check::{BOTH, Kind, expect_rows};
+use super::samples::BASE;
 use lsif::Profile;
 use std::test::Fail;
 
@@ -249,8 +249,8 @@ fn elements_of_each_label(rt: HostRuntime) -> Result<(), Fail> {
         (Profile::One, OF_ADDED_IN_ONE),
         (Profile::Two, OF_ADDED_IN_TWO),
     ] {
-        expect_rows(&rt, &[profile], ADDED, rows, &[4096], "")?;
-        expect_rows(&rt, &[profile], ADDED, rows, &[4096], "\"")?;
+        expect_rows(&rt, &[Kind::Dump(profile)], ADDED, rows, &[4096], "")?;
+        expect_rows(&rt, &[Kind::Dump(profile)], ADDED, rows, &[4096], "\"")?;
     }
     Ok(())
 }
