@@ -1,6 +1,6 @@
 use Rattle.std.proofs.Common.{◌∙◌, refl}
 use Rattle.lsif.proofs.Seen.{seen_none, seen_more}
-use Rattle.lsif.proofs.lines.tests.count_lines_of.Goals as goal
+use Rattle.lsif.proofs.tests.lines.count_lines_of.Goals as goal
 
 pub loop-n-init : goal.loop-n-init
 loop-n-init g c = record { failures = refl; seen = seen_none _ }
