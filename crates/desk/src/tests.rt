@@ -1,4 +1,13 @@
 //! Requests to a desk in memory with their replies, and each of the crate's functions called once.
+mod commands;
+mod forms;
+mod joins;
+mod lists;
+mod pieces;
+mod profiles;
+mod queries;
+mod samples;
+
 use crate::{
     Command, Desk, DocUri, Key, PlainDesk, ProjectName, Query, Reply, Request, RunFault,
     answer_law, judgement_law, read_number, reply_law, retry_law, run,
@@ -173,7 +182,7 @@ fn expect_replies<R: AllocGlobal + Abort>(rt: &R, scenario: &'static str) -> Res
         if k % 2 == 0 {
             found = reply_to(rt.alloc(), &mut desk, line)?;
         } else {
-            assert_eq!(rt; found.as_str(), line, "line {k}");
+            assert_eq!(rt; (k, found.as_str()), (k, line));
         }
     }
     Ok(())
@@ -220,6 +229,21 @@ fn run_all(alloc: Global, requests: &[Request<'_>]) -> Result<String, Fail> {
     }
 }
 
+/// Commands, queries at positions, and queries that other projects answer, too.
+#[test]
+fn replies(rt: HostRuntime) -> Result<(), Fail> {
+    for scenarios in [
+        commands::SCENARIOS.as_slice(),
+        &queries::SCENARIOS,
+        &joins::SCENARIOS,
+    ] {
+        for scenario in scenarios {
+            expect_replies(&rt, *scenario)?;
+        }
+    }
+    Ok(())
+}
+
 #[test]
 fn run_of_requests(rt: HostRuntime) -> Result<(), Fail> {
     let rows = "definition app file:///a.ts 2:1
@@ -255,12 +279,3 @@ definition lib file:///a.ts 2:1";
     retry_law();
     Ok(())
 }
-
-mod commands;
-mod forms;
-mod joins;
-mod lists;
-mod pieces;
-mod profiles;
-mod queries;
-mod samples;

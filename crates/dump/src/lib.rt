@@ -34,11 +34,3 @@ pub use role::{Role, role_of};
 
 #[cfg(test)]
 mod tests;
-#[cfg(test)]
-mod tests_ids;
-#[cfg(test)]
-mod tests_index_map;
-#[cfg(test)]
-mod tests_profiles;
-#[cfg(test)]
-mod tests_spans;

@@ -1,4 +1,9 @@
 //! Dumps that are fed or read, the faults that are answered for good, and what is asked of a checked dump.
+mod ids;
+mod index_map;
+mod profiles;
+mod spans;
+
 use crate::{
     CheckedDump, Checker, DumpFault, FeedFault, LineFault, Request, Role, chain_law, container_law,
     ends_law, fault_law, hover_law, line_law, listing_law, nesting_law, own_law, path_law,
@@ -93,38 +98,6 @@ fn answers(
     (fed, checker.finish().err())
 }
 
-#[test]
-fn feeding_and_finishing(rt: HostRuntime) -> Result<(), Fail> {
-    let fault = FeedFault::Line(LineFault {
-        line: 2,
-        code: Code::L02,
-    });
-    for profile in PROFILES {
-        let (first, third) = (
-            element(rt.alloc(), profile, META_DATA)?,
-            element(rt.alloc(), profile, DOCUMENT)?,
-        );
-        let found = answers(Checker::new(rt.alloc(), profile), first, third);
-        assert_eq!(rt;
-            found,
-            ([Ok(()), Err(fault), Err(fault), Err(fault)], Some(fault))
-        );
-    }
-    Ok(())
-}
-
-#[test]
-fn finishing_with_no_line(rt: HostRuntime) {
-    let fault = FeedFault::Line(LineFault {
-        line: 1,
-        code: Code::L06,
-    });
-    for profile in PROFILES {
-        let found = Checker::new(rt.alloc(), profile).finish().err();
-        assert_eq!(rt; found, Some(fault));
-    }
-}
-
 /// The profiles of the checker that took two lines and of their dump, and how many elements the dump has.
 fn dump_of_two(alloc: Global, profile: Profile) -> Result<(Profile, Profile, usize), Fail> {
     let mut checker = Checker::new(alloc, profile);
@@ -136,14 +109,6 @@ fn dump_of_two(alloc: Global, profile: Profile) -> Result<(Profile, Profile, usi
     }
 }
 
-#[test]
-fn finishing_a_dump(rt: HostRuntime) -> Result<(), Fail> {
-    for profile in PROFILES {
-        assert_eq!(rt; dump_of_two(rt.alloc(), profile)?, (profile, profile, 2));
-    }
-    Ok(())
-}
-
 /// The profile of the dump of a text, and how many elements it has.
 fn read(alloc: Global, profile: Profile, text: &str) -> Result<(Profile, usize), DumpFault> {
     let mut reader = Counted::new(text.as_bytes());
@@ -153,20 +118,46 @@ fn read(alloc: Global, profile: Profile, text: &str) -> Result<(Profile, usize),
     }
 }
 
+/// The fault of a line.
+fn fault(line: u32, code: Code) -> FeedFault {
+    FeedFault::Line(LineFault { line, code })
+}
+
+/// What is answered for lines that are fed, at the end, and at the end of none; and the dump of two lines.
+type Fed = (
+    [Result<(), FeedFault>; 4],
+    [Option<FeedFault>; 2],
+    (Profile, Profile, usize),
+);
+
+fn fed(alloc: Global, profile: Profile) -> Result<Fed, Fail> {
+    let first = element(alloc, profile, META_DATA)?;
+    let third = element(alloc, profile, DOCUMENT)?;
+    let two = dump_of_two(alloc, profile)?;
+    let (fed, end) = answers(Checker::new(alloc, profile), first, third);
+    let empty = Checker::new(alloc, profile).finish().err();
+    Ok((fed, [end, empty], two))
+}
+
 #[test]
-fn dump_of_a_reader(rt: HostRuntime) -> Result<(), Fail> {
+fn fed_and_read_dumps(rt: HostRuntime) -> Result<(), Fail> {
     let sound = format!(in rt.alloc(); "{META_DATA}\n{DOCUMENT}")?;
     let faulty = format!(in rt.alloc(); "{META_DATA}\n\n{DOCUMENT}\n")?;
-    let fault = LineFault {
+    let second = fault(2, Code::L02);
+    let answers = [Ok(()), Err(second), Err(second), Err(second)];
+    let ends = [Some(second), Some(fault(1, Code::L06))];
+    let line = LineFault {
         line: 2,
         code: Code::L02,
     };
     for profile in PROFILES {
-        assert_eq!(rt; read(rt.alloc(), profile, &sound), Ok((profile, 2)));
-        assert_eq!(rt;
+        let found = fed(rt.alloc(), profile)?;
+        assert_eq!(rt; found, (answers, ends, (profile, profile, 2)));
+        let read = (
+            read(rt.alloc(), profile, &sound),
             read(rt.alloc(), profile, &faulty),
-            Err(DumpFault::Line(fault))
         );
+        assert_eq!(rt; read, (Ok((profile, 2)), Err(DumpFault::Line(line))));
     }
     Ok(())
 }
@@ -217,7 +208,8 @@ const FOUND_IN_ONE: &str = "\
 2: 0 0 0 0 0 0, next 0, own 0 0 0 0 0
 24: 0 0 0 0 0 25, next 0, own 0 0 0 0 0
 25: 0 0 0 0 0 0, next 0, own 0 0 0 0 0
-";
+document range none, true false, 2
+Some(0) Some(5) Some(6) Some(22) None 2 40 0 ";
 
 const FOUND_IN_TWO: &str = "\
 3: 8 20 22 30 32 0, next 5, own 0 0 0 0 0
@@ -226,18 +218,24 @@ const FOUND_IN_TWO: &str = "\
 2: 0 0 0 0 0 0, next 0, own 0 0 0 0 0
 24: 0 0 0 0 0 25, next 0, own 0 0 0 0 0
 25: 0 0 0 0 0 0, next 0, own 0 0 0 0 0
-";
+document range none, true false, 2
+Some(0) Some(5) Some(6) Some(22) None 2 40 0 ";
 
 /// A dump with answers to all that is asked.
 fn full_dump(alloc: Global, profile: Profile) -> Result<CheckedDump, Fail> {
-    dump_of(
-        alloc,
-        profile,
-        &[META_DATA, DOCUMENT, CHAIN, RESULTS, ADDED, CONTAINS],
-    )
+    let texts = [
+        META_DATA,
+        DOCUMENT,
+        CHAIN,
+        RESULTS,
+        ADDED,
+        CONTAINS,
+        OTHER_DOCUMENT,
+    ];
+    dump_of(alloc, profile, &texts)
 }
 
-/// What is found of the vertices of a dump.
+/// What is found of the vertices of the dump.
 fn all_found(alloc: Global, dump: &CheckedDump) -> Result<String, Fail> {
     let mut found = String::new(alloc);
     for vertex in [3, 5, 6, 2, 24, 25] {
@@ -245,21 +243,6 @@ fn all_found(alloc: Global, dump: &CheckedDump) -> Result<String, Fail> {
         found.push_str(own_of(alloc, dump, vertex)?.as_str())?;
     }
     Ok(found)
-}
-
-/// What is found of the vertices of the full dump.
-fn found_of_full(alloc: Global, profile: Profile) -> Result<String, Fail> {
-    let dump = full_dump(alloc, profile)?;
-    all_found(alloc, &dump)
-}
-
-#[test]
-fn look_ups(rt: HostRuntime) -> Result<(), Fail> {
-    for (profile, wanted) in [(Profile::One, FOUND_IN_ONE), (Profile::Two, FOUND_IN_TWO)] {
-        let found = found_of_full(rt.alloc(), profile)?;
-        assert_eq!(rt; found.as_str(), wanted);
-    }
-    Ok(())
 }
 
 /// What kind of vertex the id of this number is.
@@ -272,75 +255,54 @@ fn kind(dump: &CheckedDump, id: u64) -> &'static str {
     }
 }
 
-/// Whether this is the document that contains the range.
-fn is_container(dump: &CheckedDump, document: &Id, range: &Id) -> bool {
-    match dump.container(range) {
-        Some(container) => container.is(document),
-        None => false,
-    }
-}
-
-/// The kinds of a document, a range and an edge, whether one of the first two is in the other, and whether the document
-/// is that which contains the range.
-fn kinds(alloc: Global, profile: Profile) -> Result<([&'static str; 3], [bool; 3]), Fail> {
+/// The kinds of a document, a range and an edge; whether the range is in the document, and the document in the range; and the
+/// document that contains the range.
+fn kinds(alloc: Global, dump: &CheckedDump) -> Result<String, Fail> {
     let (document, range) = (Id::Number(2), Id::Number(3));
-    let dump = full_dump(alloc, profile)?;
-    Ok((
-        [kind(&dump, 2), kind(&dump, 3), kind(&dump, 12)],
-        [
-            dump.is_in(&document, &range),
-            dump.is_in(&range, &document),
-            is_container(&dump, &document, &range),
-        ],
-    ))
+    let (inside, around) = (dump.is_in(&document, &range), dump.is_in(&range, &document));
+    let container = number(dump.container(&range));
+    Ok(format!(in alloc;
+        "{} {} {}, {inside} {around}, {container}\n",
+        kind(dump, 2),
+        kind(dump, 3),
+        kind(dump, 12)
+    )?)
 }
 
-#[test]
-fn vertices_and_ranges_of_documents(rt: HostRuntime) -> Result<(), Fail> {
-    for profile in PROFILES {
-        let found = kinds(rt.alloc(), profile)?;
-        assert_eq!(rt; found, (["document", "range", "none"], [true, false, true]));
-    }
-    Ok(())
-}
-
-/// The lines of the first element, of an edge by a number, of an edge by the text of that number, of the last element, and
-/// of an id that is nobody's.
-fn lines(alloc: Global, profile: Profile) -> Result<[Option<u32>; 5], Fail> {
-    let dump = full_dump(alloc, profile)?;
+/// The lines of the first element, of an edge by a number, of an edge by the text of that number, of the last edge, and of an
+/// id that is nobody's; and the documents of two serialized URLs, and of one that no document has.
+fn lines_and_documents(alloc: Global, dump: &CheckedDump) -> Result<String, Fail> {
     let text = Id::Text(String::from_str(alloc, "7")?);
-    Ok([
-        dump.line_of(&Id::Number(1)),
-        dump.line_of(&Id::Number(7)),
-        dump.line_of(&text),
-        dump.line_of(&Id::Number(12)),
-        dump.line_of(&Id::Number(13)),
-    ])
-}
-
-#[test]
-fn lines_of_ids(rt: HostRuntime) -> Result<(), Fail> {
-    for profile in PROFILES {
-        let found = lines(rt.alloc(), profile)?;
-        assert_eq!(rt; found, [Some(0), Some(5), Some(6), Some(22), None]);
+    let mut found = String::new(alloc);
+    for id in [
+        Id::Number(1),
+        Id::Number(7),
+        text,
+        Id::Number(12),
+        Id::Number(13),
+    ] {
+        found.push_str(format!(in alloc; "{:?} ", dump.line_of(&id))?.as_str())?;
     }
-    Ok(())
+    for uri in ["file:///a.ts", "file:///b.ts", "file:///c.ts"] {
+        found.push_str(format!(in alloc; "{} ", number(dump.document_of(uri)))?.as_str())?;
+    }
+    Ok(found)
 }
 
-/// The documents of two serialized URLs, and of one that no document has.
-fn documents(alloc: Global, profile: Profile) -> Result<[u64; 3], Fail> {
-    let dump = dump_of(alloc, profile, &[META_DATA, DOCUMENT, OTHER_DOCUMENT])?;
-    Ok([
-        number(dump.document_of("file:///a.ts")),
-        number(dump.document_of("file:///b.ts")),
-        number(dump.document_of("file:///c.ts")),
-    ])
+/// What is found in the full dump.
+fn look_up(alloc: Global, profile: Profile) -> Result<String, Fail> {
+    let dump = full_dump(alloc, profile)?;
+    let found = all_found(alloc, &dump)?;
+    let kinds = kinds(alloc, &dump)?;
+    let lines = lines_and_documents(alloc, &dump)?;
+    Ok(format!(in alloc; "{found}{kinds}{lines}")?)
 }
 
 #[test]
-fn documents_of_urls(rt: HostRuntime) -> Result<(), Fail> {
-    for profile in PROFILES {
-        assert_eq!(rt; documents(rt.alloc(), profile)?, [2, 40, 0]);
+fn look_ups(rt: HostRuntime) -> Result<(), Fail> {
+    for (profile, wanted) in [(Profile::One, FOUND_IN_ONE), (Profile::Two, FOUND_IN_TWO)] {
+        let found = look_up(rt.alloc(), profile)?;
+        assert_eq!(rt; found.as_str(), wanted);
     }
     Ok(())
 }

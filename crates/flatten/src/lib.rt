@@ -28,7 +28,3 @@ pub use rows::{BearerRow, DocRow, HoverRow, ItemRow, MarkRow, RangeRow, Rows};
 
 #[cfg(test)]
 mod tests;
-#[cfg(test)]
-mod tests_great;
-#[cfg(test)]
-mod tests_rows;

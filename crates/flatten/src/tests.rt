@@ -1,4 +1,8 @@
 //! What pairs of numbers lead to, and the texts of keys.
+mod great;
+mod plain;
+mod rows;
+
 use crate::{key_law, key_text, reach};
 use lsif::{Moniker, MonikerKind, Package};
 use std::alloc::{AllocError, Global};
@@ -73,13 +77,7 @@ const ROWS: [Row; 11] = [
 fn reached_numbers(rt: HostRuntime) -> Result<(), Fail> {
     for row in &ROWS {
         let reached = reach(rt.alloc(), row.starts, row.pairs)?;
-        assert_eq!(rt;
-            reached.as_slice(),
-            row.reached,
-            "{:?} by {:?}",
-            row.starts,
-            row.pairs
-        );
+        assert_eq!(rt; (row.pairs, reached.as_slice()), (row.pairs, row.reached));
     }
     Ok(())
 }

@@ -147,6 +147,3 @@ impl Cutter {
         true
     }
 }
-
-#[cfg(test)]
-mod tests;

@@ -220,6 +220,3 @@ impl<S: Source> Lines<S> {
         self.lines.line()
     }
 }
-
-#[cfg(test)]
-mod tests;

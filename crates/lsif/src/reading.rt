@@ -80,6 +80,3 @@ pub fn read_element(alloc: Global, profile: Profile, line: &[u8]) -> Result<Elem
     }
     element(alloc, profile, &json(alloc, line)?)
 }
-
-#[cfg(test)]
-mod tests;

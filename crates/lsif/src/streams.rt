@@ -163,6 +163,3 @@ impl<S: Sink> Sink for &mut S {
         Sink::push(&mut **self, bytes)
     }
 }
-
-#[cfg(test)]
-mod tests;

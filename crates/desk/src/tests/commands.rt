@@ -1,9 +1,7 @@
 //! Commands, and the queries that list something.
-use super::expect_replies;
-use std::test::Fail;
 
 /// What the desk answers to commands, and what it lists then. A comment says what each list shows.
-const SCENARIOS: [&str; 9] = [
+pub(super) const SCENARIOS: [&str; 10] = [
     // The same key again has its reply again, whatever its body, and changes nothing; another project's key is
     // another.
     r#"put app k1 1 base
@@ -167,12 +165,21 @@ tags app k4 x␉f.c␉9␊
 200 {"accepted":"tags","count":1}
 prefix x
 200 {"tags":[{"address":"9","fields":[],"file":"f.c","kind":null,"line":1,"name":"x","project":"app"}]}"#,
+    // A project's name and keys of 64 characters.
+    r#"put abcdefghijklmnopqrstuvwxyz0123456789_-abcdefghijklmnopqrstuvwxyz ABCDEFGHIJKLMNOPQRSTUVWXYZ0123456789_-ABCDEFGHIJKLMNOPQRSTUVWXY1 1 base
+200 {"accepted":"lsif","count":11}
+tags abcdefghijklmnopqrstuvwxyz0123456789_-abcdefghijklmnopqrstuvwxyz ABCDEFGHIJKLMNOPQRSTUVWXYZ0123456789_-ABCDEFGHIJKLMNOPQRSTUVWXY2 x␉f.c␉1␊
+200 {"accepted":"tags","count":1}
+put abcdefghijklmnopqrstuvwxyz0123456789_-abcdefghijklmnopqrstuvwxyz ABCDEFGHIJKLMNOPQRSTUVWXYZ0123456789_-ABCDEFGHIJKLMNOPQRSTUVWXY3 1 brace
+422 {"fault":"L02","line":1,"text":"not JSON"}
+put abcdefghijklmnopqrstuvwxyz0123456789_-abcdefghijklmnopqrstuvwxyz ABCDEFGHIJKLMNOPQRSTUVWXYZ0123456789_-ABCDEFGHIJKLMNOPQRSTUVWXY1 1 brace
+200 {"accepted":"lsif","count":11}
+definition abcdefghijklmnopqrstuvwxyz0123456789_-abcdefghijklmnopqrstuvwxyz file:///a.ts 2:1
+200 {"places":[{"end":{"character":7,"line":0},"project":"abcdefghijklmnopqrstuvwxyz0123456789_-abcdefghijklmnopqrstuvwxyz","start":{"character":4,"line":0},"uri":"file:///a.ts"}]}
+remove abcdefghijklmnopqrstuvwxyz0123456789_-abcdefghijklmnopqrstuvwxyz ABCDEFGHIJKLMNOPQRSTUVWXYZ0123456789_-ABCDEFGHIJKLMNOPQRSTUVWXY3
+200 {"removed":true}
+remove abcdefghijklmnopqrstuvwxyz0123456789_-abcdefghijklmnopqrstuvwxyz ABCDEFGHIJKLMNOPQRSTUVWXYZ0123456789_-ABCDEFGHIJKLMNOPQRSTUVWXY4
+200 {"removed":false}
+tags abcdefghijklmnopqrstuvwxyz0123456789_-abcdefghijklmnopqrstuvwxyz ABCDEFGHIJKLMNOPQRSTUVWXYZ0123456789_-ABCDEFGHIJKLMNOPQRSTUVWXY2 x
+200 {"accepted":"tags","count":1}"#,
 ];
-
-#[test]
-fn commands_and_lists(rt: HostRuntime) -> Result<(), Fail> {
-    for scenario in SCENARIOS {
-        expect_replies(&rt, scenario)?;
-    }
-    Ok(())
-}

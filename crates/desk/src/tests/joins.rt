@@ -1,9 +1,7 @@
 //! Queries at positions that other projects answer, too.
-use super::expect_replies;
-use std::test::Fail;
 
 /// Dumps of several projects, and what the desk answers of them. A comment says which rule each list shows.
-const SCENARIOS: [&str; 12] = [
+pub(super) const SCENARIOS: [&str; 12] = [
     // An import joins the export of its key in each other project, in the order of their names, until that project is
     // removed. Its own project is listed where its name stands.
     r#"put app k1 1 import
@@ -260,11 +258,3 @@ references app file:///a.ts 2:0
 hover app file:///a.ts 2:0
 200 {"contents":null}"#,
 ];
-
-#[test]
-fn answers_of_other_projects(rt: HostRuntime) -> Result<(), Fail> {
-    for scenario in SCENARIOS {
-        expect_replies(&rt, scenario)?;
-    }
-    Ok(())
-}

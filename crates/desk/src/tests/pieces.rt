@@ -56,18 +56,18 @@ fn expect_reply<R: AllocGlobal + Abort>(
     for first in 0..=body.len() {
         let mut desk = PlainDesk::new(rt.alloc());
         let found = reply_in_pieces(rt.alloc(), &mut desk, row, body, first, body.len())?;
-        assert_eq!(rt; found.as_str(), wanted, "{row} cut at {first}");
+        assert_eq!(rt; (row, first, found.as_str()), (row, first, wanted));
     }
     for most in [1, 2, 7] {
         let mut desk = PlainDesk::new(rt.alloc());
         let found = reply_in_pieces(rt.alloc(), &mut desk, row, body, 0, most)?;
-        assert_eq!(rt; found.as_str(), wanted, "{row} in pieces of {most}");
+        assert_eq!(rt; (row, most, found.as_str()), (row, most, wanted));
     }
     Ok(())
 }
 
 /// Uploads, and the reply to each.
-const ROWS: [(&str, &str); 12] = [
+const ROWS: [(&str, &str); 14] = [
     ("put app k1 1 base", r#"200 {"accepted":"lsif","count":11}"#),
     ("put app k1 1 ring", r#"200 {"accepted":"lsif","count":13}"#),
     (
@@ -104,6 +104,14 @@ const ROWS: [(&str, &str); 12] = [
         r#"422 {"fault":"T05","line":2,"text":"bad escape"}"#,
     ),
     ("tags app k1 -", r#"200 {"accepted":"tags","count":0}"#),
+    (
+        "put app ABCDEFGHIJKLMNOPQRSTUVWXYZ0123456789_-ABCDEFGHIJKLMNOPQRSTUVWXY1 1 nothing | 1 metaData",
+        r#"200 {"accepted":"lsif","count":1}"#,
+    ),
+    (
+        "tags app ABCDEFGHIJKLMNOPQRSTUVWXYZ0123456789_-ABCDEFGHIJKLMNOPQRSTUVWXY1 x␉f.c␉1␊",
+        r#"200 {"accepted":"tags","count":1}"#,
+    ),
 ];
 
 /// Asserts the replies of the rows, and those of a dump without its last line feed.
@@ -145,11 +153,11 @@ fn held_bytes_and_kept_keys(rt: HostRuntime) -> Result<(), Fail> {
         let mut desk = PlainDesk::new(rt.alloc());
         let mut upload = begin(rt.alloc(), row)?;
         for (piece, held) in pieces {
-            assert_eq!(rt; upload.piece(piece.as_bytes()), Ok(()), "{row}");
-            assert_eq!(rt; upload.held(), held, "{row}, after {piece:?}");
+            let taken = upload.piece(piece.as_bytes());
+            assert_eq!(rt; (row, taken, upload.held()), (row, Ok(()), held));
         }
         let found = text_of(rt.alloc(), &desk.finish_upload(upload))?;
-        assert_eq!(rt; found.as_str(), wanted, "{row}");
+        assert_eq!(rt; (row, found.as_str()), (row, wanted));
     }
     let mut desk = PlainDesk::new(rt.alloc());
     let kept = reply_to(rt.alloc(), &mut desk, "put app k1 1 base")?;
@@ -159,7 +167,7 @@ fn held_bytes_and_kept_keys(rt: HostRuntime) -> Result<(), Fail> {
         ("tags app k1", "x"),
     ] {
         let found = reply_in_pieces(rt.alloc(), &mut desk, row, body.as_bytes(), 0, 1)?;
-        assert_eq!(rt; found.as_str(), kept.as_str(), "{row} {body}");
+        assert_eq!(rt; (row, body, found.as_str()), (row, body, kept.as_str()));
     }
     Ok(())
 }
@@ -256,7 +264,10 @@ fn large_bodies(rt: HostRuntime) -> Result<(), Fail> {
         let mut desk = PlainDesk::new(alloc);
         let whole = format!(in alloc; "{body}{last}")?;
         let found = reply_in_pieces(alloc, &mut desk, row, whole.as_bytes(), 0, 8192)?;
-        assert_eq!(rt; found.as_str(), wanted, "{row}, {} bytes", whole.len());
+        assert_eq!(rt;
+            (row, whole.len(), found.as_str()),
+            (row, whole.len(), wanted)
+        );
     }
     Ok(())
 }

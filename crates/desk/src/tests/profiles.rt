@@ -87,7 +87,7 @@ profile app
 ];
 
 #[test]
-fn dumps_in_both_profiles(rt: HostRuntime) -> Result<(), Fail> {
+fn profiles(rt: HostRuntime) -> Result<(), Fail> {
     for scenario in SCENARIOS {
         expect_replies(&rt, scenario)?;
     }

@@ -1,9 +1,7 @@
 //! Queries at positions, and what refuses them.
-use super::expect_replies;
-use std::test::Fail;
 
 /// What the desk answers to queries at positions. A comment says what each list shows.
-const SCENARIOS: [&str; 13] = [
+pub(super) const SCENARIOS: [&str; 13] = [
     // Faulty bodies change nothing. The first faulty line is named, and a fault of a line goes before those of the
     // whole dump.
     r#"put app k1 1 nothing
@@ -272,11 +270,3 @@ profile app
 definition lib file:///b.ts 0:4
 404 {"fault":"D01","text":"project has no dump"}"#,
 ];
-
-#[test]
-fn queries_at_positions(rt: HostRuntime) -> Result<(), Fail> {
-    for scenario in SCENARIOS {
-        expect_replies(&rt, scenario)?;
-    }
-    Ok(())
-}

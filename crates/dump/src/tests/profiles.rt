@@ -339,16 +339,10 @@ fn declarations_and_implementations(rt: HostRuntime) -> Result<(), Fail> {
     for row in &ROWS {
         for are_texts in [false, true] {
             let text = text_of(rt.alloc(), row, are_texts)?;
-            assert_eq!(rt;
-                outcome(rt.alloc(), Profile::One, &text)?,
-                row.one,
-                "{text}"
-            );
-            assert_eq!(rt;
-                outcome(rt.alloc(), Profile::Two, &text)?,
-                row.two,
-                "{text}"
-            );
+            let one = outcome(rt.alloc(), Profile::One, &text)?;
+            let two = outcome(rt.alloc(), Profile::Two, &text)?;
+            let text = text.as_str();
+            assert_eq!(rt; (text, one, two), (text, row.one, row.two));
         }
     }
     Ok(())

@@ -1,7 +1,7 @@
 use Rattle.std.proofs.Common.{◌≡◌}
 use Rattle.lsif.specs.Buffered.{unread}
 use Rattle.lsif.proofs.Seen.{Seen}
-use Rattle.lsif.proofs.lines.tests.count_lines_of.Given as goal
+use Rattle.lsif.proofs.tests.lines.count_lines_of.Given as goal
 
 abbrev pub invariant-loop-n : goal.invariant-loop-n
 invariant-loop-n g l = record {

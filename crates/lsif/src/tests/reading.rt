@@ -1,10 +1,9 @@
 //! What is read of lines: an element, or the code of its shape. A table's row is a part of a line and what is read of
 //! it, with `=>` between them: a code, what a vertex or an edge of some labels says, or `an element`; and behind a bar what
 //! profile 2 reads, where that differs.
-use super::{LONGEST_LINE, profile_law, read_element};
-use crate::element::{Edge, Element, MonikerKind, Profile, Vertex};
-use crate::fault::ReadFault;
-use crate::id::Id;
+use crate::{
+    Edge, Element, Id, MonikerKind, Profile, ReadFault, Vertex, profile_law, read_element,
+};
 use std::alloc::Global;
 use std::test::Fail;
 
@@ -231,10 +230,9 @@ fn tables_of_lines(rt: HostRuntime) -> Result<(), Fail> {
     Ok(())
 }
 
-/// What is read of blank lines and others.
-fn blanks(alloc: Global) -> Result<String, Fail> {
+/// Adds the rows of blank lines and others.
+fn push_blanks(alloc: Global, found: &mut String) -> Result<(), Fail> {
     let null_first = b"{\"id\":null,\"id\":1,\"type\":\"vertex\",\"label\":\"x\"}\r";
-    let mut found = String::from_str(alloc, "\n")?;
     for (name, line) in [
         ("empty", b"".as_slice()),
         ("blank", b" \t\r"),
@@ -244,53 +242,51 @@ fn blanks(alloc: Global) -> Result<String, Fail> {
     ] {
         found.push_str(row(alloc, name, line)?.as_str())?;
     }
-    Ok(found)
+    Ok(())
 }
 
-/// What is read of a vertex of label `note` with a member of so many nested arrays.
-fn with_arrays(alloc: Global, depth: usize) -> Result<String, Fail> {
+/// Adds the row of a vertex of label `note` with a member of so many nested arrays.
+fn push_arrays(alloc: Global, found: &mut String, depth: usize) -> Result<(), Fail> {
     let before = r#"{"id":2,"type":"vertex","label":"note","x":"#;
-    let arrays = format!(in alloc;
-        "{}{}",
-        "[".repeat(alloc, depth)?,
-        "]".repeat(alloc, depth)?
-    )?;
-    let line = format!(in alloc; "{before}{arrays}}}")?;
-    row(alloc, "arrays", line.as_bytes())
+    let opened = "[".repeat(alloc, depth)?;
+    let closed = "]".repeat(alloc, depth)?;
+    let line = format!(in alloc; "{before}{opened}{closed}}}")?;
+    let name = format!(in alloc; "{depth} arrays")?;
+    Ok(found.push_str(row(alloc, name.as_str(), line.as_bytes())?.as_str())?)
 }
 
-/// What is read of a vertex with blanks behind it, up to this length.
-fn with_blanks(alloc: Global, length: usize) -> Result<String, Fail> {
+/// Adds the row of a vertex with blanks behind it, up to this length.
+fn push_bytes(alloc: Global, found: &mut String, length: usize) -> Result<(), Fail> {
     let element = r#"{"id":1,"type":"vertex","label":"x"}"#;
     let blanks = " ".repeat(alloc, length.saturating_sub(element.len()))?;
     let line = format!(in alloc; "{element}{blanks}")?;
-    row(alloc, "blanks", line.as_bytes())
+    let name = format!(in alloc; "{length} bytes")?;
+    Ok(found.push_str(row(alloc, name.as_str(), line.as_bytes())?.as_str())?)
 }
 
-const BLANKS: &str = "
+const MADE: &str = "
 empty => L02
 blank => L02
 a byte order mark => L02
 not UTF-8 => L02
 two ids, and a CR at the end => another vertex
+126 arrays => another vertex
+127 arrays => L02
+1048576 bytes => another vertex
+1048577 bytes => L01
 ";
 
 #[test]
 fn blanks_depths_and_lengths(rt: HostRuntime) -> Result<(), Fail> {
-    assert_eq!(rt; blanks(rt.alloc())?.as_str(), BLANKS);
-    let deepest = with_arrays(rt.alloc(), 126)?;
-    assert_eq!(rt; deepest.as_str(), "arrays => another vertex\n");
-    let too_deep = with_arrays(rt.alloc(), 127)?;
-    assert_eq!(rt; too_deep.as_str(), "arrays => L02\n");
-    Ok(())
-}
-
-#[test]
-fn longest_lines(rt: HostRuntime) -> Result<(), Fail> {
-    let longest = with_blanks(rt.alloc(), LONGEST_LINE)?;
-    assert_eq!(rt; longest.as_str(), "blanks => another vertex\n");
-    let too_long = with_blanks(rt.alloc(), LONGEST_LINE + 1)?;
-    assert_eq!(rt; too_long.as_str(), "blanks => L01\n");
+    let mut found = String::from_str(rt.alloc(), "\n")?;
+    push_blanks(rt.alloc(), &mut found)?;
+    for depth in [126, 127] {
+        push_arrays(rt.alloc(), &mut found, depth)?;
+    }
+    for length in [1_048_576, 1_048_577] {
+        push_bytes(rt.alloc(), &mut found, length)?;
+    }
+    assert_eq!(rt; found.as_str(), MADE);
     Ok(())
 }
 

@@ -1,6 +1,6 @@
 //! Lines of texts that come in pieces.
-
-use super::*;
+use crate::Cutter;
+use std::alloc::Global;
 use std::test::Fail;
 
 /// Adds the lines that the piece ends, or why the cutter takes no more, and says whether it goes on.
@@ -76,7 +76,7 @@ fn lines_of_pieces(rt: HostRuntime) -> Result<(), Fail> {
         ] {
             found.push_str(row(rt.alloc(), text, most)?.as_str())?;
         }
-        assert_eq!(rt; found.as_str(), ROWS, "{most}");
+        assert_eq!(rt; (most, found.as_str()), (most, ROWS));
     }
     Ok(())
 }

@@ -96,8 +96,7 @@ fn a_long_chain(rt: HostRuntime) -> Result<(), Fail> {
     let rows = flatten(rt.alloc(), &dump)?;
     let row = rows.ranges.first().ok_or("no row")?;
     assert_eq!(rt; (row.line, row.def, row.refs), (3, Some(50_000), None));
-    assert_eq!(rt; rows.ranges.len(), 1);
-    assert_eq!(rt; rows.items.len(), 1);
+    assert_eq!(rt; (rows.ranges.len(), rows.items.len()), (1, 1));
     Ok(())
 }
 
@@ -126,9 +125,42 @@ fn a_ring_of_results(rt: HostRuntime) -> Result<(), Fail> {
     let rows = flatten(rt.alloc(), &dump)?;
     assert_eq!(rt; rows.items.len(), 10_000);
     for (index, row) in rows.items.iter().enumerate() {
-        assert_eq!(rt; row.result as usize, 103 + index / 100);
-        assert_eq!(rt; row.span.start().line() as usize, index % 100);
+        let found = (row.result as usize, row.span.start().line() as usize);
+        assert_eq!(rt; found, (103 + index / 100, index % 100));
     }
+    Ok(())
+}
+
+/// A reference result with 1,000 ranges as items, and 400 results that lead to it.
+fn shared(alloc: Global) -> Result<CheckedDump, Fail> {
+    let mut checker = begun(alloc)?;
+    let mut targets = Vec::new(alloc);
+    for line in 0..1_000 {
+        let id = 3 + u64::from(line);
+        vertex(&mut checker, id, range(line, 1)?)?;
+        targets.push(Id::Number(id))?;
+    }
+    vertex(&mut checker, 1_003, Vertex::ReferenceResult)?;
+    let items = Item {
+        source: Id::Number(1_003),
+        targets,
+        property: Some(Property::References),
+        shard: Id::Number(2),
+    };
+    edge(&mut checker, 1_004, Edge::Item(items))?;
+    let joined = Some(Property::ReferenceResults);
+    for result in 1_005..1_405 {
+        vertex(&mut checker, result, Vertex::ReferenceResult)?;
+        item(alloc, &mut checker, 1_000 + result, (result, 1_003), joined)?;
+    }
+    ended(alloc, checker, 1_405, 3, 1_003)
+}
+
+/// A tenth of the rows that there may be, and more: each of 401 results has the places of all ranges.
+#[test]
+fn many_rows(rt: HostRuntime) -> Result<(), Fail> {
+    let dump = shared(rt.alloc())?;
+    assert_eq!(rt; flatten(rt.alloc(), &dump)?.items.len(), 401_000);
     Ok(())
 }
 

@@ -1,6 +1,7 @@
 //! What is looked up by ids of each form: small numbers, which have a slot, greater ones, and texts.
+use super::element;
 use crate::{Checker, FeedFault};
-use lsif::{Code, Element, Profile, ReadFault, read_element};
+use lsif::{Code, Profile};
 use std::alloc::Global;
 use std::test::Fail;
 
@@ -112,21 +113,15 @@ fn written(alloc: Global, line: &str, form: Form) -> Result<String, Fail> {
     Ok(written)
 }
 
-fn element(alloc: Global, profile: Profile, line: &str, form: Form) -> Result<Element, Fail> {
-    let line = written(alloc, line, form)?;
-    match read_element(alloc, profile, line.as_bytes()) {
-        Ok(element) => Ok(element),
-        Err(ReadFault::Shape(_) | ReadFault::Memory) => Err("no element")?,
-    }
-}
-
 /// The code of a line after those of the base.
 fn code(alloc: Global, profile: Profile, line: &str, form: Form) -> Result<Option<Code>, Fail> {
     let mut checker = Checker::new(alloc, profile);
     for base in BASE.lines() {
-        checker.feed(Ok(element(alloc, profile, base, form)?))?;
+        let line = written(alloc, base, form)?;
+        checker.feed(Ok(element(alloc, profile, line.as_str())?))?;
     }
-    match checker.feed(Ok(element(alloc, profile, line, form)?)) {
+    let line = written(alloc, line, form)?;
+    match checker.feed(Ok(element(alloc, profile, line.as_str())?)) {
         Ok(()) => Ok(None),
         Err(FeedFault::Line(fault)) => Ok(Some(fault.code)),
         Err(FeedFault::Memory) => Err("memory was refused")?,
@@ -138,7 +133,8 @@ fn codes_by_ids_of_each_form(rt: HostRuntime) -> Result<(), Fail> {
     for (line, wanted) in LINES {
         for form in [Form::Small, Form::Great, Form::Text] {
             for profile in [Profile::One, Profile::Two] {
-                assert_eq!(rt; code(rt.alloc(), profile, line, form)?, wanted, "{line}");
+                let found = code(rt.alloc(), profile, line, form)?;
+                assert_eq!(rt; (line, found), (line, wanted));
             }
         }
     }

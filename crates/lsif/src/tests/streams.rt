@@ -1,8 +1,8 @@
 //! Readers and writers of std's under the counts.
-use super::*;
+use crate::{Counted, Sink, Source, counted_law};
 use std::alloc::Global;
 use std::io;
-use std::io::ErrorKind;
+use std::io::{ErrorKind, Write};
 use std::test::Fail;
 
 /// A writer that takes at most so many bytes at a time, and fails once, at the write of that number.

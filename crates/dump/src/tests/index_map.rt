@@ -30,11 +30,43 @@ fn indices(alloc: Global, map: &IndexMap, ids: &[&str]) -> Result<String, Fail> 
     Ok(found)
 }
 
-/// The indices of a map with slots below the bound, after these ids are entered, and after one is taken out.
+/// Ids with their indices.
+type Entered = &'static [(&'static str, u32)];
+
+/// Below which bound a map has slots; what is entered; the ids that are asked for; one of them; and what is found, and found after that
+/// one is taken out.
+const ROWS: [(u32, Entered, &[&str], &str, &str); 2] = [
+    (
+        4,
+        &[
+            ("3", 7),
+            ("3", 8),
+            ("0", 9),
+            ("4", 10),
+            ("4", 11),
+            ("9007199254740991", 12),
+            ("'1", 13),
+        ],
+        &["3", "0", "4", "9007199254740991", "'1", "1", "5", "'3"],
+        "0",
+        "\
+3 Some(7);0 Some(9);4 Some(10);9007199254740991 Some(12);'1 Some(13);1 None;5 None;'3 None;
+3 Some(7);0 None;4 Some(10);9007199254740991 Some(12);'1 Some(13);1 None;5 None;'3 None;",
+    ),
+    (
+        0,
+        &[("0", 5), ("0", 6), ("'0", 7)],
+        &["0", "'0"],
+        "'0",
+        "0 Some(5);'0 Some(7);\n0 Some(5);'0 None;",
+    ),
+];
+
+/// What a map finds, before and after one of the ids is taken out.
 fn indices_of(
     alloc: Global,
     bound: u32,
-    entered: &[(&str, u32)],
+    entered: Entered,
     ids: &[&str],
     removed: &str,
 ) -> Result<String, Fail> {
@@ -46,36 +78,11 @@ fn indices_of(
     Ok(format!(in alloc; "{before}\n{after}")?)
 }
 
-const FOUND: &str = "\
-3 Some(7);0 Some(9);4 Some(10);9007199254740991 Some(12);'1 Some(13);1 None;5 None;'3 None;
-3 Some(7);0 None;4 Some(10);9007199254740991 Some(12);'1 Some(13);1 None;5 None;'3 None;";
-
 #[test]
 fn first_index_of_each_id(rt: HostRuntime) -> Result<(), Fail> {
-    let entered = [
-        ("3", 7),
-        ("3", 8),
-        ("0", 9),
-        ("4", 10),
-        ("4", 11),
-        ("9007199254740991", 12),
-        ("'1", 13),
-    ];
-    let ids = ["3", "0", "4", "9007199254740991", "'1", "1", "5", "'3"];
-    let found = indices_of(rt.alloc(), 4, &entered, &ids, "0")?;
-    assert_eq!(rt; found.as_str(), FOUND);
-    Ok(())
-}
-
-#[test]
-fn first_index_without_slots(rt: HostRuntime) -> Result<(), Fail> {
-    let found = indices_of(
-        rt.alloc(),
-        0,
-        &[("0", 5), ("0", 6), ("'0", 7)],
-        &["0", "'0"],
-        "'0",
-    )?;
-    assert_eq!(rt; found.as_str(), "0 Some(5);'0 Some(7);\n0 Some(5);'0 None;");
+    for (bound, entered, ids, removed, wanted) in ROWS {
+        let found = indices_of(rt.alloc(), bound, entered, ids, removed)?;
+        assert_eq!(rt; found.as_str(), wanted);
+    }
     Ok(())
 }

@@ -1,11 +1,10 @@
-//! The rows of small dumps.
+//! The rows of small dumps, and how many there may be.
+use super::plain::plain_rows;
 use crate::flattening::flatten_within;
-use crate::{BearerRow, FlattenFault, ItemRow, MarkRow, RangeRow, Rows, flatten};
-use dump::{CheckedDump, Checker, Role};
-use lsif::{Element, MonikerKind, Profile, ReadFault, read_element};
-use positions::Span;
-use std::alloc::{AllocError, Global};
-use std::fmt::Write;
+use crate::{FlattenFault, flatten};
+use dump::{CheckedDump, Checker};
+use lsif::{Element, Profile, ReadFault, read_element};
+use std::alloc::Global;
 use std::test::Fail;
 
 /// The line that each dump begins with.
@@ -155,151 +154,63 @@ const LEVELS: [&str; 31] = [
     r#"{"id":32,"type":"edge","label":"moniker","outV":13,"inV":23}"#,
 ];
 
-/// A dump but for its first line, a profile, and its rows: of a document its uri; of a range its line, uri, start, end, parent and
-/// first results; of an item its result, role, uri, start and end; of a hover its result and contents; of a mark its range, kind and key;
-/// of a bearer its line, key, kind and first results.
-struct Row {
-    lines: &'static [&'static str],
-    profile: Profile,
-    rows: &'static str,
-}
+/// Two ranges whose chains lead to a vertex with a moniker: two marks of one bearer.
+const MARKED: [&str; 9] = [
+    r#"{"id":2,"type":"vertex","label":"document","uri":"file:///m.ts"}"#,
+    r#"{"id":3,"type":"vertex","label":"range","start":{"line":0,"character":0},"end":{"line":0,"character":1}}"#,
+    r#"{"id":4,"type":"vertex","label":"range","start":{"line":1,"character":0},"end":{"line":1,"character":1}}"#,
+    r#"{"id":5,"type":"vertex","label":"resultSet"}"#,
+    r#"{"id":6,"type":"edge","label":"next","outV":3,"inV":5}"#,
+    r#"{"id":7,"type":"edge","label":"next","outV":4,"inV":5}"#,
+    r#"{"id":8,"type":"vertex","label":"moniker","scheme":"s","identifier":"a"}"#,
+    r#"{"id":9,"type":"edge","label":"moniker","outV":5,"inV":8}"#,
+    r#"{"id":10,"type":"edge","label":"contains","outV":2,"inVs":[3,4]}"#,
+];
 
-const ROWS: [Row; 11] = [
-    Row {
-        lines: &BASE,
-        profile: Profile::One,
-        rows: r#"document file:///a.ts
-range 3 file:///a.ts 0:4 0:7 - 8 - - - -
-range 4 file:///a.ts 2:0 2:3 - 8 - - - -
-item 8 definitions file:///a.ts 0:4 0:7
-"#,
-    },
-    Row {
-        lines: &NESTED,
-        profile: Profile::One,
-        rows: r#"document file:///n.ts
-range 3 file:///n.ts 0:0 0:20 - 5 - - - -
-range 4 file:///n.ts 0:5 0:8 3 - - - - -
-item 5 definitions file:///n.ts 0:0 0:20
-"#,
-    },
-    Row {
-        lines: &TOUCHING,
-        profile: Profile::One,
-        rows: r#"document file:///u.ts
-range 3 file:///u.ts 0:0 0:5 - 6 - - - -
-range 4 file:///u.ts 0:5 0:9 - 7 - - - -
-range 5 file:///u.ts 0:5 0:5 - 8 - - - -
-item 6 definitions file:///u.ts 0:0 0:5
-item 7 definitions file:///u.ts 0:5 0:9
-item 8 definitions file:///u.ts 0:5 0:5
-"#,
-    },
-    Row {
-        lines: &RING,
-        profile: Profile::One,
-        rows: r#"document file:///c.ts
-range 3 file:///c.ts 0:0 0:1 - - - - - -
-range 4 file:///c.ts 1:0 1:1 - - 6 - - -
-item 5 definitions file:///c.ts 0:0 0:1
-item 5 references file:///c.ts 1:0 1:1
-item 6 definitions file:///c.ts 0:0 0:1
-item 6 references file:///c.ts 1:0 1:1
-"#,
-    },
-    Row {
-        lines: &IMPORTING,
-        profile: Profile::One,
-        rows: r#"document file:///app.ts
-range 3 file:///app.ts 1:0 1:3 - - - - - -
-mark 3 import 3:npm6:lib::f13:npm3:lib5:1.0.0
-bearer 3 3:npm6:lib::f13:npm3:lib5:1.0.0 import - - - - -
-"#,
-    },
-    Row {
-        lines: &EXPORTING,
-        profile: Profile::One,
-        rows: r#"document file:///lib.ts
-range 3 file:///lib.ts 0:9 0:10 - 8 - - - -
-item 8 definitions file:///lib.ts 0:9 0:10
-mark 3 export 3:npm6:lib::f13:npm3:lib5:1.0.0
-bearer 3 3:npm6:lib::f13:npm3:lib5:1.0.0 export 8 - - - -
-"#,
-    },
-    Row {
-        lines: &HOVERED,
-        profile: Profile::One,
-        rows: r#"document file:///h.ts
-range 3 file:///h.ts 0:0 0:3 - - - 4 - -
-hover 4 [{"language":"c","value":"f"},"d"]
-"#,
-    },
-    Row {
-        lines: &DECLARED,
-        profile: Profile::One,
-        rows: r#"document file:///p.ts
-range 3 file:///p.ts 0:0 0:1 - - - - - -
-range 4 file:///p.ts 1:0 1:1 - - - - - -
-range 5 file:///p.ts 2:0 2:1 - - - - - -
-"#,
-    },
-    Row {
-        lines: &DECLARED,
-        profile: Profile::Two,
-        rows: r#"document file:///p.ts
-range 3 file:///p.ts 0:0 0:1 - - - - - -
-range 4 file:///p.ts 1:0 1:1 - - - - - -
-range 5 file:///p.ts 2:0 2:1 - - - - 6 7
-item 6 definitions file:///p.ts 0:0 0:1
-item 7 definitions file:///p.ts 1:0 1:1
-"#,
-    },
-    Row {
-        lines: &LEVELS,
-        profile: Profile::One,
-        rows: r#"document file:///a.ts
-document file:///b.ts
-range 4 file:///b.ts 0:0 9:0 - - - - - -
-range 5 file:///b.ts 1:0 5:0 4 - - - - -
-range 6 file:///b.ts 1:0 3:0 5 16 20 - - -
-range 7 file:///b.ts 2:0 2:0 - - - - - -
-range 8 file:///b.ts 5:0 6:0 4 - - - - -
-range 9 file:///a.ts 0:0 9:0 - - - - - -
-item 16 definitions file:///b.ts 0:0 9:0
-item 16 definitions file:///b.ts 5:0 6:0
-item 20 definitions file:///b.ts 1:0 5:0
-item 20 references file:///b.ts 1:0 5:0
-mark 6 import 1:s1:b0
-mark 6 export 1:s1:a0
-mark 6 local 1:s1:a0
-bearer 6 1:s1:b0 import 16 20 - - -
-bearer 13 1:s1:a0 export 17 20 - - -
-bearer 13 1:s1:a0 local 17 20 - - -
-"#,
-    },
-    Row {
-        lines: &LEVELS,
-        profile: Profile::Two,
-        rows: r#"document file:///a.ts
-document file:///b.ts
-range 4 file:///b.ts 0:0 9:0 - - - - - -
-range 5 file:///b.ts 1:0 5:0 4 - - - - -
-range 6 file:///b.ts 1:0 3:0 5 16 20 - - -
-range 7 file:///b.ts 2:0 2:0 - - - - - -
-range 8 file:///b.ts 5:0 6:0 4 - - - - -
-range 9 file:///a.ts 0:0 9:0 - - - - - -
-item 16 definitions file:///b.ts 0:0 9:0
-item 16 definitions file:///b.ts 5:0 6:0
-item 20 definitions file:///b.ts 1:0 5:0
-item 20 references file:///b.ts 1:0 5:0
-mark 6 import 1:s1:b0
-mark 6 export 1:s1:a0
-mark 6 local 1:s1:a0
-bearer 6 1:s1:b0 import 16 20 - - -
-bearer 13 1:s1:a0 export 17 20 - - -
-bearer 13 1:s1:a0 local 17 20 - - -
-"#,
-    },
+/// A vertex with two monikers and no range: two bearers without a mark.
+const BEARING: [&str; 5] = [
+    r#"{"id":2,"type":"vertex","label":"resultSet"}"#,
+    r#"{"id":3,"type":"vertex","label":"moniker","scheme":"s","identifier":"a"}"#,
+    r#"{"id":4,"type":"vertex","label":"moniker","scheme":"s","identifier":"b"}"#,
+    r#"{"id":5,"type":"edge","label":"moniker","outV":2,"inV":3}"#,
+    r#"{"id":6,"type":"edge","label":"moniker","outV":2,"inV":4}"#,
+];
+
+/// A vertex with a moniker to which another is attached twice: two bearers, and four pairs, since each edge is read both ways.
+const ATTACHED: [&str; 6] = [
+    r#"{"id":2,"type":"vertex","label":"resultSet"}"#,
+    r#"{"id":3,"type":"vertex","label":"moniker","scheme":"s","identifier":"a"}"#,
+    r#"{"id":4,"type":"vertex","label":"moniker","scheme":"s","identifier":"b"}"#,
+    r#"{"id":5,"type":"edge","label":"attach","outV":3,"inV":4}"#,
+    r#"{"id":6,"type":"edge","label":"attach","outV":3,"inV":4}"#,
+    r#"{"id":7,"type":"edge","label":"moniker","outV":2,"inV":3}"#,
+];
+
+/// Two reference results that lead to each other and have no item: two pairs of each.
+const JOINED: [&str; 5] = [
+    r#"{"id":2,"type":"vertex","label":"document","uri":"file:///j.ts"}"#,
+    r#"{"id":3,"type":"vertex","label":"referenceResult"}"#,
+    r#"{"id":4,"type":"vertex","label":"referenceResult"}"#,
+    r#"{"id":5,"type":"edge","label":"item","outV":3,"inVs":[4],"property":"referenceResults","shard":2}"#,
+    r#"{"id":6,"type":"edge","label":"item","outV":4,"inVs":[3],"property":"referenceResults","shard":2}"#,
+];
+
+/// The lines of dumps, but for the first.
+const DUMPS: [&[&str]; 14] = [
+    &[],
+    &BASE,
+    &NESTED,
+    &TOUCHING,
+    &RING,
+    &IMPORTING,
+    &EXPORTING,
+    &HOVERED,
+    &DECLARED,
+    &LEVELS,
+    &MARKED,
+    &BEARING,
+    &ATTACHED,
+    &JOINED,
 ];
 
 /// The dump of these lines, which has no fault.
@@ -322,123 +233,83 @@ fn element(alloc: Global, profile: Profile, line: &str) -> Result<Element, Fail>
     }
 }
 
-/// Adds the number behind a space, or `-` where there is none.
-fn push_number(text: &mut String, number: Option<u32>) -> Result<(), AllocError> {
-    match number {
-        Some(number) => write!(text, " {number}"),
-        None => text.push_str(" -"),
-    }
-}
-
-fn push_span(text: &mut String, span: &Span) -> Result<(), AllocError> {
-    write!(
-        text,
-        " {}:{}",
-        span.start().line(),
-        span.start().character()
-    )?;
-    write!(text, " {}:{}", span.end().line(), span.end().character())
-}
-
-fn kind_name(kind: MonikerKind) -> &'static str {
-    match kind {
-        MonikerKind::Import => "import",
-        MonikerKind::Export => "export",
-        MonikerKind::Local => "local",
-    }
-}
-
-fn push_range(text: &mut String, row: &RangeRow<'_>) -> Result<(), AllocError> {
-    write!(text, "range {} {}", row.line, row.uri)?;
-    push_span(text, row.span)?;
-    for number in [row.parent, row.def, row.refs, row.hover, row.decl, row.imp] {
-        push_number(text, number)?;
-    }
-    text.push_str("\n")
-}
-
-fn push_item(text: &mut String, row: &ItemRow<'_>) -> Result<(), AllocError> {
-    let role = match row.role {
-        Role::Definitions => "definitions",
-        Role::References => "references",
-    };
-    write!(text, "item {} {} {}", row.result, role, row.uri)?;
-    push_span(text, row.span)?;
-    text.push_str("\n")
-}
-
-fn push_mark(text: &mut String, row: &MarkRow) -> Result<(), AllocError> {
-    write!(
-        text,
-        "mark {} {} {}\n",
-        row.range,
-        kind_name(row.kind),
-        row.key.as_str()
+/// Whether the rows of the dump are those of a plain walk.
+fn are_plain(alloc: Global, dump: &CheckedDump) -> Result<bool, Fail> {
+    let found = flatten(alloc, dump)?;
+    let plain = plain_rows(alloc, dump)?;
+    Ok(
+        found.profile == plain.profile
+            && found.documents == plain.documents
+            && found.ranges == plain.ranges
+            && found.items == plain.items
+            && found.hovers == plain.hovers
+            && found.marks == plain.marks
+            && found.bearers == plain.bearers,
     )
 }
 
-fn push_bearer(text: &mut String, row: &BearerRow) -> Result<(), AllocError> {
-    write!(
-        text,
-        "bearer {} {} {}",
-        row.line,
-        row.key.as_str(),
-        kind_name(row.kind)
-    )?;
-    for number in [row.def, row.refs, row.hover, row.decl, row.imp] {
-        push_number(text, number)?;
-    }
-    text.push_str("\n")
-}
+/// Dumps, and what their rows say: the parents of ranges, the items, the marks and the bearers.
+const WORKED: [(&[&str], &str); 5] = [
+    (
+        &NESTED,
+        "[(3, None), (4, Some(3))] [ItemRow { result: 5, role: Definitions, uri: \"file:///n.ts\", span: Span { start: Position { line: 0, character: 0 }, end: Position { line: 0, character: 20 } } }] [] []",
+    ),
+    (
+        &TOUCHING,
+        "[(3, None), (4, None), (5, None)] [ItemRow { result: 6, role: Definitions, uri: \"file:///u.ts\", span: Span { start: Position { line: 0, character: 0 }, end: Position { line: 0, character: 5 } } }, ItemRow { result: 7, role: Definitions, uri: \"file:///u.ts\", span: Span { start: Position { line: 0, character: 5 }, end: Position { line: 0, character: 9 } } }, ItemRow { result: 8, role: Definitions, uri: \"file:///u.ts\", span: Span { start: Position { line: 0, character: 5 }, end: Position { line: 0, character: 5 } } }] [] []",
+    ),
+    (
+        &RING,
+        "[(3, None), (4, None)] [ItemRow { result: 5, role: Definitions, uri: \"file:///c.ts\", span: Span { start: Position { line: 0, character: 0 }, end: Position { line: 0, character: 1 } } }, ItemRow { result: 5, role: References, uri: \"file:///c.ts\", span: Span { start: Position { line: 1, character: 0 }, end: Position { line: 1, character: 1 } } }, ItemRow { result: 6, role: Definitions, uri: \"file:///c.ts\", span: Span { start: Position { line: 0, character: 0 }, end: Position { line: 0, character: 1 } } }, ItemRow { result: 6, role: References, uri: \"file:///c.ts\", span: Span { start: Position { line: 1, character: 0 }, end: Position { line: 1, character: 1 } } }] [] []",
+    ),
+    (
+        &IMPORTING,
+        "[(3, None)] [] [MarkRow { range: 3, kind: Import, key: \"3:npm6:lib::f13:npm3:lib5:1.0.0\" }] [BearerRow { line: 3, key: \"3:npm6:lib::f13:npm3:lib5:1.0.0\", kind: Import, def: None, refs: None, hover: None, decl: None, imp: None }]",
+    ),
+    (
+        &EXPORTING,
+        "[(3, None)] [ItemRow { result: 8, role: Definitions, uri: \"file:///lib.ts\", span: Span { start: Position { line: 0, character: 9 }, end: Position { line: 0, character: 10 } } }] [MarkRow { range: 3, kind: Export, key: \"3:npm6:lib::f13:npm3:lib5:1.0.0\" }] [BearerRow { line: 3, key: \"3:npm6:lib::f13:npm3:lib5:1.0.0\", kind: Export, def: Some(8), refs: None, hover: None, decl: None, imp: None }]",
+    ),
+];
 
-/// The rows as a text.
-fn text_of(alloc: Global, rows: &Rows<'_>) -> Result<String, AllocError> {
-    let mut text = String::new(alloc);
-    for row in &rows.documents {
-        write!(text, "document {}\n", row.uri)?;
-    }
-    for row in &rows.ranges {
-        push_range(&mut text, row)?;
-    }
-    for row in &rows.items {
-        push_item(&mut text, row)?;
-    }
-    for row in &rows.hovers {
-        write!(text, "hover {} {}\n", row.result, row.contents)?;
-    }
-    for row in &rows.marks {
-        push_mark(&mut text, row)?;
-    }
-    for row in &rows.bearers {
-        push_bearer(&mut text, row)?;
-    }
-    Ok(text)
-}
-
-/// The rows of the dump of these lines.
-fn rows_of(alloc: Global, row: &Row) -> Result<String, Fail> {
-    let dump = dump_of(alloc, row.profile, row.lines)?;
+/// What the rows of the dump of these lines say.
+fn said(alloc: Global, lines: &[&str]) -> Result<String, Fail> {
+    let dump = dump_of(alloc, Profile::One, lines)?;
     let rows = flatten(alloc, &dump)?;
-    Ok(text_of(alloc, &rows)?)
+    let mut parents = Vec::new(alloc);
+    for row in &rows.ranges {
+        parents.push((row.line, row.parent))?;
+    }
+    Ok(format!(in alloc;
+        "{parents:?} {:?} {:?} {:?}",
+        rows.items, rows.marks, rows.bearers
+    )?)
 }
 
 #[test]
 fn flat_rows(rt: HostRuntime) -> Result<(), Fail> {
-    for row in &ROWS {
-        let text = rows_of(rt.alloc(), row)?;
-        assert_eq!(rt; text.as_str(), row.rows);
+    for lines in DUMPS {
+        for profile in [Profile::One, Profile::Two] {
+            let dump = dump_of(rt.alloc(), profile, lines)?;
+            assert_eq!(rt; (lines, are_plain(rt.alloc(), &dump)?), (lines, true));
+        }
+    }
+    for (lines, wanted) in WORKED {
+        assert_eq!(rt; said(rt.alloc(), lines)?.as_str(), wanted);
     }
     Ok(())
 }
 
-/// How many rows of each kind there may be, and whether that's enough.
-const LIMITS: [(&[&str], usize, bool); 6] = [
-    (&RING, 6, true),
-    (&RING, 5, false),
-    (&LEVELS, 9, true),
-    (&IMPORTING, 1, true),
-    (&IMPORTING, 0, false),
-    (&BASE, 0, false),
+/// How many rows of each kind, and pairs of the walks for them, just do.
+const LIMITS: [(&[&str], usize); 8] = [
+    (&BASE, 1),
+    (&RING, 6),
+    (&IMPORTING, 1),
+    (&LEVELS, 6),
+    (&MARKED, 2),
+    (&BEARING, 2),
+    (&ATTACHED, 4),
+    (&JOINED, 4),
 ];
 
 /// Whether the dump of these lines is made flat within a limit.
@@ -452,8 +323,11 @@ fn is_enough(alloc: Global, lines: &[&str], limit: usize) -> Result<bool, Fail> 
 
 #[test]
 fn limits(rt: HostRuntime) -> Result<(), Fail> {
-    for (lines, limit, enough) in LIMITS {
-        assert_eq!(rt; is_enough(rt.alloc(), lines, limit)?, enough, "{limit}");
+    assert!(rt; is_enough(rt.alloc(), &[], 0)?);
+    for (lines, enough) in LIMITS {
+        let less = is_enough(rt.alloc(), lines, enough.saturating_sub(1))?;
+        let found = is_enough(rt.alloc(), lines, enough)?;
+        assert_eq!(rt; (lines, less, found), (lines, false, true));
     }
     Ok(())
 }

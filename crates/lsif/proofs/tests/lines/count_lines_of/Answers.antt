@@ -1,13 +1,13 @@
 use Rattle.std.proofs.Common.{◌∙◌, refl}
 use Rattle.lsif.proofs.Seen.{seen_none, seen_more}
-use Rattle.lsif.proofs.lines.tests.count_lines.Goals as goal
+use Rattle.lsif.proofs.tests.lines.count_lines_of.Goals as goal
 
 pub loop-n-init : goal.loop-n-init
 loop-n-init g c = record { failures = refl; seen = seen_none _ }
 
 pub loop-n-preserved : goal.loop-n-preserved
 loop-n-preserved g c =
-    let step = rw (c.in-Ok-Some.is, c.in-Ok-Some.field-0-is) at c.next_line.follows.holds-at-none in
+    let step = rw (c.in-Ok-true.is, c.in-Ok-true.field-0-test) at c.advance.ensures in
     record {
       failures = step.2 ∙ c.loop-n.invariant.failures;
       seen = seen_more _ _ _ _ _ _ c.loop-n.invariant.seen step.5;

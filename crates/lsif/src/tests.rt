@@ -1,0 +1,5 @@
+//! What is read of lines, lines of readers and of texts in pieces, and readers and writers under their counts.
+mod cutter;
+mod lines;
+mod reading;
+mod streams;
