@@ -211,7 +211,12 @@ fn text_of_line(alloc: Global, line: &str) -> Result<String, Fail> {
 }
 
 /// Adds to the differences what a row asks, which has this text before it.
-fn expect_row(alloc: Global, differences: &mut String, before: &str, row: &str) -> Result<(), Fail> {
+fn expect_row(
+    alloc: Global,
+    differences: &mut String,
+    before: &str,
+    row: &str,
+) -> Result<(), Fail> {
     let (part, wanted) = row.split_once(" => ").ok_or("no row")?;
     let line = format!(in alloc; "{before}{part}")?;
     let text = text_of_line(alloc, line.as_str())?;
