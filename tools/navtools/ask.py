@@ -5,9 +5,9 @@ import os
 import sys
 from typing import Any, Optional
 
-from navtools.curl import BadCall, NoReply, address, project_of, reply_of, request, server_of
+from navtools.curl import BadCall, NoReply, address, found_in, project_of, request, server_of
 from navtools.places import Maps, character_at, lines_of, maps_of, path_of, place_line, place_of, units, uri_of
-from navtools.tags import folders_of, place_of_tag
+from navtools.tags import folders_of, places_of
 
 KINDS = {
     "definition": "where it's defined",
@@ -53,16 +53,16 @@ def is_whole_file(place: dict[str, Any], file: str, maps: Maps) -> bool:
 def found_lines(call: argparse.Namespace, maps: Maps, folders: dict[str, str]) -> list[str]:
     """What is printed of the answer, a place of several projects once."""
     if call.what == "names":
-        tags = reply_of(request(names_url(call), []))["tags"]
-        places = [(tag, place_of_tag(tag, folders.get(tag["project"], os.curdir))) for tag in tags]
-        return [f"{place_line(place, call.utf16)}: {tag['name']}" for tag, place in places]
+        tags = places_of(found_in(request(names_url(call), []), "tags"), lambda project: folders.get(project, os.curdir))
+        return [f"{place_line(place, call.utf16)}: {tag['name']}" for tag, place in tags]
+    url = position_url(call, maps)
     try:
-        reply = reply_of(request(position_url(call, maps), []))
+        if call.what == "hover":
+            contents = found_in(request(url, []), "contents")
+            return [] if contents is None else [hover_text(contents)]
+        places = found_in(request(url, []), "places")
     except NoReply as fault:
         raise NoReply(f"{fault}: {uri_of(call.file, maps)}") from None
-    if call.what == "hover":
-        return [] if reply["contents"] is None else [hover_text(reply["contents"])]
-    places = reply["places"]
     if call.what != "references" and len(places) == 1 and is_whole_file(places[0], call.file, maps):
         print(f"ask: nothing but a range over all of {call.file} covers this place", file=sys.stderr)
     return list(dict.fromkeys(place_line(place_of(place, maps), call.utf16) for place in places))

@@ -83,16 +83,16 @@ def request_again(url: str, words: list[str], retry: bool) -> Answer:
     return answer
 
 
-def reply_of(answer: Answer) -> dict[str, Any]:
-    """The reply to a query; raises NoReply where there is none or it's a fault."""
+def found_in(answer: Answer, member: str) -> Any:
+    """What a query found, the member of its reply that has it; raises NoReply where there is none or it's a fault."""
     if answer.curl != 0:
         raise NoReply(answer.message or "no answer")
     try:
         reply = json.loads(answer.body)
     except ValueError:
         reply = None
-    if not isinstance(reply, dict):
+    if isinstance(reply, dict) and answer.status != 200 and "fault" in reply:
+        raise NoReply(f"{reply['fault']} {reply.get('text')}")
+    if not isinstance(reply, dict) or answer.status != 200 or member not in reply:
         raise NoReply(f"not a reply of codenav, status {answer.status}")
-    if answer.status != 200:
-        raise NoReply(f"{reply.get('fault')} {reply.get('text')}")
-    return reply
+    return reply[member]

@@ -1,8 +1,9 @@
 """Tags that the server found, and the places that their addresses lead to (tags(5))."""
 
+import functools
 import os
 import re
-from typing import Any, Optional
+from typing import Any, Callable, Iterator, Optional
 
 from navtools.curl import BadCall, project_of
 from navtools.places import Place, lines_of, units
@@ -49,13 +50,23 @@ def line_at(tag: dict[str, Any], lines: list[str]) -> int:
     return max(first, 0)
 
 
-def place_of_tag(tag: dict[str, Any], folder: str) -> Place:
-    """The place of a tag's name, whose file is named from a folder; the beginning of the line where the name isn't on it."""
-    path = os.path.normpath(os.path.join(folder, tag["file"]))
-    try:
-        lines = lines_of(path)
-    except (OSError, BadCall):
-        lines = []
-    line = line_at(tag, lines)
-    before, name, _ = (lines[line] if line < len(lines) else "").partition(tag["name"])
-    return Place(path, line, units(before) if name else 0)
+def places_of(tags: list[dict[str, Any]], folder_of: Callable[[str], Optional[str]]) -> Iterator[tuple[dict[str, Any], Place]]:
+    """Tags with the places of their names, without those of a project that has no folder; files are named from the folder of the project.
+
+    Where a name isn't on its line, the place is the beginning of the line.
+    """
+    @functools.cache
+    def readable_lines(path: str) -> list[str]:
+        try:
+            return lines_of(path)
+        except (OSError, BadCall):
+            return []
+
+    for tag in tags:
+        folder = folder_of(tag["project"])
+        if folder is not None:
+            path = os.path.normpath(os.path.join(folder, tag["file"]))
+            lines = readable_lines(path)
+            line = line_at(tag, lines)
+            before, name, _ = (lines[line] if line < len(lines) else "").partition(tag["name"])
+            yield tag, Place(path, line, units(before) if name else 0)

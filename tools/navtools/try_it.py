@@ -1,5 +1,6 @@
 """Tries the whole way from a dump to an answer: prepares the dump of the demo crate, starts a server, uploads twice, asks for a
-definition, references and a hover, uploads tags and asks for a name, and removes it all. It prints each call with its output.
+definition, references and a hover, uploads tags and asks for a name, and removes it all; and replays a request for each route. It
+prints each call with its output.
 """
 
 import argparse
@@ -14,6 +15,7 @@ from typing import Optional
 
 TOP = os.path.dirname(os.path.dirname(os.path.dirname(os.path.abspath(__file__))))
 DUMP, TAGS = "demo/crate.raw.lsif", "demo/crate.tags"
+REQUESTS, REPLIES = "demo/each_route.http", "demo/each_route.replies"
 MAP = ["--map", "file:///src/tr/crate=demo/crate"]
 DEFINITION = ["definition", "demo/crate/src/lib.rs", "18", "12"]
 AT_DEFINITION = ["demo/crate/src/scale.rs", "4", "8"]
@@ -108,6 +110,9 @@ def ended(server: subprocess.Popen[bytes]) -> None:
 
 def trial(program: str, folder: str) -> int:
     """The calls from the first to the last; answers the number of those that answered as they should."""
+    with open(os.path.join(TOP, REPLIES), encoding="utf-8", newline="") as replies:
+        if run([program, "replay", ":memory:", REQUESTS]) != (replies.read(), 0):
+            raise Failed(f"the replies should have been those of {REPLIES}")
     dump = os.path.join(folder, "crate.lsif")
     output, status = run(["tools/prepare-lsif", DUMP, dump])
     if status != 0:
@@ -126,7 +131,7 @@ def trial(program: str, folder: str) -> int:
         raise Failed("the server went on after its last request") from None
     finally:
         ended(server)
-    return len(todo)
+    return len(todo) + 1
 
 
 def main(words: Optional[list[str]] = None) -> int:

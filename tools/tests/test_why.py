@@ -2,15 +2,20 @@
 
 import io
 import json
+import os
 import tempfile
 import unittest
 from contextlib import redirect_stderr, redirect_stdout
-from typing import NamedTuple, Optional
+from typing import Any, NamedTuple, Optional
 
-from navtools import why
+from navtools import prepare, why
 from navtools.explain import Dump
 from tests.test_explain import BASE, META, edge, span, vertex
-from tests.try_why import ANSWERS, found, prepared
+
+TOP = os.path.dirname(os.path.dirname(os.path.dirname(os.path.abspath(__file__))))
+ANSWERS = os.path.join(TOP, "tools", "tests", "answers.json")
+DUMPS = {"base.lsif": "app", "crate.raw.lsif": "temperature", "user.raw.lsif": "kettle"}
+Question = tuple[str, str, str, int, int]
 
 PACKAGE = vertex("p", "packageInformation", manager="npm", name="lib", version="1.0.0")
 DOCUMENT = vertex(2, "document", uri="file:///src/a.ts")
@@ -33,6 +38,26 @@ DECLARED = [META, DOCUMENT, span(3, 0, 1), span(4, 0, 1, 1), vertex(5, "declarat
 EMPTY = [META, DOCUMENT, span(3, 0, 1), vertex(4, "definitionResult"), edge(5, "textDocument/definition", 3, 4), edge(6, "contains", 2, [3])]
 CHAIN = [META, DOCUMENT, span(3, 0, 1), vertex(4, "resultSet"), vertex(5, "resultSet"), edge(6, "next", 3, 4), edge(7, "next", 4, 5),
          edge(8, "contains", 2, [3])]
+
+
+def graph_of(name: str) -> why.Graph:
+    """A demo dump as the server takes it."""
+    with tempfile.NamedTemporaryFile() as out, redirect_stderr(io.StringIO()):
+        prepare.main([os.path.join(TOP, "demo", name), out.name])
+        with open(out.name, "rb") as file:
+            return why.Graph(Dump(name, file.read(), None))
+
+
+def short(places: list[dict[str, Any]]) -> list[Any]:
+    """Places, each as its uri and four numbers."""
+    return [[place["uri"], *(place[end][member] for end in ("start", "end") for member in ("line", "character"))] for place in places]
+
+
+def found(graph: why.Graph, request: str, uri: str, line: int, character: int) -> list[Any]:
+    """What `why` finds: places, or the text of a hover."""
+    what = why.REQUESTS[request]
+    trail = why.asked([graph.trail(own, what) for own in graph.covering(why.document_of(graph, uri, []), (line, character))], what)
+    return [why.contents(graph, trail, what)] if request == "hover" else short(why.places(graph, trail, what))
 
 
 class Row(NamedTuple):
@@ -114,15 +139,10 @@ class Why(unittest.TestCase):
         graphs: dict[str, why.Graph] = {}
         for name, request, uri, line, character, answer in answers:
             with self.subTest(name, request=request, line=line, character=character):
-                graph = graphs.get(name) or graphs.setdefault(name, self.graph_of(name))
+                graph = graphs.get(name) or graphs.setdefault(name, graph_of(name))
                 self.assertEqual(found(graph, request, uri, line, character), answer)
         starts = {(name, place["uri"], *place["start"].values()) for name, graph in graphs.items() for place in map(graph.place, graph.homes)}
         self.assertEqual({(name, *place) for name, _, *place, _ in answers}, starts)
-
-    def graph_of(self, name: str) -> why.Graph:
-        with tempfile.TemporaryDirectory() as folder, redirect_stderr(io.StringIO()):
-            with open(prepared(name, folder), "rb") as file:
-                return why.Graph(Dump(name, file.read(), None))
 
     def test_documents(self) -> None:
         two = [*BASE, vertex(12, "document", uri="file:///b/src/a%20b.ts"), vertex(13, "document", uri="file:///c/src/a%20b.ts")]

@@ -1,0 +1,136 @@
+"""Messages of JSON-RPC 2.0, each behind the head that the Language Server Protocol 3.17 gives it ("Base Protocol")."""
+
+import json
+import re
+import threading
+from queue import SimpleQueue
+from typing import Any, BinaryIO, Callable, Optional, Union
+
+PARSE_ERROR = -32700
+INVALID_REQUEST = -32600
+METHOD_NOT_FOUND = -32601
+INVALID_PARAMS = -32602
+NOT_INITIALIZED = -32002
+CANCELLED = -32800
+
+LENGTH = re.compile(rb"content-length:[ \t]*([0-9]{1,9})[ \t]*", re.IGNORECASE)
+
+Message = dict[str, Any]
+
+
+class Fault(Exception):
+    """A message that is answered by an error: the error's code, what is wrong, and the id of the request, where it can be known."""
+
+    def __init__(self, code: int, text: str, own: Union[int, str, None] = None) -> None:
+        super().__init__(text)
+        self.code = code
+        self.own = own
+
+
+def read_body(source: BinaryIO) -> Optional[bytes]:
+    """The next message's content; None at the end of the input. Raises Fault where the head doesn't say how long it is."""
+    length = None
+    while line := source.readline():
+        if line in (b"\r\n", b"\n"):
+            if length is None:
+                raise Fault(PARSE_ERROR, "no Content-Length")
+            body = source.read(length)
+            return body if len(body) == length else None
+        found = LENGTH.fullmatch(line.rstrip(b"\r\n"))
+        length = int(found[1]) if found else length
+    return None
+
+
+def message_of(body: bytes) -> Message:
+    """The request, the notification or the response that a content is; raises Fault where it's none."""
+    try:
+        message = json.loads(body)
+    except (ValueError, RecursionError):
+        raise Fault(PARSE_ERROR, "not JSON") from None
+    if not isinstance(message, dict):
+        raise Fault(INVALID_REQUEST, "not an object")
+    own = message.get("id")
+    if "id" in message and type(own) not in (int, str):
+        raise Fault(INVALID_REQUEST, "an id is a number or a text")
+    if message.get("jsonrpc") != "2.0":
+        raise Fault(INVALID_REQUEST, "not JSON-RPC 2.0", own)
+    if "method" not in message and ("result" in message or "error" in message):
+        return message
+    if not isinstance(message.get("method"), str):
+        raise Fault(INVALID_REQUEST, "no method", own)
+    if "id" in message and not isinstance(message.get("params"), (dict, list, type(None))):
+        raise Fault(INVALID_REQUEST, "parameters are an object or an array", own)
+    return message
+
+
+def member(value: Any, path: str, kind: type) -> Any:
+    """What a path of names, parted by dots, leads to in parameters; raises Fault where that isn't there or isn't of the kind."""
+    for name in path.split("."):
+        value = value.get(name) if isinstance(value, dict) else None
+    if type(value) is not kind:
+        raise Fault(INVALID_PARAMS, f"no {path}")
+    return value
+
+
+def is_exit(message: Message) -> bool:
+    """Whether this is the notification that ends the server."""
+    return message.get("method") == "exit" and "id" not in message
+
+
+class Inbox:
+    """The messages that come, in order. They're read ahead, so that a request can be cancelled while it waits for its turn."""
+
+    def __init__(self, source: BinaryIO, log: Callable[[str, bytes], None]) -> None:
+        self.source = source
+        self.log = log
+        self.messages: SimpleQueue[Union[Message, Fault, None]] = SimpleQueue()
+        self.waiting: dict[Union[int, str], bool] = {}
+        self.lock = threading.Lock()
+        threading.Thread(target=self.fill, daemon=True).start()
+
+    def fill(self) -> None:
+        """Reads up to the end of the input or the notification `exit`."""
+        while True:
+            try:
+                body = read_body(self.source)
+                if body is None:
+                    return self.messages.put(None)
+                self.log("<-", body)
+                message = message_of(body)
+            except Fault as fault:
+                self.messages.put(fault)
+                continue
+            if message.get("method") == "$/cancelRequest" and "id" not in message:
+                self.cancel(message.get("params"))
+                continue
+            if "method" in message and "id" in message:
+                with self.lock:
+                    self.waiting[message["id"]] = False
+            self.messages.put(message)
+            if is_exit(message):
+                return None
+
+    def cancel(self, params: Any) -> None:
+        """Notes that a request is cancelled, where it still waits."""
+        own = params.get("id") if isinstance(params, dict) else None
+        with self.lock:
+            if type(own) in (int, str) and own in self.waiting:
+                self.waiting[own] = True
+
+    def next(self) -> Optional[Message]:
+        """The next message; None at the end of the input. Raises Fault for one that is answered by an error, a cancelled request among them."""
+        message = self.messages.get()
+        if isinstance(message, Fault):
+            raise message
+        if message is not None and "method" in message and "id" in message:
+            with self.lock:
+                is_cancelled = self.waiting.pop(message["id"], False)
+            if is_cancelled:
+                raise Fault(CANCELLED, "cancelled", message["id"])
+        return message
+
+
+def write_message(out: BinaryIO, body: bytes) -> None:
+    """Writes a message with its head."""
+    out.write(b"Content-Length: %d\r\n\r\n%s" % (len(body), body))
+    out.flush()

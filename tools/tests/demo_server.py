@@ -1,0 +1,44 @@
+"""A real server with the dumps of both demo crates and the tags of one, for the scripts that are run by hand."""
+
+import os
+import sys
+import tempfile
+from contextlib import contextmanager
+from typing import Iterator
+
+from navtools.try_it import TAGS, TOP, Failed, ended, free_port, run, started
+
+REQUESTS = 1000
+PROJECTS = {"temperature": "demo/crate.raw.lsif", "kettle": "demo/user.raw.lsif"}
+MAP = ["--map", "file:///src/tr=demo", "--tags", "temperature=demo/crate"]
+
+
+def succeed(words: list[str]) -> None:
+    """Makes a call that must end with status 0."""
+    if run(words)[1] != 0:
+        raise Failed(f"{words[0]} failed")
+
+
+@contextmanager
+def demo_server(program: str) -> Iterator[str]:
+    """The address of a server that has both dumps and the tags; it ends with the context."""
+    with tempfile.TemporaryDirectory() as folder:
+        port = free_port()
+        url = f"http://127.0.0.1:{port}"
+        server = started(program, port, REQUESTS)
+        try:
+            for project, raw in PROJECTS.items():
+                dump = os.path.join(folder, "prepared.lsif")
+                succeed(["tools/prepare-lsif", raw, dump])
+                succeed(["tools/upload-lsif", url, project, dump])
+            succeed(["tools/upload-tags", url, "temperature", TAGS])
+            yield url
+        finally:
+            ended(server)
+
+
+def program_of(words: list[str]) -> str:
+    """The built program that the command line names; without it the one of this clone, which is built first where it isn't yet."""
+    if len(words) > 1:
+        sys.exit("usage: [PROGRAM]")
+    return os.path.abspath(words[0]) if words else os.path.join(TOP, "codenav")
