@@ -11,15 +11,6 @@ runs=${1:-9}
 . "$(dirname "${BASH_SOURCE[0]}")/shared.sh"
 . "$top/bench/dumps.sh"
 
-# So many tags of some 60 bytes, in order of their names.
-make_tags() {
-    printf '!_TAG_FILE_FORMAT\t2\t//\n!_TAG_FILE_SORTED\t1\t//\n'
-    awk -v count="$1" 'BEGIN {
-        for (n = 1; n <= count; n++)
-            printf "name_%06d\tsrc/part_%03d.c\t/^int name_%06d(void)$/;\"\tf\tline:%d\n", n, n % 500, n, n
-    }'
-}
-
 # The microseconds that a command takes.
 time_of() {
     local start=$EPOCHREALTIME

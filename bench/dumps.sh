@@ -1,4 +1,4 @@
-# Makers of dumps.
+# Makers of dumps and tags files.
 
 # What they print: each element has the number of its line as its id.
 print_elements='
@@ -100,5 +100,14 @@ make_chain() {
             from = first + (order == "rising" ? n : count - 2 - n)
             edge("next", from, from + 1)
         }
+    }'
+}
+
+# So many tags of some 60 bytes, in order of their names.
+make_tags() {
+    printf '!_TAG_FILE_FORMAT\t2\t//\n!_TAG_FILE_SORTED\t1\t//\n'
+    awk -v count="$1" 'BEGIN {
+        for (n = 1; n <= count; n++)
+            printf "name_%06d\tsrc/part_%03d.c\t/^int name_%06d(void)$/;\"\tf\tline:%d\n", n, n % 500, n, n
     }'
 }

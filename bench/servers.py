@@ -1,0 +1,101 @@
+"""What the scripts that measure servers share: requests over loopback, an nginx, and what is said of processes."""
+
+import http.client
+import json
+import os
+import pathlib
+import subprocess
+import sys
+import time
+from contextlib import contextmanager
+from typing import Callable, Iterator, Optional
+
+TOP = pathlib.Path(__file__).resolve().parent.parent
+sys.path.insert(0, str(TOP / "tools"))
+
+CONFIG = """
+daemon off;
+master_process off;
+pid {folder}/nginx.pid;
+error_log {folder}/error.log;
+events {{ }}
+http {{
+    access_log off;
+    client_body_temp_path {folder}/body;
+    proxy_temp_path {folder}/proxy;
+    fastcgi_temp_path {folder}/fastcgi;
+    uwsgi_temp_path {folder}/uwsgi;
+    scgi_temp_path {folder}/scgi;
+    client_max_body_size 33554432;
+    {upstream}
+    server {{
+        listen 127.0.0.1:{port};
+        keepalive_timeout 0;
+        {locations}
+        location = /fixed {{
+            default_type application/json;
+            return 200 '{{"projects":[]}}';
+        }}
+    }}
+}}
+"""
+
+
+def ask(port: int, method: str, path: str, body: Optional[bytes] = None) -> tuple[int, dict]:
+    """The status and the reply of a request."""
+    connection = http.client.HTTPConnection("127.0.0.1", port, timeout=60)
+    connection.request(method, path, body)
+    answer = connection.getresponse()
+    reply = answer.status, json.loads(answer.read())
+    connection.close()
+    return reply
+
+
+@contextmanager
+def nginx(folder: str, port: int, upstream: str = "", locations: str = "") -> Iterator[None]:
+    """An nginx on a port, which has at least the path `/fixed`, with a fixed reply."""
+    config = pathlib.Path(folder, "nginx.conf")
+    config.write_text(CONFIG.format(folder=folder, port=port, upstream=upstream, locations=locations), encoding="utf-8")
+    process = subprocess.Popen(["/usr/sbin/nginx", "-p", folder, "-e", f"{folder}/error.log", "-c", str(config)])
+    try:
+        wait_for(lambda: ask(port, "GET", "/fixed")[0] == 200)
+        yield
+    finally:
+        process.terminate()
+        process.wait()
+
+
+def wait_for(is_there: Callable[[], bool]) -> None:
+    """Waits until something is there, ten seconds at most."""
+    for _ in range(100):
+        try:
+            if is_there():
+                return
+        except OSError:
+            pass
+        time.sleep(0.1)
+    raise OSError(None, "nothing came", "nginx")
+
+
+def least_times(calls: dict[str, Callable[[], object]], count: int) -> dict[str, float]:
+    """The seconds that each call takes when it's made so often, one after the other: the least of five turns, which all calls take together."""
+    least: dict[str, float] = {}
+    for _ in range(5):
+        for name, call in calls.items():
+            start = time.perf_counter()
+            for _ in range(count):
+                call()
+            taken = (time.perf_counter() - start) / count
+            least[name] = min(taken, least.get(name, taken))
+    return least
+
+
+def resident_bytes(process: int) -> int:
+    """The memory that a process holds."""
+    with open(f"/proc/{process}/statm", encoding="ascii") as file:
+        return int(file.read().split()[1]) * os.sysconf("SC_PAGE_SIZE")
+
+
+def program_of(words: list[str]) -> str:
+    """The built program that a command line names; without it the one of this clone, which is built first where it isn't yet."""
+    return os.path.abspath(words[0]) if words else str(TOP / "codenav")
