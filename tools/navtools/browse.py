@@ -24,6 +24,7 @@ ASSETS = {"/page.css": "text/css; charset=utf-8", "/page.js": "text/javascript; 
 HTML, JSON = "text/html; charset=utf-8", "application/json"
 QUERIES = {"definition": "places", "references": "places", "hover": "contents"}
 MOST_NUMBER = 2147483647
+BLOCK = 100
 MOST_ENTRIES, MOST_PLACES, MOST_NAMES = 2_000, 500, 50
 MOST_BYTES, MOST_CHARACTERS = 10_000_000, 20_000
 SECONDS = 30
@@ -98,7 +99,8 @@ def tree(folder: Folder, shown: str, at: str = "") -> str:
     """The files and folders of a folder; those of the folders on the way to the file that is shown stand open."""
     try:
         with os.scandir(os.path.join(folder.top, at)) as found:
-            entries = sorted((not entry.is_dir(), entry.name) for entry in found if not entry.name.startswith("."))
+            entries = sorted((not entry.is_dir(), entry.name) for entry in found
+                             if not entry.name.startswith(".") and not (entry.is_symlink() and folder.inside(entry.path) is None))
     except OSError:
         entries = []
     rows = []
@@ -114,11 +116,12 @@ def tree(folder: Folder, shown: str, at: str = "") -> str:
 
 
 def code(lines: list[str], path: str) -> str:
-    """The lines of a file, each with its number."""
+    """The lines of a file, in blocks, of which a browser lays out those that are seen."""
     shown = lines[:-1] if len(lines) > 1 and not lines[-1] else lines
-    rows = "\n".join(f'<div class="line" id="L{number}"><a class="number" href="#L{number}" tabindex="-1">{number}</a><code>{escape(line)}</code></div>'
-                     for number, line in enumerate(shown, 1))
-    return f'<div id="code" role="group" aria-label="Text of the file; arrow keys go from word to word" tabindex="0" data-path="{escape(path)}">{rows}</div>'
+    rows = [f'<span class="line" id="L{number}" data-number="{number}">{escape(line)}</span>' for number, line in enumerate(shown, 1)]
+    blocks = [f'<div class="block">{"".join(rows[at:at + BLOCK])}</div>' for at in range(0, len(rows), BLOCK)]
+    label = "Text of the file; arrow keys go from word to word"
+    return f'<div id="code" role="group" aria-label="{label}" tabindex="0" data-path="{escape(path)}">{"".join(blocks)}</div>'
 
 
 @dataclass(frozen=True)

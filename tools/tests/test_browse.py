@@ -73,9 +73,11 @@ class Browse(unittest.TestCase):
             self.assertEqual((status, headers["Content-Type"], "Choose a file." in body), (200, "text/html; charset=utf-8", True))
             self.assertIn("default-src 'none'; script-src 'self'", headers["Content-Security-Policy"])
         status, body, headers = self.got("/files/src/a.rs")
-        self.assertIn('<div class="line" id="L2"><a class="number" href="#L2" tabindex="-1">2</a><code>fn run() {}</code></div></div>', body)
+        self.assertIn('<span class="line" id="L2" data-number="2">fn run() {}</span></div></div>', body)
         self.assertIn('<a href="/files/src/a.rs" aria-current="page">a.rs</a>', body)
         self.assertEqual((status, int(headers["Content-Length"]), self.got("/files/src/a.rs", "HEAD")[:2]), (200, len(body.encode()), (200, "")))
+        listed = self.got("/files/")[1]
+        self.assertEqual([f'href="/files/{name}"' in listed for name in ("src", "again.rs", "out", "up", "src/a.rs")], [True, True, False, False, False])
         self.assertIn('data-path="again.rs"', self.got("/files/again.rs")[1])
         for path, kind in ("/page.css", "text/css; charset=utf-8"), ("/page.js", "text/javascript; charset=utf-8"):
             self.assertEqual((self.got(path)[0], self.got(path)[2]["Content-Type"]), (200, kind))
@@ -83,7 +85,7 @@ class Browse(unittest.TestCase):
 
     def test_texts_and_names_are_escaped(self) -> None:
         body = self.got("/files/src/a.rs")[1]
-        self.assertIn("<code>// &lt;script&gt;alert(1)&lt;/script&gt; &amp; &quot;x&quot;</code>", body)
+        self.assertIn(">// &lt;script&gt;alert(1)&lt;/script&gt; &amp; &quot;x&quot;</span>", body)
         self.assertEqual(body.count("<script"), 1)
         self.assertIn('<a href="/files/src/%3Cb%3E%20&amp;%20&#x27;c&#x27;.rs">&lt;b&gt; &amp; &#x27;c&#x27;.rs</a>', body)
         body = self.got("/files/src/%3Cb%3E%20&%20'c'.rs")[1]

@@ -2,7 +2,8 @@
 "use strict";
 
 const WORD = /[\p{L}\p{N}_]+/gu;
-const HOVER_WAIT = 250;
+const HOVER_WAIT = 250; // milliseconds
+const NUMBER_WIDTH = 56; // pixels, 3.5rem
 const element = (id) => document.getElementById(id);
 const code = element("code");
 const main = document.querySelector("main");
@@ -31,7 +32,7 @@ function made(name, text, className) {
 // Words and lines
 
 function lineOf(number) {
-  return element(`L${number}`)?.querySelector("code") ?? null;
+  return element(`L${number}`);
 }
 
 function wordsOf(number) {
@@ -61,7 +62,7 @@ function show(place, focus) {
   mark.tabIndex = 0;
   mark.setAttribute("role", "link");
   line.replaceChildren(text.slice(0, place.start), mark, text.slice(place.end));
-  line.parentNode.classList.add("here");
+  line.classList.add("here");
   if (focus) mark.focus({ preventScroll: true });
   mark.scrollIntoView({ block: "nearest", inline: "nearest" });
 }
@@ -78,12 +79,12 @@ function wordAtPoint(x, y) {
   const caret = document.caretPositionFromPoint?.(x, y);
   const range = caret ? null : document.caretRangeFromPoint?.(x, y);
   const [node, offset] = caret ? [caret.offsetNode, caret.offset] : [range?.startContainer, range?.startOffset];
-  const line = node?.parentElement?.closest(".line code");
+  const line = node?.parentElement?.closest(".line");
   if (!line || node.nodeType !== Node.TEXT_NODE) return null;
   const before = document.createRange();
   before.setStart(line, 0);
   before.setEnd(node, offset);
-  const place = wordAt(Number(line.parentNode.id.slice(1)), before.toString().length);
+  const place = wordAt(Number(line.dataset.number), before.toString().length);
   if (!place) return null;
   const box = rangeOf(line, place).getBoundingClientRect();
   return box.left <= x && x <= box.right && box.top <= y && y <= box.bottom ? place : null;
@@ -112,13 +113,15 @@ function follow() {
   if (!line) return say(`There is no line ${number}.`);
   line.scrollIntoView({ block: "center", inline: "nearest" });
   show(parts[2] ? wordAt(number, Number(parts[2]) - 1) : null, true);
-  line.parentNode.classList.add("here");
+  line.classList.add("here");
 }
 
 function go(href) {
+  offer([]);
   const here = word ? hashOf(word) : location.hash;
   if (here !== location.hash) history.replaceState(null, "", here);
-  location.assign(href);
+  if (href === location.pathname + location.hash) follow();
+  else location.assign(href);
 }
 
 // Questions and answers
@@ -166,8 +169,10 @@ async function references() {
   if (answer && answer.places.length) list("References", answer.places);
 }
 
-async function hover(place, box) {
+async function hover(place, box, key) {
   const text = await hoverText(place);
+  if (key && key !== under) return;
+  tip.hidden = true;
   if (!text) return;
   tip.textContent = text;
   tip.hidden = false;
@@ -212,19 +217,20 @@ function leave() {
   tip.hidden = true;
 }
 
+// What is shown stays while the mouse goes from the word to it.
 function over(event) {
   const place = wordAtPoint(event.clientX, event.clientY);
   const key = place && hashOf(place);
   if (key === under) return;
-  leave();
   under = key;
-  if (!place) return;
-  const box = rangeOf(lineOf(place.line), place).getBoundingClientRect();
-  timer = setTimeout(() => hover(place, box).then(() => { if (under !== key) tip.hidden = true; }), HOVER_WAIT);
+  clearTimeout(timer);
+  timer = setTimeout(place ? () => hover(place, rangeOf(lineOf(place.line), place).getBoundingClientRect(), key) : leave, HOVER_WAIT);
 }
 
 function click(event) {
-  if (event.target.closest(".number") || !getSelection().isCollapsed) return;
+  if (!getSelection().isCollapsed) return;
+  const line = event.target.closest(".line");
+  if (line && event.clientX < line.getBoundingClientRect().left + NUMBER_WIDTH) return go(`${location.pathname}#${line.id}`);
   const place = wordAtPoint(event.clientX, event.clientY);
   if (!place) return;
   leave();
@@ -255,7 +261,7 @@ function press(event) {
   else if (event.key === "Escape") close();
   else if (event.key === "r" && word) references();
   else if (event.key === "h" && word) hoverHere();
-  else if (event.key === "Enter" && word && inCode && !event.target.closest(".number")) definition();
+  else if (event.key === "Enter" && word && inCode) definition();
   else if (inCode && event.key.startsWith("Arrow")) show(moved(event.key) ?? word, true);
   else return;
   event.preventDefault();
@@ -295,7 +301,7 @@ async function type() {
   if (!prefix) return offer([]);
   try {
     const answer = await fetched("/names", { prefix });
-    if (number !== asked) return;
+    if (number !== asked || document.activeElement !== element("prefix")) return;
     offer(answer.names);
     say(answer.said);
   } catch (fault) {
@@ -315,16 +321,21 @@ function pick(event) {
 
 element("prefix").addEventListener("input", type);
 element("prefix").addEventListener("keydown", pick);
+element("prefix").addEventListener("focus", type);
+element("prefix").addEventListener("blur", () => offer([]));
+element("names").addEventListener("mousedown", (event) => event.preventDefault());
 element("definition").addEventListener("click", definition);
 element("references").addEventListener("click", references);
 element("hover").addEventListener("click", hoverHere);
 element("close").addEventListener("click", close);
 document.addEventListener("keydown", press);
-addEventListener("hashchange", () => { offer([]); element("answers").hidden = true; follow(); });
+addEventListener("hashchange", () => { element("answers").hidden = true; follow(); });
 if (code) {
   code.addEventListener("click", click);
   code.addEventListener("mousemove", over);
-  code.addEventListener("mouseleave", leave);
+  code.addEventListener("mouseleave", () => { clearTimeout(timer); timer = setTimeout(leave, HOVER_WAIT); });
+  tip.addEventListener("mouseenter", () => clearTimeout(timer));
+  tip.addEventListener("mouseleave", leave);
   main.addEventListener("scroll", leave);
   follow();
 }
