@@ -5,7 +5,7 @@ import sys
 import tempfile
 from urllib.parse import urlencode
 
-from servers import ask, least_times, nginx, program_of
+from servers import ask, least_times, nginx
 
 from navtools.try_it import Failed, ended, free_port, started
 
@@ -158,7 +158,7 @@ def main() -> int:
     """Answers 0 where each answer was as it should be."""
     try:
         with tempfile.TemporaryDirectory() as folder:
-            run(program_of(sys.argv[1:]), folder)
+            run(sys.argv[1], folder)
     except (Failed, OSError) as fault:
         print(f"proxy: {fault}", file=sys.stderr)
         return 1

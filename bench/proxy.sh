@@ -6,4 +6,7 @@
 # with a fixed reply.
 # usage: bench/proxy.sh [PROGRAM]      (the built program; without it the one of this clone, which is built first where it isn't yet; needs Debian's nginx)
 set -eu
-exec python3 -B "$(dirname "${BASH_SOURCE[0]}")/proxy.py" "$@"
+top=$(cd "$(dirname "${BASH_SOURCE[0]}")/.." && pwd)
+program=${1:-$top/codenav}
+"$program" --version
+exec python3 -B "$top/bench/proxy.py" "$program"

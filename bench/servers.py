@@ -94,8 +94,3 @@ def resident_bytes(process: int) -> int:
     """The memory that a process holds."""
     with open(f"/proc/{process}/statm", encoding="ascii") as file:
         return int(file.read().split()[1]) * os.sysconf("SC_PAGE_SIZE")
-
-
-def program_of(words: list[str]) -> str:
-    """The built program that a command line names; without it the one of this clone, which is built first where it isn't yet."""
-    return os.path.abspath(words[0]) if words else str(TOP / "codenav")

@@ -19,7 +19,7 @@ from navtools.tags import folders_of, places_of
 SECONDS = 30
 MOST = 2147483647
 WARNING, INFO = 2, 3
-SYMBOLS = {"n": 3, "namespace": 3, "module": 2, "p": 6, "P": 6, "method": 6, "c": 5, "class": 5, "m": 8, "member": 8, "field": 8, "f": 12, "function": 12,
+SYMBOLS = {"n": 3, "namespace": 3, "module": 2, "p": 12, "P": 6, "method": 6, "c": 5, "class": 5, "m": 8, "member": 8, "field": 8, "f": 12, "function": 12,
            "func": 12, "v": 13, "variable": 13, "C": 14, "constant": 14, "g": 10, "enum": 10, "e": 22, "enumerator": 22, "i": 11, "interface": 11,
            "s": 23, "struct": 23, "u": 23, "union": 23, "t": 26, "typedef": 26, "type": 26}
 VARIABLE = 13
