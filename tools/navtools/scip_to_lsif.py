@@ -33,7 +33,7 @@ def symbol_of(text: str, path: str) -> Symbol:
     return text, path if text.startswith("local ") else ""
 
 
-def parts(symbol: str) -> list[str]:
+def split_symbol(symbol: str) -> list[str]:
     """The scheme of a global symbol, its package's manager, name and version, and its descriptors."""
     found, at = [], 0
     for _ in range(4):
@@ -59,12 +59,12 @@ def markdown(information: Message) -> str:
 
 @dataclass
 class Survey:
-    """What the first reading learns of the symbols: which occur and which are defined; and of a symbol those whose definitions, implementations or
-    references it has a part in."""
+    """What the first reading learns of the symbols: which occur, which are defined, and to whose definitions, implementations or references those of a
+    symbol belong besides."""
 
     used: set[Symbol] = field(default_factory=set)
     defined: set[Symbol] = field(default_factory=set)
-    parts: dict[str, dict[Symbol, dict[Symbol, None]]] = field(default_factory=lambda: {name: {} for name in RESULTS})
+    related: dict[str, dict[Symbol, dict[Symbol, None]]] = field(default_factory=lambda: {name: {} for name in RESULTS})
 
     def learn(self, document: Message) -> None:
         """Adds what a document says."""
@@ -83,10 +83,10 @@ class Survey:
         own = symbol_of(information["symbol"], path)
         for relation in information["relationships"]:
             other = symbol_of(relation["symbol"], path)
-            for member, name, part, whole in (("is_definition", "definition", other, own), ("is_implementation", "implementation", own, other),
-                                              ("is_reference", "references", own, other), ("is_reference", "references", other, own)):
+            for member, name, one, another in (("is_definition", "definition", other, own), ("is_implementation", "implementation", own, other),
+                                               ("is_reference", "references", own, other), ("is_reference", "references", other, own)):
                 if relation[member]:
-                    self.parts[name].setdefault(part, {})[whole] = None
+                    self.related[name].setdefault(one, {})[another] = None
 
 
 class Writer:
@@ -200,7 +200,7 @@ class Conversion:
 
     def moniker(self, symbol: Symbol) -> None:
         """Writes the moniker of a global symbol with its package: an export where the index defines it, else an import."""
-        scheme, *package, identifier = parts(symbol[0])
+        scheme, *package, identifier = split_symbol(symbol[0])
         kind = "export" if symbol in self.survey.defined else "import"
         own = self.writer.vertex("moniker", scheme=scheme, identifier=identifier, kind=kind)
         self.writer.edge("moniker", self.known[symbol].result_set, own)
@@ -258,17 +258,17 @@ class Conversion:
         return own
 
     def items(self, symbol: Symbol, home: int, places: dict[str, list[int]]) -> None:
-        """Writes what the ranges of a symbol in a document add to its results, and to those of the symbols that it has a part in."""
-        writer, used, parts = self.writer, self.survey.used, self.survey.parts
+        """Writes what the ranges of a symbol in a document add to its results, and to those of the symbols that it's related to."""
+        writer, used, related = self.writer, self.survey.used, self.survey.related
         for role, ranges in places.items():
             writer.edges("item", self.result(symbol, "references"), ranges, shard=home, property=role)
-        definitions = [("definition", symbol), *((name, whole) for name in ("definition", "implementation") for whole in parts[name].get(symbol, ()))]
-        for name, whole in definitions if "definitions" in places else ():
-            if whole in used:
-                writer.edges("item", self.result(whole, name), places["definitions"], shard=home)
-        for whole in parts["references"].pop(symbol, ()):
-            if whole in used:
-                writer.edges("item", self.result(whole, "references"), [self.result(symbol, "references")], shard=home, property="referenceResults")
+        results = [("definition", symbol), *((name, another) for name in ("definition", "implementation") for another in related[name].get(symbol, ()))]
+        for name, another in results if "definitions" in places else ():
+            if another in used:
+                writer.edges("item", self.result(another, name), places["definitions"], shard=home)
+        for another in related["references"].pop(symbol, ()):
+            if another in used:
+                writer.edges("item", self.result(another, "references"), [self.result(symbol, "references")], shard=home, property="referenceResults")
 
     def information(self, information: Message, path: str) -> None:
         """Writes what is said of a symbol that occurs, where nothing was said before."""

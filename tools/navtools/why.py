@@ -246,7 +246,7 @@ def position_of(call: argparse.Namespace) -> tuple[int, int]:
 
 
 def main(words: Optional[list[str]] = None) -> int:
-    """Reads the command line; answers 0 with an answer or keys that others are asked by, 1 with an empty one, 2 at a fault."""
+    """Reads the command line; answers 0 where a range is asked, 1 where none is, 2 at a fault."""
     parser = argparse.ArgumentParser(prog="why", description=__doc__)
     parser.add_argument("--map", action="append", default=[], metavar="URI=FOLDER", help="documents below URI are the files of FOLDER")
     parser.add_argument("--utf16", action="store_true", help="COLUMN counts UTF-16 code units, as it does where FILE can't be read")
@@ -265,16 +265,17 @@ def main(words: Optional[list[str]] = None) -> int:
         document = document_of(graph, call.file, maps)
         position = position_of(call)
         trails = [graph.trail(own, request) for own in graph.covering(document, position)]
-        lines = explained(graph, trails, request, maps)
+        head = f"{call.request} at {graph.documents[document]} (line {document}), {position[0]}:{position[1]}"
+        print("\n".join([head, *explained(graph, trails, request, maps)]), flush=True)
+        return 0 if asked(trails, request) else 1
+    except BrokenPipeError:
+        os.dup2(os.open(os.devnull, os.O_WRONLY), sys.stdout.fileno())
+        return 141
     except (BadCall, NotADump) as fault:
-        print(f"why: {fault}", file=sys.stderr)
-        return 2
+        message = str(fault)
     except OSError as fault:
-        print(f"why: {fault.filename}: {fault.strerror}", file=sys.stderr)
-        return 2
+        message = f"{fault.filename}: {fault.strerror}"
     except (KeyError, TypeError):
-        print(f"why: {call.dump}: not a dump that `codenav check-lsif` accepts", file=sys.stderr)
-        return 2
-    print(f"{call.request} at {graph.documents[document]} (line {document}), {position[0]}:{position[1]}")
-    print("\n".join(lines))
-    return 0 if asked(trails, request) else 1
+        message = f"{call.dump}: not a dump that `codenav check-lsif` accepts"
+    print(f"why: {message}", file=sys.stderr)
+    return 2
