@@ -95,10 +95,12 @@ def numbers(body: bytes) -> Iterator[int]:
 
 def values(form: Union[str, Schema], kind: int, value: Any) -> list[Any]:
     """What a field of a message has: one value, or of packed numbers any number of them."""
-    if form == "number":
-        return list(numbers(value)) if kind == BYTES else [signed(value)]
+    if form == "number" and kind == VARINT:
+        return [signed(value)]
     if kind != BYTES:
-        raise ValueError("a text or a message that is a number")
+        raise ValueError("a field of another wire type than its form has")
+    if form == "number":
+        return list(numbers(value))
     return [message(value, form) if isinstance(form, dict) else value.decode("utf-8")]
 
 

@@ -187,6 +187,8 @@ class Scip(unittest.TestCase):
                 (metadata(""), [], "INDEX: no SCIP index: it has no metadata with the address of a project root"),
                 (b"hello", [], "INDEX: no SCIP index, or cut off, at byte 0"), (b"\xff" * 30, [], "INDEX: no SCIP index, or cut off, at byte 0"),
                 (one(field(2, b"\xff")), [], "INDEX: no SCIP index: the message at byte 42 isn't one of its schema"),
+                *((one(field(2, body)), [], "INDEX: no SCIP index: the message at byte 42 isn't one of its schema")
+                  for body in (b"\x1d\0\0\0\0", b"\x10\1", b"\x12\2a", b"\x13", b"\x18" + b"\xff" * 10)),
                 (one(field(2, field(2, b"\xff"))), [], "INDEX: no SCIP index: the message at byte 42 isn't one of its schema"),
                 (metadata() + document("../a.ts"), [], "INDEX: not a path from the project root on: '../a.ts'"),
                 (metadata() + document("/a.ts"), [], "INDEX: not a path from the project root on: '/a.ts'"),
