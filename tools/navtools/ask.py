@@ -6,7 +6,7 @@ import sys
 from typing import Any, Optional
 
 from navtools.curl import BadCall, NoReply, address, found_in, project_of, request, server_of
-from navtools.places import Maps, lines_of, maps_of, path_of, place_line, place_of, units, uri_of
+from navtools.places import Maps, character_at, lines_of, maps_of, path_of, place_line, place_of, units, uri_of
 from navtools.tags import folders_of, places_of
 
 KINDS = {
@@ -27,11 +27,7 @@ def hover_text(contents: Any) -> str:
 
 def position_url(call: argparse.Namespace, maps: Maps) -> str:
     """The address of a query at a position."""
-    lines = lines_of(call.file)
-    text = lines[call.line - 1] if 1 <= call.line <= len(lines) else None
-    if text is None or not 1 <= call.column <= (units(text) if call.utf16 else len(text)) + 1:
-        raise BadCall(f"{call.file} has no line {call.line} with a column {call.column}")
-    character = call.column - 1 if call.utf16 else units(text[:call.column - 1])
+    character = character_at(call.file, call.line, call.column, call.utf16)
     parameters = {"uri": uri_of(call.file, maps), "line": call.line - 1, "character": character}
     if call.what == "references" and call.no_declaration:
         parameters["declaration"] = "no"

@@ -160,29 +160,28 @@ def contained_before(dump: Dump, line: int, element: Element) -> list[str]:
     return []
 
 
-def crossing(spans: dict[Id, Span]) -> Optional[tuple[Id, Id]]:
-    """Two ranges that are equal, or overlap and aren't nested; of equal ones the first comes first."""
-    covering: list[Id] = []
-    order = sorted(spans, key=lambda own: (spans[own][0], spans[own][1], -spans[own][2], -spans[own][3]))
-    for before, own in zip([None, *order], order):
+def crossing(spans: dict[Any, Span]) -> Iterator[tuple[Any, Any]]:
+    """Pairs of ranges that are equal, or overlap and aren't nested: one for each range that must go so that no such pair is left, which comes second."""
+    covering: list[Any] = []
+    first: dict[Span, Any] = {}
+    for own in sorted(spans, key=lambda own: (spans[own][0], spans[own][1], -spans[own][2], -spans[own][3])):
         start, end = spans[own][:2], spans[own][2:]
-        if before is not None and spans[before] == spans[own]:
-            return before, own
         while covering and spans[covering[-1]][2:] <= start:
             covering.pop()
-        if covering and spans[covering[-1]][2:] < end:
-            return covering[-1], own
-        if start < end:
+        if first.setdefault(spans[own], own) is not own:
+            yield first[spans[own]], own
+        elif covering and spans[covering[-1]][2:] < end:
+            yield covering[-1], own
+        elif start < end:
             covering.append(own)
-    return None
 
 
 def overlapping(dump: Dump, line: int, element: Element) -> list[str]:
     """L12: both ranges."""
     document = element.get("outV")
     own = [own for own, (_, home) in contained(dump, line).items() if home == document] + targets(element)
-    pair = crossing({one: span for one in own for span in [dump.span(one)] if span is not None})
-    return [dump.placed(one, document) for one in pair or ()]
+    pair = next(crossing({one: span for one in own for span in [dump.span(one)] if span is not None}), ())
+    return [dump.placed(one, document) for one in pair]
 
 
 def edge_before(dump: Dump, line: int, element: Element) -> list[str]:

@@ -35,6 +35,15 @@ def lines_of(path: str) -> list[str]:
             raise BadCall(f"{path}: not UTF-8") from None
 
 
+def character_at(path: str, line: int, column: int, utf16: bool) -> int:
+    """The UTF-16 code units before a column of a file's line, both from 1; with `utf16` the column counts such."""
+    lines = lines_of(path)
+    text = lines[line - 1] if 1 <= line <= len(lines) else None
+    if text is None or not 1 <= column <= (units(text) if utf16 else len(text)) + 1:
+        raise BadCall(f"{path} has no line {line} with a column {column}")
+    return column - 1 if utf16 else units(text[:column - 1])
+
+
 def maps_of(texts: list[str]) -> Maps:
     """The pairs of a URI and a folder, each written as `URI=FOLDER`."""
     maps = [(uri.rstrip("/"), os.path.abspath(folder)) for uri, _, folder in (text.partition("=") for text in texts) if uri and folder]

@@ -11,6 +11,7 @@ import shutil
 import sys
 import tempfile
 from collections import Counter
+from contextlib import contextmanager
 from dataclasses import dataclass, field
 from typing import Any, BinaryIO, Iterator, Optional, Union
 
@@ -229,12 +230,12 @@ def summary(survey: Survey, written: int) -> str:
             f"elements {survey.elements} -> {written}")
 
 
-def excesses(survey: Survey, written: int) -> list[str]:
-    """Which limits of the server the prepared dump goes over."""
+def excesses(elements: int, body_bytes: int, longest_line: int) -> list[str]:
+    """Which limits of the server a dump goes over."""
     return [f"over the limits: {number} {what}, the server takes {most} ({code})"
-            for what, number, most, code in (("elements", written, MOST_ELEMENTS, "L20"),
-                                             ("bytes", survey.body_bytes, MOST_BODY_BYTES, "H04"),
-                                             ("bytes in the longest line", survey.longest_line, MOST_LINE_BYTES, "L01"))
+            for what, number, most, code in (("elements", elements, MOST_ELEMENTS, "L20"),
+                                             ("bytes", body_bytes, MOST_BODY_BYTES, "H04"),
+                                             ("bytes in the longest line", longest_line, MOST_LINE_BYTES, "L01"))
             if number > most]
 
 
@@ -255,31 +256,35 @@ def prepare(source: BinaryIO, name: str, call: argparse.Namespace) -> int:
     big = os.fstat(source.fileno()).st_size > PROGRESS_BYTES and sys.stderr.isatty()
     survey = survey_dump(source, name, call.strip, big)
     source.seek(0)
-    if call.output == "-":
-        written = write_dump(source, sys.stdout.buffer, name, survey, call.strip)
-    elif os.path.exists(call.output) and not os.path.isfile(call.output):
-        with open(call.output, "wb") as out:
-            written = write_dump(source, out, name, survey, call.strip)
-    else:
-        written = write_beside(source, name, os.path.realpath(call.output), survey, call.strip)
-    over = excesses(survey, written)
+    with whole_file(call.output) as out:
+        written = write_dump(source, out, name, survey, call.strip)
+    over = excesses(written, survey.body_bytes, survey.longest_line)
     for line in [summary(survey, written), *over, *(report(survey, call.profile) if call.report else [])]:
         print(f"prepare-lsif: {line}", file=sys.stderr)
     return 1 if over else 0
 
 
-def write_beside(source: BinaryIO, name: str, target: str, survey: Survey, strip: bool) -> int:
-    """Writes a new file beside the target and then puts it in its place, so that no half of it is ever there."""
+@contextmanager
+def whole_file(target: str) -> Iterator[BinaryIO]:
+    """A file to write: a new one beside the target, which takes its place when it's whole, so that no half of it is ever there. The standard output,
+    for `-`, and a target that is no file, as a pipe, are written themselves."""
+    if target == "-":
+        yield sys.stdout.buffer
+        return
+    if os.path.exists(target) and not os.path.isfile(target):
+        with open(target, "wb") as out:
+            yield out
+        return
+    target = os.path.realpath(target)
     new = f"{target}.{os.getpid()}.new"
     try:
         with open(new, "xb") as out:
-            written = write_dump(source, out, name, survey, strip)
+            yield out
         os.replace(new, target)
     except BaseException:
         if os.path.exists(new):
             os.unlink(new)
         raise
-    return written
 
 
 def main(words: Optional[list[str]] = None) -> int:

@@ -20,21 +20,26 @@ def succeed(words: list[str]) -> None:
 
 
 @contextmanager
+def empty_server(program: str, requests: int) -> Iterator[str]:
+    """The address of a server that has nothing; it ends with the context."""
+    port = free_port()
+    server = started(program, port, requests)
+    try:
+        yield f"http://127.0.0.1:{port}"
+    finally:
+        ended(server)
+
+
+@contextmanager
 def demo_server(program: str) -> Iterator[str]:
     """The address of a server that has both dumps and the tags; it ends with the context."""
-    with tempfile.TemporaryDirectory() as folder:
-        port = free_port()
-        url = f"http://127.0.0.1:{port}"
-        server = started(program, port, REQUESTS)
-        try:
-            for project, raw in PROJECTS.items():
-                dump = os.path.join(folder, "prepared.lsif")
-                succeed(["tools/prepare-lsif", raw, dump])
-                succeed(["tools/upload-lsif", url, project, dump])
-            succeed(["tools/upload-tags", url, "temperature", TAGS])
-            yield url
-        finally:
-            ended(server)
+    with tempfile.TemporaryDirectory() as folder, empty_server(program, REQUESTS) as url:
+        for project, raw in PROJECTS.items():
+            dump = os.path.join(folder, "prepared.lsif")
+            succeed(["tools/prepare-lsif", raw, dump])
+            succeed(["tools/upload-lsif", url, project, dump])
+        succeed(["tools/upload-tags", url, "temperature", TAGS])
+        yield url
 
 
 def program_of(words: list[str]) -> str:
