@@ -42,3 +42,11 @@ pub use tables::Tables;
 
 #[cfg(test)]
 mod tests;
+#[cfg(test)]
+mod tests_changes;
+#[cfg(test)]
+mod tests_covering;
+#[cfg(test)]
+mod tests_names;
+#[cfg(test)]
+mod tests_selections;

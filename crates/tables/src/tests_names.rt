@@ -1,9 +1,11 @@
 //! Which tags are found by their names.
-use super::{opened, tags_of};
+ghost use Rattle.std.specs.Prelude.{◌≡◌, false};
+
 use crate::{FoundTag, Tables, TablesFault};
 use sqlite::{Connection, MemStore};
 use std::alloc::Global;
 use std::test::Fail;
+use tags::{Tag, read_tags};
 
 /// The projects, each with its tags file.
 const PROJECTS: [(&str, &str); 2] = [
@@ -31,6 +33,22 @@ const ROWS: [(Ask, &str); 9] = [
     (Ask::Exact("", None), ""),
 ];
 
+fn tags_of(alloc: Global, text: &str) -> Result<Vec<Tag>, Fail> {
+    match read_tags(alloc, text.as_bytes()) {
+        Ok(tags) => Ok(tags),
+        Err(_) => Err("a fault")?,
+    }
+}
+
+fn opened(conn: Connection<MemStore>) -> Result<Tables<MemStore>, Fail>
+    requires { conn.in_transaction ≡ false }
+{
+    match Tables::open(conn) {
+        Ok(tables) => Ok(tables),
+        Err(_) => Err("not opened")?,
+    }
+}
+
 /// The project and the line of each tag.
 fn text_of(alloc: Global, found: &[FoundTag]) -> Result<String, Fail> {
     let mut text = String::new(alloc);
@@ -53,28 +71,39 @@ fn answer(
     }
 }
 
-/// Whether the tag `ab` is found as it was put, with its fields.
-fn has_whole_tag(alloc: Global, tables: &mut Tables<MemStore>) -> Result<bool, Fail> {
-    let tags = tags_of(alloc, PROJECTS[0].1)?;
-    let found = tables.names_exact(alloc, "ab", Some("app"))?;
-    match (found.first(), tags.first()) {
-        (Some(found), Some(tag)) => Ok(found.tag == *tag),
-        _ => Ok(false),
-    }
-}
-
 #[test]
 fn names(rt: HostRuntime) -> Result<(), Fail> {
     let mut tables = opened(Connection::open_in_memory(rt.alloc())?)?;
     for (project, text) in PROJECTS {
         let tags = tags_of(rt.alloc(), text)?;
         let reply = r#"{"accepted":"tags","count":2}"#;
-        tables.replace_tags(rt.alloc(), project, project, reply, &tags)?;
+        let put = tables.replace_tags(rt.alloc(), project, project, reply, &tags);
+        assert!(rt; put == Ok(()), "{project}");
     }
     for (ask, expected) in ROWS {
-        let found = answer(rt.alloc(), &mut tables, ask)?;
-        assert_eq!(rt; text_of(rt.alloc(), &found)?.as_str(), expected);
+        match answer(rt.alloc(), &mut tables, ask) {
+            Ok(found) => assert_eq!(rt; text_of(rt.alloc(), &found)?.as_str(), expected),
+            Err(_) => assert!(rt; false, "refused"),
+        }
     }
-    assert!(rt; has_whole_tag(rt.alloc(), &mut tables)?);
+    Ok(())
+}
+
+/// A tag that is found is the one that was put, with its fields.
+#[test]
+fn whole_tag(rt: HostRuntime) -> Result<(), Fail> {
+    let mut tables = opened(Connection::open_in_memory(rt.alloc())?)?;
+    let (project, text) = PROJECTS[0];
+    let tags = tags_of(rt.alloc(), text)?;
+    let reply = r#"{"accepted":"tags","count":2}"#;
+    let put = tables.replace_tags(rt.alloc(), project, project, reply, &tags);
+    assert!(rt; put == Ok(()));
+    match tables.names_exact(rt.alloc(), "ab", Some(project)) {
+        Ok(found) => match (found.first(), tags.first()) {
+            (Some(found), Some(tag)) => assert!(rt; found.tag == *tag),
+            _ => assert!(rt; false, "not found"),
+        },
+        Err(_) => assert!(rt; false, "refused"),
+    }
     Ok(())
 }

@@ -1,6 +1,6 @@
 //! Parts replaced and removed: what the tables hold then, also where the store stops, and on a real file.
-use super::{files_of, fused, fuses, opened, tags_of};
-use crate::{Tables, TablesFault};
+use crate::tests::{FORMAT_ONE, KEPT, PARTS};
+use crate::{Tables, TablesFault, migrate};
 use dump::{CheckedDump, Checker};
 use flatten::flatten;
 use lsif::{Element, Profile, ReadFault, read_element};
@@ -8,6 +8,7 @@ use sqlite::{Alter, Connection, FileStore, Files, Options};
 use sqlite_disk::{Crash, Fuse, Memory};
 use std::alloc::Global;
 use std::test::Fail;
+use tags::{Tag, read_tags};
 
 /// A dump that has a row in each of its tables.
 const FULL: [&str; 20] = [
@@ -59,6 +60,13 @@ fn dump_of(alloc: Global, profile: Profile, lines: &[&str]) -> Result<CheckedDum
     }
     match checker.finish() {
         Ok(dump) => Ok(dump),
+        Err(_) => Err("a fault")?,
+    }
+}
+
+fn tags_of(alloc: Global, text: &str) -> Result<Vec<Tag>, Fail> {
+    match read_tags(alloc, text.as_bytes()) {
+        Ok(tags) => Ok(tags),
         Err(_) => Err("a fault")?,
     }
 }
@@ -193,6 +201,16 @@ const SAID: [&str; 6] = [
     "SELECT reply FROM keyed WHERE project = 'app' AND cmdkey = 'k7' AND reply = '{\"removed\":false}'",
 ];
 
+fn opened<S: Alter + Drop>(conn: Connection<S>) -> Result<Tables<S>, Fail> {
+    if !conn.is_autocommit() {
+        return Err("in a transaction")?;
+    }
+    match Tables::open(conn) {
+        Ok(tables) => Ok(tables),
+        Err(_) => Err("not opened")?,
+    }
+}
+
 #[test]
 fn replaced_and_removed(rt: HostRuntime) -> Result<(), Fail> {
     let mut tables = opened(Connection::open_in_memory(rt.alloc())?)?;
@@ -213,25 +231,33 @@ fn replaced_and_removed(rt: HostRuntime) -> Result<(), Fail> {
     Ok(())
 }
 
-/// Until one is refused, the steps: how many were accepted, the fault of the next, and the files.
-type Stopped = (usize, Option<TablesFault>, Files<Fuse<Memory>>);
-
-/// Takes the steps until one is refused, in files that stop after so many calls.
-fn stopped(alloc: Global, log: u64, db: u64) -> Result<Stopped, Fail> {
-    let conn = match Connection::open_files(alloc, fused(alloc, log, db), Options::new(1)) {
+/// Takes the steps until one is refused, and answers how many were accepted, and the files.
+fn stopped(alloc: Global, log: u64, db: u64) -> Result<(usize, Files<Fuse<Memory>>), Fail> {
+    let files = Files {
+        log: Fuse::new(Memory::new(alloc), log),
+        db: Fuse::new(Memory::new(alloc), db),
+    };
+    let conn = match Connection::open_files(alloc, files, Options::new(1)) {
         Ok(conn) => conn,
-        Err((_, left)) => return Ok((0, None, left.into_files())),
+        Err((_, left)) => return Ok((0, left.into_files())),
     };
     let mut tables = match Tables::open(conn) {
         Ok(tables) => tables,
-        Err((fault, conn)) => return Ok((0, Some(fault), files_of(conn))),
+        Err((_, conn)) => return Ok((0, files_of(conn))),
     };
     for (taken, row) in ROWS.iter().enumerate() {
-        if let Err(fault) = take(alloc, &mut tables, row.step, row.key)? {
-            return Ok((taken, Some(fault), files_of(tables.into_connection())));
+        if take(alloc, &mut tables, row.step, row.key)?.is_err() {
+            return Ok((taken, files_of(tables.into_connection())));
         }
     }
-    Ok((ROWS.len(), None, files_of(tables.into_connection())))
+    Ok((ROWS.len(), files_of(tables.into_connection())))
+}
+
+fn files_of(conn: Connection<FileStore<Fuse<Memory>>>) -> Files<Fuse<Memory>> {
+    match conn.close_files() {
+        Ok(files) => files,
+        Err((_, store)) => store.close(),
+    }
 }
 
 /// What the tables hold that are opened over what a crash left of the files.
@@ -248,6 +274,15 @@ fn recovered(alloc: Global, files: Files<Fuse<Memory>>) -> Result<Vec<usize>, Fa
     }
 }
 
+/// After how many calls each file stops, where the log or the other stops after so many.
+fn fuses(is_log: bool, calls: u64) -> (u64, u64) {
+    if is_log {
+        (calls, u64::MAX)
+    } else {
+        (u64::MAX, calls)
+    }
+}
+
 /// Whether these are the rows after so many steps, or after one more.
 fn is_left(counts: &[usize], steps: usize) -> bool {
     counts == rows_after(steps).as_slice()
@@ -255,17 +290,16 @@ fn is_left(counts: &[usize], steps: usize) -> bool {
 }
 
 /// Each call of one of the files stops the store in turn: what is left is the state before the step that was refused, or the one after
-/// it, and a step that was accepted isn't lost. What is refused answers that the store refused.
+/// it, and a step that was accepted isn't lost.
 #[test]
 fn stop_at_each_call(rt: HostRuntime) -> Result<(), Fail> {
     for is_log in [true, false] {
         let mut taken = 0;
         for calls in 0..10000u64 {
             let (log, db) = fuses(is_log, calls);
-            let (count, fault, files) = stopped(rt.alloc(), log, db)?;
+            let (count, files) = stopped(rt.alloc(), log, db)?;
             let left = recovered(rt.alloc(), files)?;
             assert!(rt; is_left(&left, count));
-            assert!(rt; fault.is_none() || fault == Some(TablesFault::Refused));
             taken = count;
             if taken == ROWS.len() {
                 break;
@@ -278,7 +312,11 @@ fn stop_at_each_call(rt: HostRuntime) -> Result<(), Fail> {
 
 /// The tables in files that each stop after so many calls, where they can be opened.
 fn until_stopped(alloc: Global, calls: u64) -> Option<Tables<FileStore<Fuse<Memory>>>> {
-    match Connection::open_files(alloc, fused(alloc, calls, calls), Options::new(1)) {
+    let files = Files {
+        log: Fuse::new(Memory::new(alloc), calls),
+        db: Fuse::new(Memory::new(alloc), calls),
+    };
+    match Connection::open_files(alloc, files, Options::new(1)) {
         Ok(conn) => Tables::open(conn).ok(),
         Err(_) => None,
     }
@@ -311,6 +349,78 @@ fn stopped_in_memory(rt: HostRuntime) -> Result<(), Fail> {
     for (is_in_memory, fault) in [(false, TablesFault::Refused), (true, TablesFault::Memory)] {
         let told = told_faults(rt.alloc(), is_in_memory)?;
         assert!(rt; !told.is_empty() && told.iter().all(|found| *found == fault));
+    }
+    Ok(())
+}
+
+/// How far the making of tables of format 1 and their migration went.
+#[derive(Clone, Copy, PartialEq, Eq)]
+enum Reached {
+    Nothing,
+    FormatOne,
+    FormatTwo,
+}
+
+fn migration_stopped(
+    alloc: Global,
+    log: u64,
+    db: u64,
+) -> Result<(Reached, Files<Fuse<Memory>>), Fail> {
+    let files = Files {
+        log: Fuse::new(Memory::new(alloc), log),
+        db: Fuse::new(Memory::new(alloc), db),
+    };
+    let mut conn = match Connection::open_files(alloc, files, Options::new(1)) {
+        Ok(conn) => conn,
+        Err((_, left)) => return Ok((Reached::Nothing, left.into_files())),
+    };
+    let text = format!(in alloc; "BEGIN;{FORMAT_ONE};{PARTS};COMMIT")?;
+    if conn.execute_batch(&text).is_err() || !conn.is_autocommit() {
+        return Ok((Reached::Nothing, files_of(conn)));
+    }
+    match migrate(conn) {
+        Ok((tables, _)) => Ok((Reached::FormatTwo, files_of(tables.into_connection()))),
+        Err((_, conn)) => Ok((Reached::FormatOne, files_of(conn))),
+    }
+}
+
+/// Whether the tables that a crash left can be migrated, and then have the rows of the parts.
+fn migrated_afterwards(alloc: Global, files: Files<Fuse<Memory>>) -> Result<bool, Fail> {
+    let Files { mut log, mut db } = files;
+    log.crash();
+    db.crash();
+    let conn = match Connection::open_files(alloc, Files { log, db }, Options::new(1)) {
+        Ok(conn) => conn,
+        Err(_) => return Err("not recovered")?,
+    };
+    let mut conn = match migrate(conn) {
+        Ok((tables, _)) => tables.into_connection(),
+        Err(_) => return Ok(false),
+    };
+    for (query, rows) in KEPT {
+        if conn.query_all(query, &[])?.len() != rows {
+            return Ok(false);
+        }
+    }
+    Ok(true)
+}
+
+/// Each call of one of the files stops the store in turn: a migration leaves tables of format 1, or those of format 2, whole.
+#[test]
+fn migration_stopped_at_each_call(rt: HostRuntime) -> Result<(), Fail> {
+    for is_log in [true, false] {
+        let mut reached = Reached::Nothing;
+        for calls in 0..10000u64 {
+            let (log, db) = fuses(is_log, calls);
+            let (far, files) = migration_stopped(rt.alloc(), log, db)?;
+            let is_whole = migrated_afterwards(rt.alloc(), files)?;
+            assert!(rt; is_whole || far == Reached::Nothing);
+            reached = far;
+            if reached == Reached::FormatTwo {
+                break;
+            }
+        }
+        assert!(rt; reached == Reached::FormatTwo);
     }
     Ok(())
 }
