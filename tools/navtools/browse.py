@@ -10,6 +10,7 @@ import sys
 from dataclasses import dataclass
 from html import escape
 from http.server import BaseHTTPRequestHandler, ThreadingHTTPServer
+from itertools import islice
 from string import Template
 from typing import Any, Optional
 from urllib.parse import parse_qsl, quote, unquote_to_bytes
@@ -205,12 +206,15 @@ class Browser:
         tags = self.found(address(self.server, "/names", query), "tags")
         folders = {self.project: self.folder.given, **self.tags}
         try:
-            known = [tag for tag in tags if tag["project"] in folders and self.folder.has(os.path.join(folders[tag["project"]], tag["file"]))]
+            known = (tag for tag in tags if tag["project"] in folders and self.folder.has(os.path.join(folders[tag["project"]], tag["file"])))
+            first = list(islice(known, MOST_NAMES))
             rows = [{"name": str(tag["name"]), "place": f"{inside}:{place.line + 1}", "href": href(inside, place)}
-                    for tag, place in places_of(known[:MOST_NAMES], folders.get) for inside in [str(self.folder.inside(place.name))]]
+                    for tag, place in places_of(first, folders.get) for inside in [str(self.folder.inside(place.name))]]
+            more = next(known, None) is not None
         except (TypeError, KeyError, AttributeError, ValueError):
             raise NoReply("not tags") from None
-        return {"names": rows, "said": f"{len(known)} name{'' if len(known) == 1 else 's'}" + (f", {MOST_NAMES} shown" if len(known) > MOST_NAMES else "")}
+        said = f"the first {MOST_NAMES} names" if more else f"{len(rows)} name{'' if len(rows) == 1 else 's'}"
+        return {"names": rows, "said": said}
 
 
 class Handler(BaseHTTPRequestHandler):

@@ -167,6 +167,10 @@ class Browse(unittest.TestCase):
         self.assertEqual(answer, {"said": "2 names", "names": [{"name": "run", "place": "src/a.rs:2", "href": "/files/src/a.rs#L2C4"},
                                                                 {"name": "run", "place": "src/a.rs:1", "href": "/files/src/a.rs#L1C1"}]})
 
+        with mock.patch.object(browse, "MOST_NAMES", 2):
+            self.assertEqual(self.asked("/names?prefix=r", {"tags": tags})[1]["said"], "2 names")
+            self.assertEqual(self.asked("/names?prefix=r", {"tags": [*tags, TAG]})[1]["said"], "the first 2 names")
+
     def test_replies_that_are_none(self) -> None:
         place = {**PLACE, "uri": self.uri("src/a.rs")}
         for path, replies in (
