@@ -191,10 +191,9 @@ def taken_port(program: Program) -> None:
 
 
 def no_more_files(program: Program) -> None:
-    """A process that may not open a file for a connection; and one that may open one, but not a second handle of it."""
+    """A process that may not open a file for a connection, which ends without waiting for one; and one that may open one, but not a second handle of it."""
     server = program.start(1, before=("prlimit", "--nofile=4"))
-    with server.connect():
-        expect("no file for a connection", server.end(5), ("", "codenav: cannot accept\n", 2))
+    expect("no file for a connection", server.end(5), ("", "codenav: cannot accept\n", 2))
     server = program.start(1, before=("prlimit", "--nofile=5"))
     with server.connect():
         expect("no second handle", server.end(5), ("", "", 0))
