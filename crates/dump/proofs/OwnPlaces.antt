@@ -30,7 +30,7 @@ abbrev is_own_result : Option VertexValue → Bool
 is_own_result v = is_definition_result v || (is_declaration_result v || (is_implementation_result v || is_hover_result v))
 
 -- an edge of the label may lead to it
-abbrev is_target : SingleLabel → Option VertexValue → Bool
+abbrev pub is_target : SingleLabel → Option VertexValue → Bool
 is_target Next v = is_result_set v
 is_target Definition v = is_definition_result v
 is_target labels.References v = is_reference_result v
@@ -233,7 +233,7 @@ target_by d label (Some s) p h at = by (same_label s.0 label) refl at
         ⊎_elim (λ (q : s.1 ≡ p). subst (λ (r : Pair). is_target label (vertex_at d r.1) ≡ true) q named) (λ (n : Contains [] p). absurd (not_in_nil p n)) (contains_cases s.1 [] p at)
 
 -- a request's first result is one of its kind
-first_target : (d : List ElementValue) → IsSound d → (q : Request) (x result : IdValue) → First q d x (Some result) → is_target (label_of q) (vertex_at d result) ≡ true
+pub first_target : (d : List ElementValue) → IsSound d → (q : Request) (x result : IdValue) → First q d x (Some result) → is_target (label_of q) (vertex_at d result) ≡ true
 first_target d h q x result first =
     let bound = bound_of (single_pairs (label_of q) d) first.0 result (sym first.2) in
     let at = member_of (single_in (label_of q)) d (bound.0, result) (pair_of_first (single_pairs (label_of q) d) bound.0 result bound.1) in

@@ -4,7 +4,7 @@ use Rattle.std.specs.Prelude.{◌≡◌, ◌≢◌, ◌⊎◌, ℕ, ◌+◌, Boo
 use Rattle.std.specs.declared.cmp.Ordering.{Ordering}
 use Rattle.std.specs.Ordering.{nat_cmp, ordering_then}
 use Rattle.std.specs.Cmp.Lexicographic.{slice_cmp}
-use Rattle.positions.specs.Position.{IsBefore}
+use Rattle.positions.specs.Position.{IsBefore, IsPosition}
 use Rattle.positions.specs.Span.{SpanValue, Nests}
 use Rattle.lsif.specs.declared.element.MonikerKind.{MonikerKind}
 use Rattle.lsif.specs.declared.element.MonikerKind.TheVariants as kinds
@@ -209,3 +209,7 @@ pub record IsFlat (elements : List ElementValue) (rows : RowsValue) : Type 0 whe
   pub hovers : IsListing by_result (IsHoverRow elements) rows.hovers
   pub marks : IsListing mark_cmp (IsMarkRow elements) rows.marks
   pub bearers : IsListing bearer_cmp (IsBearerRow elements) rows.bearers
+
+-- the positions of each range are within the limit
+abbrev pub HasPositions : List ElementValue → Type 0
+HasPositions elements = (r : IdValue) (span : SpanValue) → vertex_at elements r ≡ Some (range_vertex span) → IsPosition span.start × IsPosition span.«end»

@@ -1,6 +1,6 @@
 //! A checked dump, made flat.
 ghost use Rattle.std.specs.Prelude.{◌≡◌, IfOk};
-ghost use Rattle.flatten.specs.Flat.{IsFlat};
+ghost use Rattle.flatten.specs.Flat.{HasPositions, IsFlat};
 ghost use Rattle.flatten.specs.Rows.{rows_value};
 
 use crate::borne::borne;
@@ -26,6 +26,7 @@ pub(crate) fn flatten_within<'a>(
 ) -> Result<Rows<'a>, FlattenFault>
     ensures profile { IfOk result (λ rows. rows.profile ≡ dump.now.profile) }
     ensures rows { IfOk result (λ rows. IsFlat dump.now.elements (rows_value rows)) }
+    ensures located { IfOk result (λ rows. HasPositions dump.now.elements) }
 {
     let Gathered {
         mut kinds,
@@ -56,6 +57,7 @@ pub(crate) fn flatten_within<'a>(
 pub fn flatten<'a>(alloc: Global, dump: &'a CheckedDump) -> Result<Rows<'a>, FlattenFault>
     ensures profile { IfOk result (λ rows. rows.profile ≡ dump.now.profile) }
     ensures rows { IfOk result (λ rows. IsFlat dump.now.elements (rows_value rows)) }
+    ensures located { IfOk result (λ rows. HasPositions dump.now.elements) }
 {
     flatten_within(alloc, dump, MOST_ROWS)
 }

@@ -3,7 +3,7 @@ ghost use Rattle.std.specs.Prelude.{◌≡◌, ◌++◌, IfOk, OnOk, map};
 ghost use Rattle.std.specs.List.{All, flat_map};
 ghost use Rattle.lsif.specs.Element.{element_value};
 ghost use Rattle.dump.specs.Places.{IsListing};
-ghost use Rattle.flatten.specs.Flat.{IsHoverRow, by_result};
+ghost use Rattle.flatten.specs.Flat.{HasPositions, IsHoverRow, by_result};
 ghost use Rattle.flatten.specs.Rows.{hover_value, range_value};
 ghost use Rattle.flatten.specs.Steps.Kinds.{AreKinds, Takes, is_document, is_moniker_edge, is_range, kept, said};
 ghost use Rattle.flatten.specs.Steps.Parents.{IsWithinLimit, interval_value, intervals_in};
@@ -108,6 +108,7 @@ pub(crate) fn gather<'a>(alloc: Global, dump: &'a CheckedDump) -> Result<Gathere
     ensures ranges { IfOk result (λ gathered. AreFoundRanges dump.now.elements (map range_value gathered.ranges.items)) }
     ensures intervals { IfOk result (λ gathered. map interval_value gathered.intervals.items ≡ flat_map (intervals_in dump.now.elements) dump.now.elements) }
     ensures within { IfOk result (λ gathered. All IsWithinLimit dump.now.elements) }
+    ensures located { IfOk result (λ gathered. HasPositions dump.now.elements) }
     ensures dump { IfOk result (λ gathered. gathered.kinds.dump.now ≡ dump.now) }
 {
     vertex_law();

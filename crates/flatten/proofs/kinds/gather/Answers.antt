@@ -3,8 +3,8 @@ use Rattle.std.proofs.Math.ListN.{drop_of_length-le}
 use Rattle.std.specs.Borrow.{Bor}
 use Rattle.std.specs.Prelude.{Contains, Ok}
 use Rattle.std.specs.List.{All}
-use Rattle.std.proofs.lemmas.List.Elements.{All-cons, All-nil, Contains-get_or}
-use Rattle.lsif.specs.Element.{element_value}
+use Rattle.std.proofs.lemmas.List.Elements.{All-cons, All-contains, All-nil, Contains-get_or}
+use Rattle.lsif.specs.Element.{element_value, range, vertex}
 use Rattle.dump.proofs.Lists.{drop_next}
 use Rattle.dump.specs.Fault.{IsFaultless}
 use Rattle.dump.specs.declared.checker.CheckedDump.{CheckedDump}
@@ -94,3 +94,11 @@ pub returns-clause-within : goal.returns-clause-within
 returns-clause-within c =
     let empty = drop_of_length-le c.elements-element-items.result.now c.loop-element-test.false in
     c.loop-element.invariant.8 (subst (λ es. All IsWithinLimit (map element_value es)) (sym empty) (All-nil IsWithinLimit))
+
+pub returns-clause-located : goal.returns-clause-located
+returns-clause-located c = λ r span is.
+    let d = c.args.dump.now.elements in
+    let free = c.elements-element-items.ensures.faultless in
+    let empty = drop_of_length-le c.elements-element-items.result.now c.loop-element-test.false in
+    let within = c.loop-element.invariant.8 (subst (λ es. All IsWithinLimit (map element_value es)) (sym empty) (All-nil IsWithinLimit)) in
+    All-contains IsWithinLimit d (vertex r (range span)) within ((c.vertex_law.ensures d free r (range span)).0 is)
