@@ -1,8 +1,10 @@
 -- The items of a result, as they are selected.
-use Rattle.std.proofs.Common.{◌≡◌, inl, inr, ℕ, ℤ, pos, Bool, true, ◌&&◌, List, [], ◌∷◌, map, Some, None, codes, false, refl, sym, ap, subst, ◌∙◌, string_bytes, ◌↔◌, Contains, arith}
+use Rattle.std.proofs.Common.{◌≡◌, inl, inr, ℕ, ℤ, pos, Bool, true, ◌&&◌, List, [], ◌∷◌, map, Some, None, codes, false, refl, sym, ap, subst, ◌∙◌, ◌↔◌, Contains, arith}
 use Rattle.std.specs.List.{AllByRecursion}
 use Rattle.std.specs.Cmp.{IsTotalOrder, on_total}
-use Rattle.std.specs.String.{string_eq}
+use Rattle.std.specs.Cmp.Lexicographic.{pointwise}
+use Rattle.std.specs.Prelude.{nat_eq}
+use Rattle.std.specs.Rc.{rc_str_bytes}
 use Rattle.std.specs.Ordering.{eq_by_cmp}
 use Rattle.sqlite.specs.Listing.{understood, reads_listing}
 use Rattle.sqlite.specs.State.{State as Store, Shown}
@@ -52,7 +54,7 @@ select_items_plain = ((refl, refl), refl)
 -- ---- the order
 
 abbrev pub same_item : FoundItem → FoundItem → Bool
-same_item a b = string_eq a.uri b.uri && same_span a.span b.span
+same_item a b = pointwise nat_eq (rc_str_bytes a.uri) (rc_str_bytes b.uri) && same_span a.span b.span
 
 pub item_total : IsTotalOrder (under item_found place_cmp)
 item_total = on_total item_found place_total
@@ -92,7 +94,7 @@ abbrev item_shown : ItemRowValue → Row
 item_shown e = Text e.place.uri ∷ position e.place.span.start ∷ position e.place.span.«end» ∷ []
 
 abbrev found_columns : FoundItem → Row
-found_columns x = Text (string_bytes x.uri) ∷ position x.span.start ∷ position x.span.«end» ∷ []
+found_columns x = Text (rc_str_bytes x.uri) ∷ position x.span.start ∷ position x.span.«end» ∷ []
 
 abbrev IsSound : FoundItem → Type 0
 IsSound x = IsPosition x.span.start × IsPosition x.span.«end»
@@ -138,7 +140,7 @@ module _ (result : ℕ) (role : Role) where
 
   is_place : (x : FoundItem) (v : PlaceValue) → IsSound x → IsPosition v.span.start × IsPosition v.span.«end» → found_columns x ≡ item_shown (entry v) → item_found x ≡ v
   is_place x v sound real same =
-      let uri : string_bytes x.uri ≡ v.uri = let a = same in cc in
+      let uri : rc_str_bytes x.uri ≡ v.uri = let a = same in cc in
       let start = one_position x.span.start v.span.start sound.0 real.0 (let a = same in cc) in
       let stop = one_position x.span.«end» v.span.«end» sound.1 real.1 (let a = same in cc) in
       λ i. record { uri = uri i; span = record { start = start i; «end» = stop i } }

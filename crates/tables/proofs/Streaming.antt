@@ -1,11 +1,13 @@
 -- What rows that are read one at a time leave.
-use Rattle.std.proofs.Common.{◌≡◌, ◌⊎◌, inl, inr, List, ℕ, Result, Ok, Err, IfErr, OnOk, sym, subst, ◌∙◌}
+use Rattle.std.proofs.Common.{◌≡◌, ◌⊎◌, inl, inr, List, ℕ, None, Result, Ok, Err, IfErr, OnOk, sym, subst, ◌∙◌}
 use Rattle.sqlite_value.specs.Order.{Row}
-use Rattle.sqlite.specs.Listing.{understood}
-use Rattle.sqlite.specs.State.{State, HasCleanDisk, Survives, CommitsShowing, Fails, FailsToQuery, IsUnchanged}
+use Rattle.sqlite.specs.Clock.{timed}
+use Rattle.sqlite.specs.Effect.{Database}
+use Rattle.sqlite.specs.Listing.{IsSourceOf, reads_listing, understood}
+use Rattle.sqlite.specs.State.{State, HasCleanDisk, Survives, CommitsShowing, Fails, FailsToQuery, IsStatement, IsUnchanged, Shown, ShowsRows}
 use Rattle.sqlite.specs.declared.error.Error.{Error}
 use Rattle.sqlite.proofs.StateLemmas.{survives_weaker}
-use Rattle.sqlite.proofs.Callers.{IsPlain, never_commits}
+use Rattle.sqlite.proofs.Callers.{IsPlain, never_commits, unchanged_then}
 use Rattle.tables.specs.Schema.{schema_two}
 use Rattle.tables.specs.Stands.{IsAsBefore}
 use Rattle.tables.specs.Steps.Selected.{Looks}
@@ -46,3 +48,28 @@ moved_looks old new (Err e) survives same kept = record {
 pub looks_on : {X P : Type 0} (old mid new : State) (r : Result X Error) → Looks old mid → (HasCleanDisk mid → old.now.schema ≡ schema_two → P × IsUnchanged old mid) → Survives mid new (λ _. ⊥) → (HasCleanDisk new → OnOk r (IsUnchanged mid new))
     → (HasCleanDisk new → IfErr r (λ e. Fails mid new ⊥ e ⊎ IsUnchanged mid new)) → Looks old new
 looks_on old mid new r was given survives same kept = looks_then old mid new was (λ clean has. as_before old mid (given clean has).1) (moved_looks mid new r survives same kept)
+
+-- what is shown from where nothing has changed is shown from the start
+pub shown_from : (sql : List ℕ) (params : Row) (old mid new : State) (rows : List Row) → IsPlain (understood mid.now.schema sql) → IsUnchanged old mid → Shown sql params mid new rows → Shown sql params old new rows
+unfolding Shown
+shown_from sql params old mid new rows plain same (c, it, shows) = (c, statement, subst (λ o. ShowsRows old new sql c (timed params c.formats it.now) rows o) (sym silent) from_old)
+  where
+    is_now : mid.now ≡ old.now
+    is_now = same.0.now_is
+
+    silent : c.returning ≡ None
+    silent = (subst IsPlain it.is plain).0
+
+    statement : IsStatement old sql params c
+    statement = record {
+      is = subst (λ (d : Database). understood d.schema sql ≡ Ok c) is_now it.is;
+      whole = it.whole;
+      given = it.given;
+      now = it.now;
+    }
+
+    from_mid : ShowsRows mid new sql c (timed params c.formats it.now) rows None
+    from_mid = subst (λ o. ShowsRows mid new sql c (timed params c.formats it.now) rows o) silent shows
+
+    from_old : ShowsRows old new sql c (timed params c.formats it.now) rows None
+    from_old = (from_mid.0, subst (λ (d : Database). IsSourceOf (reads_listing d.schema sql) d from_mid.0) is_now from_mid.1, from_mid.2, unchanged_then old mid new same from_mid.3)

@@ -1,5 +1,5 @@
 -- Why the tables refuse: how each fault is printed, and which errors of the store are which.
-use Rattle.std.specs.Prelude.{ℕ, Bool, true, List, codes}
+use Rattle.std.specs.Prelude.{◌≡◌, ◌⊎◌, ℕ, Bool, true, List, codes}
 use Rattle.sqlite.specs.declared.error.Error.{Error}
 use Rattle.sqlite.specs.declared.error.Error.TheVariants.{SqliteFailure}
 use Rattle.sqlite.specs.declared.error.ErrorCode.TheVariants.{OutOfMemory, SystemIoFailure}
@@ -24,3 +24,7 @@ abbrev pub fault_of : Bool → Error → TablesFault
 fault_of _ (SqliteFailure OutOfMemory) = Memory
 fault_of true (SqliteFailure SystemIoFailure) = Memory
 fault_of _ _ = Refused
+
+-- the faults of a store that was opened
+abbrev pub IsStoreFault : TablesFault → Type 0
+IsStoreFault fault = (fault ≡ Refused) ⊎ (fault ≡ Memory)

@@ -2,6 +2,7 @@
 use Rattle.std.specs.Prelude.{◌≡◌, ◌++◌, ℕ, List, Option, Some, None, ⊤, Contains, string_bytes}
 use Rattle.std.specs.declared.cmp.Ordering.{Ordering}
 use Rattle.std.specs.Ordering.{nat_cmp, ordering_then}
+use Rattle.dump.specs.Places.{IsListing}
 use Rattle.tags.specs.Values.{TagValue}
 use Rattle.tags.specs.Views.{tag_value}
 use Rattle.tables.specs.State.{State}
@@ -35,3 +36,11 @@ line_cmp a b = ordering_then (text_cmp a.project b.project) (nat_cmp a.tag.line 
 -- by name, project and line
 abbrev pub name_cmp : FoundTag → FoundTag → Ordering
 name_cmp a b = ordering_then (text_cmp a.tag.name b.tag.name) (line_cmp a b)
+
+-- the tags of this name: of the project that is asked for, where one is, and else of all
+abbrev pub FindsNamed : State → Option (List ℕ) → List ℕ → List FoundTag → Type 0
+FindsNamed m asked name = IsListing line_cmp (λ (f : FoundTag). IsTag m asked f × (f.tag.name ≡ name))
+
+-- those whose names begin with the text
+abbrev pub FindsPrefixed : State → Option (List ℕ) → List ℕ → List FoundTag → Type 0
+FindsPrefixed m asked prefix = IsListing name_cmp (λ (f : FoundTag). IsTag m asked f × BeginsWith f.tag.name prefix)

@@ -4,6 +4,7 @@ use Rattle.std.specs.declared.cmp.Ordering.{Ordering}
 use Rattle.std.specs.Ordering.{nat_cmp, ordering_then}
 use Rattle.std.specs.Cmp.Lexicographic.{slice_cmp}
 use Rattle.std.specs.List.{AllZip}
+use Rattle.std.specs.Rc.{rc_str_bytes}
 use Rattle.lsif.specs.declared.element.MonikerKind.{MonikerKind}
 use Rattle.positions.specs.Position.{PositionValue}
 use Rattle.positions.specs.Span.{SpanValue}
@@ -84,7 +85,7 @@ FindsMarks m project line = IsListing mark_text_cmp (HasMark m project line)
 -- ---- items
 
 abbrev pub item_found : FoundItem → PlaceValue
-item_found item = record { uri = string_bytes item.uri; span = item.span }
+item_found item = record { uri = rc_str_bytes item.uri; span = item.span }
 
 -- the result of this number, in the project's dump, has the place in the role
 abbrev pub HasItem : State → List ℕ → ℕ → Role → PlaceValue → Type 0

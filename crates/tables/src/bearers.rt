@@ -1,5 +1,5 @@
 //! The bearers of a key, as they are selected.
-ghost use Rattle.std.specs.Prelude.{◌≡◌, ◌∷◌, [], List, ℕ, ℤ, Contains, Some, map, string_bytes, pos, false, IsTrue, IfOk, OnOk};
+ghost use Rattle.std.specs.Prelude.{◌≡◌, ◌∷◌, [], List, ℕ, ℤ, Contains, Some, map, string_bytes, pos, false, IsTrue, IfOk, OnOk, IfErr};
 ghost use Rattle.std.specs.declared.cmp.Ordering.TheVariants.{Equal};
 ghost use Rattle.std.specs.List.{AllByRecursion};
 ghost use Rattle.sqlite_value.specs.declared.value.Value.TheVariants.{Int};
@@ -13,6 +13,7 @@ ghost use Rattle.tables.specs.Schema.{schema_two};
 ghost use Rattle.tables.specs.Columns.{number, optional};
 ghost use Rattle.tables.specs.Contents.{Contents, Replies, Keeps, slot_row};
 ghost use Rattle.tables.specs.State.{State};
+ghost use Rattle.tables.specs.Fault.{IsStoreFault};
 ghost use Rattle.tables.specs.Stands.{IsAsBefore, StandsFor, Rests};
 ghost use Rattle.tables.specs.Selections.{BearerFound, Bears, FindsBearers, bearer_found, bearer_found_cmp};
 ghost use Rattle.tables.specs.declared.bearers.SlotBearer.{SlotBearer};
@@ -225,6 +226,8 @@ impl<S: Alter> Tables<S> {
     pub fn bearers(&mut self, alloc: Global, key: &str) -> Result<Vec<FoundBearer>, TablesFault>
         ensures found { HasCleanDisk (state S.Store self.new) → (m : State) → Rests (state S.Store self.old) m → IfOk result (λ found. FindsBearers m key.now (map bearer_found found.items)) }
         ensures same { HasCleanDisk (state S.Store self.new) → IsTrue (state S.Store self.new).is_open → (m : State) → Rests (state S.Store self.old) m → IsAsBefore (state S.Store self.old) (state S.Store self.new) }
+        ensures clean { HasCleanDisk (state S.Store self.new) → HasCleanDisk (state S.Store self.old) }
+        ensures fault { IfErr result IsStoreFault }
         ensures survives { (m : State) → Rests (state S.Store self.old) m → Survives (state S.Store self.old) (state S.Store self.new) (λ _. ⊥) }
     {
         match find_bearers(alloc, &mut self.conn, key) {

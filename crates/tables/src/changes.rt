@@ -1,5 +1,5 @@
 //! The changes of the index, each one transaction.
-ghost use Rattle.std.specs.Prelude.{◌≡◌, ◌||◌, nat_lt, ℕ, List, pos, Option, Some, None, is_some, false, IsTrue, IfOk, OnOk, OnErr};
+ghost use Rattle.std.specs.Prelude.{◌≡◌, ◌||◌, nat_lt, ℕ, List, pos, Option, Some, None, is_some, false, IsTrue, IfOk, OnOk, OnErr, IfErr};
 ghost use Rattle.sqlite.specs.State.{HasCleanDisk, Survives, KeepsCommit};
 ghost use Rattle.sqlite.specs.Held.{state};
 ghost use Rattle.flatten.specs.Rows.{rows_value};
@@ -8,6 +8,7 @@ ghost use Rattle.tags.specs.Views.{tag_values};
 ghost use Rattle.tables.specs.Schema.{schema_two};
 ghost use Rattle.tables.specs.Columns.{dump_rows, tag_rows};
 ghost use Rattle.tables.specs.Contents.{Contents, Replies, Keeps, changed as replaced, kept};
+ghost use Rattle.tables.specs.Fault.{IsStoreFault};
 ghost use Rattle.tables.specs.Stands.{IsAsBefore, IsDump, IsNew, Rests, StandsFor, replies_of};
 ghost use Rattle.tables.specs.State.{State, parts_removed, accepted_text, set_dump, set_tags, clear, changed};
 ghost use Rattle.tables.specs.Steps.Puts.{GoesOn};
@@ -56,6 +57,8 @@ fn commit_dump<S: Alter>(
 ) -> Result<(), Error>
     requires mode { conn.old.in_transaction ≡ false }
     ensures mode { conn.new.in_transaction ≡ false }
+    ensures clean { HasCleanDisk (state S.Store conn.new) → HasCleanDisk (state S.Store conn.old) }
+    ensures open { HasCleanDisk (state S.Store conn.new) → OnOk result (IsTrue (state S.Store conn.new).is_open) }
     ensures done { HasCleanDisk (state S.Store conn.new) → (m : State) (dump : DumpValue) → Rests (state S.Store conn.old) m → IsDump dump (dump_rows rows.now.profile (rows_value rows.now)) → IsNew m project.now key.now reply.now (set_dump dump)
         → OnOk result (Rests (state S.Store conn.new) (changed m project.now key.now (set_dump dump))) }
     ensures same { HasCleanDisk (state S.Store conn.new) → IsTrue (state S.Store conn.new).is_open → (m : State) (dump : DumpValue) → Rests (state S.Store conn.old) m → IsDump dump (dump_rows rows.now.profile (rows_value rows.now)) → IsNew m project.now key.now reply.now (set_dump dump)
@@ -104,6 +107,8 @@ fn commit_tags<S: Alter>(
 ) -> Result<(), Error>
     requires mode { conn.old.in_transaction ≡ false }
     ensures mode { conn.new.in_transaction ≡ false }
+    ensures clean { HasCleanDisk (state S.Store conn.new) → HasCleanDisk (state S.Store conn.old) }
+    ensures open { HasCleanDisk (state S.Store conn.new) → OnOk result (IsTrue (state S.Store conn.new).is_open) }
     ensures done { HasCleanDisk (state S.Store conn.new) → (m : State) → Rests (state S.Store conn.old) m → IsNew m project.now key.now reply.now (set_tags (tag_values tags.now))
         → OnOk result (Rests (state S.Store conn.new) (changed m project.now key.now (set_tags (tag_values tags.now)))) }
     ensures same { HasCleanDisk (state S.Store conn.new) → IsTrue (state S.Store conn.new).is_open → (m : State) → Rests (state S.Store conn.old) m → IsNew m project.now key.now reply.now (set_tags (tag_values tags.now))
@@ -119,7 +124,7 @@ fn commit_tags<S: Alter>(
 // ---- a removal
 
 /// The text of the reply to a removal.
-fn removal_text(was_there: bool) -> &'static str
+pub fn removal_text(was_there: bool) -> &'static str
     ensures { result.now ≡ accepted_text (parts_removed was_there) }
 {
     if was_there {
@@ -178,6 +183,8 @@ fn commit_removal<S: Alter>(
 ) -> Result<bool, Error>
     requires mode { conn.old.in_transaction ≡ false }
     ensures mode { conn.new.in_transaction ≡ false }
+    ensures clean { HasCleanDisk (state S.Store conn.new) → HasCleanDisk (state S.Store conn.old) }
+    ensures open { HasCleanDisk (state S.Store conn.new) → OnOk result (IsTrue (state S.Store conn.new).is_open) }
     ensures done { HasCleanDisk (state S.Store conn.new) → (m : State) → Rests (state S.Store conn.old) m → m.kept project.now key.now ≡ None
         → IfOk result (λ was_there. (was_there ≡ (is_some (m.dump project.now) || is_some (m.tags project.now))) × Rests (state S.Store conn.new) (changed m project.now key.now clear)) }
     ensures same { HasCleanDisk (state S.Store conn.new) → IsTrue (state S.Store conn.new).is_open → (m : State) → Rests (state S.Store conn.old) m → m.kept project.now key.now ≡ None
@@ -217,6 +224,9 @@ impl<S: Alter> Tables<S> {
         reply: &str,
         rows: &Rows<'_>,
     ) -> Result<(), TablesFault>
+        ensures clean { HasCleanDisk (state S.Store self.new) → HasCleanDisk (state S.Store self.old) }
+        ensures fault { IfErr result IsStoreFault }
+        ensures open { HasCleanDisk (state S.Store self.new) → OnOk result (IsTrue (state S.Store self.new).is_open) }
         ensures done { HasCleanDisk (state S.Store self.new) → (m : State) (dump : DumpValue) → Rests (state S.Store self.old) m → IsDump dump (dump_rows rows.now.profile (rows_value rows.now)) → IsNew m project.now key.now reply.now (set_dump dump)
             → OnOk result (Rests (state S.Store self.new) (changed m project.now key.now (set_dump dump))) }
         ensures same { HasCleanDisk (state S.Store self.new) → IsTrue (state S.Store self.new).is_open → (m : State) (dump : DumpValue) → Rests (state S.Store self.old) m → IsDump dump (dump_rows rows.now.profile (rows_value rows.now)) → IsNew m project.now key.now reply.now (set_dump dump)
@@ -243,6 +253,9 @@ impl<S: Alter> Tables<S> {
         reply: &str,
         tags: &[Tag],
     ) -> Result<(), TablesFault>
+        ensures clean { HasCleanDisk (state S.Store self.new) → HasCleanDisk (state S.Store self.old) }
+        ensures fault { IfErr result IsStoreFault }
+        ensures open { HasCleanDisk (state S.Store self.new) → OnOk result (IsTrue (state S.Store self.new).is_open) }
         ensures done { HasCleanDisk (state S.Store self.new) → (m : State) → Rests (state S.Store self.old) m → IsNew m project.now key.now reply.now (set_tags (tag_values tags.now))
             → OnOk result (Rests (state S.Store self.new) (changed m project.now key.now (set_tags (tag_values tags.now)))) }
         ensures same { HasCleanDisk (state S.Store self.new) → IsTrue (state S.Store self.new).is_open → (m : State) → Rests (state S.Store self.old) m → IsNew m project.now key.now reply.now (set_tags (tag_values tags.now))
@@ -262,6 +275,9 @@ impl<S: Alter> Tables<S> {
     /// With each fault the tables are as they were: `Memory` where memory was refused, also to a database in memory (`in_memory`), and `Refused` where
     /// the store refused for another cause.
     pub fn remove(&mut self, project: &str, key: &str) -> Result<bool, TablesFault>
+        ensures clean { HasCleanDisk (state S.Store self.new) → HasCleanDisk (state S.Store self.old) }
+        ensures fault { IfErr result IsStoreFault }
+        ensures open { HasCleanDisk (state S.Store self.new) → OnOk result (IsTrue (state S.Store self.new).is_open) }
         ensures done { HasCleanDisk (state S.Store self.new) → (m : State) → Rests (state S.Store self.old) m → m.kept project.now key.now ≡ None
             → IfOk result (λ was_there. (was_there ≡ (is_some (m.dump project.now) || is_some (m.tags project.now))) × Rests (state S.Store self.new) (changed m project.now key.now clear)) }
         ensures same { HasCleanDisk (state S.Store self.new) → IsTrue (state S.Store self.new).is_open → (m : State) → Rests (state S.Store self.old) m → m.kept project.now key.now ≡ None

@@ -1,9 +1,11 @@
 //! Why the tables refuse.
 ghost use Rattle.std.specs.Prelude.{◌≡◌};
-ghost use Rattle.tables.specs.Fault.{name_of, text_of, fault_of};
+ghost use Rattle.tables.specs.Fault.{IsStoreFault, name_of, text_of, fault_of};
 ghost use Rattle.tables.specs.Steps.Refusals.{told_fault};
+ghost use Rattle.tables.specs.declared.fault.Refusal.TheVariants.{Memory, Store};
 
 use sqlite::{Error, ErrorCode};
+use std::alloc::{AllocError, AllocFailed};
 
 /// Why a call of the tables is refused.
 #[derive(Clone, Copy, Debug, PartialEq, Eq)]
@@ -46,7 +48,8 @@ impl TablesFault {
 
 /// The fault that an error of the store is, of a database in memory or of another. What a store in memory can't do is for want of memory.
 pub(crate) fn fault_of(is_in_memory: bool, error: Error) -> TablesFault
-    ensures { result ≡ fault_of is_in_memory error }
+    ensures is { result ≡ fault_of is_in_memory error }
+    ensures kind { IsStoreFault result }
 {
     match error {
         Error::SqliteFailure(ErrorCode::OutOfMemory) => TablesFault::Memory,
@@ -66,10 +69,35 @@ pub(crate) enum Refusal {
     Memory,
 }
 
+impl From<Error> for Refusal {
+    ghost from_gives = { λ error refusal. refusal ≡ Store error };
+
+    fn from(error: Error) -> Refusal {
+        Refusal::Store(error)
+    }
+}
+
+impl From<AllocError> for Refusal {
+    ghost from_gives = { λ _ refusal. refusal ≡ Memory };
+
+    fn from(_: AllocError) -> Refusal {
+        Refusal::Memory
+    }
+}
+
+impl<T: Drop> From<AllocFailed<T>> for Refusal {
+    ghost from_gives = { λ _ refusal. refusal ≡ Memory };
+
+    fn from(_: AllocFailed<T>) -> Refusal {
+        Refusal::Memory
+    }
+}
+
 impl Refusal {
     /// The fault that it is, of a database in memory or of another.
     pub(crate) fn fault(self, is_in_memory: bool) -> TablesFault
-        ensures { result ≡ told_fault is_in_memory self }
+        ensures is { result ≡ told_fault is_in_memory self }
+        ensures kind { IsStoreFault result }
     {
         match self {
             Refusal::Store(error) => fault_of(is_in_memory, error),

@@ -1,5 +1,6 @@
 //! The items of results, as they are selected.
-ghost use Rattle.std.specs.Prelude.{◌≡◌, ◌∷◌, [], List, ℕ, Contains, map, string_bytes, pos, false, IsTrue, IfOk};
+ghost use Rattle.std.specs.Prelude.{◌≡◌, ◌∷◌, [], List, ℕ, Contains, map, pos, false, IsTrue, IfOk, IfErr};
+ghost use Rattle.std.specs.Rc.{rc_str_bytes};
 ghost use Rattle.sqlite_value.specs.declared.value.Value.TheVariants.{Text};
 ghost use Rattle.sqlite_rules.specs.Lists.{Has};
 ghost use Rattle.sqlite.specs.State.{HasCleanDisk, Survives};
@@ -10,6 +11,7 @@ ghost use Rattle.tables.specs.Schema.{schema_two};
 ghost use Rattle.tables.specs.Columns.{position};
 ghost use Rattle.tables.specs.Contents.{slot_row};
 ghost use Rattle.tables.specs.State.{State};
+ghost use Rattle.tables.specs.Fault.{IsStoreFault};
 ghost use Rattle.tables.specs.Stands.{IsAsBefore, StandsFor, Rests};
 ghost use Rattle.tables.specs.Selections.{FindsItems, item_found};
 ghost use Rattle.tables.specs.Steps.Selected.{Looks};
@@ -24,29 +26,39 @@ use crate::tables::Tables;
 use dump::Role;
 use positions::Span;
 use sqlite::{Alter, Connection, Row, params};
-use std::alloc::Global;
+use std::alloc::{AllocError, Global};
 use std::cmp::Ordering;
+use std::rc::RcStr;
 
 /// A place of a result: that of a range that is an item of it, or of a result that it leads to.
 #[derive(Debug, PartialEq, Eq, Drop)]
 pub struct FoundItem {
-    /// The serialized URL of the document.
-    pub uri: String,
+    /// The serialized URL of the document, shared among items of one answer.
+    pub uri: RcStr,
     /// The start of the range and its end, which is exclusive.
     pub span: Span,
 }
 
 impl Listed for FoundItem {
-    ghost columns = { λ item. Text (string_bytes item.uri) ∷ position item.span.start ∷ position item.span.«end» ∷ [] };
+    ghost columns = { λ item. Text (rc_str_bytes item.uri) ∷ position item.span.start ∷ position item.span.«end» ∷ [] };
 
     ghost is_sound = { λ item. IsPosition item.span.start × IsPosition item.span.«end» };
 
     fn read(row: &Row) -> Result<FoundItem, Refusal> {
         let span = span_of(column(row, 1)?, column(row, 2)?)?;
-        Ok(FoundItem {
-            uri: column(row, 0)?,
-            span,
-        })
+        let uri = RcStr::from_string(column(row, 0)?)?;
+        Ok(FoundItem { uri, span })
+    }
+
+    /// It shares its uri with the item before, where both have the same.
+    fn after(self, before: Option<&FoundItem>) -> Result<FoundItem, AllocError> {
+        match before {
+            Some(before) if before.uri == self.uri => Ok(FoundItem {
+                uri: before.uri.clone()?,
+                span: self.span,
+            }),
+            _ => Ok(self),
+        }
     }
 }
 
@@ -122,6 +134,8 @@ impl<S: Alter> Tables<S> {
     ) -> Result<Vec<FoundItem>, TablesFault>
         ensures found { HasCleanDisk (state S.Store self.new) → (m : State) → Rests (state S.Store self.old) m → IfOk result (λ found. FindsItems m project.now result_number role (map item_found found.items)) }
         ensures same { HasCleanDisk (state S.Store self.new) → IsTrue (state S.Store self.new).is_open → (m : State) → Rests (state S.Store self.old) m → IsAsBefore (state S.Store self.old) (state S.Store self.new) }
+        ensures clean { HasCleanDisk (state S.Store self.new) → HasCleanDisk (state S.Store self.old) }
+        ensures fault { IfErr result IsStoreFault }
         ensures survives { (m : State) → Rests (state S.Store self.old) m → Survives (state S.Store self.old) (state S.Store self.new) (λ _. ⊥) }
     {
         match find_items(alloc, &mut self.conn, project, result_number, role) {

@@ -30,6 +30,7 @@ mod tables;
 mod tags_part;
 
 pub use bearers::FoundBearer;
+pub use changes::removal_text;
 pub use covering::{Covering, FoundRange};
 pub use fault::TablesFault;
 pub use found_tags::FoundTag;
@@ -42,11 +43,3 @@ pub use tables::Tables;
 
 #[cfg(test)]
 mod tests;
-#[cfg(test)]
-mod tests_changes;
-#[cfg(test)]
-mod tests_covering;
-#[cfg(test)]
-mod tests_names;
-#[cfg(test)]
-mod tests_selections;

@@ -1,12 +1,13 @@
 //! Tags by their names, as they are selected.
-ghost use Rattle.std.specs.Prelude.{◌≡◌, List, Contains, map, option_map, false, IsTrue, IfOk, OnOk};
+ghost use Rattle.std.specs.Prelude.{◌≡◌, List, Contains, map, option_map, false, IsTrue, IfOk, OnOk, IfErr};
 ghost use Rattle.sqlite.specs.State.{HasCleanDisk, Survives};
 ghost use Rattle.sqlite.specs.Held.{state};
 ghost use Rattle.dump.specs.Places.{IsListing};
 ghost use Rattle.tables.specs.Schema.{schema_two};
 ghost use Rattle.tables.specs.State.{State};
+ghost use Rattle.tables.specs.Fault.{IsStoreFault};
 ghost use Rattle.tables.specs.Stands.{IsAsBefore, StandsFor, Rests};
-ghost use Rattle.tables.specs.Names.{FoundTag as FoundTagValue, BeginsWith, IsTag, line_cmp, name_cmp, tag_found};
+ghost use Rattle.tables.specs.Names.{BeginsWith, FindsNamed, FindsPrefixed, line_cmp, name_cmp, tag_found};
 ghost use Rattle.tables.specs.Steps.Selected.{AreRead, Looks};
 ghost use Rattle.tables.specs.Steps.TagRows.{TellNamed, tag_row_columns, with_prefix};
 ghost use Rattle.tables.specs.declared.found_tags.TagRow.{TagRow};
@@ -88,7 +89,7 @@ fn find_named<S: Alter>(
     asked: Option<&str>,
 ) -> Result<Vec<FoundTag>, Refusal>
     ensures found { HasCleanDisk (state S.Store conn.new) → (state S.Store conn.old).now.schema ≡ schema_two → (m : State) → StandsFor (state S.Store conn.old).now.trees m
-        → IfOk result (λ found. IsListing line_cmp (λ (f : FoundTagValue). IsTag m (option_map (λ p. p.now) asked.entry) f × (f.tag.name ≡ name.now)) (map tag_found found.items)) }
+        → IfOk result (λ found. FindsNamed m (option_map (λ p. p.now) asked.entry) name.now (map tag_found found.items)) }
     ensures looks { Looks (state S.Store conn.old) (state S.Store conn.new) }
     ensures mode { conn.old.in_transaction ≡ false → conn.new.in_transaction ≡ false }
 {
@@ -163,7 +164,7 @@ fn find_prefixed<S: Alter>(
     asked: Option<&str>,
 ) -> Result<Vec<FoundTag>, Refusal>
     ensures found { HasCleanDisk (state S.Store conn.new) → (state S.Store conn.old).now.schema ≡ schema_two → (m : State) → StandsFor (state S.Store conn.old).now.trees m
-        → IfOk result (λ found. IsListing name_cmp (λ (f : FoundTagValue). IsTag m (option_map (λ p. p.now) asked.entry) f × BeginsWith f.tag.name prefix.now) (map tag_found found.items)) }
+        → IfOk result (λ found. FindsPrefixed m (option_map (λ p. p.now) asked.entry) prefix.now (map tag_found found.items)) }
     ensures looks { Looks (state S.Store conn.old) (state S.Store conn.new) }
     ensures mode { conn.old.in_transaction ≡ false → conn.new.in_transaction ≡ false }
 {
@@ -184,8 +185,10 @@ impl<S: Alter> Tables<S> {
         project: Option<&str>,
     ) -> Result<Vec<FoundTag>, TablesFault>
         ensures found { HasCleanDisk (state S.Store self.new) → (m : State) → Rests (state S.Store self.old) m
-            → IfOk result (λ found. IsListing line_cmp (λ (f : FoundTagValue). IsTag m (option_map (λ p. p.now) project.entry) f × (f.tag.name ≡ name.now)) (map tag_found found.items)) }
+            → IfOk result (λ found. FindsNamed m (option_map (λ p. p.now) project.entry) name.now (map tag_found found.items)) }
         ensures same { HasCleanDisk (state S.Store self.new) → IsTrue (state S.Store self.new).is_open → (m : State) → Rests (state S.Store self.old) m → IsAsBefore (state S.Store self.old) (state S.Store self.new) }
+        ensures clean { HasCleanDisk (state S.Store self.new) → HasCleanDisk (state S.Store self.old) }
+        ensures fault { IfErr result IsStoreFault }
         ensures survives { (m : State) → Rests (state S.Store self.old) m → Survives (state S.Store self.old) (state S.Store self.new) (λ _. ⊥) }
     {
         match find_named(alloc, &mut self.conn, name, project) {
@@ -193,6 +196,7 @@ impl<S: Alter> Tables<S> {
             Err(refusal) => Err(refusal.fault(self.is_in_memory)),
         }
     }
+
     /// The tags whose names begin with the text: of the project, where one is given, and else of all. They are in order by name (its bytes), project
     /// and line. It's `Refused` where the store refuses, or where a row isn't one of this product's, and `Memory` where memory is refused, also to a
     /// database in memory (`in_memory`).
@@ -203,8 +207,10 @@ impl<S: Alter> Tables<S> {
         project: Option<&str>,
     ) -> Result<Vec<FoundTag>, TablesFault>
         ensures found { HasCleanDisk (state S.Store self.new) → (m : State) → Rests (state S.Store self.old) m
-            → IfOk result (λ found. IsListing name_cmp (λ (f : FoundTagValue). IsTag m (option_map (λ p. p.now) project.entry) f × BeginsWith f.tag.name prefix.now) (map tag_found found.items)) }
+            → IfOk result (λ found. FindsPrefixed m (option_map (λ p. p.now) project.entry) prefix.now (map tag_found found.items)) }
         ensures same { HasCleanDisk (state S.Store self.new) → IsTrue (state S.Store self.new).is_open → (m : State) → Rests (state S.Store self.old) m → IsAsBefore (state S.Store self.old) (state S.Store self.new) }
+        ensures clean { HasCleanDisk (state S.Store self.new) → HasCleanDisk (state S.Store self.old) }
+        ensures fault { IfErr result IsStoreFault }
         ensures survives { (m : State) → Rests (state S.Store self.old) m → Survives (state S.Store self.old) (state S.Store self.new) (λ _. ⊥) }
     {
         match find_prefixed(alloc, &mut self.conn, prefix, project) {

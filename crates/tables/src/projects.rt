@@ -1,5 +1,5 @@
 //! The projects with a part, as they are selected.
-ghost use Rattle.std.specs.Prelude.{◌≡◌, Contains, is_some, map, string_bytes, false, IsTrue, IfOk, OnOk};
+ghost use Rattle.std.specs.Prelude.{◌≡◌, Contains, is_some, map, string_bytes, false, IsTrue, IfOk, OnOk, IfErr};
 ghost use Rattle.sqlite.specs.State.{HasCleanDisk, Survives};
 ghost use Rattle.sqlite.specs.Held.{state};
 ghost use Rattle.dump.specs.Places.{IsListing};
@@ -7,6 +7,7 @@ ghost use Rattle.tables.specs.Schema.{schema_two};
 ghost use Rattle.tables.specs.Contents.{Contents, Replies, Keeps};
 ghost use Rattle.tables.specs.Parts.{part_number};
 ghost use Rattle.tables.specs.State.{State};
+ghost use Rattle.tables.specs.Fault.{IsStoreFault};
 ghost use Rattle.tables.specs.Stands.{IsAsBefore, StandsFor, Rests};
 ghost use Rattle.tables.specs.Selections.{FindsProjects, project_found, text_cmp};
 ghost use Rattle.tables.specs.Steps.Selected.{Looks};
@@ -40,7 +41,7 @@ fn has_part<S: Alter>(conn: &mut Connection<S>, project: &str, part: Part) -> Re
     Ok(slot.is_some())
 }
 
-/// The project of this name, and which parts it has.
+/// The project of this name, and which parts it has. It's `Row` where it has neither: the row of a slot that named it is of another part.
 fn project_of<S: Alter>(conn: &mut Connection<S>, name: String) -> Result<ProjectRow, Refusal>
     ensures name { IfOk result (λ project. string_bytes project.name ≡ string_bytes name) }
     ensures told { HasCleanDisk (state S.Store conn.new) → (state S.Store conn.old).now.schema ≡ schema_two → (m : State) → StandsFor (state S.Store conn.old).now.trees m → IfOk result (λ project. IsTold m (project_found project)) }
@@ -50,6 +51,9 @@ fn project_of<S: Alter>(conn: &mut Connection<S>, name: String) -> Result<Projec
 {
     let dump = has_part(conn, name.as_str(), Part::Dump)?;
     let tags = has_part(conn, name.as_str(), Part::Tags)?;
+    if !dump && !tags {
+        return Err(Refusal::Row);
+    }
     Ok(ProjectRow { name, dump, tags })
 }
 
@@ -101,6 +105,8 @@ impl<S: Alter> Tables<S> {
     pub fn projects(&mut self, alloc: Global) -> Result<Vec<ProjectRow>, TablesFault>
         ensures found { HasCleanDisk (state S.Store self.new) → (m : State) → Rests (state S.Store self.old) m → IfOk result (λ found. FindsProjects m (map project_found found.items)) }
         ensures same { HasCleanDisk (state S.Store self.new) → IsTrue (state S.Store self.new).is_open → (m : State) → Rests (state S.Store self.old) m → IsAsBefore (state S.Store self.old) (state S.Store self.new) }
+        ensures clean { HasCleanDisk (state S.Store self.new) → HasCleanDisk (state S.Store self.old) }
+        ensures fault { IfErr result IsStoreFault }
         ensures survives { (m : State) → Rests (state S.Store self.old) m → Survives (state S.Store self.old) (state S.Store self.new) (λ _. ⊥) }
     {
         match list_projects(alloc, &mut self.conn) {

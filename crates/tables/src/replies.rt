@@ -1,9 +1,10 @@
 //! The kept replies, as they are selected.
-ghost use Rattle.std.specs.Prelude.{◌≡◌, false, IsTrue, IfOk, option_map, string_bytes};
+ghost use Rattle.std.specs.Prelude.{◌≡◌, false, IsTrue, IfOk, option_map, string_bytes, IfErr};
 ghost use Rattle.sqlite.specs.State.{HasCleanDisk, Survives};
 ghost use Rattle.sqlite.specs.Held.{state};
 ghost use Rattle.tables.specs.Schema.{schema_two};
 ghost use Rattle.tables.specs.State.{State, accepted_text};
+ghost use Rattle.tables.specs.Fault.{IsStoreFault};
 ghost use Rattle.tables.specs.Stands.{IsAsBefore, StandsFor, Rests};
 ghost use Rattle.tables.specs.Steps.Selected.{Looks};
 
@@ -35,6 +36,8 @@ impl<S: Alter> Tables<S> {
     pub fn kept_reply(&mut self, project: &str, key: &str) -> Result<Option<String>, TablesFault>
         ensures found { HasCleanDisk (state S.Store self.new) → (m : State) → Rests (state S.Store self.old) m → IfOk result (λ reply. option_map string_bytes reply ≡ option_map accepted_text (m.kept project.now key.now)) }
         ensures same { HasCleanDisk (state S.Store self.new) → IsTrue (state S.Store self.new).is_open → (m : State) → Rests (state S.Store self.old) m → IsAsBefore (state S.Store self.old) (state S.Store self.new) }
+        ensures clean { HasCleanDisk (state S.Store self.new) → HasCleanDisk (state S.Store self.old) }
+        ensures fault { IfErr result IsStoreFault }
         ensures survives { (m : State) → Rests (state S.Store self.old) m → Survives (state S.Store self.old) (state S.Store self.new) (λ _. ⊥) }
     {
         match find_reply(&mut self.conn, project, key) {

@@ -14,7 +14,7 @@ ghost use Rattle.tables.specs.Steps.Selected.{Looks, AreColumns, AreRead, IsFirs
 use crate::fault::Refusal;
 use sqlite::types::ValueRef;
 use sqlite::{Alter, Connection, Row};
-use std::alloc::Global;
+use std::alloc::{AllocError, Global};
 
 /// A value that a row of an answer reads as.
 pub(crate) trait Listed: Sized + Drop {
@@ -28,6 +28,14 @@ pub(crate) trait Listed: Sized + Drop {
     fn read(row: &Row) -> Result<Self, Refusal>
         ensures columns { IfOk result (λ x. AreColumns 0 (columns x) row.now) }
         ensures sound { IfOk result is_sound };
+
+    /// The value as it's kept behind the one of the row before, with which it may share memory.
+    fn after(self, _before: Option<&Self>) -> Result<Self, AllocError>
+        ensures columns { IfOk result (λ kept. columns kept ≡ columns self) }
+        ensures sound { is_sound self → IfOk result is_sound }
+    {
+        Ok(self)
+    }
 }
 
 /// All rows of the answer to a query that writes nothing.
@@ -63,7 +71,7 @@ pub(crate) fn read_all<T: Listed>(alloc: Global, rows: &[Row]) -> Result<Vec<T>,
     Ok(found)
 }
 
-/// What the rows of the answer read as.
+/// What the rows of the answer to a query that writes nothing read as. Each is read as it comes, so that no row is held beside what it reads as.
 pub(crate) fn select_all<S: Alter, T: Listed>(
     alloc: Global,
     conn: &mut Connection<S>,
@@ -71,14 +79,23 @@ pub(crate) fn select_all<S: Alter, T: Listed>(
     params: &[ValueRef<'_>],
 ) -> Result<Vec<T>, Refusal>
     requires { IsPlain (understood schema_two sql.now) }
-    ensures read { HasCleanDisk (state S.Store conn.new) → IfOk result (λ found. (rows : List Columns) × Shown sql.now (bound params.now) (state S.Store conn.old) (state S.Store conn.new) rows × AreRead T.columns rows found.items) }
+    ensures read { HasCleanDisk (state S.Store conn.new) → (state S.Store conn.old).now.schema ≡ schema_two → IfOk result (λ found. (rows : List Columns)
+        × Shown sql.now (bound params.now) (state S.Store conn.old) (state S.Store conn.new) rows × AreRead T.columns rows found.items) }
     ensures sound { IfOk result (λ found. AllByRecursion T.is_sound found.items) }
     ensures kept { HasCleanDisk (state S.Store conn.new) → (state S.Store conn.old).now.schema ≡ schema_two → OnOk result (IsAsBefore (state S.Store conn.old) (state S.Store conn.new)) }
     ensures looks { Looks (state S.Store conn.old) (state S.Store conn.new) }
     ensures mode { conn.old.in_transaction ≡ false → conn.new.in_transaction ≡ false }
 {
-    let rows = rows_of(conn, sql, params)?;
-    read_all(alloc, &rows)
+    let mut found = Vec::new(alloc);
+    let mut rows = conn.query(sql, params)?;
+    'rows: for _ in 0..usize::MAX {
+        let Some(row) = rows.next()? else {
+            return Ok(found);
+        };
+        let item = T::read(row)?.after(found.last())?;
+        found.push(item)?;
+    }
+    Err(Refusal::Memory)
 }
 
 /// What the first row of the answer reads as, where there is one.

@@ -4,7 +4,8 @@ ghost use Rattle.sqlite.specs.State.{HasCleanDisk, Survives, KeepsCommit, IsUnch
 ghost use Rattle.sqlite.specs.Held.{state};
 ghost use Rattle.tables.specs.Schema.{empty_schema};
 ghost use Rattle.tables.specs.Databases.{IsMade, WasMade, IsFormatOne, IsFormatTwo};
-ghost use Rattle.tables.specs.Stands.{Rests, StandsFor};
+ghost use Rattle.tables.specs.Fault.{IsStoreFault};
+ghost use Rattle.tables.specs.Stands.{IsAsBefore, Rests, StandsFor};
 ghost use Rattle.tables.specs.State.{State, nothing};
 
 use crate::fault::{TablesFault, fault_of};
@@ -69,6 +70,7 @@ fn make<S: Alter>(conn: &mut Connection<S>) -> Result<(), Error>
     ensures same { HasCleanDisk (state S.Store conn.new) → IsTrue (state S.Store conn.new).is_open
         → OnErr result (((state S.Store conn.new).now ≡ (state S.Store conn.old).committed) × ((state S.Store conn.new).committed ≡ (state S.Store conn.old).committed)) }
     ensures clean { HasCleanDisk (state S.Store conn.new) → HasCleanDisk (state S.Store conn.old) }
+    ensures open { HasCleanDisk (state S.Store conn.new) → OnOk result (IsTrue (state S.Store conn.new).is_open) }
     ensures crash { (state S.Store conn.old).now.schema ≡ empty_schema → Survives (state S.Store conn.old) (state S.Store conn.new) WasMade }
 {
     let mut tx = conn.transaction();
@@ -86,6 +88,7 @@ impl<S: Alter> Tables<S> {
     pub fn open(mut conn: Connection<S>) -> Result<Tables<S>, (TablesFault, Connection<S>)>
         requires { conn.in_transaction ≡ false }
         ensures fresh { (state S.Store conn).now.schema ≡ empty_schema → IfOk result (λ c. HasCleanDisk (state S.Store c) → Rests (state S.Store c) nothing) }
+        ensures up { (state S.Store conn).now.schema ≡ empty_schema → IfOk result (λ c. HasCleanDisk (state S.Store c) → IsTrue (state S.Store c).is_open) }
         ensures stands { (m : State) → Rests (state S.Store conn) m → IfOk result (λ c. HasCleanDisk (state S.Store c) → Rests (state S.Store c) m) × IfErr result (λ e. HasCleanDisk (state S.Store e.1) → (e.0 ≢ TablesFault.Foreign) × (e.0 ≢ TablesFault.OldFormat)) }
         ensures known { IsFormatTwo (state S.Store conn).now → IfOk result (λ c. HasCleanDisk (state S.Store c) → IsUnchanged (state S.Store conn) (state S.Store c)) }
         ensures never { IsFormatOne (state S.Store conn).now → IfOk result (λ c. HasCleanDisk (state S.Store c) → ⊥) }
@@ -121,6 +124,23 @@ impl<S: Alter> Tables<S> {
         Tables {
             conn: self.conn,
             is_in_memory: true,
+        }
+    }
+
+    /// Whether the store still serves: nothing is read or written. It's `Refused` where a fault has shut it, and `Memory` where memory is refused, also
+    /// to a database in memory (`in_memory`).
+    pub fn check(&mut self) -> Result<(), TablesFault>
+        ensures open { HasCleanDisk (state S.Store self.new)
+            → OnOk result (IsTrue (state S.Store self.old).is_open × IsAsBefore (state S.Store self.old) (state S.Store self.new)) }
+        ensures same { HasCleanDisk (state S.Store self.new) → IsTrue (state S.Store self.new).is_open
+            → OnErr result (IsTrue (state S.Store self.old).is_open × ((m : State)
+            → Rests (state S.Store self.old) m → IsAsBefore (state S.Store self.old) (state S.Store self.new))) }
+        ensures survives { Survives (state S.Store self.old) (state S.Store self.new) (λ _. ⊥) }
+        ensures fault { IfErr result IsStoreFault }
+    {
+        match self.conn.prepare("SELECT version FROM format") {
+            Ok(_) => Ok(()),
+            Err(error) => Err(fault_of(self.is_in_memory, error)),
         }
     }
 

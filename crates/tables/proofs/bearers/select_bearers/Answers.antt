@@ -10,10 +10,10 @@ pub returns-clause-each : goal.returns-clause-each
 returns-clause-each g c clean has m s =
     let old = state g.S.Store c.args.conn.now in
     let new = state g.S.Store c.select_all.new.conn in
-    IfOk-weaker c.select_all.result _ _ (λ found h. told_each c.args.key.now m old new h.0 found.items s has (rw c.params-to_sql.ensures at h.1) h.2) (c.select_all.ensures.read clean)
+    IfOk-weaker c.select_all.result _ _ (λ found h. told_each c.args.key.now m old new h.0 found.items s has (rw c.params-to_sql.ensures at h.1) h.2) (c.select_all.ensures.read clean has)
 
 pub returns-clause-all : goal.returns-clause-all
 returns-clause-all g c clean has m s =
     let old = state g.S.Store c.args.conn.now in
     let new = state g.S.Store c.select_all.new.conn in
-    IfOk-weaker c.select_all.result _ _ (λ found h. told_all c.args.key.now m old new h.0 found.items s has (rw c.params-to_sql.ensures at h.1) h.2) (c.select_all.ensures.read clean)
+    IfOk-weaker c.select_all.result _ _ (λ found h. told_all c.args.key.now m old new h.0 found.items s has (rw c.params-to_sql.ensures at h.1) h.2) (c.select_all.ensures.read clean has)

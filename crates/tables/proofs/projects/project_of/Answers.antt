@@ -8,6 +8,9 @@ use Rattle.tables.proofs.projects.project_of.Goals as goal
 pub returns-in_err-tags-clause-looks : goal.returns-in_err-tags-clause-looks
 returns-in_err-tags-clause-looks g c = looks_then _ (state g.S.Store c.has_part.new.conn) _ c.has_part.ensures.looks c.in_ok-dump.ensures.kept c.has_part-2.ensures.looks
 
+pub returns-then-not-tags-clause-looks : goal.returns-then-not-tags-clause-looks
+returns-then-not-tags-clause-looks g c = looks_then _ (state g.S.Store c.has_part.new.conn) _ c.has_part.ensures.looks c.in_ok-dump.ensures.kept c.has_part-2.ensures.looks
+
 pub returns-clause-looks : goal.returns-clause-looks
 returns-clause-looks g c = looks_then _ (state g.S.Store c.has_part.new.conn) _ c.has_part.ensures.looks c.in_ok-dump.ensures.kept c.has_part-2.ensures.looks
 

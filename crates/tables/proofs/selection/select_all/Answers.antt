@@ -1,9 +1,122 @@
-use Rattle.std.proofs.Common.{List, subst}
-use Rattle.std.proofs.lemmas.Result.{IfOk-weaker}
-use Rattle.sqlite_value.specs.Order.{Row}
-use Rattle.tables.specs.Steps.Selected.{AreRead}
+use Rattle.std.proofs.Common.{◌≡◌, ◌∙◌, ◌++◌, [], ◌∷◌, ap, refl, subst, sym, rules, arith}
+use Rattle.std.specs.List.{AllByRecursion}
+use Rattle.sqlite.specs.Effect.{Database}
+use Rattle.sqlite.specs.Values.{bound}
+use Rattle.sqlite.specs.State.{HasCleanDisk, IsUnchanged, Shown}
+use Rattle.sqlite.specs.Held.{state}
+use Rattle.sqlite.specs.Given.{HasGiven}
+use Rattle.sqlite.proofs.Callers.{begun_plain, unchanged_then}
+use Rattle.tables.specs.Schema.{schema_two}
+use Rattle.tables.specs.Steps.Selected.{AreColumns, AreRead, Looks}
+use Rattle.tables.proofs.Reading.{are_read_push}
+use Rattle.tables.proofs.Selecting.{all_last}
+use Rattle.tables.proofs.Streaming.{plain_at, refused_looks, begun_looks, looks_on, shown_from}
 use Rattle.tables.proofs.selection.select_all.Goals as goal
 
-pub returns-clause-read : goal.returns-clause-read
-returns-clause-read g c clean =
-    IfOk-weaker c.read_all.result _ _ (λ found h. (c.in_ok-rows.rows.items, c.in_ok-rows.ensures.shown clean, subst (λ (rows : List Row). AreRead g.T.Listed.columns rows found.items) c.deref.ensures.value h)) c.read_all.ensures.read
+pub returns-in_err-rows-clause-looks : goal.returns-in_err-rows-clause-looks
+returns-in_err-rows-clause-looks g c =
+    let old = state g.S.Store c.args.conn.now in
+    let new = state g.S.Store c.query.follows.lender-at-none in
+    let held = rw (c.in_err-rows.was) at c.query.follows.holds-at-none in
+    refused_looks c.args.sql.now _ old new c.in_err-rows.field-0.0 c.requires held.err held.survives
+
+pub rows-init : goal.rows-init
+rows-init g c =
+    let old = state g.S.Store c.args.conn.now in
+    let new = state g.S.Store c.in_ok-rows.rows.conn.now in
+    let made = c.in_ok-rows.ensures in
+    let begun : HasCleanDisk new → old.now.schema ≡ schema_two → HasGiven g.S.Store c.args.sql.now (bound c.args.params.now) c.in_ok-rows.rows.conn.now [] × IsUnchanged old new = λ clean has.
+    begun_plain g.S.Store _ _ c.args.conn.now c.in_ok-rows.rows.conn.now (plain_at c.args.sql.now old has c.requires) (made.begun clean) in
+    record {
+      same_reference = refl;
+      looks = begun_looks c.args.sql.now _ old new c.requires made.survives (λ clean has. (begun clean has).1);
+      mode = made.mode;
+      given = [];
+      is_given = begun;
+      read = rw c.new-found.ensures.items tt;
+      sound = rw c.new-found.ensures.items tt;
+    }
+
+pub rows-preserved : goal.rows-preserved
+rows-preserved g c =
+    let was = c.rows.invariant in
+    let moved = c.next.follows.holds-at-none in
+    let now = c.next.follows.lender-at-none.conn.now in
+    let old = state g.S.Store c.args.conn.now in
+    let new = state g.S.Store now in
+    let row = c.in-Some.row.now in
+    let item = c.in_ok-item.item in
+    let columns = subst (λ vs. AreColumns 0 vs row) (sym c.in_ok-item.ensures.columns) c.in_ok-read.ensures.columns in
+    let sound = c.in_ok-item.ensures.sound c.in_ok-read.ensures.sound in
+    let pushed : c.push.new.self.items ≡ c.rows.found.items ++ item ∷ [] = search rules in
+    record {
+      same_reference = search rules;
+      looks = looks_on old (state g.S.Store c.rows.rows.conn.now) new c.next.result was.looks was.is_given moved.survives moved.same moved.kept;
+      mode = λ h. moved.mode (was.mode h);
+      given = was.given ++ row ∷ [];
+      is_given = λ clean has.
+          let before = was.is_given (omega (arith, moved.survives.clean)) has in
+          let given = (rw (c.in_ok-row.was, c.in-Some.is) at (moved.ok clean)) c.args.sql.now (bound c.args.params.now) was.given before.0 in
+          (given, unchanged_then _ _ _ before.1 ((rw (c.in_ok-row.was) at moved.same) clean));
+      read = subst (AreRead g.T.Listed.columns (was.given ++ row ∷ [])) (sym pushed) (are_read_push g.T.Listed.columns was.given c.rows.found.items row item was.read columns);
+      sound = subst (AllByRecursion g.T.Listed.is_sound) (sym pushed) (all_last g.T.Listed.is_sound c.rows.found.items item was.sound sound);
+    }
+
+pub returns-in_err-row-clause-looks : goal.returns-in_err-row-clause-looks
+returns-in_err-row-clause-looks g c =
+    let was = c.rows.invariant in
+    let moved = c.next.follows.holds-at-none in
+    let now = c.next.follows.lender-at-none.conn.now in
+    let old = state g.S.Store c.args.conn.now in
+    let last : now ≡ c.conn-in_err-row-1.given.0 = search rules in
+    subst (λ h. Looks old (state g.S.Store h)) last (looks_on old (state g.S.Store c.rows.rows.conn.now) (state g.S.Store now) c.next.result was.looks was.is_given moved.survives moved.same moved.kept)
+
+pub returns-in_default-clause-looks : goal.returns-in_default-clause-looks
+returns-in_default-clause-looks g c =
+    let was = c.rows.invariant in
+    let moved = c.next.follows.holds-at-none in
+    let now = c.next.follows.lender-at-none.conn.now in
+    let old = state g.S.Store c.args.conn.now in
+    let last : now ≡ c.conn-in_default-1.given.0 = search rules in
+    subst (λ h. Looks old (state g.S.Store h)) last (looks_on old (state g.S.Store c.rows.rows.conn.now) (state g.S.Store now) c.next.result was.looks was.is_given moved.survives moved.same moved.kept)
+
+pub returns-in_err-read-clause-looks : goal.returns-in_err-read-clause-looks
+returns-in_err-read-clause-looks g c =
+    let was = c.rows.invariant in
+    let moved = c.next.follows.holds-at-none in
+    let now = c.next.follows.lender-at-none.conn.now in
+    let old = state g.S.Store c.args.conn.now in
+    let last : now ≡ c.conn-in_err-read-1.given.0 = search rules in
+    subst (λ h. Looks old (state g.S.Store h)) last (looks_on old (state g.S.Store c.rows.rows.conn.now) (state g.S.Store now) c.next.result was.looks was.is_given moved.survives moved.same moved.kept)
+
+pub returns-in_err-item-clause-looks : goal.returns-in_err-item-clause-looks
+returns-in_err-item-clause-looks g c =
+    let was = c.rows.invariant in
+    let moved = c.next.follows.holds-at-none in
+    let now = c.next.follows.lender-at-none.conn.now in
+    let old = state g.S.Store c.args.conn.now in
+    let last : now ≡ c.conn-in_err-item-1.given.0 = search rules in
+    subst (λ h. Looks old (state g.S.Store h)) last (looks_on old (state g.S.Store c.rows.rows.conn.now) (state g.S.Store now) c.next.result was.looks was.is_given moved.survives moved.same moved.kept)
+
+pub returns-in_err-push-clause-looks : goal.returns-in_err-push-clause-looks
+returns-in_err-push-clause-looks g c =
+    let was = c.rows.invariant in
+    let moved = c.next.follows.holds-at-none in
+    let now = c.next.follows.lender-at-none.conn.now in
+    let old = state g.S.Store c.args.conn.now in
+    let last : now ≡ c.conn-in_err-push-1.given.0 = search rules in
+    subst (λ h. Looks old (state g.S.Store h)) last (looks_on old (state g.S.Store c.rows.rows.conn.now) (state g.S.Store now) c.next.result was.looks was.is_given moved.survives moved.same moved.kept)
+
+pub returns-in_default-clause-read : goal.returns-in_default-clause-read
+returns-in_default-clause-read g c clean has =
+    let moved = c.next.follows.holds-at-none in
+    let now = c.next.follows.lender-at-none.conn.now in
+    let old = state g.S.Store c.args.conn.now in
+    let mid = state g.S.Store c.rows.rows.conn.now in
+    let last : now ≡ c.conn-in_default-1.given.0 = search rules in
+    let late = subst (λ h. HasCleanDisk (state g.S.Store h)) (sym last) clean in
+    let was = c.rows.invariant.is_given (omega (arith, moved.survives.clean)) has in
+    let has_mid : mid.now.schema ≡ schema_two = ap (λ (d : Database). d.schema) was.1.0.now_is ∙ has in
+    let shown = (rw (c.in_ok-row.was, c.in_default.is) at (moved.ok late)) c.args.sql.now (bound c.args.params.now) c.rows.invariant.given was.0 in
+    let whole = shown_from c.args.sql.now (bound c.args.params.now) old mid (state g.S.Store now) c.rows.invariant.given (plain_at c.args.sql.now mid has_mid c.requires) was.1 shown in
+    (c.rows.invariant.given, subst (λ h. Shown c.args.sql.now (bound c.args.params.now) old (state g.S.Store h) c.rows.invariant.given) last whole, c.rows.invariant.read)

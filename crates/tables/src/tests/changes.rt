@@ -1,14 +1,14 @@
 //! Parts replaced and removed: what the tables hold then, also where the store stops, and on a real file.
-use crate::tests::{FORMAT_ONE, KEPT, PARTS};
-use crate::{Tables, TablesFault, migrate};
+use super::{connected, files_of, fuses, opened, tags_of};
+use crate::{Tables, TablesFault};
 use dump::{CheckedDump, Checker};
 use flatten::flatten;
 use lsif::{Element, Profile, ReadFault, read_element};
-use sqlite::{Alter, Connection, FileStore, Files, Options};
+use sqlite::{Alter, Connection, FileStore, Files, MemStore, Options};
 use sqlite_disk::{Crash, Fuse, Memory};
 use std::alloc::Global;
+use std::process::Abort;
 use std::test::Fail;
-use tags::{Tag, read_tags};
 
 /// A dump that has a row in each of its tables.
 const FULL: [&str; 20] = [
@@ -64,13 +64,6 @@ fn dump_of(alloc: Global, profile: Profile, lines: &[&str]) -> Result<CheckedDum
     }
 }
 
-fn tags_of(alloc: Global, text: &str) -> Result<Vec<Tag>, Fail> {
-    match read_tags(alloc, text.as_bytes()) {
-        Ok(tags) => Ok(tags),
-        Err(_) => Err("a fault")?,
-    }
-}
-
 /// A change of the index, each under a key of its own.
 #[derive(Clone, Copy)]
 enum Step {
@@ -82,6 +75,34 @@ enum Step {
     Remove(&'static str),
 }
 
+/// Puts the dump of these lines.
+fn put_dump<S: Alter>(
+    alloc: Global,
+    tables: &mut Tables<S>,
+    project: &str,
+    key: &str,
+    profile: Profile,
+    lines: &[&str],
+) -> Result<Result<(), TablesFault>, Fail> {
+    let dump = dump_of(alloc, profile, lines)?;
+    let reply = format!(in alloc; "{{\"accepted\":\"lsif\",\"count\":{}}}", lines.len())?;
+    let rows = flatten(alloc, &dump)?;
+    Ok(tables.replace_dump(project, key, &reply, &rows))
+}
+
+/// Puts the tags of this text.
+fn put_tags<S: Alter>(
+    alloc: Global,
+    tables: &mut Tables<S>,
+    project: &str,
+    key: &str,
+    text: &str,
+) -> Result<Result<(), TablesFault>, Fail> {
+    let tags = tags_of(alloc, text)?;
+    let reply = r#"{"accepted":"tags","count":2}"#;
+    Ok(tables.replace_tags(alloc, project, key, reply, &tags))
+}
+
 /// What the step answers: of a removal whether there was anything, and else true.
 fn take<S: Alter>(
     alloc: Global,
@@ -89,25 +110,13 @@ fn take<S: Alter>(
     step: Step,
     key: &str,
 ) -> Result<Result<bool, TablesFault>, Fail> {
-    let done = match step {
-        Step::Full(project) => {
-            let dump = dump_of(alloc, Profile::Two, &FULL)?;
-            let reply = r#"{"accepted":"lsif","count":20}"#;
-            tables.replace_dump(project, key, reply, &flatten(alloc, &dump)?)
-        }
-        Step::Small(project) => {
-            let dump = dump_of(alloc, Profile::One, &SMALL)?;
-            let reply = r#"{"accepted":"lsif","count":4}"#;
-            tables.replace_dump(project, key, reply, &flatten(alloc, &dump)?)
-        }
-        Step::Tags(project, text) => {
-            let tags = tags_of(alloc, text)?;
-            let reply = r#"{"accepted":"tags","count":2}"#;
-            tables.replace_tags(alloc, project, key, reply, &tags)
-        }
+    let put = match step {
+        Step::Full(project) => put_dump(alloc, tables, project, key, Profile::Two, &FULL),
+        Step::Small(project) => put_dump(alloc, tables, project, key, Profile::One, &SMALL),
+        Step::Tags(project, text) => put_tags(alloc, tables, project, key, text),
         Step::Remove(project) => return Ok(tables.remove(project, key)),
     };
-    Ok(done.map(|()| true))
+    Ok(put?.map(|()| true))
 }
 
 /// A step under a key, and how many rows the tables have before it.
@@ -118,7 +127,7 @@ struct Row {
     before: [usize; 11],
 }
 
-const ROWS: [Row; 7] = [
+const ROWS: &[Row] = &[
     Row {
         step: Step::Full("app"),
         key: "k1",
@@ -161,14 +170,14 @@ const AFTER: [usize; 11] = [2, 7, 1, 3, 3, 1, 2, 2, 0, 1, 3];
 
 /// How many rows they have when so many steps were taken.
 fn rows_after(steps: usize) -> [usize; 11] {
-    match ROWS.as_slice().get(steps) {
+    match ROWS.get(steps) {
         Some(row) => row.before,
         None => AFTER,
     }
 }
 
 /// The tables whose rows are counted.
-const COUNTED: [&str; 11] = [
+const COUNTED: &[&str] = &[
     "SELECT id FROM slot",
     "SELECT reply FROM keyed",
     "SELECT uri FROM document",
@@ -186,13 +195,13 @@ const COUNTED: [&str; 11] = [
 fn held<S: Alter>(alloc: Global, conn: &mut Connection<S>) -> Result<Vec<usize>, Fail> {
     let mut counts = Vec::new(alloc);
     for query in COUNTED {
-        counts.push(conn.query_all(query, &[])?.len())?;
+        counts.push(conn.query_all(*query, &[])?.len())?;
     }
     Ok(counts)
 }
 
 /// What single rows say after all steps.
-const SAID: [&str; 6] = [
+const SAID: &[&str] = &[
     "SELECT line FROM range_row WHERE line = 4 AND uri = 'file:///a.ts' AND first = 2 AND last = 5 AND parent = 3 AND def = 6 AND refs IS NULL AND hover IS NULL",
     "SELECT line FROM range_row WHERE line = 5 AND first = 15032385536 AND last = first AND parent IS NULL AND def IS NULL",
     "SELECT slot FROM part_profile WHERE profile = 2",
@@ -201,62 +210,91 @@ const SAID: [&str; 6] = [
     "SELECT reply FROM keyed WHERE project = 'app' AND cmdkey = 'k7' AND reply = '{\"removed\":false}'",
 ];
 
-fn opened<S: Alter + Drop>(conn: Connection<S>) -> Result<Tables<S>, Fail> {
-    if !conn.is_autocommit() {
-        return Err("in a transaction")?;
+/// How many rows the tables have, and the tables again.
+fn counted(
+    alloc: Global,
+    tables: Tables<MemStore>,
+) -> Result<(Vec<usize>, Tables<MemStore>), Fail> {
+    let mut conn = tables.into_connection();
+    let counts = held(alloc, &mut conn)?;
+    Ok((counts, opened(conn)?))
+}
+
+/// Takes the step of a row, where the tables have the rows that it says.
+fn stepped<R: AllocGlobal + Abort>(
+    rt: &R,
+    tables: Tables<MemStore>,
+    row: &Row,
+) -> Result<Tables<MemStore>, Fail> {
+    let (counts, mut tables) = counted(rt.alloc(), tables)?;
+    assert!(rt; counts.as_slice() == row.before.as_slice());
+    let answer = take(rt.alloc(), &mut tables, row.step, row.key)?;
+    assert!(rt; answer == Ok(row.key != "k7"));
+    Ok(tables)
+}
+
+/// The first query of single rows that doesn't find one.
+fn unsaid(conn: &mut Connection<MemStore>) -> Result<Option<&'static str>, Fail> {
+    for query in SAID {
+        if conn.query_all(*query, &[])?.len() != 1 {
+            return Ok(Some(*query));
+        }
     }
-    match Tables::open(conn) {
-        Ok(tables) => Ok(tables),
-        Err(_) => Err("not opened")?,
-    }
+    Ok(None)
 }
 
 #[test]
 fn replaced_and_removed(rt: HostRuntime) -> Result<(), Fail> {
     let mut tables = opened(Connection::open_in_memory(rt.alloc())?)?;
     for row in ROWS {
-        let mut conn = tables.into_connection();
-        let counts = held(rt.alloc(), &mut conn)?;
-        assert!(rt; counts.as_slice() == row.before.as_slice());
-        tables = opened(conn)?;
-        let answer = take(rt.alloc(), &mut tables, row.step, row.key)?;
-        assert!(rt; answer == Ok(row.key != "k7"));
+        tables = stepped(&rt, tables, row)?;
     }
     let mut conn = tables.into_connection();
     let counts = held(rt.alloc(), &mut conn)?;
     assert!(rt; counts.as_slice() == AFTER.as_slice());
-    for query in SAID {
-        assert!(rt; conn.query_all(query, &[])?.len() == 1);
-    }
+    assert_eq!(rt; unsaid(&mut conn)?, None);
     Ok(())
 }
 
-/// Takes the steps until one is refused, and answers how many were accepted, and the files.
-fn stopped(alloc: Global, log: u64, db: u64) -> Result<(usize, Files<Fuse<Memory>>), Fail> {
-    let files = Files {
-        log: Fuse::new(Memory::new(alloc), log),
-        db: Fuse::new(Memory::new(alloc), db),
-    };
-    let conn = match Connection::open_files(alloc, files, Options::new(1)) {
-        Ok(conn) => conn,
-        Err((_, left)) => return Ok((0, left.into_files())),
-    };
-    let mut tables = match Tables::open(conn) {
-        Ok(tables) => tables,
-        Err((_, conn)) => return Ok((0, files_of(conn))),
-    };
-    for (taken, row) in ROWS.iter().enumerate() {
-        if take(alloc, &mut tables, row.step, row.key)?.is_err() {
-            return Ok((taken, files_of(tables.into_connection())));
-        }
+/// Tables in files that stop after so many calls; where they can't be opened, what the tables answer, if they were asked, and the files.
+fn opened_files(
+    alloc: Global,
+    log: u64,
+    db: u64,
+) -> Result<Tables<FileStore<Fuse<Memory>>>, (Option<TablesFault>, Files<Fuse<Memory>>)> {
+    match connected(alloc, log, db) {
+        Ok(conn) => match Tables::open(conn) {
+            Ok(tables) => Ok(tables),
+            Err((fault, conn)) => Err((Some(fault), files_of(conn))),
+        },
+        Err(files) => Err((None, files)),
     }
-    Ok((ROWS.len(), files_of(tables.into_connection())))
 }
 
-fn files_of(conn: Connection<FileStore<Fuse<Memory>>>) -> Files<Fuse<Memory>> {
-    match conn.close_files() {
-        Ok(files) => files,
-        Err((_, store)) => store.close(),
+/// Takes the steps until one is refused: how many were accepted, and the fault of the next.
+fn take_steps<S: Alter>(
+    alloc: Global,
+    tables: &mut Tables<S>,
+) -> Result<(usize, Option<TablesFault>), Fail> {
+    for (taken, row) in ROWS.iter().enumerate() {
+        if let Err(fault) = take(alloc, tables, row.step, row.key)? {
+            return Ok((taken, Some(fault)));
+        }
+    }
+    Ok((ROWS.len(), None))
+}
+
+/// Until one is refused, the steps: how many were accepted, the fault of the next, and the files.
+type Stopped = (usize, Option<TablesFault>, Files<Fuse<Memory>>);
+
+/// Takes the steps in files that stop after so many calls.
+fn stopped(alloc: Global, log: u64, db: u64) -> Result<Stopped, Fail> {
+    match opened_files(alloc, log, db) {
+        Ok(mut tables) => {
+            let (taken, fault) = take_steps(alloc, &mut tables)?;
+            Ok((taken, fault, files_of(tables.into_connection())))
+        }
+        Err((fault, files)) => Ok((0, fault, files)),
     }
 }
 
@@ -274,15 +312,6 @@ fn recovered(alloc: Global, files: Files<Fuse<Memory>>) -> Result<Vec<usize>, Fa
     }
 }
 
-/// After how many calls each file stops, where the log or the other stops after so many.
-fn fuses(is_log: bool, calls: u64) -> (u64, u64) {
-    if is_log {
-        (calls, u64::MAX)
-    } else {
-        (u64::MAX, calls)
-    }
-}
-
 /// Whether these are the rows after so many steps, or after one more.
 fn is_left(counts: &[usize], steps: usize) -> bool {
     counts == rows_after(steps).as_slice()
@@ -290,16 +319,17 @@ fn is_left(counts: &[usize], steps: usize) -> bool {
 }
 
 /// Each call of one of the files stops the store in turn: what is left is the state before the step that was refused, or the one after
-/// it, and a step that was accepted isn't lost.
+/// it, and a step that was accepted isn't lost. What is refused answers that the store refused.
 #[test]
 fn stop_at_each_call(rt: HostRuntime) -> Result<(), Fail> {
     for is_log in [true, false] {
         let mut taken = 0;
         for calls in 0..10000u64 {
             let (log, db) = fuses(is_log, calls);
-            let (count, files) = stopped(rt.alloc(), log, db)?;
+            let (count, fault, files) = stopped(rt.alloc(), log, db)?;
             let left = recovered(rt.alloc(), files)?;
             assert!(rt; is_left(&left, count));
+            assert!(rt; fault.is_none() || fault == Some(TablesFault::Refused));
             taken = count;
             if taken == ROWS.len() {
                 break;
@@ -310,34 +340,43 @@ fn stop_at_each_call(rt: HostRuntime) -> Result<(), Fail> {
     Ok(())
 }
 
-/// The tables in files that each stop after so many calls, where they can be opened.
-fn until_stopped(alloc: Global, calls: u64) -> Option<Tables<FileStore<Fuse<Memory>>>> {
-    let files = Files {
-        log: Fuse::new(Memory::new(alloc), calls),
-        db: Fuse::new(Memory::new(alloc), calls),
-    };
-    match Connection::open_files(alloc, files, Options::new(1)) {
-        Ok(conn) => Tables::open(conn).ok(),
-        Err(_) => None,
+/// What the first call answers that is refused, of a put of tags and a selection.
+fn refused<S: Alter>(alloc: Global, tables: &mut Tables<S>) -> Result<Option<TablesFault>, Fail> {
+    match take(alloc, tables, Step::Tags("app", TAGS), "k1")? {
+        Ok(_) => Ok(tables.projects(alloc).err()),
+        Err(fault) => Ok(Some(fault)),
     }
 }
 
-/// What the first call answers that is refused, of a put of tags and a selection, for each number of calls after which the files stop.
+/// How far the calls come in files that each stop after a number of calls.
+#[derive(Clone, Copy, PartialEq, Eq)]
+enum Reached {
+    Unopened,
+    Refused(TablesFault),
+    Whole,
+}
+
+fn reached_in(alloc: Global, calls: u64, is_in_memory: bool) -> Result<Reached, Fail> {
+    let Ok(mut tables) = opened_files(alloc, calls, calls) else {
+        return Ok(Reached::Unopened);
+    };
+    if is_in_memory {
+        tables = tables.in_memory();
+    }
+    match refused(alloc, &mut tables)? {
+        Some(fault) => Ok(Reached::Refused(fault)),
+        None => Ok(Reached::Whole),
+    }
+}
+
+/// The faults that the calls answer, for each number of calls after which the files stop.
 fn told_faults(alloc: Global, is_in_memory: bool) -> Result<Vec<TablesFault>, Fail> {
     let mut told = Vec::new(alloc);
     for calls in 0..10000u64 {
-        let Some(mut tables) = until_stopped(alloc, calls) else {
-            continue;
-        };
-        if is_in_memory {
-            tables = tables.in_memory();
-        }
-        if let Err(fault) = take(alloc, &mut tables, Step::Tags("app", TAGS), "k1")? {
-            told.push(fault)?;
-        } else if let Err(fault) = tables.projects(alloc) {
-            told.push(fault)?;
-        } else {
-            break;
+        match reached_in(alloc, calls, is_in_memory)? {
+            Reached::Unopened => {}
+            Reached::Refused(fault) => told.push(fault)?,
+            Reached::Whole => break,
         }
     }
     Ok(told)
@@ -353,93 +392,38 @@ fn stopped_in_memory(rt: HostRuntime) -> Result<(), Fail> {
     Ok(())
 }
 
-/// How far the making of tables of format 1 and their migration went.
-#[derive(Clone, Copy, PartialEq, Eq)]
-enum Reached {
-    Nothing,
-    FormatOne,
-    FormatTwo,
+/// The name of a file that a test makes.
+const FILE: &str = "index.db";
+
+/// Puts a dump into a new file, and closes it.
+fn put_into_file(rt: &HostRuntime) -> Result<bool, Fail> {
+    let mut tables = opened(Connection::open(rt, FILE)?)?;
+    let is_put = take(rt.alloc(), &mut tables, Step::Full("app"), "k1")? == Ok(true);
+    Ok(tables.into_connection().close().is_ok() && is_put)
 }
 
-fn migration_stopped(
-    alloc: Global,
-    log: u64,
-    db: u64,
-) -> Result<(Reached, Files<Fuse<Memory>>), Fail> {
-    let files = Files {
-        log: Fuse::new(Memory::new(alloc), log),
-        db: Fuse::new(Memory::new(alloc), db),
-    };
-    let mut conn = match Connection::open_files(alloc, files, Options::new(1)) {
-        Ok(conn) => conn,
-        Err((_, left)) => return Ok((Reached::Nothing, left.into_files())),
-    };
-    let text = format!(in alloc; "BEGIN;{FORMAT_ONE};{PARTS};COMMIT")?;
-    if conn.execute_batch(&text).is_err() || !conn.is_autocommit() {
-        return Ok((Reached::Nothing, files_of(conn)));
-    }
-    match migrate(conn) {
-        Ok((tables, _)) => Ok((Reached::FormatTwo, files_of(tables.into_connection()))),
-        Err((_, conn)) => Ok((Reached::FormatOne, files_of(conn))),
-    }
+/// How many rows the file has.
+fn held_in_file(rt: &HostRuntime) -> Result<Vec<usize>, Fail> {
+    let mut conn = opened(Connection::open(rt, FILE)?)?.into_connection();
+    held(rt.alloc(), &mut conn)
 }
 
-/// Whether the tables that a crash left can be migrated, and then have the rows of the parts.
-fn migrated_afterwards(alloc: Global, files: Files<Fuse<Memory>>) -> Result<bool, Fail> {
-    let Files { mut log, mut db } = files;
-    log.crash();
-    db.crash();
-    let conn = match Connection::open_files(alloc, Files { log, db }, Options::new(1)) {
-        Ok(conn) => conn,
-        Err(_) => return Err("not recovered")?,
-    };
-    let mut conn = match migrate(conn) {
-        Ok((tables, _)) => tables.into_connection(),
-        Err(_) => return Ok(false),
-    };
-    for (query, rows) in KEPT {
-        if conn.query_all(query, &[])?.len() != rows {
-            return Ok(false);
-        }
+/// Puts tags into the file: how many rows it has then.
+fn held_with_tags(rt: &HostRuntime) -> Result<Vec<usize>, Fail> {
+    let mut tables = opened(Connection::open(rt, FILE)?)?;
+    let is_put = take(rt.alloc(), &mut tables, Step::Tags("app", TAGS), "k2")? == Ok(true);
+    if !is_put {
+        return Err("not put")?;
     }
-    Ok(true)
+    held(rt.alloc(), &mut tables.into_connection())
 }
 
-/// Each call of one of the files stops the store in turn: a migration leaves tables of format 1, or those of format 2, whole.
-#[test]
-fn migration_stopped_at_each_call(rt: HostRuntime) -> Result<(), Fail> {
-    for is_log in [true, false] {
-        let mut reached = Reached::Nothing;
-        for calls in 0..10000u64 {
-            let (log, db) = fuses(is_log, calls);
-            let (far, files) = migration_stopped(rt.alloc(), log, db)?;
-            let is_whole = migrated_afterwards(rt.alloc(), files)?;
-            assert!(rt; is_whole || far == Reached::Nothing);
-            reached = far;
-            if reached == Reached::FormatTwo {
-                break;
-            }
-        }
-        assert!(rt; reached == Reached::FormatTwo);
-    }
-    Ok(())
-}
-
-/// A file that is opened twice has what was put at first.
+/// A file that is opened again has what was put before.
 #[test]
 fn same_file_twice(rt: HostRuntime) -> Result<(), Fail> {
-    let mut tables = opened(Connection::open(&rt, "index.db")?)?;
-    assert!(rt; take(rt.alloc(), &mut tables, Step::Full("app"), "k1")? == Ok(true));
-    match tables.into_connection().close() {
-        Ok(()) => {}
-        Err(_) => assert!(rt; false, "not closed"),
-    }
-    let mut conn = opened(Connection::open(&rt, "index.db")?)?.into_connection();
-    let counts = held(rt.alloc(), &mut conn)?;
-    assert!(rt; counts.as_slice() == rows_after(1).as_slice());
-    let mut tables = opened(conn)?;
-    assert!(rt; take(rt.alloc(), &mut tables, Step::Tags("app", TAGS), "k2")? == Ok(true));
-    let counts = held(rt.alloc(), &mut tables.into_connection())?;
-    assert!(rt; counts.as_slice() == rows_after(2).as_slice());
+    assert!(rt; put_into_file(&rt)?);
+    assert!(rt; held_in_file(&rt)?.as_slice() == rows_after(1).as_slice());
+    assert!(rt; held_with_tags(&rt)?.as_slice() == rows_after(2).as_slice());
+    assert!(rt; held_in_file(&rt)?.as_slice() == rows_after(2).as_slice());
     Ok(())
 }

@@ -1,5 +1,6 @@
 //! Which ranges cover a position, as rows of ranges say it, and which rows are refused.
-use crate::tests_selections::filled;
+use super::opened;
+use super::selections::filled;
 use crate::{Covering, FoundRange, Tables, TablesFault};
 use flatten::{DocRow, RangeRow, Rows};
 use lsif::Profile;
@@ -29,7 +30,7 @@ struct Row {
     found: &'static str,
 }
 
-const ROWS: [Row; 24] = [
+const ROWS: &[Row] = &[
     Row {
         change: "",
         project: "n",
@@ -224,32 +225,33 @@ fn text_of(alloc: Global, found: Result<Covering, TablesFault>) -> Result<String
     Ok(String::from_str(alloc, text)?)
 }
 
+/// What is found at the position of a row, as it's printed.
+fn found_at(alloc: Global, row: &Row) -> Result<String, Fail> {
+    let mut tables = filled(alloc, PARTS, row.change)?;
+    let at = position(row.at.0, row.at.1)?;
+    let found = tables.covering(alloc, row.project, row.uri, at);
+    text_of(alloc, found)
+}
+
 #[test]
 fn climb(rt: HostRuntime) -> Result<(), Fail> {
     for row in ROWS {
-        let Ok(Some(mut tables)) = filled(rt.alloc(), PARTS, row.change) else {
-            return Err("not opened")?;
-        };
-        let at = position(row.at.0, row.at.1)?;
-        let found = tables.covering(rt.alloc(), row.project, row.uri, at);
-        let text = text_of(rt.alloc(), found)?;
-        assert!(rt; text.as_str() == row.found, "{text}");
+        let found = found_at(rt.alloc(), row)?;
+        assert_eq!(rt; (row.change, found.as_str()), (row.change, row.found));
     }
     Ok(())
 }
 
 #[test]
 fn whole_ranges(rt: HostRuntime) -> Result<(), Fail> {
-    let Ok(Some(mut tables)) = filled(rt.alloc(), PARTS, "") else {
-        return Err("not opened")?;
-    };
+    let mut tables = filled(rt.alloc(), PARTS, "")?;
     let Covering::Ranges(found) = tables.covering(rt.alloc(), "n", "n.ts", position(0, 6)?)? else {
         return Err("no ranges")?;
     };
     let text = format!(in rt.alloc(); "{found:?}")?;
     let expected =
         "[FoundRange { line: 4, span: Span { start: Position { line: 0, character: 5 }, end: Position { line: 0, character: 8 } }, def: None, refs: Some(7), hover: None, decl: None, imp: Some(10) }, FoundRange { line: 3, span: Span { start: Position { line: 0, character: 0 }, end: Position { line: 0, character: 20 } }, def: Some(5), refs: None, hover: Some(6), decl: Some(9), imp: None }]";
-    assert!(rt; text.as_str() == expected, "{text}");
+    assert_eq!(rt; text.as_str(), expected);
     Ok(())
 }
 
@@ -301,10 +303,7 @@ fn rows_of<'a>(alloc: Global, spans: &'a [Span]) -> Result<Rows<'a>, Fail> {
 fn deep(alloc: Global) -> Result<Tables<MemStore>, Fail> {
     let spans = levels(alloc)?;
     let rows = rows_of(alloc, &spans)?;
-    let conn = Connection::open_in_memory(alloc)?;
-    let Ok(mut tables) = Tables::open(conn) else {
-        return Err("not opened")?;
-    };
+    let mut tables = opened(Connection::open_in_memory(alloc)?)?;
     let reply = r#"{"accepted":"lsif","count":10003}"#;
     tables.replace_dump("deep", "k", reply, &rows)?;
     Ok(tables)

@@ -1,9 +1,12 @@
 //! What selections find in a database that statements filled, and which rows they refuse.
+use super::opened;
 use crate::{Tables, TablesFault};
 use dump::Role;
-use sqlite::{Connection, Error, MemStore};
+use sqlite::{Connection, MemStore};
 use std::alloc::Global;
 use std::fmt::Debug;
+use std::rc::RcStr;
+use std::test::Fail;
 
 /// `app` has a dump of profile 2, `lib` a dump of profile 1 and tags, and `tagged` tags alone. A reply is kept for `old`.
 const PARTS: &str =
@@ -36,7 +39,7 @@ struct Row {
     found: Option<&'static str>,
 }
 
-const ROWS: [Row; 26] = [
+const ROWS: &[Row] = &[
     Row {
         change: "",
         ask: Ask::Reply("old", "d1"),
@@ -83,6 +86,11 @@ const ROWS: [Row; 26] = [
         change: "DELETE FROM slot",
         ask: Ask::Projects,
         found: Some("[]"),
+    },
+    Row {
+        change: "UPDATE slot SET part = 7 WHERE project = 'app'",
+        ask: Ask::Projects,
+        found: None,
     },
     Row {
         change: "",
@@ -173,6 +181,11 @@ const ROWS: [Row; 26] = [
         found: None,
     },
     Row {
+        change: "DROP TABLE bearer;CREATE TABLE bearer (slot INTEGER, line INTEGER, keytext TEXT, kind INTEGER, def INTEGER, refs INTEGER, hover INTEGER) STRICT;INSERT INTO bearer (slot, line, keytext, kind) VALUES (9, 11, 'f', 1)",
+        ask: Ask::Bearers("f"),
+        found: None,
+    },
+    Row {
         change: "DELETE FROM slot WHERE project = 'app'",
         ask: Ask::Bearers("g"),
         found: Some("[]"),
@@ -202,39 +215,41 @@ fn answer(alloc: Global, tables: &mut Tables<MemStore>, ask: Ask) -> Result<Stri
 }
 
 /// Tables that the statements fill and change.
-pub(crate) fn filled(
-    alloc: Global,
-    parts: &str,
-    change: &str,
-) -> Result<Option<Tables<MemStore>>, Error> {
-    let conn = Connection::open_in_memory(alloc)?;
-    let mut conn = match Tables::open(conn) {
-        Ok(tables) => tables.into_connection(),
-        Err(_) => return Ok(None),
-    };
+pub(super) fn filled(alloc: Global, parts: &str, change: &str) -> Result<Tables<MemStore>, Fail> {
+    let mut conn = opened(Connection::open_in_memory(alloc)?)?.into_connection();
     conn.execute_batch(parts)?;
     conn.execute_batch(change)?;
-    if !conn.is_autocommit() {
-        return Ok(None);
-    }
-    match Tables::open(conn) {
-        Ok(tables) => Ok(Some(tables)),
-        Err(_) => Ok(None),
-    }
+    opened(conn)
+}
+
+/// What is found in the tables of a row.
+fn found(alloc: Global, row: &Row) -> Result<Result<String, TablesFault>, Fail> {
+    let mut tables = filled(alloc, PARTS, row.change)?;
+    Ok(answer(alloc, &mut tables, row.ask))
 }
 
 #[test]
-fn selects(rt: HostRuntime) {
+fn selects(rt: HostRuntime) -> Result<(), Fail> {
     for row in ROWS {
-        match filled(rt.alloc(), PARTS, row.change) {
-            Ok(Some(mut tables)) => match (answer(rt.alloc(), &mut tables, row.ask), row.found) {
-                (Ok(text), Some(found)) => assert!(rt; text.as_str() == found, "{text}"),
-                (Err(fault), None) => assert!(rt; fault == TablesFault::Refused),
-                (Ok(text), None) => assert!(rt; false, "not refused: {text}"),
-                (Err(_), Some(found)) => assert!(rt; false, "refused: {found}"),
-            },
-            Ok(None) => assert!(rt; false, "not opened"),
-            Err(error) => assert!(rt; false, "{}: {error}", row.change),
-        }
+        let found = found(rt.alloc(), row)?;
+        let text = match &found {
+            Ok(text) => Ok(text.as_str()),
+            Err(fault) => Err(*fault),
+        };
+        let wanted = row.found.ok_or(TablesFault::Refused);
+        assert_eq!(rt; (row.change, text), (row.change, wanted));
     }
+    Ok(())
+}
+
+/// The items of an answer share the text of their uri.
+#[test]
+fn shared_uri(rt: HostRuntime) -> Result<(), Fail> {
+    let mut tables = filled(rt.alloc(), PARTS, "")?;
+    let found = tables.items(rt.alloc(), "app", 9, Role::Definitions)?;
+    let (Some(first), Some(last)) = (found.first(), found.last()) else {
+        return Err("no items")?;
+    };
+    assert!(rt; found.len() == 2 && RcStr::ptr_eq(&first.uri, &last.uri));
+    Ok(())
 }

@@ -1,0 +1,140 @@
+//! Which fault the opening and the migration of a database answer, and that tables of other names don't count.
+use super::{FORMAT_ONE, opened};
+use crate::{MemoryDisk, Tables, TablesFault, migrate};
+use sqlite::{Connection, FileStore, Files, Options};
+use std::alloc::Global;
+use std::test::Fail;
+
+/// A text that makes a database, and the fault that its opening answers.
+#[derive(Drop)]
+struct Row {
+    text: &'static str,
+    fault: Option<TablesFault>,
+}
+
+const ROWS: &[Row] = &[
+    Row {
+        text: "",
+        fault: None,
+    },
+    Row {
+        text: "CREATE TABLE other (x INTEGER) STRICT;CREATE VIEW seen AS SELECT x FROM other;CREATE INDEX by_x ON other (x)",
+        fault: None,
+    },
+    Row {
+        text: "CREATE TABLE format (name TEXT) STRICT",
+        fault: Some(TablesFault::Foreign),
+    },
+    Row {
+        text: "CREATE TABLE format (version TEXT) STRICT",
+        fault: Some(TablesFault::Foreign),
+    },
+    Row {
+        text: "CREATE TABLE format (version INTEGER PRIMARY KEY) STRICT",
+        fault: Some(TablesFault::Foreign),
+    },
+    Row {
+        text: "CREATE TABLE Format (version INTEGER PRIMARY KEY) STRICT;INSERT INTO format (version) VALUES (3)",
+        fault: Some(TablesFault::Foreign),
+    },
+    Row {
+        text: "CREATE TABLE format (version INTEGER PRIMARY KEY) STRICT;INSERT INTO format (version) VALUES (1), (2)",
+        fault: Some(TablesFault::Foreign),
+    },
+    Row {
+        text: "CREATE TABLE format (version TEXT) STRICT;INSERT INTO format (version) VALUES ('2')",
+        fault: Some(TablesFault::Foreign),
+    },
+    Row {
+        text: "CREATE TABLE TAG (x INTEGER) STRICT",
+        fault: Some(TablesFault::Foreign),
+    },
+    Row {
+        text: "CREATE TABLE other (x INTEGER) STRICT;CREATE INDEX slot ON other (x)",
+        fault: Some(TablesFault::Foreign),
+    },
+    Row {
+        text: "CREATE TABLE other (x INTEGER) STRICT;CREATE VIEW more AS SELECT x FROM other",
+        fault: Some(TablesFault::Foreign),
+    },
+    Row {
+        text: "CREATE VIEW format AS SELECT 1 AS version",
+        fault: Some(TablesFault::Foreign),
+    },
+    Row {
+        text: FORMAT_ONE,
+        fault: Some(TablesFault::OldFormat),
+    },
+];
+
+/// What the opening, or the migration, of the database that this text makes answers.
+fn answered(alloc: Global, text: &str, migrates: bool) -> Result<Option<TablesFault>, Fail> {
+    let mut conn = Connection::open_in_memory(alloc)?;
+    conn.execute_batch(text)?;
+    if !conn.is_autocommit() {
+        return Err("in a transaction")?;
+    }
+    if migrates {
+        return match migrate(conn) {
+            Ok(_) => Ok(None),
+            Err((fault, _)) => Ok(Some(fault)),
+        };
+    }
+    match Tables::open(conn) {
+        Ok(_) => Ok(None),
+        Err((fault, _)) => Ok(Some(fault)),
+    }
+}
+
+/// What the migration of the database of a row answers: it refuses what isn't of format 1.
+fn migration_fault(row: &Row) -> Option<TablesFault> {
+    match row.fault {
+        Some(TablesFault::OldFormat) => None,
+        _ => Some(TablesFault::Foreign),
+    }
+}
+
+#[test]
+fn opens_and_migrates(rt: HostRuntime) -> Result<(), Fail> {
+    for row in ROWS {
+        let opened = answered(rt.alloc(), row.text, false)?;
+        let migrated = answered(rt.alloc(), row.text, true)?;
+        let wanted = (row.text, row.fault, migration_fault(row));
+        assert_eq!(rt; (row.text, opened, migrated), wanted);
+    }
+    for (fault, name, text) in [
+        (TablesFault::Refused, "S01", "store refused"),
+        (TablesFault::Memory, "S02", "out of memory"),
+        (TablesFault::Foreign, "S03", "not a codenav database"),
+        (TablesFault::OldFormat, "S04", "database is of format 1"),
+    ] {
+        assert_eq!(rt; (fault.name(), fault.text()), (name, text));
+    }
+    Ok(())
+}
+
+/// An empty database in files in memory.
+fn in_memory_files(alloc: Global) -> Result<Connection<FileStore<MemoryDisk>>, Fail> {
+    let files = Files {
+        log: MemoryDisk::new(alloc),
+        db: MemoryDisk::new(alloc),
+    };
+    match Connection::open_files(alloc, files, Options::new(1)) {
+        Ok(conn) => Ok(conn),
+        Err((error, _)) => Err(error)?,
+    }
+}
+
+/// How many objects the schema has of tables over files in memory.
+fn objects_in_memory(alloc: Global) -> Result<usize, Fail> {
+    let mut conn = opened(in_memory_files(alloc)?)?.into_connection();
+    let objects = conn.query_all("SELECT name FROM sqlite_schema", &[])?;
+    Ok(objects.len())
+}
+
+/// There are 12 tables, 11 keys and 3 indexes.
+#[test]
+fn in_memory(rt: HostRuntime) -> Result<(), Fail> {
+    assert_eq!(rt; objects_in_memory(rt.alloc())?, 26);
+    Ok(())
+}
