@@ -1,5 +1,5 @@
 -- The ranges that cover a position have a list, and a request at the position is asked of one of them or of none.
-use Rattle.std.proofs.Common.{◌≡◌, ◌⊎◌, ⊎_elim, ℕ, true, List, [], ◌∷◌, map, subst, arith}
+use Rattle.std.proofs.Common.{◌≡◌, ⊎_elim, ℕ, true, List, [], ◌∷◌, map, subst, arith}
 use Rattle.std.specs.Prelude.{Contains, Option, Some, None, Ok}
 use Rattle.std.specs.Cmp.{IsTotalOrder, on_total}
 use Rattle.std.specs.List.{AllPairs}

@@ -1,5 +1,5 @@
 -- From each state whose dumps and tags were judged a query has a reply.
-use Rattle.std.proofs.Common.{◌≡◌, ◌⊎◌, ⊎_elim, List, [], ◌∷◌, map, refl}
+use Rattle.std.proofs.Common.{◌≡◌, ⊎_elim, List, [], ◌∷◌, map, refl}
 use Rattle.std.specs.Prelude.{Option, Some, None, Ok}
 use Rattle.dump.specs.declared.request.Request.{Request}
 use Rattle.dump.specs.declared.request.Request.TheVariants as requests
@@ -11,7 +11,7 @@ use Rattle.dump.specs.Progress.{DumpValue}
 use Rattle.dump.specs.Requests.{Pick, RangeValue}
 use Rattle.tables.specs.State.{State}
 use Rattle.desk.specs.Answers.{Answers, AnswersAt, AnswersHover, AnswersPlaces, no_dump, no_such_document, answered, picked, picked_hover, unpicked, unpicked_hover, profile_reply, reference_roles}
-use Rattle.desk.specs.Indexes.{IsIndex}
+use Rattle.desk.specs.Moments.{IsIndex}
 use Rattle.desk.specs.Reply.{ReplyValue, hover_found, places_found, projects_found, refused, tags_found}
 use Rattle.desk.specs.Requests.{DocumentPositionValue, QueryValue, declaration, definition, hover, implementation, names, prefix, profile, projects, references}
 use Rattle.desk.specs.declared.code.Code.TheVariants.{D01, D02}

@@ -4,17 +4,13 @@ use Rattle.std.specs.Prelude.{ℕ, Option, Some, None}
 use Rattle.serde_json.specs.View.{items_of}
 use Rattle.serde_json.specs.Written.{has_float, items_have_float}
 use Rattle.tags.specs.Values.{FieldValue}
-use Rattle.desk.specs.Reply.{FoundPlace, place_data, places_data, kind_data, tag_data, tags_data, project_data, projects_data}
+use Rattle.desk.specs.Reply.{FoundPlace, place_data, kind_data, tag_data, project_data, projects_data}
 use Rattle.tables.specs.Columns.{field_data}
 use Rattle.tables.specs.Names.{FoundTag}
 use Rattle.tables.specs.Selections.{ProjectValue}
 
-each_place : (places : List FoundPlace) → items_have_float (items_of (map place_data places)) ≡ false
-each_place [] = refl
-each_place (place ∷ places) = each_place places
-
-pub places_without : (places : List FoundPlace) → has_float (places_data places) ≡ false
-places_without places = rw (each_place places) refl
+pub place_without : (found : FoundPlace) → has_float (place_data found) ≡ false
+place_without found = refl
 
 each_project : (projects : List ProjectValue) → items_have_float (items_of (map project_data projects)) ≡ false
 each_project [] = refl
@@ -31,12 +27,5 @@ kind_without : (kind : Option (List ℕ)) → has_float (kind_data kind) ≡ fal
 kind_without None = refl
 kind_without (Some kind) = refl
 
-tag_without : (found : FoundTag) → has_float (tag_data found) ≡ false
+pub tag_without : (found : FoundTag) → has_float (tag_data found) ≡ false
 tag_without found = rw (each_field found.tag.fields, kind_without found.tag.kind) refl
-
-each_tag : (found : List FoundTag) → items_have_float (items_of (map tag_data found)) ≡ false
-each_tag [] = refl
-each_tag (tag ∷ found) = rw (tag_without tag) (each_tag found)
-
-pub tags_without : (found : List FoundTag) → has_float (tags_data found) ≡ false
-tags_without found = rw (each_tag found) refl

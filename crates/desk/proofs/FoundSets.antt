@@ -1,5 +1,5 @@
 -- The places and the contents that a range and the vertices joined to it have.
-use Rattle.std.proofs.Common.{◌≡◌, ◌≢◌, ◌∙◌, ◌⊎◌, inl, inr, ⊎_elim, ◌||◌, ℕ, true, List, [], ◌∷◌, map, refl, sym, ap, subst, slice_get}
+use Rattle.std.proofs.Common.{◌≡◌, ◌≢◌, ◌∙◌, inl, inr, ⊎_elim, ◌||◌, ℕ, true, List, [], ◌∷◌, map, refl, sym, ap, subst, slice_get}
 use Rattle.std.specs.Prelude.{Contains, Option, Some, None, Ok, is_some, bytes_eq}
 use Rattle.std.specs.Cmp.{IsTotalOrder, then_total, on_total, nat_cmp_total}
 use Rattle.std.specs.Cmp.Lexicographic.{on_texts}
@@ -23,7 +23,7 @@ use Rattle.flatten.proofs.KeyLemmas.{key_same}
 use Rattle.tables.specs.Selections.{text_cmp}
 use Rattle.tables.specs.State.{State}
 use Rattle.desk.specs.Answers.{HasContents, HasJoinedContents, HasPlace, HoversAt, own, joined, bare, IsFound, found_cmp}
-use Rattle.desk.specs.Indexes.{IsIndex}
+use Rattle.desk.specs.Moments.{IsIndex}
 use Rattle.desk.specs.Joins.{IsJoined}
 use Rattle.desk.specs.Reply.{FoundPlace}
 use Rattle.desk.proofs.DumpSets.{borne, has_contents, marks, sources, vertex_lines}

@@ -85,7 +85,7 @@ module _ (projects : BTreeMap (String Global) Project) (m : State) (stood : Stan
 -- ---- lines
 
 -- the line of an id is the first that has it
-first_line : (elements : List ElementValue) (y : IdValue) (v : VertexValue) (line k : ℕ) → slice_get elements k ≡ Some (vertex y v) → line_of elements y ≡ Some line → line ≤ k
+pub first_line : (elements : List ElementValue) (y : IdValue) (v : VertexValue) (line k : ℕ) → slice_get elements k ≡ Some (vertex y v) → line_of elements y ≡ Some line → line ≤ k
 first_line elements y v line k at is = by (nat_le line k) refl
   where
     by : (b : Bool) → nat_le line k ≡ b → line ≤ k

@@ -11,7 +11,7 @@ use Rattle.tags.specs.Judging.{HasTags}
 use Rattle.tags.specs.Values.{TagValue}
 use Rattle.tags.specs.declared.code.LineFault as tags
 use Rattle.tables.specs.State.{Change, set_dump, set_tags, clear, dump_after, tags_after}
-use Rattle.desk.specs.Indexes.{IsIndex}
+use Rattle.desk.specs.Moments.{IsIndex}
 use Rattle.desk.specs.Judging.{judged, judged_dump, judged_tags, dump_change, tags_change}
 use Rattle.desk.specs.Reply.{ReplyValue}
 use Rattle.desk.specs.Requests.{ActionValue, put_dump, put_tags, remove, CommandValue}

@@ -1,5 +1,5 @@
 -- The projects and the tags of a state whose dumps and tags were judged have listings.
-use Rattle.std.proofs.Common.{◌≡◌, ◌∙◌, ◌⊎◌, inl, ⊎_elim, ◌||◌, ◌<◌, nat_lt, Bool, true, false, List, [], ◌∷◌, refl, sym, ap, subst, arith}
+use Rattle.std.proofs.Common.{◌≡◌, ◌∙◌, inl, ⊎_elim, ◌||◌, ◌<◌, nat_lt, Bool, true, false, List, [], ◌∷◌, refl, sym, ap, subst, arith}
 use Rattle.std.specs.Prelude.{ℕ, nat_eq, Contains, Option, Some, None, is_some, bytes_eq}
 use Rattle.std.specs.List.{list_all, starts_with}
 use Rattle.std.specs.Cmp.Lexicographic.{on_texts}
@@ -12,7 +12,7 @@ use Rattle.tags.proofs.JudgingLemmas.{rise}
 use Rattle.tables.specs.Names.{BeginsWith, FoundTag, IsAsked, IsTag, line_cmp, name_cmp}
 use Rattle.tables.specs.Selections.{IsProject, ProjectValue, project_cmp, text_cmp}
 use Rattle.tables.specs.State.{State}
-use Rattle.desk.specs.Indexes.{IsIndex}
+use Rattle.desk.specs.Moments.{IsIndex}
 use Rattle.desk.proofs.Finite.{Decision, Finite, is_true, listing, of_image, of_list, of_option, of_same, of_those, of_union, same_where}
 use Rattle.desk.proofs.Members.{and_both, contains_cases, not_in_nil}
 use Rattle.desk.proofs.OneReplies.{line_total, name_total, then_equal}

@@ -1,14 +1,33 @@
--- What is true of the state at each moment of a life, and is enough for each query to have a reply.
-use Rattle.std.specs.Prelude.{◌≡◌, ◌||◌, ℕ, true, List, map, Some, Ok, is_some, Contains}
+-- What a call of an index finds of a state, and what it leaves: the states that the index stands for, and those of which a stop leaves one.
+use Rattle.std.specs.Prelude.{◌≡◌, ◌++◌, [], ◌∷◌, ℕ, List, map, Option, Some, Result, Ok, OnOk, OnErr, option_map}
 use Rattle.dump.specs.Fault.{IsFaultless}
 use Rattle.dump.specs.Progress.{DumpValue}
-use Rattle.tags.specs.Judging.{HasTags}
-use Rattle.tags.specs.Values.{TagValue}
-use Rattle.tables.specs.State.{State}
+use Rattle.tables.specs.State.{State, accepted_text}
 
--- each dump has no fault, the tags of each project are those of a text, and finitely many projects have a part
-pub record IsIndex (m : State) : Type 0 where
-  pub dumps : (project : List ℕ) (dump : DumpValue) → m.dump project ≡ Some dump → IsFaultless (map Ok dump.elements)
-  pub tags : (project : List ℕ) (tags : List TagValue) → m.tags project ≡ Some tags → (text : List ℕ) × HasTags text tags
-  pub projects : List (List ℕ)
-  pub parts : (project : List ℕ) → (is_some (m.dump project) || is_some (m.tags project)) ≡ true → Contains projects project
+-- the text of the reply that is kept for the project under the key
+abbrev pub kept_text : State → List ℕ → List ℕ → Option (List ℕ)
+kept_text m project key = option_map accepted_text (m.kept project key)
+
+-- no dump of the state has a fault
+abbrev pub AreFaultless : State → Type 0
+AreFaultless m = (project : List ℕ) (dump : DumpValue) → m.dump project ≡ Some dump → IsFaultless (map Ok dump.elements)
+
+module _ {I : Type 0} (stands : I → State → Type 0) (may_leave : I → List State → Type 0) where
+  -- a call that changes nothing: the index stands for what it stood for, and a stop leaves what it would have left
+  pub record ReadsOnly (old new : I) : Type 0 where
+    pub state : (m : State) → stands old m → stands new m
+    pub left : (m : State) (states : List State) → stands old m → may_leave old states → may_leave new states
+
+  -- a change was made: the index stands for this state, and a stop leaves it alone
+  pub record Commits (new : I) (n : State) : Type 0 where
+    pub state : stands new n
+    pub left : may_leave new (n ∷ [])
+
+  -- a change was refused: nothing changed, but a stop may leave the state to which it leads
+  pub record Refuses (old new : I) (m n : State) : Type 0 where
+    pub state : stands new m
+    pub left : (states : List State) → may_leave old states → may_leave new (states ++ n ∷ [])
+
+  -- a change that leads from the one state to the other: made, or refused
+  abbrev pub Changes : {A E : Type 0} → I → I → State → State → Result A E → Type 0
+  Changes old new m n r = OnOk r (Commits new n) × OnErr r (Refuses old new m n)

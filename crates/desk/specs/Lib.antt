@@ -5,10 +5,12 @@ pub mod Indexes
 pub mod Joins
 pub mod Judging
 pub mod Machine
+pub mod Moments
 pub mod Names
 pub mod Reply
 pub mod Requests
 pub mod Retries
 pub mod Runs
 pub mod Steps
+pub mod TableStates
 pub mod Uploads

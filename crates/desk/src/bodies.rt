@@ -2,12 +2,12 @@
 ghost use Rattle.std.specs.Prelude.{◌≡◌, ◌++◌, ◌∷◌, [], IfOk, OnOk, false, map, option_map, string_bytes};
 ghost use Rattle.serde_json.specs.Data.{array};
 ghost use Rattle.serde_json.specs.View.{view, items_of};
-ghost use Rattle.serde_json.specs.Written.{has_float};
+ghost use Rattle.serde_json.specs.Written.{comma_if, compact_text, has_float};
 ghost use Rattle.tags.specs.Views.{field_value};
 ghost use Rattle.desk.specs.Found.{place_found, tag_found, project_found};
-ghost use Rattle.desk.specs.Reply.{written, fault_data, position_data, place_data, places_data, kind_data, tag_data, tags_data, project_data, projects_data, profile_data, dump_accepted, tags_accepted, removed, dump_refused, tags_refused, places_found, hover_found, tags_found, projects_found, profile_found};
+ghost use Rattle.desk.specs.Reply.{written, fault_data, position_data, place_data, kind_data, tag_data, project_data, projects_data, profile_data, dump_accepted, tags_accepted, removed, dump_refused, tags_refused, places_found, hover_found, tags_found, projects_found, profile_found};
 ghost use Rattle.tables.specs.Columns.{field_data, profile_number};
-ghost use Rattle.tables.specs.State.{count_data, removed_data};
+ghost use Rattle.tables.specs.State.{count_data};
 
 use crate::found::{FoundPlace, FoundProject, FoundTag};
 use crate::reply::Reply;
@@ -15,6 +15,7 @@ use lsif::Profile;
 use positions::Position;
 use serde_json::{Value, json};
 use std::alloc::{AllocError, Global};
+use tables::removal_text;
 use tags::Field;
 
 /// A reply with this JSON value as its body.
@@ -24,6 +25,29 @@ fn written(alloc: Global, status: u16, body: &Value) -> Result<Reply, AllocError
 {
     let text = body.to_string(alloc)?;
     Ok(Reply::made(status, text))
+}
+
+// ---- lists, whose text is made item by item: they may be long
+
+/// What stands before the places of a reply.
+pub(crate) const PLACES: &str = "{\"places\":[";
+
+/// What stands before its tags.
+const TAGS: &str = "{\"tags\":[";
+
+/// What stands behind its items.
+pub(crate) const END: &str = "]}";
+
+/// Adds an item to the text of a list, behind a comma where it isn't the first.
+fn add_item(alloc: Global, text: &mut String, later: bool, item: &Value) -> Result<(), AllocError>
+    requires { has_float (view item.now) ≡ false }
+    ensures { OnOk result (string_bytes text.new ≡ string_bytes text.old ++ (comma_if later ++ compact_text (view item.now))) }
+{
+    if later {
+        text.push_str(",")?;
+    }
+    let written = item.to_string(alloc)?;
+    text.push_str(written.as_str())
 }
 
 // ---- commands
@@ -52,19 +76,11 @@ pub(crate) fn tags_accepted(alloc: Global, tags: usize) -> Result<Reply, AllocEr
     Ok(reply)
 }
 
-fn removed_value(alloc: Global, anything: bool) -> Result<Value, AllocError>
-    ensures { IfOk result (λ v. view v ≡ removed_data anything) }
+/// The reply to a removal: whether anything was there. It takes no memory, so that none is asked for once the parts are gone.
+pub(crate) fn removed(was_there: bool) -> Reply
+    ensures { result ≡ removed was_there }
 {
-    json!(in alloc; {"removed": anything})
-}
-
-/// The reply to a removal: whether anything was there.
-pub(crate) fn removed(alloc: Global, anything: bool) -> Result<Reply, AllocError>
-    ensures { IfOk result (λ r. r ≡ removed anything) }
-{
-    let body = removed_value(alloc, anything)?;
-    let reply = written(alloc, 200, &body)?;
-    Ok(reply)
+    Reply::fixed(200, removal_text(was_there))
 }
 
 fn fault_value(alloc: Global, name: &str, line: u32, text: &str) -> Result<Value, AllocError>
@@ -107,37 +123,31 @@ fn place(alloc: Global, found: &FoundPlace<'_>) -> Result<Value, AllocError>
     json!(in alloc; {"end": end, "project": found.project, "start": start, "uri": found.uri})
 }
 
-fn add_place(alloc: Global, found: &FoundPlace<'_>, list: &mut Vec<Value>) -> Result<(), AllocError>
-    ensures { OnOk result (map view list.new.items ≡ map view list.old.items ++ place_data (place_found found.now) ∷ []) }
+/// Adds a place to the text of a list of places, behind a comma where it isn't the first.
+pub(crate) fn add_place(
+    alloc: Global,
+    text: &mut String,
+    later: bool,
+    found: &FoundPlace<'_>,
+) -> Result<(), AllocError>
+    ensures { OnOk result (string_bytes text.new ≡ string_bytes text.old ++ (comma_if later ++ compact_text (place_data (place_found found.now)))) }
 {
     let value = place(alloc, found)?;
-    serde_json::push(list, value)
-}
-
-fn place_list(alloc: Global, places: &[FoundPlace<'_>]) -> Result<Vec<Value>, AllocError>
-    ensures { IfOk result (λ list. map view list.items ≡ map place_data (map place_found places.now)) }
-{
-    let mut list = Vec::new(alloc);
-    for found in places {
-        add_place(alloc, found, &mut list)?;
-    }
-    Ok(list)
-}
-
-fn places_value(alloc: Global, places: &[FoundPlace<'_>]) -> Result<Value, AllocError>
-    ensures { IfOk result (λ v. view v ≡ places_data (map place_found places.now)) }
-{
-    let list = Value::Array(place_list(alloc, places)?);
-    json!(in alloc; {"places": list})
+    add_item(alloc, text, later, &value)
 }
 
 /// The reply to a query that these places answer.
 pub(crate) fn places_found(alloc: Global, places: &[FoundPlace<'_>]) -> Result<Reply, AllocError>
     ensures { IfOk result (λ r. r ≡ places_found (map place_found places.now)) }
 {
-    let body = places_value(alloc, places)?;
-    let reply = written(alloc, 200, &body)?;
-    Ok(reply)
+    let mut text = String::from_str(alloc, PLACES)?;
+    let mut later = false;
+    for found in places {
+        add_place(alloc, &mut text, later, found)?;
+        later = true;
+    }
+    text.push_str(END)?;
+    Ok(Reply::made(200, text))
 }
 
 // ---- hover
@@ -203,37 +213,31 @@ fn tag(alloc: Global, found: &FoundTag<'_>) -> Result<Value, AllocError>
     })
 }
 
-fn add_tag(alloc: Global, found: &FoundTag<'_>, list: &mut Vec<Value>) -> Result<(), AllocError>
-    ensures { OnOk result (map view list.new.items ≡ map view list.old.items ++ tag_data (tag_found found.now) ∷ []) }
+/// Adds a tag to the text of a list of tags, behind a comma where it isn't the first.
+fn add_tag(
+    alloc: Global,
+    text: &mut String,
+    later: bool,
+    found: &FoundTag<'_>,
+) -> Result<(), AllocError>
+    ensures { OnOk result (string_bytes text.new ≡ string_bytes text.old ++ (comma_if later ++ compact_text (tag_data (tag_found found.now)))) }
 {
     let value = tag(alloc, found)?;
-    serde_json::push(list, value)
-}
-
-fn tag_list(alloc: Global, tags: &[FoundTag<'_>]) -> Result<Vec<Value>, AllocError>
-    ensures { IfOk result (λ list. map view list.items ≡ map tag_data (map tag_found tags.now)) }
-{
-    let mut list = Vec::new(alloc);
-    for found in tags {
-        add_tag(alloc, found, &mut list)?;
-    }
-    Ok(list)
-}
-
-fn tags_value(alloc: Global, tags: &[FoundTag<'_>]) -> Result<Value, AllocError>
-    ensures { IfOk result (λ v. view v ≡ tags_data (map tag_found tags.now)) }
-{
-    let list = Value::Array(tag_list(alloc, tags)?);
-    json!(in alloc; {"tags": list})
+    add_item(alloc, text, later, &value)
 }
 
 /// The reply to a query that these tags answer.
 pub(crate) fn tags_found(alloc: Global, tags: &[FoundTag<'_>]) -> Result<Reply, AllocError>
     ensures { IfOk result (λ r. r ≡ tags_found (map tag_found tags.now)) }
 {
-    let body = tags_value(alloc, tags)?;
-    let reply = written(alloc, 200, &body)?;
-    Ok(reply)
+    let mut text = String::from_str(alloc, TAGS)?;
+    let mut later = false;
+    for found in tags {
+        add_tag(alloc, &mut text, later, found)?;
+        later = true;
+    }
+    text.push_str(END)?;
+    Ok(Reply::made(200, text))
 }
 
 // ---- projects and profiles

@@ -22,24 +22,37 @@ pub trait Desk {
     /// Whether it keeps its state in a store, which may refuse.
     ghost store_may_refuse: { Bool };
 
+    /// So far its store returned what was written to it. Of a desk of which this isn't true nothing is said.
+    ghost is_reliable: { Self → Type 0 };
+
     /// Serves a command. The reply is made before the command has its effect.
     fn apply(&mut self, command: &Command<'_>) -> Reply
-        ensures reply { (m : State) → stands self.old m → MayReply store_may_refuse m (requests.command (requests.command_value command.now)) result }
-        ensures state { (m : State) → stands self.old m → stands self.new (moved m (requests.command (requests.command_value command.now)) result) }
-        ensures left { (m : State) (states : List State) → stands self.old m → may_leave self.old states → may_leave self.new (left m states (requests.command (requests.command_value command.now)) result) };
+        ensures reliable { is_reliable self.new → is_reliable self.old }
+        ensures reply { is_reliable self.new → (m : State) → stands self.old m
+            → MayReply store_may_refuse m (requests.command (requests.command_value command.now)) result }
+        ensures state { is_reliable self.new → (m : State) → stands self.old m
+            → stands self.new (moved m (requests.command (requests.command_value command.now)) result) }
+        ensures left { is_reliable self.new → (m : State) (states : List State) → stands self.old m → may_leave self.old states
+            → may_leave self.new (left m states (requests.command (requests.command_value command.now)) result) };
 
     /// Serves the command that an upload is, with each body that it stands for. Where it met want of memory, that is the reply.
     fn finish_upload(&mut self, upload: Upload) -> Reply
-        ensures reply { (m : State) (body : List ℕ) → stands self.old m → StandsFor upload.body body → MayReply store_may_refuse m (requests.command (command_of upload body)) result }
-        ensures state { (m : State) (body : List ℕ) → stands self.old m → StandsFor upload.body body → stands self.new (moved m (requests.command (command_of upload body)) result) }
-        ensures left { (m : State) (states : List State) (body : List ℕ) → stands self.old m → may_leave self.old states → StandsFor upload.body body → may_leave self.new (left m states (requests.command (command_of upload body)) result) }
+        ensures reliable { is_reliable self.new → is_reliable self.old }
+        ensures reply { is_reliable self.new → (m : State) (body : List ℕ) → stands self.old m → StandsFor upload.body body
+            → MayReply store_may_refuse m (requests.command (command_of upload body)) result }
+        ensures state { is_reliable self.new → (m : State) (body : List ℕ) → stands self.old m → StandsFor upload.body body
+            → stands self.new (moved m (requests.command (command_of upload body)) result) }
+        ensures left { is_reliable self.new → (m : State) (states : List State) (body : List ℕ) → stands self.old m → may_leave self.old states
+            → StandsFor upload.body body → may_leave self.new (left m states (requests.command (command_of upload body)) result) }
         ensures memory { upload.body.is_out_of_memory ≡ true → result ≡ out_of_memory };
 
     /// Answers a query.
     fn ask(&mut self, query: &Query) -> Reply
-        ensures reply { (m : State) → stands self.old m → MayReply store_may_refuse m (requests.query (requests.query_value query.now)) result }
-        ensures state { (m : State) → stands self.old m → stands self.new m }
-        ensures left { (states : List State) → may_leave self.old states → may_leave self.new states };
+        ensures reliable { is_reliable self.new → is_reliable self.old }
+        ensures reply { is_reliable self.new → (m : State) → stands self.old m
+            → MayReply store_may_refuse m (requests.query (requests.query_value query.now)) result }
+        ensures state { is_reliable self.new → (m : State) → stands self.old m → stands self.new m }
+        ensures left { is_reliable self.new → (m : State) (states : List State) → stands self.old m → may_leave self.old states → may_leave self.new states };
 
     /// A stop leaves one of these states, so it leaves one of these and another.
     ghost weaker: { (desk : Self) (states : List State) (n : State) → may_leave desk states → may_leave desk (states ++ n ∷ []) };

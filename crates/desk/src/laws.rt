@@ -9,7 +9,7 @@ ghost use Rattle.tags.specs.Judging.{HasTags, HasFault};
 ghost use Rattle.tags.specs.Values.{TagValue};
 ghost use Rattle.tags.specs.declared.code.LineFault as tags;
 ghost use Rattle.desk.specs.Answers.{Answers};
-ghost use Rattle.desk.specs.Indexes.{IsIndex};
+ghost use Rattle.desk.specs.Moments.{IsIndex};
 ghost use Rattle.desk.specs.Judging.{judged_dump, judged_tags};
 ghost use Rattle.desk.specs.Machine.{reply_of};
 ghost use Rattle.tables.specs.State.{Accepted, State};

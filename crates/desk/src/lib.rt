@@ -8,6 +8,8 @@ mod code;
 mod desk;
 mod found;
 mod hover;
+mod index;
+mod index_desk;
 mod laws;
 mod line_reader;
 mod listed;
@@ -16,19 +18,25 @@ mod plain;
 mod project;
 mod reply;
 mod request;
+mod rows;
 mod running;
+mod table_desk;
+mod table_index;
 mod tags_part;
 mod upload;
 mod walks;
 
 pub use code::Code;
 pub use desk::Desk;
+pub use index::{Index, IndexFault};
+pub use index_desk::IndexDesk;
 pub use laws::{answer_law, judgement_law, reply_law, retry_law};
 pub use names::{DocUri, Key, ProjectName, read_number};
 pub use plain::PlainDesk;
 pub use reply::Reply;
 pub use request::{Command, Query, Request};
 pub use running::{RunFault, run};
+pub use table_desk::{TableDesk, memory_law};
 pub use upload::{Upload, UploadFault};
 
 #[cfg(test)]

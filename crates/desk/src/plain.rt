@@ -170,7 +170,7 @@ impl PlainDesk {
 }
 
 /// The roles of the places that a references query asks for.
-fn reference_roles(declaration: bool) -> &'static [Role]
+pub(crate) fn reference_roles(declaration: bool) -> &'static [Role]
     ensures { result.now ≡ reference_roles declaration }
 {
     if declaration {
@@ -321,6 +321,8 @@ impl Desk for PlainDesk {
     ghost may_leave = { λ d states. Unit {0} };
 
     ghost store_may_refuse = { false };
+
+    ghost is_reliable = { λ d. Unit {0} };
 
     fn apply(&mut self, command: &Command<'_>) -> Reply {
         match self.serve(command) {

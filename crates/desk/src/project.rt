@@ -41,7 +41,7 @@ pub(crate) fn reply_of(alloc: Global, accepted: Accepted) -> Result<Reply, Alloc
     match accepted {
         Accepted::DumpPut(elements) => dump_accepted(alloc, elements),
         Accepted::TagsPut(tags) => tags_accepted(alloc, tags),
-        Accepted::Removed(anything) => removed(alloc, anything),
+        Accepted::Removed(was_there) => Ok(removed(was_there)),
     }
 }
 

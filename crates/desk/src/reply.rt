@@ -65,6 +65,16 @@ impl Reply {
         Reply::refused(Code::S02)
     }
 
+    /// A reply with a body that is there already. It takes no memory.
+    pub(crate) fn fixed(status: u16, text: &'static str) -> Reply
+        ensures { result ≡ record { status = status; body = text.now } }
+    {
+        Reply {
+            status,
+            body: Body::Fixed(text),
+        }
+    }
+
     /// A reply with a made body.
     pub(crate) fn made(status: u16, text: String) -> Reply
         ensures { result ≡ record { status = status; body = string_bytes text } }

@@ -28,9 +28,11 @@ impl From<AllocError> for RunFault {
 
 /// Serves one request.
 fn serve<D: Desk>(desk: &mut D, request: &Request<'_>) -> Reply
-    ensures reply { (m : State) → D.stands desk.old m → MayReply D.store_may_refuse m (request_value request.now) result }
-    ensures state { (m : State) → D.stands desk.old m → D.stands desk.new (moved m (request_value request.now) result) }
-    ensures left { (m : State) (states : List State) → D.stands desk.old m → D.may_leave desk.old states → D.may_leave desk.new (left m states (request_value request.now) result) }
+    ensures reliable { D.is_reliable desk.new → D.is_reliable desk.old }
+    ensures reply { D.is_reliable desk.new → (m : State) → D.stands desk.old m → MayReply D.store_may_refuse m (request_value request.now) result }
+    ensures state { D.is_reliable desk.new → (m : State) → D.stands desk.old m → D.stands desk.new (moved m (request_value request.now) result) }
+    ensures left { D.is_reliable desk.new → (m : State) (states : List State) → D.stands desk.old m → D.may_leave desk.old states
+        → D.may_leave desk.new (left m states (request_value request.now) result) }
 {
     match request {
         Request::Command(command) => desk.apply(command),
@@ -45,8 +47,11 @@ pub fn run<D: Desk>(
     desk: &mut D,
     requests: &[Request<'_>],
 ) -> Result<Vec<Reply>, RunFault>
-    ensures run { IfOk result (λ replies. (m : State) → D.stands desk.old m → (n : State) × Run D.store_may_refuse m (request_values requests.now) replies.items n × D.stands desk.new n) }
-    ensures left { IfOk result (λ replies. (m : State) (states : List State) → D.stands desk.old m → D.may_leave desk.old states → D.may_leave desk.new (left_by m states (request_values requests.now) replies.items)) }
+    ensures reliable { D.is_reliable desk.new → D.is_reliable desk.old }
+    ensures run { IfOk result (λ replies. D.is_reliable desk.new → (m : State) → D.stands desk.old m
+        → (n : State) × Run D.store_may_refuse m (request_values requests.now) replies.items n × D.stands desk.new n) }
+    ensures left { IfOk result (λ replies. D.is_reliable desk.new → (m : State) (states : List State) → D.stands desk.old m → D.may_leave desk.old states
+        → D.may_leave desk.new (left_by m states (request_values requests.now) replies.items)) }
     ensures unserved { OnErr result (desk.new ≡ desk.old) }
 {
     let mut replies = Vec::with_capacity(alloc, requests.len())?;

@@ -8,7 +8,7 @@ use tags::Tag;
 
 /// The tags of a tags file, each on a later line than those before it.
 #[derive(Drop)]
-pub(crate) struct TagsPart {
+pub struct TagsPart {
     tags: Vec<Tag>,
 }
 

@@ -1,4 +1,5 @@
-//! Requests to a desk in memory with their replies, and each of the crate's functions called once.
+//! Requests to desks with their replies, and each of the crate's functions called once.
+mod climb;
 mod commands;
 mod forms;
 mod joins;
@@ -9,7 +10,7 @@ mod queries;
 mod samples;
 
 use crate::{
-    Command, Desk, DocUri, Key, PlainDesk, ProjectName, Query, Reply, Request, RunFault,
+    Command, Desk, DocUri, Key, PlainDesk, ProjectName, Query, Reply, Request, RunFault, TableDesk,
     answer_law, judgement_law, read_number, reply_law, retry_law, run,
 };
 use lsif::Profile;
@@ -160,7 +161,7 @@ fn text_of(alloc: Global, reply: &Reply) -> Result<String, Fail> {
 }
 
 /// The status and the body of the reply to a request.
-fn served(alloc: Global, desk: &mut PlainDesk, request: &Request<'_>) -> Result<String, Fail> {
+fn served<D: Desk>(alloc: Global, desk: &mut D, request: &Request<'_>) -> Result<String, Fail> {
     let reply = match request {
         Request::Command(command) => desk.apply(command),
         Request::Query(query) => desk.ask(query),
@@ -169,18 +170,27 @@ fn served(alloc: Global, desk: &mut PlainDesk, request: &Request<'_>) -> Result<
 }
 
 /// The status and the body of the reply to the request of a row.
-fn reply_to(alloc: Global, desk: &mut PlainDesk, row: &'static str) -> Result<String, Fail> {
+fn reply_to<D: Desk>(alloc: Global, desk: &mut D, row: &'static str) -> Result<String, Fail> {
     let body = upload(alloc, row)?;
     served(alloc, desk, &request(alloc, row, body.as_str())?)
 }
 
-/// Asserts the replies of a new desk: below each row stand the status and the body of its reply.
+/// Asserts the replies of new desks, one that keeps dumps in memory and one over tables: below each row stand the status and the body of its reply.
 fn expect_replies<R: AllocGlobal + Abort>(rt: &R, scenario: &'static str) -> Result<(), Fail> {
-    let mut desk = PlainDesk::new(rt.alloc());
+    expect_of(rt, &mut PlainDesk::new(rt.alloc()), scenario)?;
+    expect_of(rt, &mut TableDesk::open_in_memory(rt.alloc())?, scenario)
+}
+
+/// Asserts the replies of a new desk.
+fn expect_of<R: AllocGlobal + Abort, D: Desk>(
+    rt: &R,
+    desk: &mut D,
+    scenario: &'static str,
+) -> Result<(), Fail> {
     let mut found = String::new(rt.alloc());
     for (k, line) in scenario.lines().enumerate() {
         if k % 2 == 0 {
-            found = reply_to(rt.alloc(), &mut desk, line)?;
+            found = reply_to(rt.alloc(), desk, line)?;
         } else {
             assert_eq!(rt; (k, found.as_str()), (k, line));
         }

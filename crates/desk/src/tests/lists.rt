@@ -1,6 +1,6 @@
-//! Each list of three requests, and so each shorter one: it's the beginning of others.
+//! Each list of four requests, and so each shorter one: it's the beginning of others. Both desks give the same replies.
 use super::{requests, served, uploads};
-use crate::{PlainDesk, Request};
+use crate::{Desk, PlainDesk, Request, TableDesk};
 use std::process::Abort;
 use std::test::Fail;
 
@@ -118,12 +118,12 @@ fn answer(known: &mut Known, row: usize) -> usize {
 }
 
 /// Asserts the replies of a new desk to the requests of these rows.
-fn expect_list<R: AllocGlobal + Abort>(
+fn expect_list<R: AllocGlobal + Abort, D: Desk>(
     rt: &R,
+    desk: &mut D,
     requests: &[Request<'_>],
-    rows: [usize; 4],
+    rows: [usize; 5],
 ) -> Result<(), Fail> {
-    let mut desk = PlainDesk::new(rt.alloc());
     let mut known = Known {
         dump: false,
         tags: false,
@@ -131,31 +131,68 @@ fn expect_list<R: AllocGlobal + Abort>(
     };
     for row in rows {
         let request = requests.get(row).ok_or("no request")?;
-        let found = served(rt.alloc(), &mut desk, request)?;
+        let found = served(rt.alloc(), desk, request)?;
         let wanted = REPLIES.get(answer(&mut known, row)).ok_or("no reply")?;
         assert_eq!(rt; found.as_str(), *wanted, "{rows:?}");
     }
     Ok(())
 }
 
-/// Asserts the replies to lists of three of the first nine rows, which are counted up to 729, and then to the list of the
-/// projects.
-fn expect_lists<R: AllocGlobal + Abort>(rt: &R, from: usize, to: usize) -> Result<(), Fail> {
+/// Asserts the replies of both desks to the lists of four of the first nine rows that begin with this one, each with the list of the projects behind it.
+fn expect_lists<R: AllocGlobal + Abort>(rt: &R, first: usize) -> Result<(), Fail> {
     let uploads = uploads(rt.alloc(), ROWS)?;
     let requests = requests(rt.alloc(), ROWS, &uploads)?;
-    for n in from..to {
-        expect_list(rt, &requests, [n / 81, n / 9 % 9, n % 9, 9])?;
+    for n in 0..729 {
+        let rows = [first, n / 81, n / 9 % 9, n % 9, 9];
+        expect_list(rt, &mut PlainDesk::new(rt.alloc()), &requests, rows)?;
+        let mut desk = TableDesk::open_in_memory(rt.alloc())?;
+        expect_list(rt, &mut desk, &requests, rows)?;
     }
     Ok(())
 }
 
-// Under `rt try`, where a dump that is put takes a tenth of a second, all lists in one would take longer than a test may.
+// All lists in one would take longer than a test may.
 #[test]
-fn lists_that_begin_with_the_first_three_rows(rt: HostRuntime) -> Result<(), Fail> {
-    expect_lists(&rt, 0, 243)
+fn two_desks_from_a_dump(rt: HostRuntime) -> Result<(), Fail> {
+    expect_lists(&rt, 0)
 }
 
 #[test]
-fn lists_that_begin_with_the_others(rt: HostRuntime) -> Result<(), Fail> {
-    expect_lists(&rt, 243, 729)
+fn two_desks_from_a_dump_of_the_other_key(rt: HostRuntime) -> Result<(), Fail> {
+    expect_lists(&rt, 1)
+}
+
+#[test]
+fn two_desks_from_a_refused_dump(rt: HostRuntime) -> Result<(), Fail> {
+    expect_lists(&rt, 2)
+}
+
+#[test]
+fn two_desks_from_a_refused_dump_of_the_other_key(rt: HostRuntime) -> Result<(), Fail> {
+    expect_lists(&rt, 3)
+}
+
+#[test]
+fn two_desks_from_tags(rt: HostRuntime) -> Result<(), Fail> {
+    expect_lists(&rt, 4)
+}
+
+#[test]
+fn two_desks_from_tags_of_the_other_key(rt: HostRuntime) -> Result<(), Fail> {
+    expect_lists(&rt, 5)
+}
+
+#[test]
+fn two_desks_from_a_removal(rt: HostRuntime) -> Result<(), Fail> {
+    expect_lists(&rt, 6)
+}
+
+#[test]
+fn two_desks_from_a_removal_of_the_other_key(rt: HostRuntime) -> Result<(), Fail> {
+    expect_lists(&rt, 7)
+}
+
+#[test]
+fn two_desks_from_a_query(rt: HostRuntime) -> Result<(), Fail> {
+    expect_lists(&rt, 8)
 }

@@ -190,7 +190,7 @@ pub(crate) fn keys(
 }
 
 /// Whether a request looks in other projects for marks of this kind.
-fn finds(request: Request, kind: MonikerKind) -> bool
+pub(crate) fn finds(request: Request, kind: MonikerKind) -> bool
     ensures { result ≡ finds request kind }
 {
     match kind {

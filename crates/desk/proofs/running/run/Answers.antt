@@ -17,18 +17,19 @@ loop-request-preserved g c =
     record {
       count = omega arith;
       room = omega arith;
-      run = λ m stood.
-          let h = i.run m stood in
+      reliable = λ good. i.reliable (s.reliable good);
+      run = λ good m stood.
+          let h = i.run (s.reliable good) m stood in
           let next = moved h.0 q c.serve-reply.result in
-          let more = run_more store m h.0 done c.loop-request.replies.items q c.serve-reply.result h.1 (s.reply h.0 h.2) in (
+          let more = run_more store m h.0 done c.loop-request.replies.items q c.serve-reply.result h.1 (s.reply good h.0 h.2) in (
             next,
             subst (λ qs. Run store m qs c.push_reserved.new.self.items next) (sym asked) (subst (λ rs. Run store m (done ++ q ∷ []) rs next) (sym {A = List ReplyValue} told) more),
-            s.state h.0 h.2,
+            s.state good h.0 h.2,
           );
-      left = λ m states stood leaves.
-          let h = i.run m stood in
+      left = λ good m states stood leaves.
+          let h = i.run (s.reliable good) m stood in
           let more = ap (λ (qs : List RequestValue). left_by m states qs c.push_reserved.new.self.items) asked
           ∙ ap (λ (rs : List ReplyValue). left_by m states (done ++ q ∷ []) rs) told
           ∙ left_more store m h.0 states done c.loop-request.replies.items q c.serve-reply.result h.1 in
-          subst (g.D.Desk.may_leave c.serve-reply.new.desk) (sym more) (s.left h.0 _ h.2 (i.left m states stood leaves));
+          subst (g.D.Desk.may_leave c.serve-reply.new.desk) (sym more) (s.left good h.0 _ h.2 (i.left (s.reliable good) m states stood leaves));
     }

@@ -1,0 +1,115 @@
+//! The vertices of other projects that are joined to a range: those that bear a moniker with one of its keys (`IsJoined` of `specs/Joins`). They are
+//! found by the rows of the bearers.
+ghost use Rattle.std.specs.Prelude.{◌≡◌, Contains, IfOk, IfErr, IfSome, IfNone, OnOk, map, string_bytes, true};
+ghost use Rattle.flatten.specs.Flat.{result_for};
+ghost use Rattle.tables.specs.Selections.{BearerFound, bearer_found};
+ghost use Rattle.tables.specs.State.{State};
+ghost use Rattle.desk.specs.Indexes.{ReadsOnly};
+ghost use Rattle.desk.specs.Steps.Rows.{Adds, AreJoined, AreThose, IsKeyJoined, JoinedValue, OfBearer, joined_value};
+ghost use Rattle.desk.specs.declared.index.IndexFault.TheVariants.{Refused};
+
+use crate::index::{Index, IndexFault};
+use crate::walks::keys::finds;
+use dump::Request;
+use std::alloc::{AllocError, Global};
+use tables::FoundBearer;
+
+/// A vertex of another project that is joined to a range, and has a first result.
+#[derive(Debug, PartialEq, Eq, PartialOrd, Ord, Drop)]
+pub(crate) struct JoinedBearer {
+    pub(crate) project: String,
+    /// The vertex's line in the dump, counted from 1.
+    pub(crate) line: u32,
+    /// The number of its first result.
+    pub(crate) number: u32,
+}
+
+/// The number of the bearer's first result for the request.
+fn result_of(bearer: &FoundBearer, request: Request) -> Option<u32>
+    ensures { result ≡ result_for request (bearer_found bearer.now).results }
+{
+    match request {
+        Request::Definition => bearer.def,
+        Request::References => bearer.refs,
+        Request::Hover => bearer.hover,
+        Request::Declaration => bearer.decl,
+        Request::Implementation => bearer.imp,
+    }
+}
+
+/// What the row of a bearer tells, where it's of another project, and of a kind that the request looks for there, and has a result.
+fn joined_of(request: Request, own: &str, bearer: FoundBearer) -> Option<JoinedBearer>
+    ensures some { IfSome result (λ j. OfBearer request own.now (bearer_found bearer) (joined_value j)) }
+    ensures none { IfNone result ((j : JoinedValue) → OfBearer request own.now (bearer_found bearer) j → ⊥) }
+{
+    if bearer.project.as_str() == own || !finds(request, bearer.kind) {
+        return None;
+    }
+    match result_of(&bearer, request) {
+        Some(number) => Some(JoinedBearer {
+            project: bearer.project,
+            line: bearer.line,
+            number,
+        }),
+        None => None,
+    }
+}
+
+/// Adds the bearers that are joined.
+fn add_bearers(
+    found: &mut Vec<JoinedBearer>,
+    request: Request,
+    own: &str,
+    mut bearers: Vec<FoundBearer>,
+) -> Result<(), AllocError>
+    ensures { OnOk result (Adds (map joined_value found.old.items) (map joined_value found.new.items)
+        (λ j. (b : BearerFound) × Contains (map bearer_found bearers.items) b × OfBearer request own.now b j)) }
+{
+    while let Some(bearer) = bearers.pop() {
+        if let Some(row) = joined_of(request, own, bearer) {
+            found.push(row)?;
+        }
+    }
+    Ok(())
+}
+
+/// Adds those that bear a mark with this key.
+fn add_key<I: Index>(
+    alloc: Global,
+    index: &mut I,
+    found: &mut Vec<JoinedBearer>,
+    request: Request,
+    own: &str,
+    key: &str,
+) -> Result<(), IndexFault>
+    ensures reliable { I.is_reliable index.new → I.is_reliable index.old }
+    ensures found { I.is_reliable index.new → (m : State) → I.stands index.old m
+        → OnOk result (Adds (map joined_value found.old.items) (map joined_value found.new.items) (IsKeyJoined m request own.now key.now)) }
+    ensures reads_only { I.is_reliable index.new → ReadsOnly I.stands I.may_leave index.old index.new }
+    ensures refused { IfErr result (λ fault. fault ≡ Refused → I.may_refuse ≡ true) }
+{
+    let bearers = index.bearers(alloc, key)?;
+    add_bearers(found, request, own, bearers)?;
+    Ok(())
+}
+
+/// The vertices of other projects that bear a mark with one of these keys, which the request looks for there, and have a result.
+pub(crate) fn joined_bearers<I: Index>(
+    alloc: Global,
+    index: &mut I,
+    request: Request,
+    own: &str,
+    keys: &[String],
+) -> Result<Vec<JoinedBearer>, IndexFault>
+    ensures reliable { I.is_reliable index.new → I.is_reliable index.old }
+    ensures found { I.is_reliable index.new → (m : State) → I.stands index.old m
+        → IfOk result (λ found. AreThose (AreJoined m request own.now (map string_bytes keys.now)) (map joined_value found.items)) }
+    ensures reads_only { I.is_reliable index.new → ReadsOnly I.stands I.may_leave index.old index.new }
+    ensures refused { IfErr result (λ fault. fault ≡ Refused → I.may_refuse ≡ true) }
+{
+    let mut found = Vec::new(alloc);
+    for key in keys {
+        add_key(alloc, index, &mut found, request, own, key.as_str())?;
+    }
+    Ok(found)
+}

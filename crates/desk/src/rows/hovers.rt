@@ -1,0 +1,84 @@
+//! The contents that answer a hover query: those of the range's own result, and where it has none, those of the first vertex that is joined to it, by
+//! project and line (`HoversAt` of `specs/Answers`).
+ghost use Rattle.std.specs.Prelude.{◌≡◌, Contains, IfOk, IfErr, map, option_map, string_bytes, true};
+ghost use Rattle.dump.specs.declared.request.Request.TheVariants as requests;
+ghost use Rattle.dump.specs.Places.{IsListing};
+ghost use Rattle.tables.specs.Selections.{range_found};
+ghost use Rattle.tables.specs.State.{State};
+ghost use Rattle.desk.specs.Indexes.{ReadsOnly};
+ghost use Rattle.desk.specs.Answers.{AnswersAt, AnswersHover};
+ghost use Rattle.desk.specs.Requests.{at_value};
+ghost use Rattle.desk.specs.Steps.RowHovers.{RowHovers, joined_cmp};
+ghost use Rattle.desk.specs.Steps.Rows.{AreKeys, joined_value};
+ghost use Rattle.desk.specs.declared.index.IndexFault.TheVariants.{Refused};
+
+use crate::bodies::hover_found;
+use crate::code::Code;
+use crate::index::{Index, IndexFault};
+use crate::names::{DocUri, ProjectName};
+use crate::reply::Reply;
+use crate::rows::bearers::{JoinedBearer, joined_bearers};
+use crate::rows::ranges::{Picked, pick};
+use dump::Request;
+use positions::Position;
+use std::alloc::Global;
+use tables::FoundRange;
+
+/// Puts the vertices in order, each once: by project, line and number.
+fn list_bearers(found: &mut Vec<JoinedBearer>)
+    ensures { IsListing joined_cmp (Contains (map joined_value found.old.items)) (map joined_value found.new.items) }
+{
+    found.sort_unstable();
+    found.dedup();
+}
+
+/// The contents that answer a hover query at the range of this row, which has these keys.
+fn contents_at<I: Index>(
+    alloc: Global,
+    index: &mut I,
+    own: &str,
+    range: &FoundRange,
+    keys: &[String],
+) -> Result<Option<String>, IndexFault>
+    ensures reliable { I.is_reliable index.new → I.is_reliable index.old }
+    ensures found { I.is_reliable index.new → (m : State) → I.stands index.old m → AreKeys m requests.Hover own.now range.now.line (map string_bytes keys.now)
+        → IfOk result (λ o. RowHovers m own.now (range_found range.now) (option_map string_bytes o)) }
+    ensures reads_only { I.is_reliable index.new → ReadsOnly I.stands I.may_leave index.old index.new }
+    ensures refused { IfErr result (λ fault. fault ≡ Refused → I.may_refuse ≡ true) }
+{
+    if let Some(number) = range.hover {
+        return index.hover(own, number);
+    }
+    let mut found = joined_bearers(alloc, index, Request::Hover, own, keys)?;
+    list_bearers(&mut found);
+    match found.first() {
+        Some(row) => index.hover(row.project.as_str(), row.number),
+        None => Ok(None),
+    }
+}
+
+/// Answers a hover query.
+pub(crate) fn hover<I: Index>(
+    alloc: Global,
+    index: &mut I,
+    project: &ProjectName,
+    uri: &DocUri,
+    at: Position,
+) -> Result<Reply, IndexFault>
+    ensures reliable { I.is_reliable index.new → I.is_reliable index.old }
+    ensures found { I.is_reliable index.new → (m : State) → I.stands index.old m
+        → IfOk result (λ r. AnswersAt m (at_value project.now uri.now at) (AnswersHover m (at_value project.now uri.now at)) r) }
+    ensures reads_only { I.is_reliable index.new → ReadsOnly I.stands I.may_leave index.old index.new }
+    ensures refused { IfErr result (λ fault. fault ≡ Refused → I.may_refuse ≡ true) }
+{
+    let (project, uri) = (project.as_str(), uri.as_str());
+    match pick(alloc, index, Request::Hover, project, uri, at)? {
+        Picked::NoDump => Ok(Reply::refused(Code::D01)),
+        Picked::NoDocument => Ok(Reply::refused(Code::D02)),
+        Picked::NoRange => Ok(hover_found(alloc, None)?),
+        Picked::Range(range, keys) => {
+            let found = contents_at(alloc, index, project, &range, &keys)?;
+            Ok(hover_found(alloc, found.as_deref())?)
+        }
+    }
+}

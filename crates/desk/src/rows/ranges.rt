@@ -1,0 +1,131 @@
+//! The range that a request at a position is asked of: the smallest that covers it and has a result, or a key by which the request goes on to other
+//! projects (`Pick` of the crate dump). It is found by the rows of the ranges and of their marks.
+ghost use Rattle.std.specs.Prelude.{◌≡◌, IfOk, IfErr, IfSome, OnOk, map, option_map, string_bytes, true};
+ghost use Rattle.dump.specs.Requests.{IsFirst};
+ghost use Rattle.flatten.specs.Flat.{result_for};
+ghost use Rattle.tables.specs.Selections.{mark_found, range_found};
+ghost use Rattle.tables.specs.State.{State};
+ghost use Rattle.desk.specs.Indexes.{AreFaultless, ReadsOnly};
+ghost use Rattle.desk.specs.Steps.Rows.{AreFollowed, AreKeys, Picks, RowSpeaks};
+ghost use Rattle.desk.specs.declared.index.IndexFault.TheVariants.{Refused};
+
+use crate::index::{Index, IndexFault};
+use crate::walks::marks::follows;
+use dump::Request;
+use positions::Position;
+use std::alloc::{AllocError, Global};
+use tables::{Covering, FoundMark, FoundRange};
+
+/// What a request at a position is asked of.
+#[derive(Drop)]
+pub(crate) enum Picked {
+    /// The project has no dump.
+    NoDump,
+    /// The dump has no such document.
+    NoDocument,
+    /// No range that covers the position has a result or such a key.
+    NoRange,
+    /// The row of the range, and the texts of the keys of its marks by which the request goes on to other projects.
+    Range(FoundRange, Vec<String>),
+}
+
+/// The number of the range's first result for the request.
+pub(crate) fn result_of(range: &FoundRange, request: Request) -> Option<u32>
+    ensures { result ≡ result_for request (range_found range.now).results }
+{
+    match request {
+        Request::Definition => range.def,
+        Request::References => range.refs,
+        Request::Hover => range.hover,
+        Request::Declaration => range.decl,
+        Request::Implementation => range.imp,
+    }
+}
+
+/// The texts of the keys of those marks by which the request goes on to other projects.
+fn followed_keys(
+    alloc: Global,
+    request: Request,
+    mut marks: Vec<FoundMark>,
+) -> Result<Vec<String>, AllocError>
+    ensures { IfOk result (λ keys. AreFollowed request (map mark_found marks.items) (map string_bytes keys.items)) }
+{
+    let mut keys = Vec::new(alloc);
+    while let Some(mark) = marks.pop() {
+        if follows(request, mark.kind) {
+            keys.push(mark.key)?;
+        }
+    }
+    Ok(keys)
+}
+
+/// The texts of the keys by which the request goes on to other projects from the range at this line (counted from 1) of the project's dump.
+fn keys_at<I: Index>(
+    alloc: Global,
+    index: &mut I,
+    request: Request,
+    project: &str,
+    line: u32,
+) -> Result<Vec<String>, IndexFault>
+    ensures reliable { I.is_reliable index.new → I.is_reliable index.old }
+    ensures found { I.is_reliable index.new → (m : State) → I.stands index.old m
+        → IfOk result (λ keys. AreKeys m request project.now line (map string_bytes keys.items)) }
+    ensures reads_only { I.is_reliable index.new → ReadsOnly I.stands I.may_leave index.old index.new }
+    ensures refused { IfErr result (λ fault. fault ≡ Refused → I.may_refuse ≡ true) }
+{
+    let marks = index.marks(alloc, project, line)?;
+    let keys = followed_keys(alloc, request, marks)?;
+    Ok(keys)
+}
+
+/// The first of the ranges that has a result or a key by which the request goes on to other projects, with the texts of these keys.
+fn first_speaking<I: Index>(
+    alloc: Global,
+    index: &mut I,
+    request: Request,
+    project: &str,
+    ranges: &[FoundRange],
+) -> Result<Option<(FoundRange, Vec<String>)>, IndexFault>
+    ensures reliable { I.is_reliable index.new → I.is_reliable index.old }
+    ensures first { I.is_reliable index.new → (m : State) → I.stands index.old m
+        → IfOk result (λ o. IsFirst (RowSpeaks m request project.now) (map range_found ranges.now) (option_map (λ p. range_found p.0) o)) }
+    ensures keys { I.is_reliable index.new → (m : State) → I.stands index.old m
+        → IfOk result (λ o. IfSome o (λ p. AreKeys m request project.now p.0.line (map string_bytes p.1.items))) }
+    ensures reads_only { I.is_reliable index.new → ReadsOnly I.stands I.may_leave index.old index.new }
+    ensures refused { IfErr result (λ fault. fault ≡ Refused → I.may_refuse ≡ true) }
+{
+    for range in ranges {
+        let keys = keys_at(alloc, index, request, project, range.line)?;
+        if result_of(range, request).is_some() || !keys.is_empty() {
+            return Ok(Some((*range, keys)));
+        }
+    }
+    Ok(None)
+}
+
+/// What a request at a position of a project's document is asked of.
+pub(crate) fn pick<I: Index>(
+    alloc: Global,
+    index: &mut I,
+    request: Request,
+    project: &str,
+    uri: &str,
+    at: Position,
+) -> Result<Picked, IndexFault>
+    ensures reliable { I.is_reliable index.new → I.is_reliable index.old }
+    ensures found { I.is_reliable index.new → (m : State) → I.stands index.old m → IfOk result (Picks m request project.now uri.now at) }
+    ensures faultless { I.is_reliable index.new → (m : State) → I.stands index.old m → OnOk result (AreFaultless m) }
+    ensures reads_only { I.is_reliable index.new → ReadsOnly I.stands I.may_leave index.old index.new }
+    ensures refused { IfErr result (λ fault. fault ≡ Refused → I.may_refuse ≡ true) }
+{
+    match index.covering(alloc, project, uri, at)? {
+        Covering::NoDump => Ok(Picked::NoDump),
+        Covering::NoDocument => Ok(Picked::NoDocument),
+        Covering::Ranges(ranges) => {
+            match first_speaking(alloc, index, request, project, &ranges)? {
+                Some((range, keys)) => Ok(Picked::Range(range, keys)),
+                None => Ok(Picked::NoRange),
+            }
+        }
+    }
+}

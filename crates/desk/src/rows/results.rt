@@ -1,0 +1,88 @@
+//! The results that answer a query at a position: the first result of the range and those of the vertices that are joined to it. A result is named by its
+//! project and by its number, which is its line in the project's dump.
+ghost use Rattle.std.specs.Prelude.{◌≡◌, Contains, IfOk, IfErr, OnOk, map, string_bytes, true};
+ghost use Rattle.dump.specs.Places.{IsListing};
+ghost use Rattle.tables.specs.Selections.{range_found};
+ghost use Rattle.tables.specs.State.{State};
+ghost use Rattle.desk.specs.Indexes.{ReadsOnly};
+ghost use Rattle.desk.specs.Steps.Rows.{Adds, AreKeys, AreThose, IsAnsweringResult, IsOwnResult, JoinedValue, joined_value, project_result_cmp, project_result_value, result_of_joined};
+ghost use Rattle.desk.specs.declared.index.IndexFault.TheVariants.{Refused};
+
+use crate::index::{Index, IndexFault};
+use crate::rows::bearers::{JoinedBearer, joined_bearers};
+use crate::rows::ranges::result_of;
+use dump::Request;
+use std::alloc::{AllocError, Global};
+use tables::FoundRange;
+
+/// A result, by its number in the dump of a project.
+#[derive(Debug, PartialEq, Eq, PartialOrd, Ord, Drop)]
+pub(crate) struct ProjectResult {
+    pub(crate) project: String,
+    pub(crate) number: u32,
+}
+
+/// The range's own first result, where it has one.
+fn own_result(
+    alloc: Global,
+    request: Request,
+    own: &str,
+    range: &FoundRange,
+) -> Result<Vec<ProjectResult>, AllocError>
+    ensures { IfOk result (λ results. AreThose (IsOwnResult request own.now (range_found range.now)) (map project_result_value results.items)) }
+{
+    let mut project_results = Vec::new(alloc);
+    if let Some(number) = result_of(range, request) {
+        let project = String::from_str(alloc, own)?;
+        project_results.push(ProjectResult { project, number })?;
+    }
+    Ok(project_results)
+}
+
+/// Adds the results of vertices that are joined.
+fn add_joined(
+    project_results: &mut Vec<ProjectResult>,
+    mut joined: Vec<JoinedBearer>,
+) -> Result<(), AllocError>
+    ensures { OnOk result (Adds (map project_result_value project_results.old.items) (map project_result_value project_results.new.items)
+        (λ t. (j : JoinedValue) × Contains (map joined_value joined.items) j × (result_of_joined j ≡ t))) }
+{
+    while let Some(row) = joined.pop() {
+        project_results.push(ProjectResult {
+            project: row.project,
+            number: row.number,
+        })?;
+    }
+    Ok(())
+}
+
+/// Puts the results in order, each once.
+fn list_results(project_results: &mut Vec<ProjectResult>)
+    ensures { IsListing project_result_cmp (Contains (map project_result_value project_results.old.items))
+        (map project_result_value project_results.new.items) }
+{
+    project_results.sort_unstable();
+    project_results.dedup();
+}
+
+/// The results whose places answer a query at the range of this row, which has these keys: each once.
+pub(crate) fn answering_results<I: Index>(
+    alloc: Global,
+    index: &mut I,
+    request: Request,
+    own: &str,
+    range: &FoundRange,
+    keys: &[String],
+) -> Result<Vec<ProjectResult>, IndexFault>
+    ensures reliable { I.is_reliable index.new → I.is_reliable index.old }
+    ensures found { I.is_reliable index.new → (m : State) → I.stands index.old m → AreKeys m request own.now range.now.line (map string_bytes keys.now)
+        → IfOk result (λ results. AreThose (IsAnsweringResult m request own.now (range_found range.now)) (map project_result_value results.items)) }
+    ensures reads_only { I.is_reliable index.new → ReadsOnly I.stands I.may_leave index.old index.new }
+    ensures refused { IfErr result (λ fault. fault ≡ Refused → I.may_refuse ≡ true) }
+{
+    let joined = joined_bearers(alloc, index, request, own, keys)?;
+    let mut project_results = own_result(alloc, request, own, range)?;
+    add_joined(&mut project_results, joined)?;
+    list_results(&mut project_results);
+    Ok(project_results)
+}

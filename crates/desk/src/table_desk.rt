@@ -1,0 +1,64 @@
+//! The desk over the tables of a database. Its clauses say from outside, both ways, which states it stands for, what a stop may leave and when it is
+//! reliable: as `tables/specs/Stands` says it of the tables and `sqlite` of their disk.
+ghost use Rattle.std.specs.Prelude.{◌≡◌, ◌↔◌, ◌∷◌, [], List, IfOk, IsTrue};
+ghost use Rattle.sqlite.specs.Held.{state};
+ghost use Rattle.sqlite.specs.State.{HasCleanDisk};
+ghost use Rattle.tables.specs.Stands.{Rests};
+ghost use Rattle.tables.specs.State.{State, nothing};
+ghost use Rattle.desk.specs.TableStates.{LeavesOneOf, ServesFor};
+
+use crate::desk::Desk;
+use crate::index_desk::IndexDesk;
+use sqlite::{Alter, Connection, MemStore};
+use std::alloc::{AllocError, Global};
+use tables::Tables;
+
+/// A desk over the tables of a database, in a file or in memory.
+pub type TableDesk<S> = IndexDesk<Tables<S>>;
+
+impl<S: Alter> TableDesk<S> {
+    /// A desk that stands for what the tables stand for, and of which a stop leaves what it would leave of them: where their store is open and they are at
+    /// rest, their state alone. It takes no memory.
+    pub fn new(alloc: Global, tables: Tables<S>) -> TableDesk<S>
+        ensures stands { (m : State) → ⟦<IndexDesk<Tables<S>> as Desk>⟧.stands result m ↔ ServesFor (state S.Store tables) m }
+        ensures may_leave { (states : List State) → ⟦<IndexDesk<Tables<S>> as Desk>⟧.may_leave result states ↔ LeavesOneOf (state S.Store tables) states }
+        ensures reliable { ⟦<IndexDesk<Tables<S>> as Desk>⟧.is_reliable result ↔ HasCleanDisk (state S.Store tables) }
+        ensures alone { (m : State) → IsTrue (state S.Store tables).is_open → Rests (state S.Store tables) m
+            → ⟦<IndexDesk<Tables<S>> as Desk>⟧.may_leave result (m ∷ []) }
+    {
+        IndexDesk::over(alloc, tables)
+    }
+
+    /// The tables of the desk. They stand for what it stood for, and a stop leaves of them what it would have left of the desk.
+    pub fn into_tables(self) -> Tables<S>
+        ensures stands { (m : State) → ServesFor (state S.Store result) m ↔ ⟦<IndexDesk<Tables<S>> as Desk>⟧.stands self m }
+        ensures may_leave { (states : List State) → LeavesOneOf (state S.Store result) states ↔ ⟦<IndexDesk<Tables<S>> as Desk>⟧.may_leave self states }
+        ensures reliable { HasCleanDisk (state S.Store result) ↔ ⟦<IndexDesk<Tables<S>> as Desk>⟧.is_reliable self }
+    {
+        self.index
+    }
+}
+
+impl TableDesk<MemStore> {
+    /// A desk over a new database in memory, which stands for the state of an empty one and leaves that state alone. Such a database is nobody else's, so
+    /// each fault of it is for want of memory.
+    pub fn open_in_memory(alloc: Global) -> Result<TableDesk<MemStore>, AllocError>
+        ensures stands { IfOk result (λ desk. ⟦<IndexDesk<Tables<MemStore>> as Desk>⟧.stands desk nothing) }
+        ensures may_leave { IfOk result (λ desk. ⟦<IndexDesk<Tables<MemStore>> as Desk>⟧.may_leave desk (nothing ∷ [])) }
+    {
+        let conn = Connection::open_in_memory(alloc)?;
+        match Tables::open(conn) {
+            Ok(tables) => {
+                let desk = TableDesk::new(alloc, tables.in_memory());
+                memory_law(&desk);
+                Ok(desk)
+            }
+            Err(_) => Err(AllocError),
+        }
+    }
+}
+
+/// A desk over a database in memory is reliable: its store returns what was written to it.
+pub fn memory_law(desk: &TableDesk<MemStore>)
+    ensures { ⟦<IndexDesk<Tables<MemStore>> as Desk>⟧.is_reliable desk.now }
+{}
