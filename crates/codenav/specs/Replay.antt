@@ -1,5 +1,5 @@
 -- What `codenav replay` answers a stream.
-use Rattle.std.specs.Prelude.{ℕ, false, List, Option, Result}
+use Rattle.std.specs.Prelude.{ℕ, true, List, Option, Result}
 use Rattle.tables.specs.State.{State, nothing}
 use Rattle.lsif.specs.Streams.{Output}
 use Rattle.http_edge.specs.Replies.{AnswerValue}
@@ -12,7 +12,7 @@ abbrev pub most_requests : ℕ
 most_requests = 1000000
 
 -- the bytes that were written are the replies of the abstract machine, from its empty state, to the requests of the bytes
--- that were read; no store can refuse
+-- that were read
 abbrev pub Replays : Option (List ℕ) → Option (List ℕ) → Output → Output → Result ℕ ServeFault → Type 0
 Replays left left' output output' result =
-    (messages : List MessageValue) × (answers : List AnswerValue) × (n : State) × Serves false most_requests nothing left left' output output' messages answers n result
+    (messages : List MessageValue) × (answers : List AnswerValue) × (n : State) × Serves true most_requests nothing left left' output output' messages answers n result

@@ -15,7 +15,7 @@ use std::convert::AsStr;
 const VERSION: &str = "0.1.0";
 
 /// What the word DB is.
-const DATABASE: &str = "The database: :memory:, which is empty at first";
+const DATABASE: &str = "The database: a file, which is made where there is none, or :memory:";
 
 /// The greatest port.
 const MOST_PORT: u32 = 65535;

@@ -4,6 +4,7 @@
 mod call;
 mod check;
 mod check_tags;
+mod database;
 mod replay;
 mod report;
 mod serve;
@@ -14,11 +15,13 @@ mod timed;
 use call::{Call, CallFault, read_call};
 use check::check_lsif;
 use check_tags::check_tags;
+use database::{MEMORY, MemoryDesk, open_file, open_in_memory};
+use desk::Desk;
 use http_edge::ServeFault;
 use lsif::{Counted, Profile};
-use replay::replay;
+use replay::{replay, replay_in_memory};
 use report::{CheckFault, Status};
-use serve::{CountedListener, ServerFault, serve};
+use serve::{CountedListener, ServerFault, serve_connections, serve_in_memory};
 use std::alloc::Global;
 use std::io::ErrorKind;
 use std::net::{Ipv4Addr, Net, SocketAddr, TcpListener};
@@ -45,7 +48,7 @@ fn main(rt: HostRuntime) -> ExitCode {
 }
 
 /// Carries out what the program's words say, and answers the exit status.
-fn run<R: Alloc<A = Global> + Clock + Env + Files + Net + Print + Eprint>(rt: &R) -> u8 {
+fn run(rt: &HostRuntime) -> u8 {
     let words = match read_words(rt) {
         Ok(words) => words,
         Err(error) if error.kind() == ErrorKind::OutOfMemory => return fail(rt, "out of memory"),
@@ -111,22 +114,27 @@ fn check_tags_file<R: Alloc<A = Global> + Files + Print + Eprint>(rt: &R, name: 
     end(rt, check_tags(rt.alloc(), &mut r, &mut w))
 }
 
-/// `codenav replay DB FILE`: prints the replies to the requests in that file. The only database is `:memory:`.
-fn replay_file<R: Alloc<A = Global> + Files + Print + Eprint>(
-    rt: &R,
-    database: &str,
-    name: &str,
-) -> u8 {
+/// `codenav replay DB FILE`: prints the replies to the requests in that file, over the database in the file DB, or over one in memory that is empty at
+/// first where DB is `:memory:`.
+fn replay_file(rt: &HostRuntime, database: &str, name: &str) -> u8 {
     let file = match open(rt, name) {
         Ok(file) => file,
         Err(status) => return status,
     };
-    if database != ":memory:" {
-        return fail(rt, "store refused");
-    }
     let mut r = Counted::new(file);
     let mut w = Counted::new(io::writer(rt));
-    match replay(rt.alloc(), &mut r, &mut w) {
+    if database == MEMORY {
+        return replayed(rt, replay_in_memory(rt.alloc(), &mut r, &mut w));
+    }
+    match open_file(rt, database) {
+        Ok(mut desk) => replayed(rt, replay(rt.alloc(), &mut desk, &mut r, &mut w)),
+        Err(fault) => fail(rt, fault.text()),
+    }
+}
+
+/// The exit status of a replay, after why it failed was printed.
+fn replayed(rt: &impl Eprint, answer: Result<u32, ServeFault>) -> u8 {
+    match answer {
         Ok(_) => 0,
         Err(ServeFault::Memory) => fail(rt, "out of memory"),
         Err(ServeFault::Read) => fail(rt, "cannot read the file"),
@@ -134,30 +142,66 @@ fn replay_file<R: Alloc<A = Global> + Files + Print + Eprint>(
     }
 }
 
-/// `codenav serve DB --port N --requests N`: serves so many connections on that port of 127.0.0.1, and says so when it
-/// listens. The only database is `:memory:`.
-fn serve_port<R: Alloc<A = Global> + Clock + Net + Print + Eprint>(
-    rt: &R,
-    database: &str,
-    port: u16,
-    requests: u32,
-) -> u8 {
-    if database != ":memory:" {
-        return fail(rt, "store refused");
+/// `codenav serve DB --port N --requests N`: serves so many connections on that port of 127.0.0.1, and says so when it listens; over the database in the
+/// file DB, or over one in memory that is empty at first where DB is `:memory:`.
+fn serve_port(rt: &HostRuntime, database: &str, port: u16, requests: u32) -> u8 {
+    if database == MEMORY {
+        return match open_in_memory(rt.alloc()) {
+            Ok(mut desk) => serve_memory(rt, &mut desk, port, requests),
+            Err(_) => fail(rt, "out of memory"),
+        };
     }
-    let Ok(listener) = TcpListener::bind(rt, SocketAddr::from((Ipv4Addr::LOCALHOST, port))) else {
-        return fail(rt, "cannot listen");
+    match open_file(rt, database) {
+        Ok(mut desk) => serve_desk(rt, &mut desk, port, requests),
+        Err(fault) => fail(rt, fault.text()),
+    }
+}
+
+/// Listens, and serves by the desk over a database in memory.
+fn serve_memory(rt: &HostRuntime, desk: &mut MemoryDesk, port: u16, requests: u32) -> u8 {
+    let listener = match listen(rt, port) {
+        Ok(listener) => listener,
+        Err(status) => return status,
     };
-    if println!(rt; "listening on 127.0.0.1:{port}").is_err() {
-        return fail(rt, "cannot write the output");
-    }
-    let limits = Limits {
+    let mut counted = CountedListener::new(&listener);
+    let answer = serve_in_memory(rt.alloc(), desk, rt, limits(), &mut counted, requests);
+    served(rt, answer)
+}
+
+/// Listens, and serves by the desk.
+fn serve_desk<D: Desk>(rt: &HostRuntime, desk: &mut D, port: u16, requests: u32) -> u8 {
+    let listener = match listen(rt, port) {
+        Ok(listener) => listener,
+        Err(status) => return status,
+    };
+    let mut counted = CountedListener::new(&listener);
+    let answer = serve_connections(rt.alloc(), desk, rt, limits(), &mut counted, requests);
+    served(rt, answer)
+}
+
+/// The time that a connection has.
+fn limits() -> Limits {
+    Limits {
         wait: Duration::from_secs(WAIT_SECONDS),
         whole: Duration::from_secs(WHOLE_SECONDS),
         rest: Duration::from_secs(REST_SECONDS),
+    }
+}
+
+/// Listens on that port of 127.0.0.1, and says so; or answers the exit status.
+fn listen<R: Net + Print + Eprint>(rt: &R, port: u16) -> Result<R::Listener, u8> {
+    let Ok(listener) = TcpListener::bind(rt, SocketAddr::from((Ipv4Addr::LOCALHOST, port))) else {
+        return Err(fail(rt, "cannot listen"));
     };
-    let mut counted = CountedListener::new(&listener);
-    match serve(rt.alloc(), rt, limits, &mut counted, requests) {
+    if println!(rt; "listening on 127.0.0.1:{port}").is_err() {
+        return Err(fail(rt, "cannot write the output"));
+    }
+    Ok(listener)
+}
+
+/// The exit status of a server, after why it failed was printed.
+fn served(rt: &impl Eprint, answer: Result<(), ServerFault>) -> u8 {
+    match answer {
         Ok(()) => 0,
         Err(ServerFault::Accept) => fail(rt, "cannot accept"),
         Err(ServerFault::Memory) => fail(rt, "out of memory"),

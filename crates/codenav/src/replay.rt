@@ -1,11 +1,15 @@
 //! `codenav replay`: the replies to the requests of a stream.
-ghost use Rattle.std.specs.Prelude.{◌≡◌, ◌-◌, ◌^◌, ◌<◌, Err};
+ghost use Rattle.std.specs.Prelude.{◌≡◌, ◌-◌, ◌^◌, ◌<◌, List, Err};
+ghost use Rattle.tables.specs.State.{State};
 ghost use Rattle.lsif.specs.Streams.{CanCount};
-ghost use Rattle.http_edge.specs.Serving.{CountsRead, CountsWrite};
+ghost use Rattle.http_edge.specs.Replies.{AnswerValue};
+ghost use Rattle.http_edge.specs.Requests.{MessageValue};
+ghost use Rattle.http_edge.specs.Serving.{CountsRead, CountsWrite, Serves, left_by};
 ghost use Rattle.http_edge.specs.declared.serve.ServeFault.TheVariants.{Memory};
-ghost use Rattle.codenav.specs.Replay.{Replays};
+ghost use Rattle.codenav.specs.Replay.{Replays, most_requests};
 
-use desk::PlainDesk;
+use crate::database::{memory_law, open_in_memory};
+use desk::Desk;
 use http_edge::{ServeFault, serve_stream};
 use lsif::{Sink, Source};
 use std::alloc::Global;
@@ -13,10 +17,35 @@ use std::alloc::Global;
 /// How many requests of a stream are answered at most.
 const MOST_REQUESTS: u32 = 1000000;
 
-/// Answers the requests (HTTP/1.1, RFC 9112) of a stream, one after the other and at most 1,000,000 of them, over an index
-/// in memory that is empty at first, and says how many replies were written. Refuses where memory for its buffers was
-/// refused, and then nothing was read or written; where the reader failed; and where the writer failed or took no byte.
-pub fn replay<R: Source, W: Sink>(alloc: Global, r: &mut R, w: &mut W) -> Result<u32, ServeFault>
+/// Answers the requests (HTTP/1.1, RFC 9112) of a stream, one after the other and at most 1,000,000 of them, by this desk, from the state that it stands
+/// for, and says how many replies were written. Refuses where memory for its buffers was refused, and then nothing was read or written and the desk is as
+/// before; where the reader failed; and where the writer failed or took no byte.
+pub fn replay<D: Desk, R: Source, W: Sink>(
+    alloc: Global,
+    desk: &mut D,
+    r: &mut R,
+    w: &mut W,
+) -> Result<u32, ServeFault>
+    requires reads { R.failed r.old < 2 ^ 64 - 1 }
+    requires writes { CanCount (W.output w.old) }
+    ensures reliable { D.is_reliable desk.new → D.is_reliable desk.old }
+    ensures replays { (messages : List MessageValue) × (answers : List AnswerValue) × (D.is_reliable desk.new → (m : State) → D.stands desk.old m → (n : State)
+        × Serves D.store_may_refuse most_requests m (R.left r.old) (R.left r.new) (W.output w.old) (W.output w.new) messages answers n result
+        × D.stands desk.new n
+        × ((states : List State) → D.may_leave desk.old states → D.may_leave desk.new (left_by m states messages answers))) }
+    ensures memory { result ≡ Err Memory → (desk.new ≡ desk.old) × (r.new ≡ r.old) × (w.new ≡ w.old) }
+    ensures read { CountsRead (R.failed r.old) (R.failed r.new) result }
+    ensures write { CountsWrite (W.output w.old) result (W.output w.new) }
+{
+    serve_stream(alloc, desk, r, w, MOST_REQUESTS)
+}
+
+/// The same over a database in memory that is empty at first. Where memory for that was refused, nothing was read or written either.
+pub fn replay_in_memory<R: Source, W: Sink>(
+    alloc: Global,
+    r: &mut R,
+    w: &mut W,
+) -> Result<u32, ServeFault>
     requires reads { R.failed r.old < 2 ^ 64 - 1 }
     requires writes { CanCount (W.output w.old) }
     ensures replays { Replays (R.left r.old) (R.left r.new) (W.output w.old) (W.output w.new) result }
@@ -24,6 +53,10 @@ pub fn replay<R: Source, W: Sink>(alloc: Global, r: &mut R, w: &mut W) -> Result
     ensures read { CountsRead (R.failed r.old) (R.failed r.new) result }
     ensures write { CountsWrite (W.output w.old) result (W.output w.new) }
 {
-    let mut desk = PlainDesk::new(alloc);
-    serve_stream(alloc, &mut desk, r, w, MOST_REQUESTS)
+    let Ok(mut desk) = open_in_memory(alloc) else {
+        return Err(ServeFault::Memory);
+    };
+    let answer = replay(alloc, &mut desk, r, w);
+    memory_law(&desk);
+    answer
 }

@@ -1,19 +1,22 @@
 //! `codenav serve`: the replies to the requests of connections.
-ghost use Rattle.std.specs.Prelude.{◌≡◌, ◌+◌, ◌-◌, ◌^◌, ◌<◌, false, List, Err, IfErr, length};
-ghost use Rattle.tables.specs.State.{State, nothing};
+ghost use Rattle.std.specs.Prelude.{◌≡◌, ◌+◌, ◌-◌, ◌^◌, ◌<◌, true, List, Err, IfErr, length};
+ghost use Rattle.tables.specs.State.{State};
 ghost use Rattle.lsif.specs.Streams.{CanCount};
 ghost use Rattle.http_edge.specs.Serving.{CountsRead, CountsWrite, Serves, left_by};
 ghost use Rattle.http_edge.specs.declared.serve.ServeFault.TheVariants as serve_fault;
 ghost use Rattle.codenav.specs.Serve.{ConnectionValue, CountsAccept, CountsServed, ServesConnection, ServesEach, most_requests};
 
+use crate::database::{MemoryDesk, memory_law};
 use crate::timed::{Limits, Timed};
-use desk::{Desk, PlainDesk};
+use desk::{Desk, IndexDesk};
 use http_edge::{ServeFault, serve_stream};
 use lsif::{Counted, Sink, Source};
+use sqlite::FileStore;
 use std::alloc::{AllocError, Global};
 use std::io::{Read, Write};
 use std::net::{OpenListener, OpenStream};
 use std::time::{Clock, Instant};
+use tables::{MemoryDisk, Tables};
 
 /// How many requests of a connection are answered at most.
 const MOST_REQUESTS: u32 = 1;
@@ -71,10 +74,13 @@ pub fn serve_request<D: Desk, R: Source, W: Sink>(
 ) -> Result<u32, ServeFault>
     requires reads { R.failed r.old < 2 ^ 64 - 1 }
     requires writes { CanCount (W.output w.old) }
-    ensures served { (c : ConnectionValue) × ((m : State) → D.stands desk.old m → (n : State)
-        × Serves D.store_may_refuse most_requests m (R.left r.old) (R.left r.new) (W.output w.old) (W.output w.new) c.messages c.answers n result × D.stands desk.new n
+    ensures reliable { D.is_reliable desk.new → D.is_reliable desk.old }
+    ensures served { (c : ConnectionValue) × (D.is_reliable desk.new → (m : State) → D.stands desk.old m → (n : State)
+        × Serves D.store_may_refuse most_requests m (R.left r.old) (R.left r.new) (W.output w.old) (W.output w.new) c.messages c.answers n result
+        × D.stands desk.new n
         × ((states : List State) → D.may_leave desk.old states → D.may_leave desk.new (left_by m states c.messages c.answers))) }
-    ensures connection { (c : ConnectionValue) × ((m : State) → D.stands desk.old m → (n : State) × ServesConnection D.store_may_refuse m c n × D.stands desk.new n) }
+    ensures connection { (c : ConnectionValue) × (D.is_reliable desk.new → (m : State) → D.stands desk.old m
+        → (n : State) × ServesConnection D.store_may_refuse m c n × D.stands desk.new n) }
     ensures memory { result ≡ Err serve_fault.Memory → (desk.new ≡ desk.old) × (r.new ≡ r.old) × (w.new ≡ w.old) }
     ensures read { CountsRead (R.failed r.old) (R.failed r.new) result }
     ensures write { CountsWrite (W.output w.old) result (W.output w.new) }
@@ -101,7 +107,9 @@ fn serve_ends<D: Desk, S: OpenStream + Read + Write + Drop, C: Clock>(
     reader: Timed<'_, S, C>,
     writer: Timed<'_, S, C>,
 ) -> Result<(), AllocError>
-    ensures served { (c : ConnectionValue) × ((m : State) → D.stands desk.old m → (n : State) × ServesConnection D.store_may_refuse m c n × D.stands desk.new n) }
+    ensures reliable { D.is_reliable desk.new → D.is_reliable desk.old }
+    ensures served { (c : ConnectionValue) × (D.is_reliable desk.new → (m : State) → D.stands desk.old m
+        → (n : State) × ServesConnection D.store_may_refuse m c n × D.stands desk.new n) }
     ensures memory { IfErr result (λ _. desk.new ≡ desk.old) }
 {
     let mut r = Counted::new(reader);
@@ -126,7 +134,9 @@ pub fn serve_connection<D: Desk, S: OpenStream + Read + Write + Drop, C: Clock>(
     limits: Limits,
     stream: S,
 ) -> Result<(), AllocError>
-    ensures served { (c : ConnectionValue) × ((m : State) → D.stands desk.old m → (n : State) × ServesConnection D.store_may_refuse m c n × D.stands desk.new n) }
+    ensures reliable { D.is_reliable desk.new → D.is_reliable desk.old }
+    ensures served { (c : ConnectionValue) × (D.is_reliable desk.new → (m : State) → D.stands desk.old m
+        → (n : State) × ServesConnection D.store_may_refuse m c n × D.stands desk.new n) }
     ensures memory { IfErr result (λ _. desk.new ≡ desk.old) }
 {
     match ends(stream, clock, limits) {
@@ -149,7 +159,7 @@ where
     L::Stream: OpenStream + Read + Write,
     requires { listener.old.accepted + requests < 2 ^ 64 }
     ensures { (connections : List ConnectionValue) × CountsServed requests (length connections) listener.old.accepted result listener.new.accepted
-        × ((m : State) → D.stands desk.old m → (n : State) × ServesEach D.store_may_refuse m connections n × D.stands desk.new n) }
+        × (D.is_reliable desk.new → (m : State) → D.stands desk.old m → (n : State) × ServesEach D.store_may_refuse m connections n × D.stands desk.new n) }
 {
     let mut count = 0;
     'serving: while count < requests {
@@ -166,9 +176,10 @@ where
     Ok(())
 }
 
-/// Serves so many connections, one after the other, over an index in memory that is empty at first.
-pub fn serve<L: OpenListener, C: Clock>(
+/// The same over a database in memory.
+pub fn serve_in_memory<L: OpenListener, C: Clock>(
     alloc: Global,
+    desk: &mut MemoryDesk,
     clock: &C,
     limits: Limits,
     listener: &mut CountedListener<'_, L>,
@@ -177,9 +188,11 @@ pub fn serve<L: OpenListener, C: Clock>(
 where
     L::Stream: OpenStream + Read + Write,
     requires { listener.old.accepted + requests < 2 ^ 64 }
-    ensures { (connections : List ConnectionValue) × (n : State) × CountsServed requests (length connections) listener.old.accepted result listener.new.accepted
-        × ServesEach false nothing connections n }
+    ensures { (connections : List ConnectionValue) × CountsServed requests (length connections) listener.old.accepted result listener.new.accepted
+        × ((m : State) → ⟦<IndexDesk<Tables<FileStore<MemoryDisk>>> as Desk>⟧.stands desk.old m → (n : State)
+        × ServesEach true m connections n × ⟦<IndexDesk<Tables<FileStore<MemoryDisk>>> as Desk>⟧.stands desk.new n) }
 {
-    let mut desk = PlainDesk::new(alloc);
-    serve_connections(alloc, &mut desk, clock, limits, listener, requests)
+    let answer = serve_connections(alloc, desk, clock, limits, listener, requests);
+    memory_law(desk);
+    answer
 }

@@ -52,10 +52,13 @@ impl From<InsertError> for ServeFault {
 
 /// Answers a message.
 fn answer<D: Desk>(desk: &mut D, message: Message<'_>) -> Answer
-    ensures answer { (m : State) (asked : MessageValue) → D.stands desk.old m → Says message.entry asked → MayAnswer D.store_may_refuse m asked (answer_value result) }
-    ensures state { (m : State) (asked : MessageValue) → D.stands desk.old m → Says message.entry asked → D.stands desk.new (answered m asked (answer_value result)) }
-    ensures left { (m : State) (states : List State) (asked : MessageValue) → D.stands desk.old m → D.may_leave desk.old states → Says message.entry asked
-        → D.may_leave desk.new (left_after m states asked (answer_value result)) }
+    ensures reliable { D.is_reliable desk.new → D.is_reliable desk.old }
+    ensures answer { D.is_reliable desk.new → (m : State) (asked : MessageValue) → D.stands desk.old m → Says message.entry asked
+        → MayAnswer D.store_may_refuse m asked (answer_value result) }
+    ensures state { D.is_reliable desk.new → (m : State) (asked : MessageValue) → D.stands desk.old m → Says message.entry asked
+        → D.stands desk.new (answered m asked (answer_value result)) }
+    ensures left { D.is_reliable desk.new → (m : State) (states : List State) (asked : MessageValue) → D.stands desk.old m → D.may_leave desk.old states
+        → Says message.entry asked → D.may_leave desk.new (left_after m states asked (answer_value result)) }
 {
     match message {
         Ok(Asked::Upload(upload)) => Answer::Reply(desk.finish_upload(upload)),
@@ -69,8 +72,8 @@ fn answer<D: Desk>(desk: &mut D, message: Message<'_>) -> Answer
 /// Answers a message, and writes the reply.
 fn respond<D: Desk, W: Sink>(desk: &mut D, w: &mut W, message: Message<'_>) -> Result<(), Failed>
     requires count { CanCount (W.output w.old) }
-    ensures sent { (answer : AnswerValue) × Responds D.store_may_refuse (D.stands desk.old) (D.stands desk.new) (D.may_leave desk.old) (D.may_leave desk.new) message.entry answer
-        × Sends (W.output w.old) (answer_text answer) result (W.output w.new) }
+    ensures sent { (answer : AnswerValue) × Responds D.store_may_refuse (D.stands desk.old) (D.stands desk.new) (D.may_leave desk.old) (D.may_leave desk.new)
+        (D.is_reliable desk.old) (D.is_reliable desk.new) message.entry answer × Sends (W.output w.old) (answer_text answer) result (W.output w.new) }
     ensures counted { CountsSending (W.output w.old) result (W.output w.new) }
 {
     let answer = answer(desk, message);
@@ -98,7 +101,8 @@ fn serve<D: Desk, R: Source, W: Sink>(
     requires reads { R.failed r.old < 2 ^ 64 - 1 }
     requires writes { CanCount (W.output w.old) }
     requires empty { reader.old ≡ [] }
-    ensures served { (messages : List MessageValue) × (answers : List AnswerValue) × ((m : State) → D.stands desk.old m → (n : State)
+    ensures reliable { D.is_reliable desk.new → D.is_reliable desk.old }
+    ensures served { (messages : List MessageValue) × (answers : List AnswerValue) × (D.is_reliable desk.new → (m : State) → D.stands desk.old m → (n : State)
         × Serves D.store_may_refuse limit m (R.left r.old) (R.left r.new) (W.output w.old) (W.output w.new) messages answers n result × D.stands desk.new n
         × ((states : List State) → D.may_leave desk.old states → D.may_leave desk.new (left_by m states messages answers))) }
     ensures read { CountsRead (R.failed r.old) (R.failed r.new) result }
@@ -140,7 +144,8 @@ pub fn serve_stream<D: Desk, R: Source, W: Sink>(
 ) -> Result<u32, ServeFault>
     requires reads { R.failed r.old < 2 ^ 64 - 1 }
     requires writes { CanCount (W.output w.old) }
-    ensures served { (messages : List MessageValue) × (answers : List AnswerValue) × ((m : State) → D.stands desk.old m → (n : State)
+    ensures reliable { D.is_reliable desk.new → D.is_reliable desk.old }
+    ensures served { (messages : List MessageValue) × (answers : List AnswerValue) × (D.is_reliable desk.new → (m : State) → D.stands desk.old m → (n : State)
         × Serves D.store_may_refuse limit m (R.left r.old) (R.left r.new) (W.output w.old) (W.output w.new) messages answers n result × D.stands desk.new n
         × ((states : List State) → D.may_leave desk.old states → D.may_leave desk.new (left_by m states messages answers))) }
     ensures memory { result ≡ Err Memory → (desk.new ≡ desk.old) × (r.new ≡ r.old) × (w.new ≡ w.old) }

@@ -1,6 +1,7 @@
 //! Connections on loopback and clients that take their time, and what they're replied.
 use super::samples::{BASE, reply, text_of};
-use crate::serve::{CountedListener, ServerFault, serve, serve_connection};
+use crate::database::open_in_memory;
+use crate::serve::{CountedListener, ServerFault, serve_connection, serve_in_memory};
 use crate::timed::Limits;
 use desk::PlainDesk;
 use std::alloc::Global;
@@ -122,9 +123,10 @@ fn counted(rt: HostRuntime) -> Result<(), Fail> {
     }
     let refused = client(&rt, &listener, bytes.as_str())?;
     let last = client(&rt, &listener, "GET /projects HTTP/1.1\r\n\r\n")?;
+    let mut desk = open_in_memory(alloc)?;
     let mut counted = CountedListener::new(&listener);
     assert_eq!(rt;
-        serve(alloc, &rt, limits(50, 5000), &mut counted, 5),
+        serve_in_memory(alloc, &mut desk, &rt, limits(50, 5000), &mut counted, 5),
         Ok(())
     );
     assert_eq!(rt; received(alloc, silent)?.as_str(), "");
@@ -141,7 +143,7 @@ fn counted(rt: HostRuntime) -> Result<(), Fail> {
     listener.set_nonblocking(true)?;
     let mut counted = CountedListener::new(&listener);
     assert_eq!(rt;
-        serve(alloc, &rt, limits(50, 5000), &mut counted, 1),
+        serve_in_memory(alloc, &mut desk, &rt, limits(50, 5000), &mut counted, 1),
         Err(ServerFault::Accept)
     );
     Ok(())

@@ -1,7 +1,7 @@
 //! The bytes that are written for streams of requests, also for streams that are cut, and over readers and writers that
 //! fail.
 use super::samples::{BASE, Pieces, Slow, changed, in_pieces, reply, slow_writer};
-use crate::replay::replay;
+use crate::replay::replay_in_memory;
 use desk::PlainDesk;
 use http_edge::{ServeFault, serve_stream};
 use lsif::Counted;
@@ -319,7 +319,7 @@ fn replay_over(
 ) -> (Result<u32, ServeFault>, Vec<u8>, usize) {
     let mut r = Counted::new(reader);
     let mut w = Counted::new(slow_writer(alloc, most, fails_at));
-    let answer = replay(alloc, &mut r, &mut w);
+    let answer = replay_in_memory(alloc, &mut r, &mut w);
     let Pieces { bytes, .. } = r.into_inner();
     let Slow { taken, .. } = w.into_inner();
     (answer, taken, bytes.len())
@@ -533,9 +533,9 @@ fn writers_that_fail<R: AllocGlobal + Abort>(rt: &R) -> Result<(), Fail> {
     let (stream, replies) = exchange(rt.alloc(), UPLOADS, 7)?;
     for (requests, wanted) in [(PROJECTS, NO_PROJECTS), (stream.as_str(), replies.as_str())] {
         for before in 0..wanted.len() {
-            let reader = in_pieces(requests.as_bytes(), 1_000_000);
+            let mut desk = PlainDesk::new(rt.alloc());
             let fails_at = u32::try_from(before)?.saturating_add(1);
-            let (answer, written, _) = replay_over(rt.alloc(), reader, 1, fails_at);
+            let (answer, written) = serve_over(rt.alloc(), &mut desk, requests, 0, fails_at);
             assert_eq!(rt; answer, Err(ServeFault::Write), "{before}");
             let taken = wanted.get(..before).ok_or("no such place")?;
             assert_eq!(rt; written.as_slice(), taken.as_bytes(), "{before}");

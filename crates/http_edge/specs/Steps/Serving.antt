@@ -84,9 +84,10 @@ NextMessage held left held' left' (Ok None) =
 NextMessage held left held' left' (Err e) =
     (bytes : List ℕ) × MovesOrHides left left' bytes × (refusal : Refusal) × IsUnended (held ++ bytes) refusal
 
--- what was read of a message has this answer from each state that a desk stood for, which then stands for the next one, and leaves at a stop
--- one of those of which it left one and of the next
-pub record Responds (store_may_refuse : Bool) (stood stands : State → Type 0) (old_leaves new_leaves : List State → Type 0) (asked : Result Asked AllocError) (given : AnswerValue) : Type 0 where
-  pub answer : (m : State) (message : MessageValue) → stood m → Says asked message → MayAnswer store_may_refuse m message given
-  pub state : (m : State) (message : MessageValue) → stood m → Says asked message → stands (answered m message given)
-  pub left : (m : State) (states : List State) (message : MessageValue) → stood m → old_leaves states → Says asked message → new_leaves (left_after m states message given)
+-- what was read of a message has this answer from each state that a desk stood for, where it is reliable; it then stands for the next one,
+-- and leaves at a stop one of those of which it left one and of the next
+pub record Responds (store_may_refuse : Bool) (stood stands : State → Type 0) (old_leaves new_leaves : List State → Type 0) (was_reliable is_reliable : Type 0) (asked : Result Asked AllocError) (given : AnswerValue) : Type 0 where
+  pub reliable : is_reliable → was_reliable
+  pub answer : is_reliable → (m : State) (message : MessageValue) → stood m → Says asked message → MayAnswer store_may_refuse m message given
+  pub state : is_reliable → (m : State) (message : MessageValue) → stood m → Says asked message → stands (answered m message given)
+  pub left : is_reliable → (m : State) (states : List State) (message : MessageValue) → stood m → old_leaves states → Says asked message → new_leaves (left_after m states message given)

@@ -7,7 +7,8 @@ serving-init g c = record {
   served = refl;
   accepted = omega arith;
   within = omega arith;
-  each = λ m s. (m, refl, s);
+  reliable = λ k. k;
+  each = λ k m s. (m, refl, s);
 }
 
 pub serving-preserved : goal.serving-preserved
@@ -19,9 +20,10 @@ serving-preserved g c =
       served = omega (arith, i.served);
       accepted = omega (arith, i.accepted, c.in-Some.ensures);
       within = omega (arith, c.serving-test.true);
-      each = λ m s.
-          let before = i.each m s in
-          let after = one.1 before.0 before.2 in (after.0, (before.0, before.1, after.1), after.2);
+      reliable = λ k. i.reliable (c.in-Ok.ensures.reliable k);
+      each = λ k m s.
+          let before = i.each (c.in-Ok.ensures.reliable k) m s in
+          let after = one.1 k before.0 before.2 in (after.0, (before.0, before.1, after.1), after.2);
     }
 
 pub returns : goal.returns
@@ -39,5 +41,5 @@ returns-in-Err g c =
     let i = c.serving.invariant in (
       i.connections,
       (omega (arith, i.served, c.serving-test.true), omega (arith, i.accepted, i.served, c.in-Some.ensures)),
-      λ m s. let before = i.each m s in (before.0, before.1, rw c.in-Err.ensures.memory before.2),
+      λ k m s. let before = i.each (rw c.in-Err.ensures.memory at k) m s in (before.0, before.1, rw c.in-Err.ensures.memory before.2),
     )

@@ -9,7 +9,8 @@ invariant-serving g l = record {
   served : l.count ≡ length connections;
   accepted : l.listener.accepted ≡ l.fn.listener.accepted + l.count;
   within : l.count ≤ l.requests;
-  each : (m : State) → g.D.Desk.stands l.fn.desk m → (n : State) × ServesEach g.D.Desk.store_may_refuse m connections n × g.D.Desk.stands l.desk n;
+  reliable : g.D.Desk.is_reliable l.desk → g.D.Desk.is_reliable l.fn.desk;
+  each : g.D.Desk.is_reliable l.desk → (m : State) → g.D.Desk.stands l.fn.desk m → (n : State) × ServesEach g.D.Desk.store_may_refuse m connections n × g.D.Desk.stands l.desk n;
 }
 
 abbrev pub decreases-serving : goal.decreases-serving

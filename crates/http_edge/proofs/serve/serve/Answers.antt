@@ -14,7 +14,8 @@ serving-init g c = record {
   count = refl;
   within = omega arith;
   answers = [];
-  run = λ m s. (m, refl, s, λ states h. h);
+  reliable = λ k. k;
+  run = λ k m s. (m, refl, s, λ states h. h);
   written = writes_nothing _;
   reads = refl;
   counts = (refl, refl);
@@ -26,8 +27,8 @@ returns-clause-served g c =
     let full : length i.messages ≡ c.args.limit = omega (arith, i.count, i.within) in (
       i.messages,
       i.answers,
-      λ m s.
-          let run = i.run m s in (
+      λ k m s.
+          let run = i.run k m s in (
             run.0,
             (
               i.bytes,
@@ -50,8 +51,8 @@ returns-in-Ok-None-clause-served g c =
     let lt : length i.messages < c.args.limit = omega (arith, i.count, c.serving-test.true) in (
       i.messages,
       i.answers,
-      λ m s.
-          let run = i.run m s in (
+      λ k m s.
+          let run = i.run k m s in (
             run.0,
             (
               i.bytes ++ next.0,
@@ -77,19 +78,19 @@ returns-then-is_last-clause-served g c =
     let last = sym (c.if-is_last.ensures message next.4) in (
       i.messages ++ message ∷ [],
       i.answers ++ said.0 ∷ [],
-      λ m s.
-          let run = i.run m s in (
+      λ k m s.
+          let run = i.run (said.1.reliable k) m s in (
             answered run.0 message said.0,
             (
               i.bytes ++ next.0,
               moves_more _ _ _ i.bytes next.0 i.moved next.2,
               stops-last c.args.limit _ i.messages _ message _ _ chain lt next.3 last,
               simp length-append (omega (arith, i.count)),
-              run-snoc _ m i.messages i.answers run.0 message said.0 run.1 (said.1.answer run.0 message run.2 next.4),
+              run-snoc _ m i.messages i.answers run.0 message said.0 run.1 (said.1.answer k run.0 message run.2 next.4),
               rw (texts-snoc i.answers said.0) (writes_more _ _ _ _ _ i.written said.2),
             ),
-            said.1.state run.0 message run.2 next.4,
-            λ states h. rw (left-snoc _ m states i.messages i.answers run.0 message said.0 run.1) (said.1.left run.0 _ message run.2 (run.3 states h) next.4),
+            said.1.state k run.0 message run.2 next.4,
+            λ states h. rw (left-snoc _ m states i.messages i.answers run.0 message said.0 run.1) (said.1.left k run.0 _ message run.2 (run.3 states h) next.4),
           ),
     )
 
@@ -110,12 +111,13 @@ serving-preserved g c =
       count = simp length-append (omega (arith, i.count));
       within = omega (arith, c.serving-test.true);
       answers = i.answers ++ said.0 ∷ [];
-      run = λ m s.
-          let run = i.run m s in (
+      reliable = λ k. i.reliable (said.1.reliable k);
+      run = λ k m s.
+          let run = i.run (said.1.reliable k) m s in (
             answered run.0 message said.0,
-            run-snoc _ m i.messages i.answers run.0 message said.0 run.1 (said.1.answer run.0 message run.2 next.4),
-            said.1.state run.0 message run.2 next.4,
-            λ states h. rw (left-snoc _ m states i.messages i.answers run.0 message said.0 run.1) (said.1.left run.0 _ message run.2 (run.3 states h) next.4),
+            run-snoc _ m i.messages i.answers run.0 message said.0 run.1 (said.1.answer k run.0 message run.2 next.4),
+            said.1.state k run.0 message run.2 next.4,
+            λ states h. rw (left-snoc _ m states i.messages i.answers run.0 message said.0 run.1) (said.1.left k run.0 _ message run.2 (run.3 states h) next.4),
           );
       written = rw (texts-snoc i.answers said.0) (writes_more _ _ _ _ _ i.written said.2);
       reads = c.in-Ok-Some.ensures.counted ∙ i.reads;
@@ -130,8 +132,8 @@ returns-in-Err-clause-served g c =
     let lt : length i.messages < c.args.limit = omega (arith, i.count, c.serving-test.true) in (
       i.messages,
       i.answers,
-      λ m s.
-          let run = i.run m s in (
+      λ k m s.
+          let run = i.run k m s in (
             run.0,
             (
               i.bytes ++ next.0,
@@ -155,8 +157,8 @@ returns-in-Err-respond-clause-served g c =
     let lt : length i.messages < c.args.limit = omega (arith, i.count, c.serving-test.true) in (
       i.messages ++ message ∷ [],
       i.answers ++ said.0 ∷ [],
-      λ m s.
-          let run = i.run m s in (
+      λ k m s.
+          let run = i.run (said.1.reliable k) m s in (
             answered run.0 message said.0,
             (
               i.bytes ++ next.0,
@@ -169,10 +171,10 @@ returns-in-Err-respond-clause-served g c =
               refl,
               said.2.2,
               said.2.3,
-              run-snoc _ m i.messages i.answers run.0 message said.0 run.1 (said.1.answer run.0 message run.2 next.4),
+              run-snoc _ m i.messages i.answers run.0 message said.0 run.1 (said.1.answer k run.0 message run.2 next.4),
               writes_to_more _ _ _ _ _ i.written said.2.4,
             ),
-            said.1.state run.0 message run.2 next.4,
-            λ states h. rw (left-snoc _ m states i.messages i.answers run.0 message said.0 run.1) (said.1.left run.0 _ message run.2 (run.3 states h) next.4),
+            said.1.state k run.0 message run.2 next.4,
+            λ states h. rw (left-snoc _ m states i.messages i.answers run.0 message said.0 run.1) (said.1.left k run.0 _ message run.2 (run.3 states h) next.4),
           ),
     )

@@ -17,7 +17,8 @@ invariant-serving g l = record {
   count : l.count ≡ length messages;
   within : l.count ≤ l.limit;
   answers : List AnswerValue;
-  run : (m : State) → g.D.Desk.stands l.fn.desk m → (n : State) × Run g.D.Desk.store_may_refuse m messages answers n × g.D.Desk.stands l.desk n
+  reliable : g.D.Desk.is_reliable l.desk → g.D.Desk.is_reliable l.fn.desk;
+  run : g.D.Desk.is_reliable l.desk → (m : State) → g.D.Desk.stands l.fn.desk m → (n : State) × Run g.D.Desk.store_may_refuse m messages answers n × g.D.Desk.stands l.desk n
       × ((states : List State) → g.D.Desk.may_leave l.fn.desk states → g.D.Desk.may_leave l.desk (left_by m states messages answers));
   written : Writes (g.W.Sink.output l.fn.w) (texts answers) (g.W.Sink.output l.w);
   reads : g.R.Source.failed l.r ≡ g.R.Source.failed l.fn.r;

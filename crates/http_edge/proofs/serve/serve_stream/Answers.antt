@@ -5,4 +5,4 @@ use Rattle.http_edge.proofs.serve.serve_stream.Goals as goal
 pub returns-in_err-reader-clause-served : goal.returns-in_err-reader-clause-served
 returns-in_err-reader-clause-served g c =
     let is : c.from_residual.result ≡ Err Memory = search rules in
-    rw is ([], [], λ m s. (m, (refl, refl, refl, refl, refl), s, λ states h. h))
+    rw is ([], [], λ k m s. (m, (refl, refl, refl, refl, refl), s, λ states h. h))

@@ -1,0 +1,8 @@
+use Rattle.tables.specs.State.{nothing}
+use Rattle.codenav.proofs.replay.replay_in_memory.Goals as goal
+
+pub returns-clause-replays : goal.returns-clause-replays
+returns-clause-replays g c =
+    let served = c.replay-answer.ensures.replays in
+    let run = served.2 c.memory_law.ensures nothing c.in-Ok.ensures.stands in
+    (served.0, served.1, run.0, run.1)

@@ -1,0 +1,6 @@
+use Rattle.codenav.proofs.serve.serve_in_memory.Goals as goal
+
+pub returns : goal.returns
+returns g c =
+    let served = c.serve_connections-answer.ensures in
+    (served.0, served.1, λ m stood. served.2 c.memory_law.ensures m stood)
