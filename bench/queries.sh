@@ -1,24 +1,29 @@
 #!/usr/bin/env bash
-# Measures what queries at positions cost a desk in memory: the median time of definition, references and hover over two
-# dumps of some 80,000 elements each, of which one imports what the other exports, beside the median time of a query for the
-# projects; and the time where one result has 40,000 `item` edges to one range.
+# Measures what requests cost a desk over the tables of a database. Over a file: the median time of definition, references and hover over two dumps of
+# some 80,000 elements each, of which one imports what the other exports, against C SQLite by Python's `sqlite3`, which asks the same database the same
+# statements and makes the same replies, in one run; and the median time of a query for the projects. In memory: a put of the greater dump into an empty
+# database, against its check and the replacement of its rows. Then the time where one result has 40,000 `item` edges to one range.
 # usage: bench/queries.sh [QUERIES]      (default 200 of each kind)
 # It builds and proves a small program over the crates of this repository, in a copy beside /tmp, which takes some minutes.
 set -eu
 queries=${1:-200}
 . "$(dirname "${BASH_SOURCE[0]}")/shared.sh"
 
-build_program queries "positions lsif desk" <<'EOP'
-//! Serves the puts and the queries of a file, a line each, and prints the kind, the microseconds and the status of each.
+build_program queries "positions lsif dump flatten tables desk sqlite" "$program_check" <<'EOP'
+//! Serves the puts and the queries of the file `commands`, a line each, over the database `index.db`, and prints the kind, the microseconds, the status
+//! and the body of each. Of `memory FILE` it prints how long a put into an empty database in memory takes, the check of the dump, and the replacement.
 #![tactic(auto)]
-use desk::{Command, Desk, DocUri, Key, PlainDesk, ProjectName, Query, Reply};
-use lsif::Profile;
+use desk::{Command, Desk, DocUri, Key, ProjectName, Query, Reply, TableDesk};
+use dump::{CheckedDump, Checker};
+use flatten::flatten;
+use lsif::{Profile, ReadFault, read_element};
 use positions::Position;
+use sqlite::Connection;
 use std::alloc::Global;
 use std::process::ExitCode;
-use std::rt::{Clock, Files};
 use std::time::Instant;
 use std::{fs, io};
+use tables::Tables;
 
 fn number(text: &str) -> io::Result<u32> {
     text.parse::<u32>().map_err(|_| bad())
@@ -38,26 +43,55 @@ fn query(alloc: Global, words: &[&str]) -> io::Result<Query> {
     }
 }
 
-fn put<R: Alloc<A = Global> + Files>(rt: &R, desk: &mut PlainDesk, project: &str, name: &str) -> io::Result<Reply> {
-    let body = fs::read(rt, name)?;
-    let project = ProjectName::read(rt.alloc(), project)?.ok_or(bad())?;
-    let key = Key::read(rt.alloc(), "k")?.ok_or(bad())?;
-    Ok(desk.apply(&Command::PutDump { project, key, profile: Profile::One, body: &body }))
+fn put<D: Desk>(alloc: Global, desk: &mut D, project: &str, body: &[u8]) -> io::Result<Reply> {
+    let project = ProjectName::read(alloc, project)?.ok_or(bad())?;
+    let key = Key::read(alloc, "k")?.ok_or(bad())?;
+    Ok(desk.apply(&Command::PutDump { project, key, profile: Profile::One, body }))
 }
 
-fn serve<R: Alloc<A = Global> + Files>(rt: &R, desk: &mut PlainDesk, words: &[&str]) -> io::Result<Reply> {
+fn serve<D: Desk>(rt: &HostRuntime, desk: &mut D, words: &[&str]) -> io::Result<Reply> {
     if let ["put", project, name] = words {
-        put(rt, desk, project, name)
+        put(rt.alloc(), desk, project, &fs::read(rt, name)?)
     } else {
         let query = query(rt.alloc(), words)?;
         Ok(desk.ask(&query))
     }
 }
 
-fn run<R: Alloc<A = Global> + Files + Print + Clock>(rt: &R) -> io::Result<()> {
-    let mut desk = PlainDesk::new(rt.alloc());
+fn in_memory(rt: &HostRuntime, name: &str) -> io::Result<()> {
+    let body = fs::read(rt, name)?;
+    let mut desk = TableDesk::open_in_memory(rt.alloc())?;
+    let start = Instant::now(rt)?;
+    let reply = put(rt.alloc(), &mut desk, "app", &body)?;
+    let time = start.elapsed(rt)?;
+    println!(rt; "memory {} {}", time.as_nanos() / 1000, reply.status())?;
+    let start = Instant::now(rt)?;
+    let dump = check(rt.alloc(), &body)?;
+    let time = start.elapsed(rt)?;
+    println!(rt; "check {} 200", time.as_nanos() / 1000)?;
+    let Ok(mut tables) = Tables::open(Connection::open_in_memory(rt.alloc())?) else {
+        return Err(bad());
+    };
+    let start = Instant::now(rt)?;
+    let rows = flatten(rt.alloc(), &dump).map_err(|_| bad())?;
+    tables.replace_dump("app", "k", reply.body(), &rows).map_err(|_| bad())?;
+    let time = start.elapsed(rt)?;
+    println!(rt; "replacement {} 200", time.as_nanos() / 1000)?;
+    Ok(())
+}
+
+fn run(rt: &HostRuntime) -> io::Result<()> {
+    let conn = Connection::open(rt, "index.db").map_err(|_| bad())?;
+    let Ok(tables) = Tables::open(conn) else {
+        return Err(bad());
+    };
+    let mut desk = TableDesk::new(rt.alloc(), tables);
     let text = fs::read_to_string(rt, "commands")?;
     for line in text.lines() {
+        if let Some(name) = line.strip_prefix("memory ") {
+            in_memory(rt, name)?;
+            continue;
+        }
         let mut words = Vec::new(rt.alloc());
         for word in line.split(' ') {
             words.push(word)?;
@@ -65,11 +99,114 @@ fn run<R: Alloc<A = Global> + Files + Print + Clock>(rt: &R) -> io::Result<()> {
         let start = Instant::now(rt)?;
         let reply = serve(rt, &mut desk, &words)?;
         let time = start.elapsed(rt)?;
-        println!(rt; "{} {} {}", line.split(' ').next().unwrap_or(""), time.as_nanos() / 1000, reply.status())?;
+        println!(rt; "{} {} {} {}", line.split(' ').next().unwrap_or(""), time.as_nanos() / 1000, reply.status(), reply.body())?;
     }
     Ok(())
 }
 EOP
+
+# The same queries by C SQLite.
+cat >"$folder/peer.py" <<'PY'
+"""Asks the database that the program made the same queries by C SQLite, and prints of each the kind, the nanoseconds and the reply's body."""
+import json, sqlite3, sys, time
+
+base = sqlite3.connect(sys.argv[1], isolation_level=None)
+SHOWN = "SELECT line, first, last, parent, def, refs, hover FROM range_row WHERE slot = ?1 AND "
+START = SHOWN + "uri = ?2 AND first <= ?3 AND last > first ORDER BY first DESC, last LIMIT 1"
+PARENT = SHOWN + "line = ?2 AND uri = ?3"
+IMPORT, EXPORT = 0, 1
+
+
+def one(text, *values):
+    return base.execute(text, values).fetchone()
+
+
+def every(text, *values):
+    return base.execute(text, values).fetchall()
+
+
+def slot_of(project):
+    return one("SELECT id FROM slot WHERE project = ?1 AND part = ?2", project, 1)[0]
+
+
+def covering(slot, uri, at):
+    if one("SELECT slot FROM document WHERE slot = ?1 AND uri = ?2", slot, uri) is None:
+        return []
+    found, row = [], one(START, slot, uri, at)
+    while row is not None:
+        if at < row[2]:
+            found.append(row)
+        row = None if row[3] is None else one(PARENT, slot, row[3], uri)
+    return [(row, one("SELECT decl, imp FROM more WHERE slot = ?1 AND line = ?2", slot, row[0])) for row in found]
+
+
+def picked(slot, uri, at, column, kinds):
+    for row, _ in covering(slot, uri, at):
+        marks = every("SELECT kind, keytext FROM mark WHERE slot = ?1 AND line = ?2", slot, row[0])
+        keys = [key for kind, key in marks if kind in kinds]
+        if row[column] is not None or keys:
+            return row, keys
+    return None, []
+
+
+def bearers(own, keys, kinds, column):
+    found = []
+    for key in keys:
+        for slot, line, kind, *results in every("SELECT slot, line, kind, def, refs, hover FROM bearer WHERE keytext = ?1", key):
+            one("SELECT decl, imp FROM more WHERE slot = ?1 AND line = ?2", slot, line)
+            project = one("SELECT project FROM slot WHERE id = ?1", slot)[0]
+            if project != own and kind in kinds and results[column - 4] is not None:
+                found.append((project, line, results[column - 4]))
+    return sorted(set(found))
+
+
+def position(packed):
+    return {"character": packed % 2**31, "line": packed // 2**31}
+
+
+def places(project, uri, at, column, kinds, roles):
+    row, keys = picked(slot_of(project), uri, at, column, kinds)
+    if row is None:
+        return {"places": []}
+    results = {(name, number) for name, _, number in bearers(project, keys, {EXPORT} if column == 4 else {IMPORT, EXPORT}, column)}
+    if row[column] is not None:
+        results.add((project, row[column]))
+    found = set()
+    for name, number in sorted(results):
+        for role in roles:
+            for place in every("SELECT uri, first, last FROM item WHERE slot = ?1 AND result = ?2 AND role = ?3", slot_of(name), number, role):
+                found.add((name, *place))
+    return {"places": [{"end": position(end), "project": name, "start": position(start), "uri": uri} for name, uri, start, end in sorted(found)]}
+
+
+def hover(project, uri, at):
+    row, keys = picked(slot_of(project), uri, at, 6, {IMPORT})
+    text = "SELECT contents FROM hover WHERE slot = ?1 AND result = ?2"
+    if row is None:
+        return "null"
+    if row[6] is not None:
+        return one(text, slot_of(project), row[6])[0]
+    for name, _, number in bearers(project, keys, {EXPORT}, 6):
+        return one(text, slot_of(name), number)[0]
+    return "null"
+
+
+def ask(kind, project, uri, line, character):
+    at = int(line) * 2**31 + int(character)
+    if kind == "hover":
+        return '{"contents":' + hover(project, uri, at) + "}"
+    column, kinds, roles = (4, {IMPORT}, [0]) if kind == "definition" else (5, {IMPORT, EXPORT}, [0, 1])
+    return json.dumps(places(project, uri, at, column, kinds, roles), separators=(",", ":"))
+
+
+for text in open("commands"):
+    words = text.split()
+    if words[0] in ("put", "projects"):
+        continue
+    start = time.perf_counter_ns()
+    body = ask(*words)
+    print(words[0], (time.perf_counter_ns() - start) // 1000, body)
+PY
 
 # A dump of documents with result sets, each named four times, each with a definition, references, a hover and a moniker with a
 # package; or, where it imports, without definitions and hovers. So many result sets.
@@ -152,36 +289,42 @@ make_queries() {
     }'
 }
 
-# The median times of the queries in a file of commands.
+# The median of the microseconds of this kind in a file.
+median() {
+    awk -v kind="$1" '$1 == kind { print $2 }' "$2" | sort -n | awk '{ all[NR] = $1 } END { print all[int((NR + 1) / 2)] }'
+}
+
+# The medians of the queries of the file `commands`, beside the peer's.
 measure() {
-    (cd "$folder" && "$program") | awk -v name="$1" '
-        $1 != "put" { times[$1] = times[$1] " " $2 + 0; if ($3 != 200) wrong++ }
-        END {
-            for (kind in times) {
-                count = split(times[kind], list, " ")
-                for (i = 2; i <= count; i++) {
-                    value = list[i] + 0
-                    for (j = i - 1; j > 0 && list[j] + 0 > value; j--)
-                        list[j + 1] = list[j]
-                    list[j + 1] = value
-                }
-                printf "%-24s %-12s %6d queries %10.2f ms at the median %10.2f ms at most\n", name, kind, count, list[int((count + 1) / 2)] / 1000, list[count] / 1000
-            }
-            if (wrong)
-                print name ": " wrong " replies without an answer"
-        }' | sort
+    (cd "$folder" && "$built" >own && python3 peer.py index.db >peer)
+    if ! cmp -s <(grep -v '^put \|^projects ' "$folder/own" | cut -d' ' -f1,4-) <(cut -d' ' -f1,3- "$folder/peer"); then
+        echo "queries: the replies of $1 differ" >&2
+        exit 1
+    fi
+    for kind in definition references hover; do
+        awk -v name="$1" -v kind="$kind" -v own="$(median $kind "$folder/own")" -v peer="$(median $kind "$folder/peer")" 'BEGIN {
+            printf "%-14s %-12s %9.1f us %9.1f us %7.2f\n", name, kind, own, peer, own / peer
+        }'
+    done
+    printf '%-14s %-12s %9.1f us\n' "$1" projects "$(median projects "$folder/own")"
 }
 
 make_dump lib 4190 export >"$folder/lib.lsif"
 make_dump app 6110 import >"$folder/app.lsif"
 make_wide >"$folder/wide.lsif"
 wc -l "$folder"/*.lsif | head -3
-program=$built
+printf '%-14s %-12s %12s %12s %7s\n' project query desk "C SQLite" ratio
 for project in lib app; do
     sets=4190
     [ "$project" = lib ] || sets=6110
+    rm -f "$folder"/index.db*
     { echo "put lib lib.lsif"; echo "put app app.lsif"; make_queries "$project" "$sets" "$queries"; } >"$folder/commands"
     measure "$project"
 done
-{ echo "put w wide.lsif"; for _ in $(seq 20); do echo "references w file:///w.ts 0 1"; done; } >"$folder/commands"
-measure "40,000 items"
+rm -f "$folder"/index.db*
+{ echo "put w wide.lsif"; for _ in $(seq 20); do echo "references w file:///w.ts 0 1"; done; echo "memory lib.lsif"; } >"$folder/commands"
+(cd "$folder" && "$built" >own)
+printf '%-14s %-12s %9.1f us\n' "40,000 items" references "$(median references "$folder/own")"
+awk '{ times[$1] = $2 } END {
+    printf "put in memory %.1f ms, check %.1f ms, replacement %.1f ms, ratio %.2f\n", times["memory"] / 1000, times["check"] / 1000, times["replacement"] / 1000, times["memory"] / (times["check"] + times["replacement"])
+}' "$folder/own"

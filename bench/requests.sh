@@ -17,7 +17,7 @@ build_program asks "positions lsif desk" <<'EOP'
 //! Asks a desk that has the dump of the file `dump` for the projects and for a definition, as often as the file `count` says, and
 //! prints the nanoseconds of one query of each kind.
 #![tactic(auto)]
-use desk::{Command, Desk, DocUri, Key, PlainDesk, ProjectName, Query};
+use desk::{Command, Desk, DocUri, Key, ProjectName, Query, TableDesk};
 use lsif::Profile;
 use positions::Position;
 use std::alloc::Global;
@@ -36,7 +36,7 @@ fn definition(alloc: Global) -> io::Result<Query> {
     Ok(Query::Definition { project: project(alloc)?, uri, at })
 }
 
-fn ask<R: Print + Clock>(rt: &R, desk: &mut PlainDesk, query: &Query, name: &str, count: u32) -> io::Result<()> {
+fn ask<R: Print + Clock, D: Desk>(rt: &R, desk: &mut D, query: &Query, name: &str, count: u32) -> io::Result<()> {
     let start = Instant::now(rt)?;
     for _ in 0..count {
         if desk.ask(query).status() != 200 {
@@ -54,7 +54,7 @@ fn run<R: Alloc<A = Global> + Files + Print + Clock>(rt: &R) -> io::Result<()> {
     let count = count.trim_end().parse::<u32>().map_err(|_| bad())?;
     let body = fs::read(rt, "dump")?;
     let key = Key::read(alloc, "k1")?.ok_or(bad())?;
-    let mut desk = PlainDesk::new(alloc);
+    let mut desk = TableDesk::open_in_memory(alloc)?;
     desk.apply(&Command::PutDump { project: project(alloc)?, key, profile: Profile::One, body: &body });
     let definition = definition(alloc)?;
     ask(rt, &mut desk, &Query::Projects, "projects", count)?;

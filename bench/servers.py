@@ -12,6 +12,7 @@ from typing import Callable, Iterator, Optional
 
 TOP = pathlib.Path(__file__).resolve().parent.parent
 sys.path.insert(0, str(TOP / "tools"))
+WAIT = 600
 
 CONFIG = """
 daemon off;
@@ -43,7 +44,7 @@ http {{
 
 def ask(port: int, method: str, path: str, body: Optional[bytes] = None) -> tuple[int, dict]:
     """The status and the reply of a request."""
-    connection = http.client.HTTPConnection("127.0.0.1", port, timeout=60)
+    connection = http.client.HTTPConnection("127.0.0.1", port, timeout=WAIT)
     connection.request(method, path, body)
     answer = connection.getresponse()
     reply = answer.status, json.loads(answer.read())

@@ -87,9 +87,9 @@ def free_port() -> int:
     return port
 
 
-def started(program: str, port: int, requests: int) -> subprocess.Popen[bytes]:
-    """A server that has said that it listens; it ends by itself after so many requests."""
-    words = [program, "serve", ":memory:", "--port", str(port), "--requests", str(requests)]
+def started(program: str, port: int, requests: int, database: str = ":memory:") -> subprocess.Popen[bytes]:
+    """A server over a database that has said that it listens; it ends by itself after so many requests."""
+    words = [program, "serve", database, "--port", str(port), "--requests", str(requests)]
     print(f"$ {shlex.join(words)} &", flush=True)
     server = subprocess.Popen(words, stdout=subprocess.PIPE)
     assert server.stdout is not None

@@ -1,0 +1,87 @@
+#!/usr/bin/env bash
+# Measures what an answer of 40,000 places holds in memory beside the index: the greatest resident size of a program that asks a desk over the tables of a
+# file for them, less that of the same program where it asks for one place, against the reply's bytes.
+# usage: bench/answers.sh [PLACES]      (default 40000)
+# It builds and proves a small program over the crates of this repository, in a copy beside /tmp, which takes some minutes.
+set -eu
+places=${1:-40000}
+. "$(dirname "${BASH_SOURCE[0]}")/shared.sh"
+
+build_program answers "positions lsif desk tables sqlite" <<'EOP'
+//! Puts the dump `made` into the database `index.db`, where that file is there; else asks it for the references at the position of the file `asked`, and
+//! prints the status and the length of the body.
+#![tactic(auto)]
+use desk::{Command, Desk, DocUri, Key, ProjectName, Query, TableDesk};
+use lsif::Profile;
+use positions::Position;
+use sqlite::Connection;
+use std::process::ExitCode;
+use std::{fs, io};
+use tables::Tables;
+
+fn run(rt: &HostRuntime) -> io::Result<()> {
+    let alloc = rt.alloc();
+    let conn = Connection::open(rt, "index.db").map_err(|_| bad())?;
+    let Ok(tables) = Tables::open(conn) else {
+        return Err(bad());
+    };
+    let mut desk = TableDesk::new(alloc, tables);
+    let project = ProjectName::read(alloc, "app")?.ok_or(bad())?;
+    let reply = match fs::read(rt, "made") {
+        Ok(body) => {
+            let key = Key::read(alloc, "k")?.ok_or(bad())?;
+            desk.apply(&Command::PutDump { project, key, profile: Profile::One, body: &body })
+        }
+        Err(_) => {
+            let line = fs::read_to_string(rt, "asked")?.trim().parse::<u32>().map_err(|_| bad())?;
+            let uri = DocUri::read(alloc, "file:///w.ts")?.ok_or(bad())?;
+            let at = Position::new(line, 0).ok_or(bad())?;
+            desk.ask(&Query::References { project, uri, at, declaration: true })
+        }
+    };
+    println!(rt; "{} {}", reply.status(), reply.body().len())?;
+    Ok(())
+}
+EOP
+
+# A dump whose ranges each have a line of their own: all but the last are items of one result, which the first has; the last has a result of its own.
+awk -v places="$places" 'BEGIN {
+    print "{\"id\":1,\"type\":\"vertex\",\"label\":\"metaData\",\"version\":\"0.6.0\",\"positionEncoding\":\"utf-16\"}"
+    print "{\"id\":2,\"type\":\"vertex\",\"label\":\"document\",\"uri\":\"file:///w.ts\"}"
+    for (n = 0; n <= places; n++) {
+        print "{\"id\":" n + 3 ",\"type\":\"vertex\",\"label\":\"range\",\"start\":{\"line\":" n ",\"character\":0},\"end\":{\"line\":" n ",\"character\":4}}"
+        all = all (n ? "," : "") n + 3
+        if (n < places)
+            most = most (n ? "," : "") n + 3
+    }
+    print "{\"id\":\"r\",\"type\":\"vertex\",\"label\":\"referenceResult\"}"
+    print "{\"id\":\"s\",\"type\":\"vertex\",\"label\":\"referenceResult\"}"
+    print "{\"id\":\"a\",\"type\":\"edge\",\"label\":\"textDocument/references\",\"outV\":3,\"inV\":\"r\"}"
+    print "{\"id\":\"b\",\"type\":\"edge\",\"label\":\"textDocument/references\",\"outV\":" places + 3 ",\"inV\":\"s\"}"
+    print "{\"id\":\"i\",\"type\":\"edge\",\"label\":\"item\",\"outV\":\"r\",\"inVs\":[" most "],\"shard\":2,\"property\":\"references\"}"
+    print "{\"id\":\"j\",\"type\":\"edge\",\"label\":\"item\",\"outV\":\"s\",\"inVs\":[" places + 3 "],\"shard\":2,\"property\":\"references\"}"
+    print "{\"id\":\"c\",\"type\":\"edge\",\"label\":\"contains\",\"outV\":2,\"inVs\":[" all "]}"
+}' >"$folder/made"
+cat >"$folder/measure.py" <<'PY'
+"""Asks at two lines, each in a process of its own, and prints the sizes in KiB, the reply's length and the ratio."""
+import os, subprocess, sys
+
+program, places = sys.argv[1], int(sys.argv[2])
+subprocess.run([program], check=True, stdout=subprocess.DEVNULL)
+os.remove("made")
+
+
+def asked(line):
+    with open("asked", "w") as file:
+        file.write(str(line))
+    child = subprocess.Popen([program], stdout=subprocess.PIPE)
+    length = int(child.stdout.read().split()[1])
+    _, status, usage = os.wait4(child.pid, 0)
+    return usage.ru_maxrss, length
+
+
+one, _ = asked(places)
+all_places, length = asked(0)
+print(f"one place {one} KiB, {places} places {all_places} KiB, reply {length / 1024:.0f} KiB, ratio {(all_places - one) * 1024 / length:.2f}")
+PY
+(cd "$folder" && python3 measure.py "$built" "$places")
