@@ -6,3 +6,8 @@ returns-clause-replays g c =
     let served = c.replay-answer.ensures.replays in
     let run = served.2 c.memory_law.ensures nothing c.in-Ok.ensures.stands in
     (served.0, served.1, run.0, run.1)
+
+pub returns-clause-memory : goal.returns-clause-memory
+returns-clause-memory g c = λ refused.
+    let same = c.replay-answer.ensures.memory refused in
+    (same.1, same.2)
