@@ -57,11 +57,11 @@ module _ (db : Trees) (made : WasMade db) where
   }
 
   pub stands_empty : StandsFor db nothing
-  stands_empty = record { parts = λ p k. None; keeps = keeps_nothing; dumps = λ p. tt; tags = λ p. tt; others = λ p k one two. refl }
+  stands_empty = record { listed = made.2; parts = λ p k. None; keeps = keeps_nothing; dumps = λ p. tt; tags = λ p. tt; others = λ p k one two. refl }
 
 -- tables that were made and committed
 pub made_rests : (s : sqlite.State) → IsMade s.now → s.committed ≡ s.now → Rests s nothing
-made_rests s made settled = record { schema_is = made.schema_is; settled = settled; stands = stands_empty s.now.trees (made.version, made.others) }
+made_rests s made settled = record { schema_is = made.schema_is; settled = settled; stands = stands_empty s.now.trees (made.version, made.others, made.listed) }
 
 -- ---- the version
 

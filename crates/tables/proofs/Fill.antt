@@ -27,7 +27,7 @@ use Rattle.sqlite_rules.specs.declared.error.Rowids.TheVariants.{Chosen, Given}
 use Rattle.sqlite_rules.proofs.ListLemmas.{has_contained, contains_had, has_filtered}
 use Rattle.sqlite_rules.proofs.TableLemmas.{put_all_has, put_all_adds}
 use Rattle.sqlite_tied.specs.Compute.{everything}
-use Rattle.sqlite.specs.Effect.{Database}
+use Rattle.sqlite.specs.Effect.{Database, IsDatabase}
 use Rattle.sqlite.specs.Does.{Tally, Does, OnRows}
 use Rattle.sqlite.specs.Listing.{understood, listing_schema}
 use Rattle.sqlite.specs.Rows.{Written, Task, Inserts, Updates}
@@ -250,6 +250,7 @@ rise_does limit db text tally after has h = rise_rows limit db tally after (subs
 
 pub record Risen (old new : Database) : Type 0 where
   pub schema_is : new.schema ≡ schema_two
+  pub sound : IsDatabase new
   pub version : new.trees 0 ≡ version_row 2
   pub others : Rattle.std.specs.List.AllByRecursion (λ t. t.tree ≢ 0 → new.trees t.tree ≡ old.trees t.tree) schema_two.tables
 
@@ -262,4 +263,4 @@ rises old new count has was h =
     let w = runs_as set_version [] old new schema_two has (Update 0 rise) rise_is rise_quiet.0 count (from_batch set_version [] old new schema_two count has rise_quiet.1 h) in
     let did = rise_does old.step_limit old.now (statement_of set_version (understood schema_two set_version)) w.tally new.now has w.changed in
     let one = one_permutation (Int (pos 1) ∷ Int (pos 2) ∷ Null ∷ []) did.1.0 (subst (λ xs. IsPermutation (chosen [] (col 1 0 ∷ lit (Int (pos 2)) ∷ lit Null ∷ []) [] xs) did.1.0) was did.1.1) in
-    record { schema_is = did.0; version = did.1.2.rows ∙ risen_row old.now.trees did.1.0 was one; others = did.1.2.tables }
+    record { schema_is = did.0; sound = w.sound; version = did.1.2.rows ∙ risen_row old.now.trees did.1.0 was one; others = did.1.2.tables }

@@ -24,7 +24,8 @@ use Rattle.tables.specs.Steps.Texts.{insert_slot, insert_keyed, insert_document,
 use Rattle.tables.specs.Schema.{schema_two, slot, keyed, document, range_row, item, hover, mark, bearer, tag, part_profile, more}
 use Rattle.tables.specs.Steps.Puts.{Steps, Puts, PutsAll}
 use Rattle.tables.proofs.Insert.{new_row}
-use Rattle.tables.proofs.Puts.{put_at, put_ok}
+use Rattle.tables.specs.Databases.{IsListed}
+use Rattle.tables.proofs.Puts.{put_at, put_ok, listed_ok}
 use Rattle.tables.proofs.Commands.{insert_slot_is, insert_slot_plain, insert_keyed_is, insert_keyed_plain, insert_document_is, insert_document_plain, insert_range_row_is, insert_range_row_plain, insert_item_is, insert_item_plain, insert_hover_is, insert_hover_plain, insert_mark_is, insert_mark_plain, insert_bearer_is, insert_bearer_plain, insert_tag_is, insert_tag_plain, insert_part_profile_is, insert_part_profile_plain, insert_more_is, insert_more_plain}
 
 either : (b : Bool) (x : Value) → cond b x x ≡ x
@@ -96,6 +97,11 @@ pub keyed_put : (project key reply : List ℕ) (old new : State) (done : Result 
     → OnOk done (Steps (PutsAll 3 ((Text project ∷ Text key ∷ Text reply ∷ []) ∷ [])) old new)
 keyed_put project key reply =
     put_ok insert_keyed (Text project ∷ Text key ∷ Text reply ∷ []) 2 keyed keyed_terms 4 insert_keyed_is insert_keyed_plain refl (λ p. refl) keyed_quiet (Text project ∷ Text key ∷ Text reply ∷ []) (λ db. keyed_values db project key reply)
+
+pub keyed_listed : (project key reply : List ℕ) (old new : State) (done : Result ℕ Error) → old.now.schema ≡ schema_two → ExecutesInside 0 insert_keyed (Text project ∷ Text key ∷ Text reply ∷ []) old new done
+    → OnOk done (IsListed schema_two new.now.trees)
+keyed_listed project key reply =
+    listed_ok insert_keyed (Text project ∷ Text key ∷ Text reply ∷ []) 2 keyed keyed_terms 4 insert_keyed_is insert_keyed_plain refl (λ p. refl) keyed_quiet (Text project ∷ Text key ∷ Text reply ∷ []) (λ db. keyed_values db project key reply)
 
 -- document
 

@@ -16,6 +16,7 @@ pub mod Equalities
 pub mod Fill
 pub mod Filling
 pub mod FirstRows
+pub mod Found
 pub mod FoundBearers
 pub mod FoundDocuments
 pub mod FoundItems

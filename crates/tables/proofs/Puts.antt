@@ -24,7 +24,7 @@ use Rattle.sqlite.proofs.Callers.{IsPlain, command_of}
 use Rattle.sqlite.proofs.StateLemmas.{survives_then}
 use Rattle.tables.specs.Schema.{schema_two}
 use Rattle.tables.specs.Steps.Puts.{Steps, Puts, PutsAll}
-use Rattle.tables.specs.Databases.{IsOrdered}
+use Rattle.tables.specs.Databases.{IsListed, IsOrdered}
 use Rattle.tables.proofs.Insert.{Inserted, inserts, adds, new_row, plainly}
 use Rattle.tables.proofs.Cascade.{same_or_not}
 
@@ -152,6 +152,14 @@ module _ (sql : List ℕ) (params : Row) (at : ℕ) (t : Table) (terms : List Te
   pub put_ok : (old new : State) (r : Result ℕ Error) → old.now.schema ≡ schema_two → IsTrue old.in_transaction → ExecutesInside 0 sql params old new r → OnOk r (Steps (PutsAll t.tree (values ∷ [])) old new)
   put_ok old new (Err e) has inside h = tt
   put_ok old new (Ok count) has inside h = let it = put_at old new (Ok count) has inside h in (it.0, puts_one t.tree new.last_rowid values old.now.trees new.now.trees it.1)
+
+  -- and the database lists its tables
+  pub listed_ok : (old new : State) (r : Result ℕ Error) → old.now.schema ≡ schema_two → ExecutesInside 0 sql params old new r → OnOk r (IsListed schema_two new.now.trees)
+  unfolding IsListed
+  listed_ok old new (Err e) has h = tt
+  listed_ok old new (Ok count) has h =
+      let it = inserts schema_two sql params at t terms width is plain placed alone quiet old new count has h.0 in
+      subst (λ s. IsListed s new.now.trees) it.schema_is it.sound.lists
 
 -- the values of a statement, written otherwise
 pub as_params : (sql : List ℕ) (params wanted : Row) (old new : State) (r : Result ℕ Error) → ExecutesInside 0 sql params old new r → params ≡ wanted → ExecutesInside 0 sql wanted old new r

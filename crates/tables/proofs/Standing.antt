@@ -9,6 +9,8 @@ use Rattle.dump.specs.Progress.{DumpValue}
 use Rattle.tags.specs.Values.{TagValue}
 use Rattle.tables.specs.Columns.{tag_rows}
 use Rattle.tables.specs.Contents.{Contents, Replies, Keeps, IsReply, same_text, changed as replaced, kept}
+use Rattle.tables.specs.Databases.{IsListed}
+use Rattle.tables.specs.Schema.{schema_two}
 use Rattle.tables.specs.Stands.{Each, IsDump, AreTags, StandsFor, replies_of}
 use Rattle.tables.specs.State.{State, Accepted, Change, set_dump, set_tags, clear, accepted_text, changed, text_after}
 use Rattle.tables.proofs.Keeping.{same_text_is, same_text_itself, same_int_is}
@@ -74,8 +76,9 @@ stays false x = refl
 
 -- a dump is replaced
 pub dump_changes : (db next : Trees) (m : State) (is : StandsFor db m) (project key reply : List ℕ) (dump : DumpValue) (rows : ℕ → List Row) → IsDump dump rows → reply ≡ text_after m project (set_dump dump)
-    → Keeps next (replaced is.parts project (pos 1) (Some rows)) (kept (replies_of m) project key reply) → StandsFor next (changed m project key (set_dump dump))
-dump_changes db next m is project key reply dump rows of text keeps = record {
+    → Keeps next (replaced is.parts project (pos 1) (Some rows)) (kept (replies_of m) project key reply) → IsListed schema_two next → StandsFor next (changed m project key (set_dump dump))
+dump_changes db next m is project key reply dump rows of text keeps listed = record {
+  listed = listed;
   parts = replaced is.parts project (pos 1) (Some rows);
   keeps = replies_same _ (kept (replies_of m) project key reply) _ next (reply_kept m project key reply (set_dump dump) text) keeps;
   dumps = λ p. picked IsDump (same_text p project) (bytes_eq project p) (Some dump) (m.dump p) (Some rows) (is.parts p (pos 1)) (text_same project p) of (is.dumps p);
@@ -86,8 +89,9 @@ dump_changes db next m is project key reply dump rows of text keeps = record {
 
 -- tags are replaced
 pub tags_change : (db next : Trees) (m : State) (is : StandsFor db m) (project key reply : List ℕ) (tags : List TagValue) → reply ≡ text_after m project (set_tags tags)
-    → Keeps next (replaced is.parts project (pos 2) (Some (tag_rows tags))) (kept (replies_of m) project key reply) → StandsFor next (changed m project key (set_tags tags))
-tags_change db next m is project key reply tags text keeps = record {
+    → Keeps next (replaced is.parts project (pos 2) (Some (tag_rows tags))) (kept (replies_of m) project key reply) → IsListed schema_two next → StandsFor next (changed m project key (set_tags tags))
+tags_change db next m is project key reply tags text keeps listed = record {
+  listed = listed;
   parts = replaced is.parts project (pos 2) (Some (tag_rows tags));
   keeps = replies_same _ (kept (replies_of m) project key reply) _ next (reply_kept m project key reply (set_tags tags) text) keeps;
   dumps = λ p. subst (λ o. Each IsDump o (replaced is.parts project (pos 2) (Some (tag_rows tags)) p (pos 1))) (sym (stays (bytes_eq project p) (m.dump p)))
@@ -98,10 +102,11 @@ tags_change db next m is project key reply tags text keeps = record {
 
 -- both parts go
 pub both_go : (db next : Trees) (m : State) (is : StandsFor db m) (project key reply : List ℕ) → reply ≡ text_after m project clear
-    → Keeps next (replaced (replaced is.parts project (pos 1) None) project (pos 2) None) (kept (replies_of m) project key reply) → StandsFor next (changed m project key clear)
-both_go db next m is project key reply text keeps =
+    → Keeps next (replaced (replaced is.parts project (pos 1) None) project (pos 2) None) (kept (replies_of m) project key reply) → IsListed schema_two next → StandsFor next (changed m project key clear)
+both_go db next m is project key reply text keeps listed =
     let first = replaced is.parts project (pos 1) None in
     record {
+      listed = listed;
       parts = replaced first project (pos 2) None;
       keeps = replies_same _ (kept (replies_of m) project key reply) _ next (reply_kept m project key reply clear text) keeps;
       dumps = λ p. subst (Each IsDump (if bytes_eq project p then None else m.dump p)) (sym (apart first project (pos 2) None p (pos 1) (λ e. cc))) (picked IsDump (same_text p project) (bytes_eq project p) None (m.dump p) None (is.parts p (pos 1)) (text_same project p) tt (is.dumps p));

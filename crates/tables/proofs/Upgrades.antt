@@ -19,7 +19,7 @@ use Rattle.tables.specs.Columns.{profile_columns}
 use Rattle.tables.specs.Schema.{schema_one, schema_two, format, slot, keyed, document, range_row, item, hover, mark, bearer, tag}
 use Rattle.tables.specs.Databases.{IsOrdered, AllOrdered, AreNumbered, Holds, WasUpgraded, IsUpgraded, IsFormatOne, chosen, dump_tests, profile_shown}
 use Rattle.tables.specs.Contents.{Contents, Replies, Keeps, KeepsOne, IsOwned, IsReply, slot_row, owned, owned_one}
-use Rattle.tables.specs.Stands.{Each, IsDump, IsDumpOne, AreTags, StandsFor, StandsIn, Rests, RestsOne, replies_of}
+use Rattle.tables.specs.Stands.{Each, IsDump, IsDumpOne, AreTags, StandsFor, StandsForOne, Rests, RestsOne, replies_of}
 use Rattle.tables.specs.State.{State}
 use Rattle.tables.proofs.Empty.{one_row, version_ordered, version_is}
 use Rattle.tables.proofs.Keeping.{from_map, to_map, none_is_some, same_int_is, same_int_itself}
@@ -152,7 +152,7 @@ dump_of_two None (Some rows) none = absurd none
 dump_of_two (Some dump) None none = absurd none
 dump_of_two (Some dump) (Some rows) is = is.is_dump
 
-module _ (db : Trees) (m : State) (is : StandsIn KeepsOne IsDumpOne db m) where
+module _ (db : Trees) (m : State) (is : StandsForOne db m) where
   besides : HasBesides is.parts
   besides project part rows has = elim (cases_Bool (is_eq (int_cmp part (pos 1)))) [
     | inl one ↦
@@ -171,6 +171,7 @@ module _ (db : Trees) (m : State) (is : StandsIn KeepsOne IsDumpOne db m) where
 
   pub stands_upgraded : (next : Trees) → WasUpgraded db next → StandsFor next m
   stands_upgraded next up = record {
+    listed = up.listed;
     parts = is.parts;
     keeps = keeps_upgraded db next is.parts (replies_of m) is.keeps up besides;
     dumps = λ p. dump_of_two (m.dump p) (is.parts p (pos 1)) (is.dumps p);

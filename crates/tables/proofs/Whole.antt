@@ -25,7 +25,7 @@ use Rattle.sqlite.proofs.Callers.{IsPlain, command_of}
 use Rattle.tables.specs.Steps.Texts.{version_text, rest0, rest15, upgrade0, upgrade5, upgrade6, set_version}
 use Rattle.tables.specs.Schema.{empty_schema, schema_one, schema_two, format, slot, part_profile, more}
 use Rattle.tables.specs.Steps.Kept.{IsKept, no_rows}
-use Rattle.tables.specs.Databases.{IsMade, IsFormatOne, IsUpgraded, WasUpgraded, AreNumbered, IsOrdered, chosen, dump_tests, profile_shown, version_row}
+use Rattle.tables.specs.Databases.{IsListed, IsMade, IsFormatOne, IsUpgraded, WasUpgraded, AreNumbered, IsOrdered, chosen, dump_tests, profile_shown, version_row}
 use Rattle.tables.proofs.Insert.{inserts}
 use Rattle.tables.proofs.Batches.{IsSilent, Script, done, next, also, runs, peel, from_batch}
 use Rattle.tables.proofs.Creations.{stage0, stage10, stage15, makes_one, makes_two, format_makes, slot_makes, keyed_makes, document_makes, range_row_makes, item_makes, hover_makes, mark_makes, bearer_makes, tag_makes, range_by_start_makes, bearer_by_key_makes, tag_by_name_makes, part_profile_makes, more_makes}
@@ -66,12 +66,14 @@ unfolding same_name
 quiet row = refl
 
 filled : (old new : State) (count : ℕ) → IsKept schema_two no_rows old.now → ExecutesIn false version_text [] old new (Ok count) → IsMade new.now
+unfolding IsListed
 filled old new count bare h =
     let it = inserts schema_two version_text [] 0 format (lit (Int (pos 2)) ∷ lit Null ∷ []) 2 insert_is insert_quiet.0 refl (λ p. refl) quiet old new count bare.schema_is h in
     record {
       schema_is = it.schema_is;
       version = it.applies.rows ∙ rw (bare.rows.0, cast_null, cast_int (pos 2));
       others = still old.now.trees new.now.trees schema_two.tables bare.rows it.applies.tables;
+      listed = subst (λ s. IsListed s new.now.trees) it.schema_is it.sound.lists;
     }
   where
     still : (a b : Trees) (tables : List Table) → AllByRecursion (λ t. a t.tree ≡ []) tables → AllByRecursion (λ t. t.tree ≢ 0 → b t.tree ≡ a t.tree) tables → AllByRecursion (λ t. t.tree ≢ 0 → b t.tree ≡ []) tables
@@ -121,6 +123,7 @@ is_not : (t n : ℕ) → nat_lt t 19 ≡ true → nat_lt n 19 ≡ false → t �
 is_not t n low high same = true≢false (sym low ∙ ap (λ x. nat_lt x 19) same ∙ high)
 
 after_all : (was mid late end : Database) → IsKept schema_two (older was.trees) mid → Filled mid late → Risen late end → WasUpgraded was.trees end.trees
+unfolding IsListed
 after_all was mid late end grown put risen =
     let fill = all_has (λ t. t.tree ≢ 22 → late.trees t.tree ≡ mid.trees t.tree) schema_two.tables in
     let last = all_has (λ t. t.tree ≢ 0 → end.trees t.tree ≡ late.trees t.tree) schema_two.tables in
@@ -138,6 +141,7 @@ after_all was mid late end grown put risen =
           (profiles mid late blank put (subst AreNumbered (sym slots) ids) row);
       ordered = λ ids. subst IsOrdered (sym profiles_stay) (profiles_ordered mid late blank put (subst AreNumbered (sym slots) ids));
       more = last more risen.others has_more (λ e. is_not 0 24 refl refl (sym e)) ∙ fill more put.applies.tables has_more (λ e. absurd (omega (arith, e))) ∙ kept more grown.rows has_more;
+      listed = subst (λ s. IsListed s end.trees) risen.schema_is risen.sound.lists;
     }
 
 pub upgraded : {S : Type 0} (g : Ghosts S) (old new : Held S) → IsFormatOne (state g old).now → ExecutesAllInside g 0 upgrade0 old new (Ok tt) → IsUpgraded (state g old).now (state g new).now

@@ -1,17 +1,20 @@
 -- A database with the tables of a format.
-use Rattle.std.specs.Prelude.{◌≡◌, ◌≢◌, ◌↔◌, ℕ, ℤ, pos, List, [], ◌∷◌, map, filter}
+use Rattle.std.specs.Prelude.{◌≡◌, ◌≢◌, ◌↔◌, ℕ, ℤ, pos, List, [], ◌∷◌, map, filter, codes}
 use Rattle.std.specs.List.{AllByRecursion, list_all}
 use Rattle.sqlite_value.specs.declared.value.Value.TheVariants.{Null, Int}
-use Rattle.sqlite_value.specs.Order.{Row}
+use Rattle.sqlite_value.specs.Order.{Row, column}
 use Rattle.sqlite_value.specs.declared.keys.Collation.TheVariants.{Binary}
 use Rattle.sqlite_sql.specs.declared.ops.BinaryOp.TheVariants.{Compare}
 use Rattle.sqlite_sql.specs.declared.ops.CompareOp.TheVariants.{Eq}
 use Rattle.sqlite_sql.specs.Term.{Term, eval_all, holds, lit, col, op2}
 use Rattle.sqlite_rules.specs.Lists.{Has}
 use Rattle.sqlite.specs.Effect.{Database}
+use Rattle.sqlite.specs.State.{State, Shown}
 use Rattle.sqlite_schema.specs.declared.schema.Schema.{Schema}
 use Rattle.sqlite_schema.specs.declared.schema.Table.{Table}
 use Rattle.sqlite_trees.specs.Tree.{Trees, IsTable, rowid}
+use Rattle.sqlite_trees.specs.Objects.{catalog_tree}
+use Rattle.sqlite_catalog.specs.Listing.{Lists}
 use Rattle.tables.specs.Schema.{schema_one, schema_two}
 
 -- the rows that pass the tests, and what is shown of each
@@ -22,11 +25,16 @@ chosen tests shown params rows = map (λ r. eval_all shown (params ∷ r ∷ [])
 abbrev pub version_row : ℕ → List Row
 version_row n = (Int (pos n) ∷ Null ∷ []) ∷ []
 
+-- the database's list of what it has, `sqlite_schema`, is that of the schema: so an opening finds this schema in it
+unfoldable pub IsListed : Schema → Trees → Type 0
+IsListed schema db = Lists (db catalog_tree) schema
+
 -- the tables of format 2, of which `format` alone has a row
 pub record IsMade (db : Database) : Type 0 where
   pub schema_is : db.schema ≡ schema_two
   pub version : db.trees 0 ≡ version_row 2
   pub others : AllByRecursion (λ t. t.tree ≢ 0 → db.trees t.tree ≡ []) schema_two.tables
+  pub listed : IsListed schema_two db.trees
 
 -- the tables of format 1, or 2, with one row of that version
 pub record IsFormatOne (db : Database) : Type 0 where
@@ -40,6 +48,10 @@ pub record IsFormatTwo (db : Database) : Type 0 where
 -- the table in this tree has a row with these columns
 abbrev pub Holds : Trees → ℕ → Row → Type 0
 Holds db tree values = (id : ℤ) × Has (db tree) (Int id ∷ values)
+
+-- `SELECT version FROM format` shows one row, which begins with this number
+abbrev pub ShowsVersion : State → State → ℕ → Type 0
+ShowsVersion old new n = (row : Row) × Shown (codes "SELECT version FROM format") [] old new (row ∷ []) × (column row 0 ≡ Int (pos n))
 
 -- each row has a number
 abbrev pub AreNumbered : List Row → Type 0
@@ -69,6 +81,7 @@ pub record WasUpgraded (old new : Trees) : Type 0 where
   pub profiles : AreNumbered (old 1) → (row : Row) → Holds new 22 row ↔ Has (chosen dump_tests profile_shown [] (old 1)) row
   pub ordered : AreNumbered (old 1) → IsOrdered (new 22)
   pub more : new 24 ≡ []
+  pub listed : IsListed schema_two new
 
 pub record IsUpgraded (old new : Database) : Type 0 where
   pub schema_is : new.schema ≡ schema_two
@@ -76,4 +89,4 @@ pub record IsUpgraded (old new : Database) : Type 0 where
 
 -- a database that `make` made, as a crash finds it
 abbrev pub WasMade : Trees → Type 0
-WasMade db = (db 0 ≡ version_row 2) × AllByRecursion (λ t. t.tree ≢ 0 → db t.tree ≡ []) schema_two.tables
+WasMade db = (db 0 ≡ version_row 2) × AllByRecursion (λ t. t.tree ≢ 0 → db t.tree ≡ []) schema_two.tables × IsListed schema_two db

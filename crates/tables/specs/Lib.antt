@@ -4,6 +4,7 @@ pub mod Databases
 pub mod Fault
 pub mod MemoryDisk
 pub mod Names
+pub mod Opening
 pub mod Parts
 pub mod Schema
 pub mod Selections

@@ -1,6 +1,7 @@
 -- Which states of the index the tables stand for.
 use Rattle.std.specs.Prelude.{◌≡◌, ◌≢◌, ⊤, ℕ, ℤ, pos, List, [], map, Option, Some, None, option_map, Ok}
 use Rattle.sqlite_value.specs.Order.{Row}
+use Rattle.sqlite_schema.specs.declared.schema.Schema.{Schema}
 use Rattle.sqlite_trees.specs.Tree.{Trees}
 use Rattle.sqlite.specs.State as sqlite
 use Rattle.positions.specs.Position.{IsPosition}
@@ -14,6 +15,7 @@ use Rattle.tags.specs.Values.{TagValue}
 use Rattle.flatten.specs.Flat.{RowsValue, IsFlat}
 use Rattle.tables.specs.Columns.{dump_rows, tag_rows}
 use Rattle.tables.specs.Contents.{Contents, Replies, Keeps, KeepsOne}
+use Rattle.tables.specs.Databases.{IsListed}
 use Rattle.tables.specs.Schema.{schema_one, schema_two}
 use Rattle.tables.specs.State.{State, Change, accepted_text, text_after}
 
@@ -39,8 +41,10 @@ Each HasRows (Some x) (Some rows) = HasRows x rows
 abbrev pub replies_of : State → Replies
 replies_of m project key = option_map accepted_text (m.kept project key)
 
--- The tables keep rows for each part, which are those of the state's dumps and tags, and its replies: rows as a format keeps them.
-pub record StandsIn (KeepsRows : Trees → Contents → Replies → Type 0) (IsDumpOf : DumpValue → (ℕ → List Row) → Type 0) (db : Trees) (m : State) : Type 0 where
+-- The database lists the tables of a schema. They keep rows for each part, which are those of the state's dumps and tags, and its replies: rows as a
+-- format keeps them.
+pub record StandsIn (schema : Schema) (KeepsRows : Trees → Contents → Replies → Type 0) (IsDumpOf : DumpValue → (ℕ → List Row) → Type 0) (db : Trees) (m : State) : Type 0 where
+  pub listed : IsListed schema db
   pub parts : Contents
   pub keeps : KeepsRows db parts (replies_of m)
   pub dumps : (project : List ℕ) → Each IsDumpOf (m.dump project) (parts project (pos 1))
@@ -48,12 +52,20 @@ pub record StandsIn (KeepsRows : Trees → Contents → Replies → Type 0) (IsD
   pub others : (project : List ℕ) (part : ℤ) → part ≢ pos 1 → part ≢ pos 2 → parts project part ≡ None
 
 abbrev pub StandsFor : Trees → State → Type 0
-StandsFor = StandsIn Keeps IsDump
+StandsFor = StandsIn schema_two Keeps IsDump
 
 -- between calls the tables show what is committed, and stand for the state
 pub record Rests (s : sqlite.State) (m : State) : Type 0 where
   pub schema_is : s.now.schema ≡ schema_two
   pub settled : s.committed ≡ s.now
+  pub stands : StandsFor s.now.trees m
+
+-- ---- what an opening finds
+
+-- a new connection shows a database that stands for the state, as a stop left it
+pub record Finds (s : sqlite.State) (m : State) : Type 0 where
+  pub opens : sqlite.Opens s
+  pub live : sqlite.IsLive s
   pub stands : StandsFor s.now.trees m
 
 -- ---- format 1
@@ -64,11 +76,20 @@ pub record IsDumpOne (dump : DumpValue) (rows : ℕ → List Row) : Type 0 where
   pub by_one : dump.profile ≡ One
   pub none_more : rows 24 ≡ []
 
+abbrev pub StandsForOne : Trees → State → Type 0
+StandsForOne = StandsIn schema_one KeepsOne IsDumpOne
+
 -- tables of format 1 show what is committed, and stand for the state
 pub record RestsOne (s : sqlite.State) (m : State) : Type 0 where
   pub schema_is : s.now.schema ≡ schema_one
   pub settled : s.committed ≡ s.now
-  pub stands : StandsIn KeepsOne IsDumpOne s.now.trees m
+  pub stands : StandsForOne s.now.trees m
+
+-- a new connection shows a database of format 1 that stands for the state
+pub record FindsOne (s : sqlite.State) (m : State) : Type 0 where
+  pub opens : sqlite.Opens s
+  pub live : sqlite.IsLive s
+  pub stands : StandsForOne s.now.trees m
 
 -- ---- changes
 

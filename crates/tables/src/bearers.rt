@@ -96,10 +96,12 @@ pub(crate) fn more_of<S: Alter>(
     slot: i64,
     line: u32,
 ) -> Result<LineMore, Refusal>
-    ensures more { HasCleanDisk (state S.Store conn.new) → (state S.Store conn.old).now.schema ≡ schema_two → (m : State) → StandsFor (state S.Store conn.old).now.trees m
+    ensures more { HasCleanDisk (state S.Store conn.new) → (state S.Store conn.old).now.schema ≡ schema_two → (m : State)
+        → StandsFor (state S.Store conn.old).now.trees m
         → (project : List ℕ) (dump : DumpValue) → Has ((state S.Store conn.old).now.trees 1) (slot_row slot project (pos 1)) → m.dump project ≡ Some dump
         → (results : ResultsValue) → IsKnown dump line results → IfOk result (λ more. (more.decl ≡ results.declaration) × (more.imp ≡ results.implementation)) }
-    ensures kept { HasCleanDisk (state S.Store conn.new) → (state S.Store conn.old).now.schema ≡ schema_two → OnOk result (IsAsBefore (state S.Store conn.old) (state S.Store conn.new)) }
+    ensures kept { HasCleanDisk (state S.Store conn.new) → (state S.Store conn.old).now.schema ≡ schema_two
+        → OnOk result (IsAsBefore (state S.Store conn.old) (state S.Store conn.new)) }
     ensures looks { Looks (state S.Store conn.old) (state S.Store conn.new) }
     ensures mode { conn.old.in_transaction ≡ false → conn.new.in_transaction ≡ false }
 {
@@ -119,9 +121,12 @@ pub(crate) fn more_of<S: Alter>(
 
 /// The project that a slot is of.
 pub(crate) fn slot_project<S: Alter>(conn: &mut Connection<S>, slot: i64) -> Result<String, Refusal>
-    ensures project { HasCleanDisk (state S.Store conn.new) → (state S.Store conn.old).now.schema ≡ schema_two → (parts : Contents) (replies : Replies) → Keeps (state S.Store conn.old).now.trees parts replies
-        → (project : List ℕ) (part : ℤ) → Has ((state S.Store conn.old).now.trees 1) (slot_row slot project part) → IfOk result (λ found. string_bytes found ≡ project) }
-    ensures kept { HasCleanDisk (state S.Store conn.new) → (state S.Store conn.old).now.schema ≡ schema_two → OnOk result (IsAsBefore (state S.Store conn.old) (state S.Store conn.new)) }
+    ensures project { HasCleanDisk (state S.Store conn.new) → (state S.Store conn.old).now.schema ≡ schema_two → (parts : Contents) (replies : Replies)
+        → Keeps (state S.Store conn.old).now.trees parts replies
+        → (project : List ℕ) (part : ℤ) → Has ((state S.Store conn.old).now.trees 1) (slot_row slot project part)
+        → IfOk result (λ found. string_bytes found ≡ project) }
+    ensures kept { HasCleanDisk (state S.Store conn.new) → (state S.Store conn.old).now.schema ≡ schema_two
+        → OnOk result (IsAsBefore (state S.Store conn.old) (state S.Store conn.new)) }
     ensures looks { Looks (state S.Store conn.old) (state S.Store conn.new) }
     ensures mode { conn.old.in_transaction ≡ false → conn.new.in_transaction ≡ false }
 {
@@ -135,9 +140,11 @@ pub(crate) fn slot_project<S: Alter>(conn: &mut Connection<S>, slot: i64) -> Res
 
 /// The bearer that a row tells, with its project, its declaration and its implementation.
 fn complete<S: Alter>(conn: &mut Connection<S>, row: SlotBearer) -> Result<FoundBearer, Refusal>
-    ensures whole { HasCleanDisk (state S.Store conn.new) → (state S.Store conn.old).now.schema ≡ schema_two → (m : State) → StandsFor (state S.Store conn.old).now.trees m
+    ensures whole { HasCleanDisk (state S.Store conn.new) → (state S.Store conn.old).now.schema ≡ schema_two → (m : State)
+        → StandsFor (state S.Store conn.old).now.trees m
         → (key : List ℕ) (v : BearerFound) → TellsBearer (state S.Store conn.old).now.trees m key row v → IfOk result (λ found. bearer_found found ≡ v) }
-    ensures kept { HasCleanDisk (state S.Store conn.new) → (state S.Store conn.old).now.schema ≡ schema_two → OnOk result (IsAsBefore (state S.Store conn.old) (state S.Store conn.new)) }
+    ensures kept { HasCleanDisk (state S.Store conn.new) → (state S.Store conn.old).now.schema ≡ schema_two
+        → OnOk result (IsAsBefore (state S.Store conn.old) (state S.Store conn.new)) }
     ensures looks { Looks (state S.Store conn.old) (state S.Store conn.new) }
     ensures mode { conn.old.in_transaction ≡ false → conn.new.in_transaction ≡ false }
 {
@@ -161,11 +168,15 @@ fn select_bearers<S: Alter>(
     conn: &mut Connection<S>,
     key: &str,
 ) -> Result<Vec<SlotBearer>, Refusal>
-    ensures each { HasCleanDisk (state S.Store conn.new) → (state S.Store conn.old).now.schema ≡ schema_two → (m : State) → StandsFor (state S.Store conn.old).now.trees m
+    ensures each { HasCleanDisk (state S.Store conn.new) → (state S.Store conn.old).now.schema ≡ schema_two → (m : State)
+        → StandsFor (state S.Store conn.old).now.trees m
         → IfOk result (λ rows. AllByRecursion (λ x. (v : BearerFound) × TellsBearer (state S.Store conn.old).now.trees m key.now x v) rows.items) }
-    ensures all { HasCleanDisk (state S.Store conn.new) → (state S.Store conn.old).now.schema ≡ schema_two → (m : State) → StandsFor (state S.Store conn.old).now.trees m
-        → IfOk result (λ rows. (v : BearerFound) → Bears m key.now v → (x : SlotBearer) × Has rows.items x × TellsBearer (state S.Store conn.old).now.trees m key.now x v) }
-    ensures kept { HasCleanDisk (state S.Store conn.new) → (state S.Store conn.old).now.schema ≡ schema_two → OnOk result (IsAsBefore (state S.Store conn.old) (state S.Store conn.new)) }
+    ensures all { HasCleanDisk (state S.Store conn.new) → (state S.Store conn.old).now.schema ≡ schema_two → (m : State)
+        → StandsFor (state S.Store conn.old).now.trees m
+        → IfOk result (λ rows. (v : BearerFound) → Bears m key.now v → (x : SlotBearer) × Has rows.items x
+        × TellsBearer (state S.Store conn.old).now.trees m key.now x v) }
+    ensures kept { HasCleanDisk (state S.Store conn.new) → (state S.Store conn.old).now.schema ≡ schema_two
+        → OnOk result (IsAsBefore (state S.Store conn.old) (state S.Store conn.new)) }
     ensures looks { Looks (state S.Store conn.old) (state S.Store conn.new) }
     ensures mode { conn.old.in_transaction ≡ false → conn.new.in_transaction ≡ false }
 {
@@ -190,7 +201,8 @@ fn order(a: &FoundBearer, b: &FoundBearer) -> Ordering
 
 /// Puts the bearers in order, each once, where those of one place in the order are one.
 fn list_bearers(found: &mut Vec<FoundBearer>)
-    ensures { ((v w : BearerFound) → Contains (map bearer_found found.old.items) v → Contains (map bearer_found found.old.items) w → bearer_found_cmp v w ≡ Equal → v ≡ w)
+    ensures { ((v w : BearerFound) → Contains (map bearer_found found.old.items) v → Contains (map bearer_found found.old.items) w
+        → bearer_found_cmp v w ≡ Equal → v ≡ w)
         → IsListing bearer_found_cmp (Contains (map bearer_found found.old.items)) (map bearer_found found.new.items) }
 {
     found.sort_unstable_by(|a, b| order(a, b));
@@ -203,7 +215,8 @@ fn find_bearers<S: Alter>(
     conn: &mut Connection<S>,
     key: &str,
 ) -> Result<Vec<FoundBearer>, Refusal>
-    ensures found { HasCleanDisk (state S.Store conn.new) → (state S.Store conn.old).now.schema ≡ schema_two → (m : State) → StandsFor (state S.Store conn.old).now.trees m → IfOk result (λ found. FindsBearers m key.now (map bearer_found found.items)) }
+    ensures found { HasCleanDisk (state S.Store conn.new) → (state S.Store conn.old).now.schema ≡ schema_two → (m : State)
+        → StandsFor (state S.Store conn.old).now.trees m → IfOk result (λ found. FindsBearers m key.now (map bearer_found found.items)) }
     ensures looks { Looks (state S.Store conn.old) (state S.Store conn.new) }
     ensures mode { conn.old.in_transaction ≡ false → conn.new.in_transaction ≡ false }
 {
@@ -224,8 +237,10 @@ impl<S: Alter> Tables<S> {
     /// It's `Refused` where the store refuses, or where a row isn't one of this product's, and `Memory` where memory is refused, also to a database in
     /// memory (`in_memory`).
     pub fn bearers(&mut self, alloc: Global, key: &str) -> Result<Vec<FoundBearer>, TablesFault>
-        ensures found { HasCleanDisk (state S.Store self.new) → (m : State) → Rests (state S.Store self.old) m → IfOk result (λ found. FindsBearers m key.now (map bearer_found found.items)) }
-        ensures same { HasCleanDisk (state S.Store self.new) → IsTrue (state S.Store self.new).is_open → (m : State) → Rests (state S.Store self.old) m → IsAsBefore (state S.Store self.old) (state S.Store self.new) }
+        ensures found { HasCleanDisk (state S.Store self.new) → (m : State) → Rests (state S.Store self.old) m
+            → IfOk result (λ found. FindsBearers m key.now (map bearer_found found.items)) }
+        ensures same { HasCleanDisk (state S.Store self.new) → IsTrue (state S.Store self.new).is_open → (m : State) → Rests (state S.Store self.old) m
+            → IsAsBefore (state S.Store self.old) (state S.Store self.new) }
         ensures clean { HasCleanDisk (state S.Store self.new) → HasCleanDisk (state S.Store self.old) }
         ensures fault { IfErr result IsStoreFault }
         ensures survives { (m : State) → Rests (state S.Store self.old) m → Survives (state S.Store self.old) (state S.Store self.new) (λ _. ⊥) }

@@ -8,6 +8,7 @@ ghost use Rattle.tags.specs.Views.{tag_values};
 ghost use Rattle.tables.specs.Schema.{schema_two};
 ghost use Rattle.tables.specs.Columns.{dump_rows, tag_rows};
 ghost use Rattle.tables.specs.Contents.{Contents, Replies, Keeps, changed as replaced, kept};
+ghost use Rattle.tables.specs.Databases.{IsListed};
 ghost use Rattle.tables.specs.Fault.{IsStoreFault};
 ghost use Rattle.tables.specs.Stands.{IsAsBefore, IsDump, IsNew, Rests, StandsFor, replies_of};
 ghost use Rattle.tables.specs.State.{State, parts_removed, accepted_text, set_dump, set_tags, clear, changed};
@@ -34,10 +35,12 @@ fn change_dump<S: Alter>(
     rows: &Rows<'_>,
 ) -> Result<(), Error>
     ensures same_reference { tx.new.conn.ghost_name ≡ tx.old.conn.ghost_name }
-    ensures changed { HasCleanDisk (state S.Store tx.new.conn.now) → IsTrue tx.old.conn.now.in_transaction → (state S.Store tx.old.conn.now).now.schema ≡ schema_two
+    ensures changed { HasCleanDisk (state S.Store tx.new.conn.now) → IsTrue tx.old.conn.now.in_transaction
+        → (state S.Store tx.old.conn.now).now.schema ≡ schema_two
         → (parts : Contents) (replies : Replies) → Keeps (state S.Store tx.old.conn.now).now.trees parts replies → replies project.now key.now ≡ None
         → OnOk result (GoesOn (state S.Store tx.old.conn.now) (state S.Store tx.new.conn.now)
-        × Keeps (state S.Store tx.new.conn.now).now.trees (replaced parts project.now (pos 1) (Some (dump_rows rows.now.profile (rows_value rows.now)))) (kept replies project.now key.now reply.now)) }
+        × Keeps (state S.Store tx.new.conn.now).now.trees (replaced parts project.now (pos 1) (Some (dump_rows rows.now.profile (rows_value rows.now)))) (kept replies project.now key.now reply.now)
+        × IsListed schema_two (state S.Store tx.new.conn.now).now.trees) }
     ensures kept { HasCleanDisk (state S.Store tx.new.conn.now) → KeepsCommit (state S.Store tx.old.conn.now) (state S.Store tx.new.conn.now) }
     ensures survives { Survives (state S.Store tx.old.conn.now) (state S.Store tx.new.conn.now) (λ _. ⊥) }
 {
@@ -59,11 +62,15 @@ fn commit_dump<S: Alter>(
     ensures mode { conn.new.in_transaction ≡ false }
     ensures clean { HasCleanDisk (state S.Store conn.new) → HasCleanDisk (state S.Store conn.old) }
     ensures open { HasCleanDisk (state S.Store conn.new) → OnOk result (IsTrue (state S.Store conn.new).is_open) }
-    ensures done { HasCleanDisk (state S.Store conn.new) → (m : State) (dump : DumpValue) → Rests (state S.Store conn.old) m → IsDump dump (dump_rows rows.now.profile (rows_value rows.now)) → IsNew m project.now key.now reply.now (set_dump dump)
+    ensures done { HasCleanDisk (state S.Store conn.new) → (m : State) (dump : DumpValue) → Rests (state S.Store conn.old) m
+        → IsDump dump (dump_rows rows.now.profile (rows_value rows.now)) → IsNew m project.now key.now reply.now (set_dump dump)
         → OnOk result (Rests (state S.Store conn.new) (changed m project.now key.now (set_dump dump))) }
-    ensures same { HasCleanDisk (state S.Store conn.new) → IsTrue (state S.Store conn.new).is_open → (m : State) (dump : DumpValue) → Rests (state S.Store conn.old) m → IsDump dump (dump_rows rows.now.profile (rows_value rows.now)) → IsNew m project.now key.now reply.now (set_dump dump)
+    ensures same { HasCleanDisk (state S.Store conn.new) → IsTrue (state S.Store conn.new).is_open → (m : State) (dump : DumpValue)
+        → Rests (state S.Store conn.old) m → IsDump dump (dump_rows rows.now.profile (rows_value rows.now))
+        → IsNew m project.now key.now reply.now (set_dump dump)
         → OnErr result (IsAsBefore (state S.Store conn.old) (state S.Store conn.new)) }
-    ensures crash { (m : State) (dump : DumpValue) → Rests (state S.Store conn.old) m → IsDump dump (dump_rows rows.now.profile (rows_value rows.now)) → IsNew m project.now key.now reply.now (set_dump dump)
+    ensures crash { (m : State) (dump : DumpValue) → Rests (state S.Store conn.old) m → IsDump dump (dump_rows rows.now.profile (rows_value rows.now))
+        → IsNew m project.now key.now reply.now (set_dump dump)
         → Survives (state S.Store conn.old) (state S.Store conn.new) (λ db. StandsFor db (changed m project.now key.now (set_dump dump))) }
 {
     let mut tx = conn.transaction();
@@ -83,10 +90,12 @@ fn change_tags<S: Alter>(
     tags: &[Tag],
 ) -> Result<(), Error>
     ensures same_reference { tx.new.conn.ghost_name ≡ tx.old.conn.ghost_name }
-    ensures changed { HasCleanDisk (state S.Store tx.new.conn.now) → IsTrue tx.old.conn.now.in_transaction → (state S.Store tx.old.conn.now).now.schema ≡ schema_two
+    ensures changed { HasCleanDisk (state S.Store tx.new.conn.now) → IsTrue tx.old.conn.now.in_transaction
+        → (state S.Store tx.old.conn.now).now.schema ≡ schema_two
         → (parts : Contents) (replies : Replies) → Keeps (state S.Store tx.old.conn.now).now.trees parts replies → replies project.now key.now ≡ None
         → OnOk result (GoesOn (state S.Store tx.old.conn.now) (state S.Store tx.new.conn.now)
-        × Keeps (state S.Store tx.new.conn.now).now.trees (replaced parts project.now (pos 2) (Some (tag_rows (tag_values tags.now)))) (kept replies project.now key.now reply.now)) }
+        × Keeps (state S.Store tx.new.conn.now).now.trees (replaced parts project.now (pos 2) (Some (tag_rows (tag_values tags.now)))) (kept replies project.now key.now reply.now)
+        × IsListed schema_two (state S.Store tx.new.conn.now).now.trees) }
     ensures kept { HasCleanDisk (state S.Store tx.new.conn.now) → KeepsCommit (state S.Store tx.old.conn.now) (state S.Store tx.new.conn.now) }
     ensures survives { Survives (state S.Store tx.old.conn.now) (state S.Store tx.new.conn.now) (λ _. ⊥) }
 {
@@ -109,9 +118,11 @@ fn commit_tags<S: Alter>(
     ensures mode { conn.new.in_transaction ≡ false }
     ensures clean { HasCleanDisk (state S.Store conn.new) → HasCleanDisk (state S.Store conn.old) }
     ensures open { HasCleanDisk (state S.Store conn.new) → OnOk result (IsTrue (state S.Store conn.new).is_open) }
-    ensures done { HasCleanDisk (state S.Store conn.new) → (m : State) → Rests (state S.Store conn.old) m → IsNew m project.now key.now reply.now (set_tags (tag_values tags.now))
+    ensures done { HasCleanDisk (state S.Store conn.new) → (m : State) → Rests (state S.Store conn.old) m
+        → IsNew m project.now key.now reply.now (set_tags (tag_values tags.now))
         → OnOk result (Rests (state S.Store conn.new) (changed m project.now key.now (set_tags (tag_values tags.now)))) }
-    ensures same { HasCleanDisk (state S.Store conn.new) → IsTrue (state S.Store conn.new).is_open → (m : State) → Rests (state S.Store conn.old) m → IsNew m project.now key.now reply.now (set_tags (tag_values tags.now))
+    ensures same { HasCleanDisk (state S.Store conn.new) → IsTrue (state S.Store conn.new).is_open → (m : State) → Rests (state S.Store conn.old) m
+        → IsNew m project.now key.now reply.now (set_tags (tag_values tags.now))
         → OnErr result (IsAsBefore (state S.Store conn.old) (state S.Store conn.new)) }
     ensures crash { (m : State) → Rests (state S.Store conn.old) m → IsNew m project.now key.now reply.now (set_tags (tag_values tags.now))
         → Survives (state S.Store conn.old) (state S.Store conn.new) (λ db. StandsFor db (changed m project.now key.now (set_tags (tag_values tags.now)))) }
@@ -144,9 +155,11 @@ fn is_any(dumps: usize, tags: usize) -> bool
 /// Takes out both parts of the project: whether there was one.
 fn clear_parts<S: Alter>(tx: &mut Transaction<'_, S>, project: &str) -> Result<bool, Error>
     ensures same_reference { tx.new.conn.ghost_name ≡ tx.old.conn.ghost_name }
-    ensures gone { HasCleanDisk (state S.Store tx.new.conn.now) → IsTrue tx.old.conn.now.in_transaction → (state S.Store tx.old.conn.now).now.schema ≡ schema_two
+    ensures gone { HasCleanDisk (state S.Store tx.new.conn.now) → IsTrue tx.old.conn.now.in_transaction
+        → (state S.Store tx.old.conn.now).now.schema ≡ schema_two
         → (parts : Contents) (replies : Replies) → Keeps (state S.Store tx.old.conn.now).now.trees parts replies
-        → IfOk result (λ was_there. (was_there ≡ (is_some (parts project.now (pos 1)) || is_some (parts project.now (pos 2)))) × GoesOn (state S.Store tx.old.conn.now) (state S.Store tx.new.conn.now)
+        → IfOk result (λ was_there. (was_there ≡ (is_some (parts project.now (pos 1)) || is_some (parts project.now (pos 2))))
+        × GoesOn (state S.Store tx.old.conn.now) (state S.Store tx.new.conn.now)
         × Keeps (state S.Store tx.new.conn.now).now.trees (replaced (replaced parts project.now (pos 1) None) project.now (pos 2) None) replies) }
     ensures kept { HasCleanDisk (state S.Store tx.new.conn.now) → KeepsCommit (state S.Store tx.old.conn.now) (state S.Store tx.new.conn.now) }
     ensures survives { Survives (state S.Store tx.old.conn.now) (state S.Store tx.new.conn.now) (λ _. ⊥) }
@@ -163,10 +176,13 @@ fn change_both<S: Alter>(
     key: &str,
 ) -> Result<bool, Error>
     ensures same_reference { tx.new.conn.ghost_name ≡ tx.old.conn.ghost_name }
-    ensures changed { HasCleanDisk (state S.Store tx.new.conn.now) → IsTrue tx.old.conn.now.in_transaction → (state S.Store tx.old.conn.now).now.schema ≡ schema_two
+    ensures changed { HasCleanDisk (state S.Store tx.new.conn.now) → IsTrue tx.old.conn.now.in_transaction
+        → (state S.Store tx.old.conn.now).now.schema ≡ schema_two
         → (parts : Contents) (replies : Replies) → Keeps (state S.Store tx.old.conn.now).now.trees parts replies → replies project.now key.now ≡ None
-        → IfOk result (λ was_there. (was_there ≡ (is_some (parts project.now (pos 1)) || is_some (parts project.now (pos 2)))) × GoesOn (state S.Store tx.old.conn.now) (state S.Store tx.new.conn.now)
-        × Keeps (state S.Store tx.new.conn.now).now.trees (replaced (replaced parts project.now (pos 1) None) project.now (pos 2) None) (kept replies project.now key.now (accepted_text (parts_removed was_there)))) }
+        → IfOk result (λ was_there. (was_there ≡ (is_some (parts project.now (pos 1)) || is_some (parts project.now (pos 2))))
+        × GoesOn (state S.Store tx.old.conn.now) (state S.Store tx.new.conn.now)
+        × Keeps (state S.Store tx.new.conn.now).now.trees (replaced (replaced parts project.now (pos 1) None) project.now (pos 2) None) (kept replies project.now key.now (accepted_text (parts_removed was_there)))
+        × IsListed schema_two (state S.Store tx.new.conn.now).now.trees) }
     ensures kept { HasCleanDisk (state S.Store tx.new.conn.now) → KeepsCommit (state S.Store tx.old.conn.now) (state S.Store tx.new.conn.now) }
     ensures survives { Survives (state S.Store tx.old.conn.now) (state S.Store tx.new.conn.now) (λ _. ⊥) }
 {
@@ -186,8 +202,10 @@ fn commit_removal<S: Alter>(
     ensures clean { HasCleanDisk (state S.Store conn.new) → HasCleanDisk (state S.Store conn.old) }
     ensures open { HasCleanDisk (state S.Store conn.new) → OnOk result (IsTrue (state S.Store conn.new).is_open) }
     ensures done { HasCleanDisk (state S.Store conn.new) → (m : State) → Rests (state S.Store conn.old) m → m.kept project.now key.now ≡ None
-        → IfOk result (λ was_there. (was_there ≡ (is_some (m.dump project.now) || is_some (m.tags project.now))) × Rests (state S.Store conn.new) (changed m project.now key.now clear)) }
-    ensures same { HasCleanDisk (state S.Store conn.new) → IsTrue (state S.Store conn.new).is_open → (m : State) → Rests (state S.Store conn.old) m → m.kept project.now key.now ≡ None
+        → IfOk result (λ was_there. (was_there ≡ (is_some (m.dump project.now) || is_some (m.tags project.now)))
+        × Rests (state S.Store conn.new) (changed m project.now key.now clear)) }
+    ensures same { HasCleanDisk (state S.Store conn.new) → IsTrue (state S.Store conn.new).is_open → (m : State) → Rests (state S.Store conn.old) m
+        → m.kept project.now key.now ≡ None
         → OnErr result (IsAsBefore (state S.Store conn.old) (state S.Store conn.new)) }
     ensures crash { (m : State) → Rests (state S.Store conn.old) m → m.kept project.now key.now ≡ None
         → Survives (state S.Store conn.old) (state S.Store conn.new) (λ db. StandsFor db (changed m project.now key.now clear)) }
@@ -227,11 +245,15 @@ impl<S: Alter> Tables<S> {
         ensures clean { HasCleanDisk (state S.Store self.new) → HasCleanDisk (state S.Store self.old) }
         ensures fault { IfErr result IsStoreFault }
         ensures open { HasCleanDisk (state S.Store self.new) → OnOk result (IsTrue (state S.Store self.new).is_open) }
-        ensures done { HasCleanDisk (state S.Store self.new) → (m : State) (dump : DumpValue) → Rests (state S.Store self.old) m → IsDump dump (dump_rows rows.now.profile (rows_value rows.now)) → IsNew m project.now key.now reply.now (set_dump dump)
+        ensures done { HasCleanDisk (state S.Store self.new) → (m : State) (dump : DumpValue) → Rests (state S.Store self.old) m
+            → IsDump dump (dump_rows rows.now.profile (rows_value rows.now)) → IsNew m project.now key.now reply.now (set_dump dump)
             → OnOk result (Rests (state S.Store self.new) (changed m project.now key.now (set_dump dump))) }
-        ensures same { HasCleanDisk (state S.Store self.new) → IsTrue (state S.Store self.new).is_open → (m : State) (dump : DumpValue) → Rests (state S.Store self.old) m → IsDump dump (dump_rows rows.now.profile (rows_value rows.now)) → IsNew m project.now key.now reply.now (set_dump dump)
+        ensures same { HasCleanDisk (state S.Store self.new) → IsTrue (state S.Store self.new).is_open → (m : State) (dump : DumpValue)
+            → Rests (state S.Store self.old) m → IsDump dump (dump_rows rows.now.profile (rows_value rows.now))
+            → IsNew m project.now key.now reply.now (set_dump dump)
             → OnErr result (IsAsBefore (state S.Store self.old) (state S.Store self.new)) }
-        ensures crash { (m : State) (dump : DumpValue) → Rests (state S.Store self.old) m → IsDump dump (dump_rows rows.now.profile (rows_value rows.now)) → IsNew m project.now key.now reply.now (set_dump dump)
+        ensures crash { (m : State) (dump : DumpValue) → Rests (state S.Store self.old) m → IsDump dump (dump_rows rows.now.profile (rows_value rows.now))
+            → IsNew m project.now key.now reply.now (set_dump dump)
             → Survives (state S.Store self.old) (state S.Store self.new) (λ db. StandsFor db (changed m project.now key.now (set_dump dump))) }
     {
         match commit_dump(&mut self.conn, project, key, reply, rows) {
@@ -256,9 +278,11 @@ impl<S: Alter> Tables<S> {
         ensures clean { HasCleanDisk (state S.Store self.new) → HasCleanDisk (state S.Store self.old) }
         ensures fault { IfErr result IsStoreFault }
         ensures open { HasCleanDisk (state S.Store self.new) → OnOk result (IsTrue (state S.Store self.new).is_open) }
-        ensures done { HasCleanDisk (state S.Store self.new) → (m : State) → Rests (state S.Store self.old) m → IsNew m project.now key.now reply.now (set_tags (tag_values tags.now))
+        ensures done { HasCleanDisk (state S.Store self.new) → (m : State) → Rests (state S.Store self.old) m
+            → IsNew m project.now key.now reply.now (set_tags (tag_values tags.now))
             → OnOk result (Rests (state S.Store self.new) (changed m project.now key.now (set_tags (tag_values tags.now)))) }
-        ensures same { HasCleanDisk (state S.Store self.new) → IsTrue (state S.Store self.new).is_open → (m : State) → Rests (state S.Store self.old) m → IsNew m project.now key.now reply.now (set_tags (tag_values tags.now))
+        ensures same { HasCleanDisk (state S.Store self.new) → IsTrue (state S.Store self.new).is_open → (m : State) → Rests (state S.Store self.old) m
+            → IsNew m project.now key.now reply.now (set_tags (tag_values tags.now))
             → OnErr result (IsAsBefore (state S.Store self.old) (state S.Store self.new)) }
         ensures crash { (m : State) → Rests (state S.Store self.old) m → IsNew m project.now key.now reply.now (set_tags (tag_values tags.now))
             → Survives (state S.Store self.old) (state S.Store self.new) (λ db. StandsFor db (changed m project.now key.now (set_tags (tag_values tags.now)))) }
@@ -279,8 +303,10 @@ impl<S: Alter> Tables<S> {
         ensures fault { IfErr result IsStoreFault }
         ensures open { HasCleanDisk (state S.Store self.new) → OnOk result (IsTrue (state S.Store self.new).is_open) }
         ensures done { HasCleanDisk (state S.Store self.new) → (m : State) → Rests (state S.Store self.old) m → m.kept project.now key.now ≡ None
-            → IfOk result (λ was_there. (was_there ≡ (is_some (m.dump project.now) || is_some (m.tags project.now))) × Rests (state S.Store self.new) (changed m project.now key.now clear)) }
-        ensures same { HasCleanDisk (state S.Store self.new) → IsTrue (state S.Store self.new).is_open → (m : State) → Rests (state S.Store self.old) m → m.kept project.now key.now ≡ None
+            → IfOk result (λ was_there. (was_there ≡ (is_some (m.dump project.now) || is_some (m.tags project.now)))
+            × Rests (state S.Store self.new) (changed m project.now key.now clear)) }
+        ensures same { HasCleanDisk (state S.Store self.new) → IsTrue (state S.Store self.new).is_open → (m : State) → Rests (state S.Store self.old) m
+            → m.kept project.now key.now ≡ None
             → OnErr result (IsAsBefore (state S.Store self.old) (state S.Store self.new)) }
         ensures crash { (m : State) → Rests (state S.Store self.old) m → m.kept project.now key.now ≡ None
             → Survives (state S.Store self.old) (state S.Store self.new) (λ db. StandsFor db (changed m project.now key.now clear)) }

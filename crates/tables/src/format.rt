@@ -1,11 +1,13 @@
 //! Which format the tables of a database have.
-ghost use Rattle.std.specs.Prelude.{◌≡◌, ◌≢◌, ◌∷◌, [], ◌⊎◌, pos, true, false, IsTrue, IfOk, OnErr, Ok};
+ghost use Rattle.std.specs.Prelude.{◌≡◌, ◌≢◌, ◌∷◌, [], ◌⊎◌, pos, true, false, codes, IsTrue, IfOk, OnErr, Ok};
 ghost use Rattle.sqlite_value.specs.declared.value.Value.TheVariants.{Int};
+ghost use Rattle.sqlite_value.specs.Order.{Row as Columns, column};
 ghost use Rattle.sqlite_catalog.specs.Change.{is_used as is_used_in};
-ghost use Rattle.sqlite.specs.State.{HasCleanDisk, Survives, IsUnchanged};
+ghost use Rattle.sqlite.specs.State.{HasCleanDisk, Survives, Shown, IsUnchanged};
 ghost use Rattle.sqlite.specs.Held.{state};
+ghost use Rattle.tables.specs.Opening.{StaysCommitted};
 ghost use Rattle.tables.specs.Schema.{empty_schema, schema_one, schema_two};
-ghost use Rattle.tables.specs.Databases.{IsFormatOne, IsFormatTwo};
+ghost use Rattle.tables.specs.Databases.{IsFormatOne, IsFormatTwo, ShowsVersion};
 
 use sqlite::types::ValueRef;
 use sqlite::{Alter, Connection, Error, Row};
@@ -65,12 +67,19 @@ fn has_version(schema: &Schema) -> bool
 
 /// The rows of the table of versions.
 fn version_rows<S: Alter>(conn: &mut Connection<S>) -> Result<Vec<Row>, Error>
-    ensures old { HasCleanDisk (state S.Store conn.new) → IsFormatOne (state S.Store conn.old).now → IfOk result (λ rows. (rows.items ≡ (Int (pos 1) ∷ []) ∷ []) × IsUnchanged (state S.Store conn.old) (state S.Store conn.new)) }
-    ensures known { HasCleanDisk (state S.Store conn.new) → IsFormatTwo (state S.Store conn.old).now → IfOk result (λ rows. (rows.items ≡ (Int (pos 2) ∷ []) ∷ []) × IsUnchanged (state S.Store conn.old) (state S.Store conn.new)) }
+    ensures old { HasCleanDisk (state S.Store conn.new) → IsFormatOne (state S.Store conn.old).now
+        → IfOk result (λ rows. (rows.items ≡ (Int (pos 1) ∷ []) ∷ []) × IsUnchanged (state S.Store conn.old) (state S.Store conn.new)) }
+    ensures known { HasCleanDisk (state S.Store conn.new) → IsFormatTwo (state S.Store conn.old).now
+        → IfOk result (λ rows. (rows.items ≡ (Int (pos 2) ∷ []) ∷ []) × IsUnchanged (state S.Store conn.old) (state S.Store conn.new)) }
+    ensures shown { HasCleanDisk (state S.Store conn.new)
+        → IfOk result (λ rows. Shown (codes "SELECT version FROM format") [] (state S.Store conn.old) (state S.Store conn.new) rows.items) }
     ensures mode { conn.old.in_transaction ≡ false → conn.new.in_transaction ≡ false }
-    ensures same { HasCleanDisk (state S.Store conn.new) → IsTrue (state S.Store conn.new).is_open → IsFormatOne (state S.Store conn.old).now ⊎ IsFormatTwo (state S.Store conn.old).now
-        → OnErr result (((state S.Store conn.new).committed ≡ (state S.Store conn.old).committed) × (((state S.Store conn.new).now ≡ (state S.Store conn.old).now) ⊎ ((state S.Store conn.new).now ≡ (state S.Store conn.old).committed))) }
-    ensures crash { IsFormatOne (state S.Store conn.old).now ⊎ IsFormatTwo (state S.Store conn.old).now → Survives (state S.Store conn.old) (state S.Store conn.new) (λ _. ⊥) }
+    ensures clean { HasCleanDisk (state S.Store conn.new) → HasCleanDisk (state S.Store conn.old) }
+    ensures same { HasCleanDisk (state S.Store conn.new) → IsTrue (state S.Store conn.new).is_open
+        → IsFormatOne (state S.Store conn.old).now ⊎ IsFormatTwo (state S.Store conn.old).now
+        → OnErr result (StaysCommitted (state S.Store conn.old) (state S.Store conn.new)) }
+    ensures crash { IsFormatOne (state S.Store conn.old).now ⊎ IsFormatTwo (state S.Store conn.old).now
+        → Survives (state S.Store conn.old) (state S.Store conn.new) (λ _. ⊥) }
 {
     conn.query_all("SELECT version FROM format", &[])
 }
@@ -90,6 +99,7 @@ pub(crate) enum Format {
 fn format_in(rows: &[Row]) -> Format
     ensures old { rows.now ≡ (Int (pos 1) ∷ []) ∷ [] → result ≡ Format.One }
     ensures known { rows.now ≡ (Int (pos 2) ∷ []) ∷ [] → result ≡ Format.Two }
+    ensures one { result ≡ Format.One → (row : Columns) × (rows.now ≡ row ∷ []) × (column row 0 ≡ Int (pos 1)) }
     ensures present { result ≢ Format.Absent }
 {
     if rows.len() != 1 {
@@ -105,12 +115,18 @@ fn format_in(rows: &[Row]) -> Format
 /// The format of a database's tables. The version is asked only where the schema has a column for it.
 pub(crate) fn find_format<S: Alter>(conn: &mut Connection<S>) -> Result<Format, Error>
     ensures absent { (state S.Store conn.old).now.schema ≡ empty_schema → (result ≡ Ok Format.Absent) × (conn.new ≡ conn.old) }
-    ensures old { HasCleanDisk (state S.Store conn.new) → IsFormatOne (state S.Store conn.old).now → IfOk result (λ found. (found ≡ Format.One) × IsUnchanged (state S.Store conn.old) (state S.Store conn.new)) }
-    ensures known { HasCleanDisk (state S.Store conn.new) → IsFormatTwo (state S.Store conn.old).now → IfOk result (λ found. (found ≡ Format.Two) × IsUnchanged (state S.Store conn.old) (state S.Store conn.new)) }
+    ensures one { HasCleanDisk (state S.Store conn.new) → result ≡ Ok Format.One → ShowsVersion (state S.Store conn.old) (state S.Store conn.new) 1 }
+    ensures old { HasCleanDisk (state S.Store conn.new) → IsFormatOne (state S.Store conn.old).now
+        → IfOk result (λ found. (found ≡ Format.One) × IsUnchanged (state S.Store conn.old) (state S.Store conn.new)) }
+    ensures known { HasCleanDisk (state S.Store conn.new) → IsFormatTwo (state S.Store conn.old).now
+        → IfOk result (λ found. (found ≡ Format.Two) × IsUnchanged (state S.Store conn.old) (state S.Store conn.new)) }
     ensures mode { conn.old.in_transaction ≡ false → conn.new.in_transaction ≡ false }
-    ensures same { HasCleanDisk (state S.Store conn.new) → IsTrue (state S.Store conn.new).is_open → IsFormatOne (state S.Store conn.old).now ⊎ IsFormatTwo (state S.Store conn.old).now
-        → OnErr result (((state S.Store conn.new).committed ≡ (state S.Store conn.old).committed) × (((state S.Store conn.new).now ≡ (state S.Store conn.old).now) ⊎ ((state S.Store conn.new).now ≡ (state S.Store conn.old).committed))) }
-    ensures crash { IsFormatOne (state S.Store conn.old).now ⊎ IsFormatTwo (state S.Store conn.old).now → Survives (state S.Store conn.old) (state S.Store conn.new) (λ _. ⊥) }
+    ensures clean { HasCleanDisk (state S.Store conn.new) → HasCleanDisk (state S.Store conn.old) }
+    ensures same { HasCleanDisk (state S.Store conn.new) → IsTrue (state S.Store conn.new).is_open
+        → IsFormatOne (state S.Store conn.old).now ⊎ IsFormatTwo (state S.Store conn.old).now
+        → OnErr result (StaysCommitted (state S.Store conn.old) (state S.Store conn.new)) }
+    ensures crash { IsFormatOne (state S.Store conn.old).now ⊎ IsFormatTwo (state S.Store conn.old).now
+        → Survives (state S.Store conn.old) (state S.Store conn.new) (λ _. ⊥) }
 {
     if !has_own_name(conn.schema()) {
         return Ok(Format::Absent);

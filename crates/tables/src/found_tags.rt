@@ -153,9 +153,11 @@ fn complete<S: Alter>(
     row: TagRow,
     asked: Option<&str>,
 ) -> Result<Option<FoundTag>, Refusal>
-    ensures whole { HasCleanDisk (state S.Store conn.new) → (state S.Store conn.old).now.schema ≡ schema_two → (m : State) → StandsFor (state S.Store conn.old).now.trees m
+    ensures whole { HasCleanDisk (state S.Store conn.new) → (state S.Store conn.old).now.schema ≡ schema_two → (m : State)
+        → StandsFor (state S.Store conn.old).now.trees m
         → (v : FoundTagValue) → TellsTag (state S.Store conn.old).now.trees m row v → IfOk result (IsFoundIf (option_map (λ p. p.now) asked.entry) v) }
-    ensures kept { HasCleanDisk (state S.Store conn.new) → (state S.Store conn.old).now.schema ≡ schema_two → OnOk result (IsAsBefore (state S.Store conn.old) (state S.Store conn.new)) }
+    ensures kept { HasCleanDisk (state S.Store conn.new) → (state S.Store conn.old).now.schema ≡ schema_two
+        → OnOk result (IsAsBefore (state S.Store conn.old) (state S.Store conn.new)) }
     ensures looks { Looks (state S.Store conn.old) (state S.Store conn.new) }
     ensures mode { conn.old.in_transaction ≡ false → conn.new.in_transaction ≡ false }
 {
@@ -187,10 +189,14 @@ pub(crate) fn complete_all<S: Alter>(
     rows: Vec<TagRow>,
     asked: Option<&str>,
 ) -> Result<Vec<FoundTag>, Refusal>
-    ensures found { HasCleanDisk (state S.Store conn.new) → (state S.Store conn.old).now.schema ≡ schema_two → (m : State) → StandsFor (state S.Store conn.old).now.trees m
+    ensures found { HasCleanDisk (state S.Store conn.new) → (state S.Store conn.old).now.schema ≡ schema_two → (m : State)
+        → StandsFor (state S.Store conn.old).now.trees m
         → AllTell (state S.Store conn.old).now.trees m rows.items
-        → IfOk result (λ found. (v : FoundTagValue) → Contains (map tag_found found.items) v ↔ (IsTold (state S.Store conn.old).now.trees m rows.items v × IsAsked (option_map (λ p. p.now) asked.entry) v.project)) }
-    ensures kept { HasCleanDisk (state S.Store conn.new) → (state S.Store conn.old).now.schema ≡ schema_two → OnOk result (IsAsBefore (state S.Store conn.old) (state S.Store conn.new)) }
+        → IfOk result (λ found. (v : FoundTagValue)
+        → Contains (map tag_found found.items) v ↔ (IsTold (state S.Store conn.old).now.trees m rows.items v
+        × IsAsked (option_map (λ p. p.now) asked.entry) v.project)) }
+    ensures kept { HasCleanDisk (state S.Store conn.new) → (state S.Store conn.old).now.schema ≡ schema_two
+        → OnOk result (IsAsBefore (state S.Store conn.old) (state S.Store conn.new)) }
     ensures looks { Looks (state S.Store conn.old) (state S.Store conn.new) }
     ensures mode { conn.old.in_transaction ≡ false → conn.new.in_transaction ≡ false }
 {

@@ -71,8 +71,10 @@ fn marks_in<S: Alter>(
     slot: i64,
     line: u32,
 ) -> Result<Vec<FoundMark>, Refusal>
-    ensures found { HasCleanDisk (state S.Store conn.new) → (state S.Store conn.old).now.schema ≡ schema_two → (m : State) → StandsFor (state S.Store conn.old).now.trees m
-        → (project : List ℕ) → Has ((state S.Store conn.old).now.trees 1) (slot_row slot project (pos 1)) → IfOk result (λ found. FindsMarks m project line (map mark_found found.items)) }
+    ensures found { HasCleanDisk (state S.Store conn.new) → (state S.Store conn.old).now.schema ≡ schema_two → (m : State)
+        → StandsFor (state S.Store conn.old).now.trees m
+        → (project : List ℕ) → Has ((state S.Store conn.old).now.trees 1) (slot_row slot project (pos 1))
+        → IfOk result (λ found. FindsMarks m project line (map mark_found found.items)) }
     ensures looks { Looks (state S.Store conn.old) (state S.Store conn.new) }
     ensures mode { conn.old.in_transaction ≡ false → conn.new.in_transaction ≡ false }
 {
@@ -93,7 +95,8 @@ fn find_marks<S: Alter>(
     project: &str,
     line: u32,
 ) -> Result<Vec<FoundMark>, Refusal>
-    ensures found { HasCleanDisk (state S.Store conn.new) → (state S.Store conn.old).now.schema ≡ schema_two → (m : State) → StandsFor (state S.Store conn.old).now.trees m → IfOk result (λ found. FindsMarks m project.now line (map mark_found found.items)) }
+    ensures found { HasCleanDisk (state S.Store conn.new) → (state S.Store conn.old).now.schema ≡ schema_two → (m : State)
+        → StandsFor (state S.Store conn.old).now.trees m → IfOk result (λ found. FindsMarks m project.now line (map mark_found found.items)) }
     ensures looks { Looks (state S.Store conn.old) (state S.Store conn.new) }
     ensures mode { conn.old.in_transaction ≡ false → conn.new.in_transaction ≡ false }
 {
@@ -113,8 +116,10 @@ impl<S: Alter> Tables<S> {
         project: &str,
         line: u32,
     ) -> Result<Vec<FoundMark>, TablesFault>
-        ensures found { HasCleanDisk (state S.Store self.new) → (m : State) → Rests (state S.Store self.old) m → IfOk result (λ found. FindsMarks m project.now line (map mark_found found.items)) }
-        ensures same { HasCleanDisk (state S.Store self.new) → IsTrue (state S.Store self.new).is_open → (m : State) → Rests (state S.Store self.old) m → IsAsBefore (state S.Store self.old) (state S.Store self.new) }
+        ensures found { HasCleanDisk (state S.Store self.new) → (m : State) → Rests (state S.Store self.old) m
+            → IfOk result (λ found. FindsMarks m project.now line (map mark_found found.items)) }
+        ensures same { HasCleanDisk (state S.Store self.new) → IsTrue (state S.Store self.new).is_open → (m : State) → Rests (state S.Store self.old) m
+            → IsAsBefore (state S.Store self.old) (state S.Store self.new) }
         ensures clean { HasCleanDisk (state S.Store self.new) → HasCleanDisk (state S.Store self.old) }
         ensures fault { IfErr result IsStoreFault }
         ensures survives { (m : State) → Rests (state S.Store self.old) m → Survives (state S.Store self.old) (state S.Store self.new) (λ _. ⊥) }

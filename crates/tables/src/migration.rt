@@ -1,9 +1,11 @@
 //! The way from format 1 to format 2.
 ghost use Rattle.std.specs.Prelude.{◌≡◌, ◌≢◌, ◌⊎◌, true, false, IsTrue, IfOk, IfErr, OnOk, OnErr};
+ghost use Rattle.tables.specs.Fault.{IsStoreFault};
+ghost use Rattle.tables.specs.Opening.{AfterMigration, StaysCommitted, IsRolledBack, Migrates};
 ghost use Rattle.sqlite.specs.State.{HasCleanDisk, Survives, KeepsCommit, IsUnchanged};
 ghost use Rattle.sqlite.specs.Held.{state};
 ghost use Rattle.tables.specs.Schema.{empty_schema};
-ghost use Rattle.tables.specs.Stands.{Rests, RestsOne, StandsFor};
+ghost use Rattle.tables.specs.Stands.{Finds, FindsOne, Rests, RestsOne, StandsFor};
 ghost use Rattle.tables.specs.State.{State};
 ghost use Rattle.tables.specs.Databases.{IsFormatOne, IsFormatTwo, IsUpgraded, WasUpgraded};
 
@@ -15,8 +17,10 @@ use sqlite::{Alter, Connection, Error, Transaction};
 /// The statements that make format 2 of format 1, within a transaction.
 fn upgrade_tables<S: Alter>(tx: &mut Transaction<'_, S>) -> Result<(), Error>
     ensures same_reference { tx.new.conn.ghost_name ≡ tx.old.conn.ghost_name }
-    ensures made { IsFormatOne (state S.Store tx.old.conn.now).now → HasCleanDisk (state S.Store tx.new.conn.now) → OnOk result (IsUpgraded (state S.Store tx.old.conn.now).now (state S.Store tx.new.conn.now).now) }
-    ensures inside { HasCleanDisk (state S.Store tx.new.conn.now) → OnOk result ((state S.Store tx.new.conn.now).in_transaction ≡ (state S.Store tx.old.conn.now).in_transaction) }
+    ensures made { IsFormatOne (state S.Store tx.old.conn.now).now → HasCleanDisk (state S.Store tx.new.conn.now)
+        → OnOk result (IsUpgraded (state S.Store tx.old.conn.now).now (state S.Store tx.new.conn.now).now) }
+    ensures inside { HasCleanDisk (state S.Store tx.new.conn.now)
+        → OnOk result ((state S.Store tx.new.conn.now).in_transaction ≡ (state S.Store tx.old.conn.now).in_transaction) }
     ensures kept { HasCleanDisk (state S.Store tx.new.conn.now) → KeepsCommit (state S.Store tx.old.conn.now) (state S.Store tx.new.conn.now) }
     ensures survives { Survives (state S.Store tx.old.conn.now) (state S.Store tx.new.conn.now) (λ _. ⊥) }
 {
@@ -34,12 +38,15 @@ fn upgrade_tables<S: Alter>(tx: &mut Transaction<'_, S>) -> Result<(), Error>
 /// Makes format 2 of format 1 in one transaction.
 fn upgrade<S: Alter>(conn: &mut Connection<S>) -> Result<(), Error>
     requires mode { conn.old.in_transaction ≡ false }
-    ensures made { IsFormatOne (state S.Store conn.old).now → HasCleanDisk (state S.Store conn.new) → OnOk result (IsUpgraded (state S.Store conn.old).now (state S.Store conn.new).now × ((state S.Store conn.new).committed ≡ (state S.Store conn.new).now)) }
+    ensures made { IsFormatOne (state S.Store conn.old).now → HasCleanDisk (state S.Store conn.new)
+        → OnOk result (IsUpgraded (state S.Store conn.old).now (state S.Store conn.new).now
+        × ((state S.Store conn.new).committed ≡ (state S.Store conn.new).now)) }
     ensures mode { conn.new.in_transaction ≡ false }
     ensures same { HasCleanDisk (state S.Store conn.new) → IsTrue (state S.Store conn.new).is_open
-        → OnErr result (((state S.Store conn.new).now ≡ (state S.Store conn.old).committed) × ((state S.Store conn.new).committed ≡ (state S.Store conn.old).committed)) }
+        → OnErr result (IsRolledBack (state S.Store conn.old) (state S.Store conn.new)) }
     ensures clean { HasCleanDisk (state S.Store conn.new) → HasCleanDisk (state S.Store conn.old) }
-    ensures crash { IsFormatOne (state S.Store conn.old).now → Survives (state S.Store conn.old) (state S.Store conn.new) (WasUpgraded (state S.Store conn.old).now.trees) }
+    ensures crash { IsFormatOne (state S.Store conn.old).now
+        → Survives (state S.Store conn.old) (state S.Store conn.new) (WasUpgraded (state S.Store conn.old).now.trees) }
 {
     let mut tx = conn.transaction();
     upgrade_tables(&mut tx)?;
@@ -55,19 +62,28 @@ pub fn migrate<S: Alter>(
     mut conn: Connection<S>,
 ) -> Result<(Tables<S>, bool), (TablesFault, Connection<S>)>
     requires { conn.in_transaction ≡ false }
-    ensures stands { (m : State) → RestsOne (state S.Store conn) m → IfOk result (λ r. HasCleanDisk (state S.Store r.0) → (r.1 ≡ true) × Rests (state S.Store r.0) m) }
-    ensures old { IsFormatOne (state S.Store conn).now → IfOk result (λ r. HasCleanDisk (state S.Store r.0) → (r.1 ≡ true) × IsUpgraded (state S.Store conn).now (state S.Store r.0).now × ((state S.Store r.0).committed ≡ (state S.Store r.0).now)) }
-    ensures known { IsFormatTwo (state S.Store conn).now → IfOk result (λ r. HasCleanDisk (state S.Store r.0) → (r.1 ≡ false) × IsUnchanged (state S.Store conn) (state S.Store r.0)) }
-    ensures fresh { (state S.Store conn).now.schema ≡ empty_schema → IfErr result (λ e. (e.0 ≡ TablesFault.Foreign) × (e.1 ≡ conn)) × IfOk result (λ _. ⊥) }
-    ensures foreign { IsFormatOne (state S.Store conn).now ⊎ IsFormatTwo (state S.Store conn).now → IfErr result (λ e. HasCleanDisk (state S.Store e.1) → e.0 ≢ TablesFault.Foreign) }
-    ensures back { IsFormatOne (state S.Store conn).now ⊎ IsFormatTwo (state S.Store conn).now → IfErr result (λ e. HasCleanDisk (state S.Store e.1) → IsTrue (state S.Store e.1).is_open
-        → ((state S.Store e.1).committed ≡ (state S.Store conn).committed) × (((state S.Store e.1).now ≡ (state S.Store conn).now) ⊎ ((state S.Store e.1).now ≡ (state S.Store conn).committed))) }
+    ensures stands { (m : State) → RestsOne (state S.Store conn) m ⊎ FindsOne (state S.Store conn) m → Migrates (state S.Store) result true m }
+    ensures known_stands { (m : State) → Rests (state S.Store conn) m ⊎ Finds (state S.Store conn) m → Migrates (state S.Store) result false m }
+    ensures kind { IfErr result (λ e. e.0 ≢ TablesFault.OldFormat) }
+    ensures store { IsFormatOne (state S.Store conn).now ⊎ IsFormatTwo (state S.Store conn).now
+        → IfErr result (λ e. HasCleanDisk (state S.Store e.1) → IsStoreFault e.0) }
+    ensures old { IsFormatOne (state S.Store conn).now → IfOk result (λ r. HasCleanDisk (state S.Store r.0) → (r.1 ≡ true)
+        × IsUpgraded (state S.Store conn).now (state S.Store r.0).now × ((state S.Store r.0).committed ≡ (state S.Store r.0).now)) }
+    ensures known { IsFormatTwo (state S.Store conn).now → IfOk result (λ r. HasCleanDisk (state S.Store r.0) → (r.1 ≡ false)
+        × IsUnchanged (state S.Store conn) (state S.Store r.0)) }
+    ensures fresh { (state S.Store conn).now.schema ≡ empty_schema
+        → IfErr result (λ e. (e.0 ≡ TablesFault.Foreign) × (e.1 ≡ conn)) × IfOk result (λ _. ⊥) }
+    ensures back { IsFormatOne (state S.Store conn).now ⊎ IsFormatTwo (state S.Store conn).now → IfErr result (λ e. HasCleanDisk (state S.Store e.1)
+        → IsTrue (state S.Store e.1).is_open → StaysCommitted (state S.Store conn) (state S.Store e.1)) }
     ensures mode { IfErr result (λ e. e.1.in_transaction ≡ false) }
-    ensures stays { IsFormatTwo (state S.Store conn).now → IfOk result (λ r. HasCleanDisk (state S.Store r.0) → Survives (state S.Store conn) (state S.Store r.0) (λ _. ⊥)) × IfErr result (λ e. HasCleanDisk (state S.Store e.1) → Survives (state S.Store conn) (state S.Store e.1) (λ _. ⊥)) }
-    ensures crash { IsFormatOne (state S.Store conn).now → IfOk result (λ r. HasCleanDisk (state S.Store r.0) → Survives (state S.Store conn) (state S.Store r.0) (WasUpgraded (state S.Store conn).now.trees)) }
-    ensures left { (m : State) → RestsOne (state S.Store conn) m → IfOk result (λ r. HasCleanDisk (state S.Store r.0) → Survives (state S.Store conn) (state S.Store r.0) (λ db. StandsFor db m)) × IfErr result (λ e. HasCleanDisk (state S.Store e.1) → Survives (state S.Store conn) (state S.Store e.1) (λ db. StandsFor db m)) }
+    ensures clean { AfterMigration (state S.Store) result (λ s. HasCleanDisk s → HasCleanDisk (state S.Store conn)) }
+    ensures stays { IsFormatTwo (state S.Store conn).now
+        → AfterMigration (state S.Store) result (λ s. HasCleanDisk s → Survives (state S.Store conn) s (λ _. ⊥)) }
+    ensures crash { IsFormatOne (state S.Store conn).now
+        → AfterMigration (state S.Store) result (λ s. HasCleanDisk s → Survives (state S.Store conn) s (WasUpgraded (state S.Store conn).now.trees)) }
+    ensures left { (m : State) → RestsOne (state S.Store conn) m
+        → AfterMigration (state S.Store) result (λ s. HasCleanDisk s → Survives (state S.Store conn) s (λ db. StandsFor db m)) }
     ensures whole { IsFormatOne (state S.Store conn).now → IfOk result (λ r. HasCleanDisk (state S.Store r.0) → IsFormatTwo (state S.Store r.0).now) }
-    ensures stopped { IsFormatOne (state S.Store conn).now → IfErr result (λ e. HasCleanDisk (state S.Store e.1) → Survives (state S.Store conn) (state S.Store e.1) (WasUpgraded (state S.Store conn).now.trees)) }
 {
     let is_in_memory = false;
     match find_format(&mut conn) {

@@ -8,16 +8,15 @@ ghost use Rattle.tables.specs.State.{State};
 ghost use Rattle.tables.specs.Fault.{IsStoreFault};
 ghost use Rattle.tables.specs.Stands.{IsAsBefore, StandsFor, Rests};
 ghost use Rattle.tables.specs.Names.{BeginsWith, FindsNamed, FindsPrefixed, line_cmp, name_cmp, tag_found};
-ghost use Rattle.tables.specs.Steps.Selected.{AreRead, Looks};
-ghost use Rattle.tables.specs.Steps.TagRows.{TellNamed, tag_row_columns, with_prefix};
-ghost use Rattle.tables.specs.declared.found_tags.TagRow.{TagRow};
+ghost use Rattle.tables.specs.Steps.Selected.{Looks};
+ghost use Rattle.tables.specs.Steps.TagRows.{TellNamed, with_prefix};
 
 use crate::fault::{Refusal, TablesFault};
 use crate::found_tags::{FoundTag, TagRow, complete_all};
-use crate::selection::{read_all, select_all};
+use crate::selection::{Listed, select_all};
 use crate::tables::Tables;
 use sqlite::types::ValueRef;
-use sqlite::{Alter, Connection, Error, ErrorCode, Row, params};
+use sqlite::{Alter, Connection, Row, params};
 use std::alloc::Global;
 use std::cmp::Ordering;
 
@@ -67,9 +66,11 @@ fn select_named<S: Alter>(
     conn: &mut Connection<S>,
     name: &str,
 ) -> Result<Vec<TagRow>, Refusal>
-    ensures rows { HasCleanDisk (state S.Store conn.new) → (state S.Store conn.old).now.schema ≡ schema_two → (m : State) → StandsFor (state S.Store conn.old).now.trees m
+    ensures rows { HasCleanDisk (state S.Store conn.new) → (state S.Store conn.old).now.schema ≡ schema_two → (m : State)
+        → StandsFor (state S.Store conn.old).now.trees m
         → IfOk result (λ rows. TellNamed (state S.Store conn.old).now.trees m (λ text. text ≡ name.now) rows.items) }
-    ensures kept { HasCleanDisk (state S.Store conn.new) → (state S.Store conn.old).now.schema ≡ schema_two → OnOk result (IsAsBefore (state S.Store conn.old) (state S.Store conn.new)) }
+    ensures kept { HasCleanDisk (state S.Store conn.new) → (state S.Store conn.old).now.schema ≡ schema_two
+        → OnOk result (IsAsBefore (state S.Store conn.old) (state S.Store conn.new)) }
     ensures looks { Looks (state S.Store conn.old) (state S.Store conn.new) }
     ensures mode { conn.old.in_transaction ≡ false → conn.new.in_transaction ≡ false }
 {
@@ -88,7 +89,8 @@ fn find_named<S: Alter>(
     name: &str,
     asked: Option<&str>,
 ) -> Result<Vec<FoundTag>, Refusal>
-    ensures found { HasCleanDisk (state S.Store conn.new) → (state S.Store conn.old).now.schema ≡ schema_two → (m : State) → StandsFor (state S.Store conn.old).now.trees m
+    ensures found { HasCleanDisk (state S.Store conn.new) → (state S.Store conn.old).now.schema ≡ schema_two → (m : State)
+        → StandsFor (state S.Store conn.old).now.trees m
         → IfOk result (λ found. FindsNamed m (option_map (λ p. p.now) asked.entry) name.now (map tag_found found.items)) }
     ensures looks { Looks (state S.Store conn.old) (state S.Store conn.new) }
     ensures mode { conn.old.in_transaction ≡ false → conn.new.in_transaction ≡ false }
@@ -109,15 +111,17 @@ fn has_prefix(row: &Row, prefix: &str) -> bool
     }
 }
 
-/// The rows of the tags whose names begin with the text. They are read one at a time, by name, up to the first with another beginning.
-fn prefixed_rows<S: Alter>(
+/// The rows of the tags whose names begin with the text. They are read as they come, by name, up to the first with another beginning.
+fn select_prefixed<S: Alter>(
     alloc: Global,
     conn: &mut Connection<S>,
     prefix: &str,
-) -> Result<Vec<Row>, Error>
-    ensures rows { HasCleanDisk (state S.Store conn.new) → (state S.Store conn.old).now.schema ≡ schema_two → (m : State) → StandsFor (state S.Store conn.old).now.trees m
-        → IfOk result (λ rows. (xs : List TagRow) → AreRead tag_row_columns rows.items xs → TellNamed (state S.Store conn.old).now.trees m (λ text. BeginsWith text prefix.now) xs) }
-    ensures kept { HasCleanDisk (state S.Store conn.new) → (state S.Store conn.old).now.schema ≡ schema_two → OnOk result (IsAsBefore (state S.Store conn.old) (state S.Store conn.new)) }
+) -> Result<Vec<TagRow>, Refusal>
+    ensures rows { HasCleanDisk (state S.Store conn.new) → (state S.Store conn.old).now.schema ≡ schema_two → (m : State)
+        → StandsFor (state S.Store conn.old).now.trees m
+        → IfOk result (λ rows. TellNamed (state S.Store conn.old).now.trees m (λ text. BeginsWith text prefix.now) rows.items) }
+    ensures kept { HasCleanDisk (state S.Store conn.new) → (state S.Store conn.old).now.schema ≡ schema_two
+        → OnOk result (IsAsBefore (state S.Store conn.old) (state S.Store conn.new)) }
     ensures looks { Looks (state S.Store conn.old) (state S.Store conn.new) }
     ensures mode { conn.old.in_transaction ≡ false → conn.new.in_transaction ≡ false }
 {
@@ -133,27 +137,10 @@ fn prefixed_rows<S: Alter>(
         if !has_prefix(row, prefix) {
             return Ok(found);
         }
-        found.push(row.copy()?)?;
+        let tag = TagRow::read(row)?;
+        found.push(tag)?;
     }
-    Err(Error::SqliteFailure(ErrorCode::OutOfMemory))
-}
-
-/// The rows of the tags whose names begin with the text.
-fn select_prefixed<S: Alter>(
-    alloc: Global,
-    conn: &mut Connection<S>,
-    prefix: &str,
-) -> Result<Vec<TagRow>, Refusal>
-    ensures rows { HasCleanDisk (state S.Store conn.new) → (state S.Store conn.old).now.schema ≡ schema_two → (m : State) → StandsFor (state S.Store conn.old).now.trees m
-        → IfOk result (λ rows. TellNamed (state S.Store conn.old).now.trees m (λ text. BeginsWith text prefix.now) rows.items) }
-    ensures kept { HasCleanDisk (state S.Store conn.new) → (state S.Store conn.old).now.schema ≡ schema_two → OnOk result (IsAsBefore (state S.Store conn.old) (state S.Store conn.new)) }
-    ensures looks { Looks (state S.Store conn.old) (state S.Store conn.new) }
-    ensures mode { conn.old.in_transaction ≡ false → conn.new.in_transaction ≡ false }
-{
-    match prefixed_rows(alloc, conn, prefix) {
-        Ok(rows) => read_all(alloc, &rows),
-        Err(error) => Err(Refusal::Store(error)),
-    }
+    Err(Refusal::Memory)
 }
 
 /// The tags whose names begin with the text.
@@ -163,7 +150,8 @@ fn find_prefixed<S: Alter>(
     prefix: &str,
     asked: Option<&str>,
 ) -> Result<Vec<FoundTag>, Refusal>
-    ensures found { HasCleanDisk (state S.Store conn.new) → (state S.Store conn.old).now.schema ≡ schema_two → (m : State) → StandsFor (state S.Store conn.old).now.trees m
+    ensures found { HasCleanDisk (state S.Store conn.new) → (state S.Store conn.old).now.schema ≡ schema_two → (m : State)
+        → StandsFor (state S.Store conn.old).now.trees m
         → IfOk result (λ found. FindsPrefixed m (option_map (λ p. p.now) asked.entry) prefix.now (map tag_found found.items)) }
     ensures looks { Looks (state S.Store conn.old) (state S.Store conn.new) }
     ensures mode { conn.old.in_transaction ≡ false → conn.new.in_transaction ≡ false }
@@ -186,7 +174,8 @@ impl<S: Alter> Tables<S> {
     ) -> Result<Vec<FoundTag>, TablesFault>
         ensures found { HasCleanDisk (state S.Store self.new) → (m : State) → Rests (state S.Store self.old) m
             → IfOk result (λ found. FindsNamed m (option_map (λ p. p.now) project.entry) name.now (map tag_found found.items)) }
-        ensures same { HasCleanDisk (state S.Store self.new) → IsTrue (state S.Store self.new).is_open → (m : State) → Rests (state S.Store self.old) m → IsAsBefore (state S.Store self.old) (state S.Store self.new) }
+        ensures same { HasCleanDisk (state S.Store self.new) → IsTrue (state S.Store self.new).is_open → (m : State) → Rests (state S.Store self.old) m
+            → IsAsBefore (state S.Store self.old) (state S.Store self.new) }
         ensures clean { HasCleanDisk (state S.Store self.new) → HasCleanDisk (state S.Store self.old) }
         ensures fault { IfErr result IsStoreFault }
         ensures survives { (m : State) → Rests (state S.Store self.old) m → Survives (state S.Store self.old) (state S.Store self.new) (λ _. ⊥) }
@@ -208,7 +197,8 @@ impl<S: Alter> Tables<S> {
     ) -> Result<Vec<FoundTag>, TablesFault>
         ensures found { HasCleanDisk (state S.Store self.new) → (m : State) → Rests (state S.Store self.old) m
             → IfOk result (λ found. FindsPrefixed m (option_map (λ p. p.now) project.entry) prefix.now (map tag_found found.items)) }
-        ensures same { HasCleanDisk (state S.Store self.new) → IsTrue (state S.Store self.new).is_open → (m : State) → Rests (state S.Store self.old) m → IsAsBefore (state S.Store self.old) (state S.Store self.new) }
+        ensures same { HasCleanDisk (state S.Store self.new) → IsTrue (state S.Store self.new).is_open → (m : State) → Rests (state S.Store self.old) m
+            → IsAsBefore (state S.Store self.old) (state S.Store self.new) }
         ensures clean { HasCleanDisk (state S.Store self.new) → HasCleanDisk (state S.Store self.old) }
         ensures fault { IfErr result IsStoreFault }
         ensures survives { (m : State) → Rests (state S.Store self.old) m → Survives (state S.Store self.old) (state S.Store self.new) (λ _. ⊥) }

@@ -20,7 +20,8 @@ pub(crate) trait PartRow {
     /// Puts the row into its table, under this slot.
     fn insert<S: Alter>(&self, tx: &mut Transaction<'_, S>, slot: i64) -> Result<usize, Error>
         ensures same_reference { tx.new.conn.ghost_name ≡ tx.old.conn.ghost_name }
-        ensures put { HasCleanDisk (state S.Store tx.new.conn.now) → IsTrue tx.old.conn.now.in_transaction → (state S.Store tx.old.conn.now).now.schema ≡ schema_two
+        ensures put { HasCleanDisk (state S.Store tx.new.conn.now) → IsTrue tx.old.conn.now.in_transaction
+            → (state S.Store tx.old.conn.now).now.schema ≡ schema_two
             → OnOk result (Steps (PutsAll tree ((Int slot ∷ columns self.now) ∷ [])) (state S.Store tx.old.conn.now) (state S.Store tx.new.conn.now)) }
         ensures kept { HasCleanDisk (state S.Store tx.new.conn.now) → KeepsCommit (state S.Store tx.old.conn.now) (state S.Store tx.new.conn.now) }
         ensures survives { Survives (state S.Store tx.old.conn.now) (state S.Store tx.new.conn.now) (λ _. ⊥) };

@@ -28,9 +28,11 @@ pub(crate) fn find_slot<S: Alter>(
     project: &str,
     part: Part,
 ) -> Result<Option<i64>, Refusal>
-    ensures slot { HasCleanDisk (state S.Store conn.new) → (state S.Store conn.old).now.schema ≡ schema_two → (parts : Contents) (replies : Replies) → Keeps (state S.Store conn.old).now.trees parts replies
+    ensures slot { HasCleanDisk (state S.Store conn.new) → (state S.Store conn.old).now.schema ≡ schema_two → (parts : Contents) (replies : Replies)
+        → Keeps (state S.Store conn.old).now.trees parts replies
         → IfOk result (IsSlotOf (state S.Store conn.old).now.trees parts project.now (part_number part)) }
-    ensures kept { HasCleanDisk (state S.Store conn.new) → (state S.Store conn.old).now.schema ≡ schema_two → OnOk result (IsAsBefore (state S.Store conn.old) (state S.Store conn.new)) }
+    ensures kept { HasCleanDisk (state S.Store conn.new) → (state S.Store conn.old).now.schema ≡ schema_two
+        → OnOk result (IsAsBefore (state S.Store conn.old) (state S.Store conn.new)) }
     ensures looks { Looks (state S.Store conn.old) (state S.Store conn.new) }
     ensures mode { conn.old.in_transaction ≡ false → conn.new.in_transaction ≡ false }
 {
@@ -57,8 +59,10 @@ impl Listed for Profile {
 
 /// The profile of the dump that has this slot.
 fn profile_in<S: Alter>(conn: &mut Connection<S>, slot: i64) -> Result<Profile, Refusal>
-    ensures profile { HasCleanDisk (state S.Store conn.new) → (state S.Store conn.old).now.schema ≡ schema_two → (m : State) → StandsFor (state S.Store conn.old).now.trees m
-        → (project : List ℕ) (dump : DumpValue) → Has ((state S.Store conn.old).now.trees 1) (slot_row slot project (pos 1)) → m.dump project ≡ Some dump → IfOk result (λ profile. profile ≡ dump.profile) }
+    ensures profile { HasCleanDisk (state S.Store conn.new) → (state S.Store conn.old).now.schema ≡ schema_two → (m : State)
+        → StandsFor (state S.Store conn.old).now.trees m
+        → (project : List ℕ) (dump : DumpValue) → Has ((state S.Store conn.old).now.trees 1) (slot_row slot project (pos 1)) → m.dump project ≡ Some dump
+        → IfOk result (λ profile. profile ≡ dump.profile) }
     ensures looks { Looks (state S.Store conn.old) (state S.Store conn.new) }
     ensures mode { conn.old.in_transaction ≡ false → conn.new.in_transaction ≡ false }
 {
@@ -75,7 +79,8 @@ fn find_profile<S: Alter>(
     conn: &mut Connection<S>,
     project: &str,
 ) -> Result<Option<Profile>, Refusal>
-    ensures found { HasCleanDisk (state S.Store conn.new) → (state S.Store conn.old).now.schema ≡ schema_two → (m : State) → StandsFor (state S.Store conn.old).now.trees m → IfOk result (λ found. found ≡ option_map (λ d. d.profile) (m.dump project.now)) }
+    ensures found { HasCleanDisk (state S.Store conn.new) → (state S.Store conn.old).now.schema ≡ schema_two → (m : State)
+        → StandsFor (state S.Store conn.old).now.trees m → IfOk result (λ found. found ≡ option_map (λ d. d.profile) (m.dump project.now)) }
     ensures looks { Looks (state S.Store conn.old) (state S.Store conn.new) }
     ensures mode { conn.old.in_transaction ≡ false → conn.new.in_transaction ≡ false }
 {
@@ -89,8 +94,10 @@ impl<S: Alter> Tables<S> {
     /// The profile that the project's dump was read by, or none where it has no dump. It's `Refused` where the store refuses, or where a row isn't one
     /// of this product's, and `Memory` where memory is refused, also to a database in memory (`in_memory`).
     pub fn profile(&mut self, project: &str) -> Result<Option<Profile>, TablesFault>
-        ensures found { HasCleanDisk (state S.Store self.new) → (m : State) → Rests (state S.Store self.old) m → IfOk result (λ found. found ≡ option_map (λ d. d.profile) (m.dump project.now)) }
-        ensures same { HasCleanDisk (state S.Store self.new) → IsTrue (state S.Store self.new).is_open → (m : State) → Rests (state S.Store self.old) m → IsAsBefore (state S.Store self.old) (state S.Store self.new) }
+        ensures found { HasCleanDisk (state S.Store self.new) → (m : State) → Rests (state S.Store self.old) m
+            → IfOk result (λ found. found ≡ option_map (λ d. d.profile) (m.dump project.now)) }
+        ensures same { HasCleanDisk (state S.Store self.new) → IsTrue (state S.Store self.new).is_open → (m : State) → Rests (state S.Store self.old) m
+            → IsAsBefore (state S.Store self.old) (state S.Store self.new) }
         ensures clean { HasCleanDisk (state S.Store self.new) → HasCleanDisk (state S.Store self.old) }
         ensures fault { IfErr result IsStoreFault }
         ensures survives { (m : State) → Rests (state S.Store self.old) m → Survives (state S.Store self.old) (state S.Store self.new) (λ _. ⊥) }

@@ -19,7 +19,9 @@ fn find_reply<S: Alter>(
     project: &str,
     key: &str,
 ) -> Result<Option<String>, Refusal>
-    ensures found { HasCleanDisk (state S.Store conn.new) → (state S.Store conn.old).now.schema ≡ schema_two → (m : State) → StandsFor (state S.Store conn.old).now.trees m → IfOk result (λ reply. option_map string_bytes reply ≡ option_map accepted_text (m.kept project.now key.now)) }
+    ensures found { HasCleanDisk (state S.Store conn.new) → (state S.Store conn.old).now.schema ≡ schema_two → (m : State)
+        → StandsFor (state S.Store conn.old).now.trees m
+        → IfOk result (λ reply. option_map string_bytes reply ≡ option_map accepted_text (m.kept project.now key.now)) }
     ensures looks { Looks (state S.Store conn.old) (state S.Store conn.new) }
     ensures mode { conn.old.in_transaction ≡ false → conn.new.in_transaction ≡ false }
 {
@@ -34,8 +36,10 @@ impl<S: Alter> Tables<S> {
     /// The text of the reply that is kept for the project under the key, or none where none is. It's `Refused` where the store refuses, or where a row
     /// isn't one of this product's, and `Memory` where memory is refused, also to a database in memory (`in_memory`).
     pub fn kept_reply(&mut self, project: &str, key: &str) -> Result<Option<String>, TablesFault>
-        ensures found { HasCleanDisk (state S.Store self.new) → (m : State) → Rests (state S.Store self.old) m → IfOk result (λ reply. option_map string_bytes reply ≡ option_map accepted_text (m.kept project.now key.now)) }
-        ensures same { HasCleanDisk (state S.Store self.new) → IsTrue (state S.Store self.new).is_open → (m : State) → Rests (state S.Store self.old) m → IsAsBefore (state S.Store self.old) (state S.Store self.new) }
+        ensures found { HasCleanDisk (state S.Store self.new) → (m : State) → Rests (state S.Store self.old) m
+            → IfOk result (λ reply. option_map string_bytes reply ≡ option_map accepted_text (m.kept project.now key.now)) }
+        ensures same { HasCleanDisk (state S.Store self.new) → IsTrue (state S.Store self.new).is_open → (m : State) → Rests (state S.Store self.old) m
+            → IsAsBefore (state S.Store self.old) (state S.Store self.new) }
         ensures clean { HasCleanDisk (state S.Store self.new) → HasCleanDisk (state S.Store self.old) }
         ensures fault { IfErr result IsStoreFault }
         ensures survives { (m : State) → Rests (state S.Store self.old) m → Survives (state S.Store self.old) (state S.Store self.new) (λ _. ⊥) }

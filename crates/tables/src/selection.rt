@@ -45,8 +45,10 @@ fn rows_of<S: Alter>(
     params: &[ValueRef<'_>],
 ) -> Result<Vec<Row>, Refusal>
     requires { IsPlain (understood schema_two sql.now) }
-    ensures shown { HasCleanDisk (state S.Store conn.new) → IfOk result (λ rows. Shown sql.now (bound params.now) (state S.Store conn.old) (state S.Store conn.new) rows.items) }
-    ensures kept { HasCleanDisk (state S.Store conn.new) → (state S.Store conn.old).now.schema ≡ schema_two → OnOk result (IsAsBefore (state S.Store conn.old) (state S.Store conn.new)) }
+    ensures shown { HasCleanDisk (state S.Store conn.new)
+        → IfOk result (λ rows. Shown sql.now (bound params.now) (state S.Store conn.old) (state S.Store conn.new) rows.items) }
+    ensures kept { HasCleanDisk (state S.Store conn.new) → (state S.Store conn.old).now.schema ≡ schema_two
+        → OnOk result (IsAsBefore (state S.Store conn.old) (state S.Store conn.new)) }
     ensures looks { Looks (state S.Store conn.old) (state S.Store conn.new) }
     ensures mode { conn.old.in_transaction ≡ false → conn.new.in_transaction ≡ false }
 {
@@ -54,21 +56,6 @@ fn rows_of<S: Alter>(
         Ok(rows) => Ok(rows),
         Err(error) => Err(Refusal::Store(error)),
     }
-}
-
-/// What the rows read as.
-pub(crate) fn read_all<T: Listed>(alloc: Global, rows: &[Row]) -> Result<Vec<T>, Refusal>
-    ensures read { IfOk result (λ found. AreRead T.columns rows.now found.items) }
-    ensures sound { IfOk result (λ found. AllByRecursion T.is_sound found.items) }
-{
-    let mut found = Vec::new(alloc);
-    for row in rows {
-        let item = T::read(row)?;
-        if found.push(item).is_err() {
-            return Err(Refusal::Memory);
-        }
-    }
-    Ok(found)
 }
 
 /// What the rows of the answer to a query that writes nothing read as. Each is read as it comes, so that no row is held beside what it reads as.
@@ -82,7 +69,8 @@ pub(crate) fn select_all<S: Alter, T: Listed>(
     ensures read { HasCleanDisk (state S.Store conn.new) → (state S.Store conn.old).now.schema ≡ schema_two → IfOk result (λ found. (rows : List Columns)
         × Shown sql.now (bound params.now) (state S.Store conn.old) (state S.Store conn.new) rows × AreRead T.columns rows found.items) }
     ensures sound { IfOk result (λ found. AllByRecursion T.is_sound found.items) }
-    ensures kept { HasCleanDisk (state S.Store conn.new) → (state S.Store conn.old).now.schema ≡ schema_two → OnOk result (IsAsBefore (state S.Store conn.old) (state S.Store conn.new)) }
+    ensures kept { HasCleanDisk (state S.Store conn.new) → (state S.Store conn.old).now.schema ≡ schema_two
+        → OnOk result (IsAsBefore (state S.Store conn.old) (state S.Store conn.new)) }
     ensures looks { Looks (state S.Store conn.old) (state S.Store conn.new) }
     ensures mode { conn.old.in_transaction ≡ false → conn.new.in_transaction ≡ false }
 {
@@ -105,9 +93,12 @@ pub(crate) fn select_first<S: Alter, T: Listed>(
     params: &[ValueRef<'_>],
 ) -> Result<Option<T>, Refusal>
     requires { IsPlain (understood schema_two sql.now) }
-    ensures read { HasCleanDisk (state S.Store conn.new) → IfOk result (λ found. (rows : List Columns) × Shown sql.now (bound params.now) (state S.Store conn.old) (state S.Store conn.new) rows × IsFirstRead T.columns rows found) }
+    ensures read { HasCleanDisk (state S.Store conn.new)
+        → IfOk result (λ found. (rows : List Columns) × Shown sql.now (bound params.now) (state S.Store conn.old) (state S.Store conn.new) rows
+        × IsFirstRead T.columns rows found) }
     ensures sound { IfOk result (λ found. IfSome found T.is_sound) }
-    ensures kept { HasCleanDisk (state S.Store conn.new) → (state S.Store conn.old).now.schema ≡ schema_two → OnOk result (IsAsBefore (state S.Store conn.old) (state S.Store conn.new)) }
+    ensures kept { HasCleanDisk (state S.Store conn.new) → (state S.Store conn.old).now.schema ≡ schema_two
+        → OnOk result (IsAsBefore (state S.Store conn.old) (state S.Store conn.new)) }
     ensures looks { Looks (state S.Store conn.old) (state S.Store conn.new) }
     ensures mode { conn.old.in_transaction ≡ false → conn.new.in_transaction ≡ false }
 {

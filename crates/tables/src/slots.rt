@@ -5,6 +5,7 @@ ghost use Rattle.sqlite.specs.State.{HasCleanDisk, Survives, KeepsCommit};
 ghost use Rattle.sqlite.specs.Held.{state};
 ghost use Rattle.tables.specs.Schema.{schema_two};
 ghost use Rattle.tables.specs.Contents.{Contents, Replies, Keeps, changed};
+ghost use Rattle.tables.specs.Databases.{IsListed};
 ghost use Rattle.tables.specs.Parts.{part_number};
 ghost use Rattle.tables.specs.Steps.Puts.{Puts, PutsAll, Steps, GoesOn};
 
@@ -34,9 +35,12 @@ pub(crate) fn remove_slot<S: Alter>(
     part: Part,
 ) -> Result<usize, Error>
     ensures same_reference { tx.new.conn.ghost_name ≡ tx.old.conn.ghost_name }
-    ensures gone { HasCleanDisk (state S.Store tx.new.conn.now) → IsTrue tx.old.conn.now.in_transaction → (state S.Store tx.old.conn.now).now.schema ≡ schema_two
+    ensures gone { HasCleanDisk (state S.Store tx.new.conn.now) → IsTrue tx.old.conn.now.in_transaction
+        → (state S.Store tx.old.conn.now).now.schema ≡ schema_two
         → (parts : Contents) (replies : Replies) → Keeps (state S.Store tx.old.conn.now).now.trees parts replies
-        → IfOk result (λ count. GoesOn (state S.Store tx.old.conn.now) (state S.Store tx.new.conn.now) × Keeps (state S.Store tx.new.conn.now).now.trees (changed parts project.now (part_number part) None) replies × ((count ≡ 0) ↔ (parts project.now (part_number part) ≡ None))) }
+        → IfOk result (λ count. GoesOn (state S.Store tx.old.conn.now) (state S.Store tx.new.conn.now)
+        × Keeps (state S.Store tx.new.conn.now).now.trees (changed parts project.now (part_number part) None) replies
+        × ((count ≡ 0) ↔ (parts project.now (part_number part) ≡ None))) }
     ensures kept { HasCleanDisk (state S.Store tx.new.conn.now) → KeepsCommit (state S.Store tx.old.conn.now) (state S.Store tx.new.conn.now) }
     ensures survives { Survives (state S.Store tx.old.conn.now) (state S.Store tx.new.conn.now) (λ _. ⊥) }
 {
@@ -77,6 +81,9 @@ pub(crate) fn insert_reply<S: Alter>(
     ensures same_reference { tx.new.conn.ghost_name ≡ tx.old.conn.ghost_name }
     ensures put { HasCleanDisk (state S.Store tx.new.conn.now) → IsTrue tx.old.conn.now.in_transaction → (state S.Store tx.old.conn.now).now.schema ≡ schema_two
         → OnOk result (Steps (PutsAll 3 ((Text project.now ∷ Text key.now ∷ Text reply.now ∷ []) ∷ [])) (state S.Store tx.old.conn.now) (state S.Store tx.new.conn.now)) }
+    ensures listed { HasCleanDisk (state S.Store tx.new.conn.now) → IsTrue tx.old.conn.now.in_transaction
+        → (state S.Store tx.old.conn.now).now.schema ≡ schema_two
+        → OnOk result (IsListed schema_two (state S.Store tx.new.conn.now).now.trees) }
     ensures kept { HasCleanDisk (state S.Store tx.new.conn.now) → KeepsCommit (state S.Store tx.old.conn.now) (state S.Store tx.new.conn.now) }
     ensures survives { Survives (state S.Store tx.old.conn.now) (state S.Store tx.new.conn.now) (λ _. ⊥) }
 {

@@ -1,11 +1,12 @@
 //! The tables of the index.
-ghost use Rattle.std.specs.Prelude.{◌≡◌, ◌≢◌, ◌⊎◌, false, IsTrue, IfOk, IfErr, OnOk, OnErr};
+ghost use Rattle.std.specs.Prelude.{◌≡◌, ◌⊎◌, false, IsTrue, IfOk, IfErr, OnOk, OnErr};
 ghost use Rattle.sqlite.specs.State.{HasCleanDisk, Survives, KeepsCommit, IsUnchanged};
 ghost use Rattle.sqlite.specs.Held.{state};
 ghost use Rattle.tables.specs.Schema.{empty_schema};
-ghost use Rattle.tables.specs.Databases.{IsMade, WasMade, IsFormatOne, IsFormatTwo};
+ghost use Rattle.tables.specs.Databases.{IsMade, WasMade, IsFormatOne, IsFormatTwo, ShowsVersion};
 ghost use Rattle.tables.specs.Fault.{IsStoreFault};
-ghost use Rattle.tables.specs.Stands.{IsAsBefore, Rests, StandsFor};
+ghost use Rattle.tables.specs.Opening.{AfterOpening, Gives, RefusesOld, StaysCommitted, IsRolledBack};
+ghost use Rattle.tables.specs.Stands.{Finds, FindsOne, IsAsBefore, Rests, StandsFor};
 ghost use Rattle.tables.specs.State.{State, nothing};
 
 use crate::fault::{TablesFault, fault_of};
@@ -37,8 +38,10 @@ impl<S: Alter> Model for Tables<S> {
 /// The statements that make the tables of format 2, within a transaction.
 fn make_tables<S: Alter>(tx: &mut Transaction<'_, S>) -> Result<(), Error>
     ensures same_reference { tx.new.conn.ghost_name ≡ tx.old.conn.ghost_name }
-    ensures made { (state S.Store tx.old.conn.now).now.schema ≡ empty_schema → HasCleanDisk (state S.Store tx.new.conn.now) → OnOk result (IsMade (state S.Store tx.new.conn.now).now) }
-    ensures inside { HasCleanDisk (state S.Store tx.new.conn.now) → OnOk result ((state S.Store tx.new.conn.now).in_transaction ≡ (state S.Store tx.old.conn.now).in_transaction) }
+    ensures made { (state S.Store tx.old.conn.now).now.schema ≡ empty_schema → HasCleanDisk (state S.Store tx.new.conn.now)
+        → OnOk result (IsMade (state S.Store tx.new.conn.now).now) }
+    ensures inside { HasCleanDisk (state S.Store tx.new.conn.now)
+        → OnOk result ((state S.Store tx.new.conn.now).in_transaction ≡ (state S.Store tx.old.conn.now).in_transaction) }
     ensures kept { HasCleanDisk (state S.Store tx.new.conn.now) → KeepsCommit (state S.Store tx.old.conn.now) (state S.Store tx.new.conn.now) }
     ensures survives { Survives (state S.Store tx.old.conn.now) (state S.Store tx.new.conn.now) (λ _. ⊥) }
 {
@@ -65,10 +68,11 @@ fn make_tables<S: Alter>(tx: &mut Transaction<'_, S>) -> Result<(), Error>
 /// Makes the tables of format 2 in one transaction.
 fn make<S: Alter>(conn: &mut Connection<S>) -> Result<(), Error>
     requires mode { conn.old.in_transaction ≡ false }
-    ensures made { (state S.Store conn.old).now.schema ≡ empty_schema → HasCleanDisk (state S.Store conn.new) → OnOk result (IsMade (state S.Store conn.new).now × ((state S.Store conn.new).committed ≡ (state S.Store conn.new).now)) }
+    ensures made { (state S.Store conn.old).now.schema ≡ empty_schema → HasCleanDisk (state S.Store conn.new)
+        → OnOk result (IsMade (state S.Store conn.new).now × ((state S.Store conn.new).committed ≡ (state S.Store conn.new).now)) }
     ensures mode { conn.new.in_transaction ≡ false }
     ensures same { HasCleanDisk (state S.Store conn.new) → IsTrue (state S.Store conn.new).is_open
-        → OnErr result (((state S.Store conn.new).now ≡ (state S.Store conn.old).committed) × ((state S.Store conn.new).committed ≡ (state S.Store conn.old).committed)) }
+        → OnErr result (IsRolledBack (state S.Store conn.old) (state S.Store conn.new)) }
     ensures clean { HasCleanDisk (state S.Store conn.new) → HasCleanDisk (state S.Store conn.old) }
     ensures open { HasCleanDisk (state S.Store conn.new) → OnOk result (IsTrue (state S.Store conn.new).is_open) }
     ensures crash { (state S.Store conn.old).now.schema ≡ empty_schema → Survives (state S.Store conn.old) (state S.Store conn.new) WasMade }
@@ -89,19 +93,26 @@ impl<S: Alter> Tables<S> {
         requires { conn.in_transaction ≡ false }
         ensures fresh { (state S.Store conn).now.schema ≡ empty_schema → IfOk result (λ c. HasCleanDisk (state S.Store c) → Rests (state S.Store c) nothing) }
         ensures up { (state S.Store conn).now.schema ≡ empty_schema → IfOk result (λ c. HasCleanDisk (state S.Store c) → IsTrue (state S.Store c).is_open) }
-        ensures stands { (m : State) → Rests (state S.Store conn) m → IfOk result (λ c. HasCleanDisk (state S.Store c) → Rests (state S.Store c) m) × IfErr result (λ e. HasCleanDisk (state S.Store e.1) → (e.0 ≢ TablesFault.Foreign) × (e.0 ≢ TablesFault.OldFormat)) }
-        ensures known { IsFormatTwo (state S.Store conn).now → IfOk result (λ c. HasCleanDisk (state S.Store c) → IsUnchanged (state S.Store conn) (state S.Store c)) }
-        ensures never { IsFormatOne (state S.Store conn).now → IfOk result (λ c. HasCleanDisk (state S.Store c) → ⊥) }
-        ensures foreign { (state S.Store conn).now.schema ≡ empty_schema ⊎ (IsFormatOne (state S.Store conn).now ⊎ IsFormatTwo (state S.Store conn).now) → IfErr result (λ e. HasCleanDisk (state S.Store e.1) → e.0 ≢ TablesFault.Foreign) }
-        ensures newer { (state S.Store conn).now.schema ≡ empty_schema ⊎ IsFormatTwo (state S.Store conn).now → IfErr result (λ e. HasCleanDisk (state S.Store e.1) → e.0 ≢ TablesFault.OldFormat) }
+        ensures stands { (m : State) → Rests (state S.Store conn) m ⊎ Finds (state S.Store conn) m → Gives (state S.Store) result m }
+        ensures known { IsFormatTwo (state S.Store conn).now
+            → IfOk result (λ c. HasCleanDisk (state S.Store c) → IsUnchanged (state S.Store conn) (state S.Store c)) }
+        ensures store { (state S.Store conn).now.schema ≡ empty_schema ⊎ IsFormatTwo (state S.Store conn).now
+            → IfErr result (λ e. HasCleanDisk (state S.Store e.1) → IsStoreFault e.0) }
+        ensures old { IsFormatOne (state S.Store conn).now ⊎ ((m : State) × FindsOne (state S.Store conn) m) → RefusesOld (state S.Store) result }
+        ensures version { IfErr result (λ e. HasCleanDisk (state S.Store e.1) → e.0 ≡ TablesFault.OldFormat
+            → ShowsVersion (state S.Store conn) (state S.Store e.1) 1) }
         ensures back { (state S.Store conn).now.schema ≡ empty_schema → IfErr result (λ e. HasCleanDisk (state S.Store e.1) → IsTrue (state S.Store e.1).is_open
-            → ((state S.Store e.1).now ≡ (state S.Store conn).committed) × ((state S.Store e.1).committed ≡ (state S.Store conn).committed)) }
-        ensures same { IsFormatOne (state S.Store conn).now ⊎ IsFormatTwo (state S.Store conn).now → IfErr result (λ e. HasCleanDisk (state S.Store e.1) → IsTrue (state S.Store e.1).is_open
-            → ((state S.Store e.1).committed ≡ (state S.Store conn).committed) × (((state S.Store e.1).now ≡ (state S.Store conn).now) ⊎ ((state S.Store e.1).now ≡ (state S.Store conn).committed))) }
-        ensures unread { IsFormatOne (state S.Store conn).now → IfErr result (λ e. HasCleanDisk (state S.Store e.1) → e.0 ≡ TablesFault.OldFormat → IsUnchanged (state S.Store conn) (state S.Store e.1)) }
+            → IsRolledBack (state S.Store conn) (state S.Store e.1)) }
+        ensures same { IsFormatOne (state S.Store conn).now ⊎ IsFormatTwo (state S.Store conn).now → IfErr result (λ e. HasCleanDisk (state S.Store e.1)
+            → IsTrue (state S.Store e.1).is_open → StaysCommitted (state S.Store conn) (state S.Store e.1)) }
+        ensures unread { IsFormatOne (state S.Store conn).now → IfErr result (λ e. HasCleanDisk (state S.Store e.1)
+            → e.0 ≡ TablesFault.OldFormat → IsUnchanged (state S.Store conn) (state S.Store e.1)) }
         ensures mode { IfErr result (λ e. e.1.in_transaction ≡ false) }
-        ensures left { (state S.Store conn).now.schema ≡ empty_schema → IfOk result (λ c. Survives (state S.Store conn) (state S.Store c) (λ db. StandsFor db nothing)) × IfErr result (λ e. Survives (state S.Store conn) (state S.Store e.1) (λ db. StandsFor db nothing)) }
-        ensures stays { IsFormatTwo (state S.Store conn).now → IfOk result (λ c. HasCleanDisk (state S.Store c) → Survives (state S.Store conn) (state S.Store c) (λ _. ⊥)) × IfErr result (λ e. HasCleanDisk (state S.Store e.1) → Survives (state S.Store conn) (state S.Store e.1) (λ _. ⊥)) }
+        ensures clean { AfterOpening (state S.Store) result (λ s. HasCleanDisk s → HasCleanDisk (state S.Store conn)) }
+        ensures left { (state S.Store conn).now.schema ≡ empty_schema
+            → AfterOpening (state S.Store) result (λ s. Survives (state S.Store conn) s (λ db. StandsFor db nothing)) }
+        ensures stays { IsFormatOne (state S.Store conn).now ⊎ IsFormatTwo (state S.Store conn).now
+            → AfterOpening (state S.Store) result (λ s. HasCleanDisk s → Survives (state S.Store conn) s (λ _. ⊥)) }
     {
         let is_in_memory = false;
         match find_format(&mut conn) {

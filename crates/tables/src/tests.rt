@@ -1,4 +1,5 @@
-//! The tables over databases in memory and in files.
+//! The tables over databases in memory and in files. What is asked of a connection stands in functions over any store: one over a store of files takes
+//! long to prove.
 ghost use Rattle.std.specs.Prelude.{◌≡◌, false, IfOk};
 
 mod changes;
@@ -10,7 +11,7 @@ mod selections;
 
 use crate::Tables;
 use sqlite::{Alter, Connection, FileStore, Files, Options};
-use sqlite_disk::{Fuse, Memory};
+use sqlite_disk::{Crash, Fuse, Memory};
 use std::alloc::Global;
 use std::test::Fail;
 use tags::{Tag, read_tags};
@@ -67,6 +68,20 @@ fn files_of(conn: Connection<FileStore<Fuse<Memory>>>) -> Files<Fuse<Memory>> {
     match conn.close_files() {
         Ok(files) => files,
         Err((_, store)) => store.close(),
+    }
+}
+
+/// A connection to what a crash left of the files.
+fn reopened(
+    alloc: Global,
+    files: Files<Fuse<Memory>>,
+) -> Result<Connection<FileStore<Fuse<Memory>>>, Fail> {
+    let Files { mut log, mut db } = files;
+    log.crash();
+    db.crash();
+    match Connection::open_files(alloc, Files { log, db }, Options::new(1)) {
+        Ok(conn) => Ok(conn),
+        Err(_) => Err("not recovered")?,
     }
 }
 

@@ -1,11 +1,11 @@
-//! Parts replaced and removed: what the tables hold then, also where the store stops, and on a real file.
-use super::{connected, files_of, fuses, opened, tags_of};
+//! Parts replaced and removed: what the tables hold then, also where the store stops.
+use super::{connected, files_of, fuses, opened, reopened, tags_of};
 use crate::{Tables, TablesFault};
 use dump::{CheckedDump, Checker};
 use flatten::flatten;
 use lsif::{Element, Profile, ReadFault, read_element};
-use sqlite::{Alter, Connection, FileStore, Files, MemStore, Options};
-use sqlite_disk::{Crash, Fuse, Memory};
+use sqlite::{Alter, Connection, Files, MemStore};
+use sqlite_disk::{Fuse, Memory};
 use std::alloc::Global;
 use std::process::Abort;
 use std::test::Fail;
@@ -256,21 +256,6 @@ fn replaced_and_removed(rt: HostRuntime) -> Result<(), Fail> {
     Ok(())
 }
 
-/// Tables in files that stop after so many calls; where they can't be opened, what the tables answer, if they were asked, and the files.
-fn opened_files(
-    alloc: Global,
-    log: u64,
-    db: u64,
-) -> Result<Tables<FileStore<Fuse<Memory>>>, (Option<TablesFault>, Files<Fuse<Memory>>)> {
-    match connected(alloc, log, db) {
-        Ok(conn) => match Tables::open(conn) {
-            Ok(tables) => Ok(tables),
-            Err((fault, conn)) => Err((Some(fault), files_of(conn))),
-        },
-        Err(files) => Err((None, files)),
-    }
-}
-
 /// Takes the steps until one is refused: how many were accepted, and the fault of the next.
 fn take_steps<S: Alter>(
     alloc: Global,
@@ -284,32 +269,46 @@ fn take_steps<S: Alter>(
     Ok((ROWS.len(), None))
 }
 
-/// Until one is refused, the steps: how many were accepted, the fault of the next, and the files.
+/// Opens the tables and takes the steps until one is refused: how many were accepted, the fault, and the connection.
+fn taken<S: Alter + Drop>(
+    alloc: Global,
+    conn: Connection<S>,
+) -> Result<(usize, Option<TablesFault>, Connection<S>), Fail> {
+    if !conn.is_autocommit() {
+        return Err("in a transaction")?;
+    }
+    match Tables::open(conn) {
+        Ok(mut tables) => {
+            let (count, fault) = take_steps(alloc, &mut tables)?;
+            Ok((count, fault, tables.into_connection()))
+        }
+        Err((fault, conn)) => Ok((0, Some(fault), conn)),
+    }
+}
+
+/// How many steps were accepted until one was refused, the fault, and the files.
 type Stopped = (usize, Option<TablesFault>, Files<Fuse<Memory>>);
 
 /// Takes the steps in files that stop after so many calls.
 fn stopped(alloc: Global, log: u64, db: u64) -> Result<Stopped, Fail> {
-    match opened_files(alloc, log, db) {
-        Ok(mut tables) => {
-            let (taken, fault) = take_steps(alloc, &mut tables)?;
-            Ok((taken, fault, files_of(tables.into_connection())))
+    match connected(alloc, log, db) {
+        Ok(conn) => {
+            let (count, fault, conn) = taken(alloc, conn)?;
+            Ok((count, fault, files_of(conn)))
         }
-        Err((fault, files)) => Ok((0, fault, files)),
+        Err(files) => Ok((0, None, files)),
     }
 }
 
-/// What the tables hold that are opened over what a crash left of the files.
+/// How many rows the tables have that a connection shows.
+fn held_by<S: Alter + Drop>(alloc: Global, conn: Connection<S>) -> Result<Vec<usize>, Fail> {
+    let mut conn = opened(conn)?.into_connection();
+    held(alloc, &mut conn)
+}
+
+/// The same of the tables that are opened over what a crash left of the files.
 fn recovered(alloc: Global, files: Files<Fuse<Memory>>) -> Result<Vec<usize>, Fail> {
-    let Files { mut log, mut db } = files;
-    log.crash();
-    db.crash();
-    match Connection::open_files(alloc, Files { log, db }, Options::new(1)) {
-        Ok(conn) => {
-            let mut conn = opened(conn)?.into_connection();
-            held(alloc, &mut conn)
-        }
-        Err(_) => Err("not recovered")?,
-    }
+    held_by(alloc, reopened(alloc, files)?)
 }
 
 /// Whether these are the rows after so many steps, or after one more.
@@ -356,8 +355,16 @@ enum Reached {
     Whole,
 }
 
-fn reached_in(alloc: Global, calls: u64, is_in_memory: bool) -> Result<Reached, Fail> {
-    let Ok(mut tables) = opened_files(alloc, calls, calls) else {
+/// How far they come over this connection.
+fn reached_by<S: Alter + Drop>(
+    alloc: Global,
+    conn: Connection<S>,
+    is_in_memory: bool,
+) -> Result<Reached, Fail> {
+    if !conn.is_autocommit() {
+        return Err("in a transaction")?;
+    }
+    let Ok(mut tables) = Tables::open(conn) else {
         return Ok(Reached::Unopened);
     };
     if is_in_memory {
@@ -366,6 +373,13 @@ fn reached_in(alloc: Global, calls: u64, is_in_memory: bool) -> Result<Reached, 
     match refused(alloc, &mut tables)? {
         Some(fault) => Ok(Reached::Refused(fault)),
         None => Ok(Reached::Whole),
+    }
+}
+
+fn reached_in(alloc: Global, calls: u64, is_in_memory: bool) -> Result<Reached, Fail> {
+    match connected(alloc, calls, calls) {
+        Ok(conn) => reached_by(alloc, conn, is_in_memory),
+        Err(_) => Ok(Reached::Unopened),
     }
 }
 
@@ -389,41 +403,5 @@ fn stopped_in_memory(rt: HostRuntime) -> Result<(), Fail> {
         let told = told_faults(rt.alloc(), is_in_memory)?;
         assert!(rt; !told.is_empty() && told.iter().all(|found| *found == fault));
     }
-    Ok(())
-}
-
-/// The name of a file that a test makes.
-const FILE: &str = "index.db";
-
-/// Puts a dump into a new file, and closes it.
-fn put_into_file(rt: &HostRuntime) -> Result<bool, Fail> {
-    let mut tables = opened(Connection::open(rt, FILE)?)?;
-    let is_put = take(rt.alloc(), &mut tables, Step::Full("app"), "k1")? == Ok(true);
-    Ok(tables.into_connection().close().is_ok() && is_put)
-}
-
-/// How many rows the file has.
-fn held_in_file(rt: &HostRuntime) -> Result<Vec<usize>, Fail> {
-    let mut conn = opened(Connection::open(rt, FILE)?)?.into_connection();
-    held(rt.alloc(), &mut conn)
-}
-
-/// Puts tags into the file: how many rows it has then.
-fn held_with_tags(rt: &HostRuntime) -> Result<Vec<usize>, Fail> {
-    let mut tables = opened(Connection::open(rt, FILE)?)?;
-    let is_put = take(rt.alloc(), &mut tables, Step::Tags("app", TAGS), "k2")? == Ok(true);
-    if !is_put {
-        return Err("not put")?;
-    }
-    held(rt.alloc(), &mut tables.into_connection())
-}
-
-/// A file that is opened again has what was put before.
-#[test]
-fn same_file_twice(rt: HostRuntime) -> Result<(), Fail> {
-    assert!(rt; put_into_file(&rt)?);
-    assert!(rt; held_in_file(&rt)?.as_slice() == rows_after(1).as_slice());
-    assert!(rt; held_with_tags(&rt)?.as_slice() == rows_after(2).as_slice());
-    assert!(rt; held_in_file(&rt)?.as_slice() == rows_after(2).as_slice());
     Ok(())
 }

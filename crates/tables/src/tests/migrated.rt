@@ -1,8 +1,8 @@
 //! What a migration keeps, and what it leaves where the store stops.
-use super::{FORMAT_ONE, connected, files_of, fuses, opened};
+use super::{FORMAT_ONE, connected, files_of, fuses, opened, reopened};
 use crate::{Tables, TablesFault, migrate};
-use sqlite::{Alter, Connection, FileStore, Files, MemStore, Options};
-use sqlite_disk::{Crash, Fuse, Memory};
+use sqlite::{Alter, Connection, Files, MemStore};
+use sqlite_disk::{Fuse, Memory};
 use std::alloc::Global;
 use std::test::Fail;
 
@@ -95,14 +95,26 @@ fn is_made<S: Alter>(alloc: Global, conn: &mut Connection<S>) -> Result<bool, Fa
     Ok(conn.execute_batch(&text).is_ok())
 }
 
-/// How far a migration went, and the files.
-fn reached_by(conn: Connection<FileStore<Fuse<Memory>>>) -> (Reached, Files<Fuse<Memory>>) {
+/// How far a migration went, and the connection.
+fn reached_by<S: Alter + Drop>(conn: Connection<S>) -> (Reached, Connection<S>) {
     if !conn.is_autocommit() {
-        return (Reached::Nothing, files_of(conn));
+        return (Reached::Nothing, conn);
     }
     match migrate(conn) {
-        Ok((tables, _)) => (Reached::FormatTwo, files_of(tables.into_connection())),
-        Err((fault, conn)) => (Reached::FormatOne(fault), files_of(conn)),
+        Ok((tables, _)) => (Reached::FormatTwo, tables.into_connection()),
+        Err((fault, conn)) => (Reached::FormatOne(fault), conn),
+    }
+}
+
+/// The same where tables of format 1 are made first.
+fn made_and_migrated<S: Alter + Drop>(
+    alloc: Global,
+    mut conn: Connection<S>,
+) -> Result<(Reached, Connection<S>), Fail> {
+    if is_made(alloc, &mut conn)? {
+        Ok(reached_by(conn))
+    } else {
+        Ok((Reached::Nothing, conn))
     }
 }
 
@@ -113,30 +125,28 @@ fn migration_stopped(
     db: u64,
 ) -> Result<(Reached, Files<Fuse<Memory>>), Fail> {
     match connected(alloc, log, db) {
-        Ok(mut conn) => {
-            if is_made(alloc, &mut conn)? {
-                Ok(reached_by(conn))
-            } else {
-                Ok((Reached::Nothing, files_of(conn)))
-            }
+        Ok(conn) => {
+            let (reached, conn) = made_and_migrated(alloc, conn)?;
+            Ok((reached, files_of(conn)))
         }
         Err(files) => Ok((Reached::Nothing, files)),
     }
 }
 
-/// Whether the tables that a crash left can be migrated, and then have the rows of the parts.
-fn migrated_afterwards(alloc: Global, files: Files<Fuse<Memory>>) -> Result<bool, Fail> {
-    let Files { mut log, mut db } = files;
-    log.crash();
-    db.crash();
-    let conn = match Connection::open_files(alloc, Files { log, db }, Options::new(1)) {
-        Ok(conn) => conn,
-        Err(_) => return Err("not recovered")?,
-    };
+/// Whether the tables that a connection shows can be migrated, and then have the rows of the parts.
+fn is_migrated<S: Alter + Drop>(conn: Connection<S>) -> Result<bool, Fail> {
+    if !conn.is_autocommit() {
+        return Err("in a transaction")?;
+    }
     match migrate(conn) {
         Ok((tables, _)) => Ok(lost(&mut tables.into_connection())?.is_none()),
         Err(_) => Ok(false),
     }
+}
+
+/// The same of the tables that a crash left.
+fn migrated_afterwards(alloc: Global, files: Files<Fuse<Memory>>) -> Result<bool, Fail> {
+    is_migrated(reopened(alloc, files)?)
 }
 
 /// Each call of one of the files stops the store in turn: a migration answers that the store refused, and leaves tables of format 1, or those of

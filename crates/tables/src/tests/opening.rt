@@ -1,7 +1,7 @@
 //! Which fault the opening and the migration of a database answer, and that tables of other names don't count.
 use super::{FORMAT_ONE, opened};
 use crate::{MemoryDisk, Tables, TablesFault, migrate};
-use sqlite::{Connection, FileStore, Files, Options};
+use sqlite::{Alter, Connection, FileStore, Files, Options};
 use std::alloc::Global;
 use std::test::Fail;
 
@@ -125,11 +125,15 @@ fn in_memory_files(alloc: Global) -> Result<Connection<FileStore<MemoryDisk>>, F
     }
 }
 
-/// How many objects the schema has of tables over files in memory.
+/// How many objects the schema has of the tables that are opened over a connection.
+fn objects<S: Alter + Drop>(conn: Connection<S>) -> Result<usize, Fail> {
+    let mut conn = opened(conn)?.into_connection();
+    Ok(conn.query_all("SELECT name FROM sqlite_schema", &[])?.len())
+}
+
+/// The same of tables over files in memory.
 fn objects_in_memory(alloc: Global) -> Result<usize, Fail> {
-    let mut conn = opened(in_memory_files(alloc)?)?.into_connection();
-    let objects = conn.query_all("SELECT name FROM sqlite_schema", &[])?;
-    Ok(objects.len())
+    objects(in_memory_files(alloc)?)
 }
 
 /// There are 12 tables, 11 keys and 3 indexes.

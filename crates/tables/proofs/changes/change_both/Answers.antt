@@ -17,4 +17,5 @@ returns-clause-changed g c clean inside has parts replies is free =
       gone.0,
       goes_then _ _ _ gone.1 reply.0,
       keeps_reply _ replies c.args.project.now c.args.key.now (accepted_text (parts_removed c.in_ok-was_there.was_there)) _ _ gone.2 free reply.1,
+      c.in_ok-insert_reply.ensures.listed clean gone.1.inside gone.1.schema,
     )

@@ -14,4 +14,5 @@ returns-clause-changed g c clean inside has parts replies is free =
     let reply = c.in_ok-insert_reply.ensures.put clean put.0.inside put.0.schema in (
       goes_then _ _ _ (goes_then _ _ _ gone.0 put.0) reply.0,
       keeps_reply _ replies c.args.project.now c.args.key.now c.args.reply.now _ _ put.1 free reply.1,
+      c.in_ok-insert_reply.ensures.listed clean put.0.inside put.0.schema,
     )

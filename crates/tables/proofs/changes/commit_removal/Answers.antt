@@ -16,7 +16,7 @@ returns-in_err-commit-clause-crash g c m is free =
     (λ clean.
     let it = c.in_ok-was_there.ensures.changed clean (rw begun refl) (rw begun is.schema_is) is.stands.parts (replies_of m) (rw begun is.stands.keeps) (unkept m c.args.project.now c.args.key.now free) in
     let text = ap (λ b. accepted_text (parts_removed b)) (it.0 ∙ are_there _ m is.stands c.args.project.now) in
-    both_go _ _ m is.stands c.args.project.now c.args.key.now (accepted_text (parts_removed c.in_ok-was_there.was_there)) text it.2) c.commit.ensures.survives in
+    both_go _ _ m is.stands c.args.project.now c.args.key.now (accepted_text (parts_removed c.in_ok-was_there.was_there)) text it.2 it.3) c.commit.ensures.survives in
     let same : c.commit.new.self.0 ≡ c.conn-2-1.given.0 = search rules in
     subst (λ h. Survives (state g.S.Store c.args.conn.now) (state g.S.Store h) (λ db. StandsFor db next)) same all
 
@@ -39,7 +39,7 @@ returns-clause-crash g c m is free =
     (λ clean.
     let it = c.in_ok-was_there.ensures.changed clean (rw begun refl) (rw begun is.schema_is) is.stands.parts (replies_of m) (rw begun is.stands.keeps) (unkept m c.args.project.now c.args.key.now free) in
     let text = ap (λ b. accepted_text (parts_removed b)) (it.0 ∙ are_there _ m is.stands c.args.project.now) in
-    both_go _ _ m is.stands c.args.project.now c.args.key.now (accepted_text (parts_removed c.in_ok-was_there.was_there)) text it.2) c.commit.ensures.survives in
+    both_go _ _ m is.stands c.args.project.now c.args.key.now (accepted_text (parts_removed c.in_ok-was_there.was_there)) text it.2 it.3) c.commit.ensures.survives in
     let same : c.commit.new.self.0 ≡ c.conn-2-1.given.0 = search rules in
     subst (λ h. Survives (state g.S.Store c.args.conn.now) (state g.S.Store h) (λ db. StandsFor db next)) same all
 
@@ -51,7 +51,7 @@ returns-clause-done g c clean m is free =
     let late : HasCleanDisk (state g.S.Store c.commit.new.self.0) = search rules in
     let it = c.in_ok-was_there.ensures.changed (omega (arith, c.commit.ensures.survives.clean)) (rw begun refl) (rw begun is.schema_is) is.stands.parts (replies_of m) (rw begun is.stands.keeps) (unkept m c.args.project.now c.args.key.now free) in
     let there = it.0 ∙ are_there _ m is.stands c.args.project.now in
-    let stands = both_go _ _ m is.stands c.args.project.now c.args.key.now (accepted_text (parts_removed c.in_ok-was_there.was_there)) (ap (λ b. accepted_text (parts_removed b)) there) it.2 in
+    let stands = both_go _ _ m is.stands c.args.project.now c.args.key.now (accepted_text (parts_removed c.in_ok-was_there.was_there)) (ap (λ b. accepted_text (parts_removed b)) there) it.2 it.3 in
     let done = c.in_ok-commit.ensures.ok late in (
       there,
       subst (λ h. Rests (state g.S.Store h) next) same (record {

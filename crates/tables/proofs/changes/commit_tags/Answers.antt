@@ -15,8 +15,9 @@ returns-clause-crash g c m is new =
     let begun = c.transaction-tx.ensures.begun in
     let next = changed m c.args.project.now c.args.key.now (set_tags (tag_values c.args.tags.now)) in
     let all = whole g.S.Store (λ db. StandsFor db next) c.args.conn.now c.change_tags.new.tx.conn.now c.commit.new.self.0 (rw begun at c.change_tags.ensures.survives)
-    (λ clean. tags_change _ _ m is.stands c.args.project.now c.args.key.now c.args.reply.now (tag_values c.args.tags.now) new.text
-    (c.in_ok-change_tags.ensures.changed clean (rw begun refl) (rw begun is.schema_is) is.stands.parts (replies_of m) (rw begun is.stands.keeps) (unkept m c.args.project.now c.args.key.now new.unkept)).1) c.commit.ensures.survives in
+    (λ clean.
+    let it = c.in_ok-change_tags.ensures.changed clean (rw begun refl) (rw begun is.schema_is) is.stands.parts (replies_of m) (rw begun is.stands.keeps) (unkept m c.args.project.now c.args.key.now new.unkept) in
+    tags_change _ _ m is.stands c.args.project.now c.args.key.now c.args.reply.now (tag_values c.args.tags.now) new.text it.1 it.2) c.commit.ensures.survives in
     let same : c.commit.new.self.0 ≡ c.conn-2-1.given.0 = search rules in
     subst (λ h. Survives (state g.S.Store c.args.conn.now) (state g.S.Store h) (λ db. StandsFor db next)) same all
 
@@ -27,7 +28,7 @@ returns-clause-done g c clean m is new =
     let same : c.commit.new.self.0 ≡ c.conn-2-1.given.0 = search rules in
     let late : HasCleanDisk (state g.S.Store c.commit.new.self.0) = search rules in
     let it = c.in_ok-change_tags.ensures.changed (omega (arith, c.commit.ensures.survives.clean)) (rw begun refl) (rw begun is.schema_is) is.stands.parts (replies_of m) (rw begun is.stands.keeps) (unkept m c.args.project.now c.args.key.now new.unkept) in
-    let stands = tags_change _ _ m is.stands c.args.project.now c.args.key.now c.args.reply.now (tag_values c.args.tags.now) new.text it.1 in
+    let stands = tags_change _ _ m is.stands c.args.project.now c.args.key.now c.args.reply.now (tag_values c.args.tags.now) new.text it.1 it.2 in
     subst (λ h. OnOk c.commit.result (Rests (state g.S.Store h) next)) same
     (on_ok_weaker c.commit.result (λ done. record {
       schema_is = ap (λ (d : Database). d.schema) done.1.now_is ∙ it.0.schema;

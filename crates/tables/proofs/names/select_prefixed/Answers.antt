@@ -1,10 +1,131 @@
-use Rattle.std.proofs.Common.{List, subst}
-use Rattle.std.proofs.lemmas.Result.{IfOk-weaker}
-use Rattle.sqlite_value.specs.Order.{Row}
-use Rattle.tables.specs.Steps.Selected.{AreRead}
-use Rattle.tables.specs.Steps.TagRows.{tag_row_columns}
+use Rattle.std.proofs.Common.{◌≡◌, ◌++◌, [], ◌∷◌, true, false, refl, sym, subst, rules, arith}
+use Rattle.sqlite_value.specs.declared.value.Value.TheVariants.{Text}
+use Rattle.sqlite.specs.State.{HasCleanDisk, IsUnchanged}
+use Rattle.sqlite.specs.Held.{state}
+use Rattle.sqlite.specs.Given.{HasGiven}
+use Rattle.sqlite.proofs.Callers.{given_begin, begun_plain, unchanged_then}
+use Rattle.tables.specs.Schema.{schema_two}
+use Rattle.tables.specs.Steps.Selected.{AreRead, Looks}
+use Rattle.tables.specs.Steps.SelectionTexts.{select_prefixed}
+use Rattle.tables.specs.Steps.TagRows.{tag_row_columns, with_prefix}
+use Rattle.tables.proofs.PrefixedTags.{select_prefixed_plain, ended, stopped, told_prefixed}
+use Rattle.tables.proofs.Reading.{are_read_push}
+use Rattle.tables.proofs.Selecting.{all_last}
+use Rattle.tables.proofs.Streaming.{plain_at, refused_looks, begun_looks, looks_on}
 use Rattle.tables.proofs.names.select_prefixed.Goals as goal
 
-pub returns-in-Ok-clause-rows : goal.returns-in-Ok-clause-rows
-returns-in-Ok-clause-rows g c clean has m s =
-    IfOk-weaker c.read_all.result _ _ (λ found h. c.in-Ok.ensures.rows clean has m s found.items (subst (λ (rows : List Row). AreRead tag_row_columns rows found.items) c.deref.ensures.value h)) c.read_all.ensures.read
+pub returns-in_err-rows-clause-looks : goal.returns-in_err-rows-clause-looks
+returns-in_err-rows-clause-looks g c =
+    let old = state g.S.Store c.args.conn.now in
+    let new = state g.S.Store c.query.follows.lender-at-none in
+    let held = rw (c.in_err-rows.was) at c.query.follows.holds-at-none in
+    refused_looks select_prefixed _ old new c.in_err-rows.field-0.0 select_prefixed_plain.0 held.err held.survives
+
+pub rows-init : goal.rows-init
+rows-init g c =
+    let old = state g.S.Store c.args.conn.now in
+    let new = state g.S.Store c.in_ok-rows.rows.conn.now in
+    let made = c.in_ok-rows.ensures in
+    let begun : HasCleanDisk new → old.now.schema ≡ schema_two → HasGiven g.S.Store select_prefixed (Text c.args.prefix.now ∷ []) c.in_ok-rows.rows.conn.now [] × IsUnchanged old new = λ clean has.
+    rw c.params-to_sql.ensures at (begun_plain g.S.Store _ _ c.args.conn.now c.in_ok-rows.rows.conn.now (plain_at select_prefixed old has select_prefixed_plain.0) (made.begun clean)) in
+    record {
+      same_reference = refl;
+      looks = begun_looks select_prefixed _ old new select_prefixed_plain.0 made.survives (λ clean has. (begun clean has).1);
+      mode = made.mode;
+      given = [];
+      is_given = begun;
+      each = tt;
+      read = rw c.new-found.ensures.items tt;
+    }
+
+pub rows-preserved : goal.rows-preserved
+rows-preserved g c =
+    let was = c.rows.invariant in
+    let moved = c.next.follows.holds-at-none in
+    let now = c.next.follows.lender-at-none.conn.now in
+    let old = state g.S.Store c.args.conn.now in
+    let new = state g.S.Store now in
+    let row = c.in-Some.row.now in
+    let pushed : c.push.new.self.items ≡ c.rows.found.items ++ c.in_ok-tag.tag ∷ [] = search rules in
+    let good : with_prefix c.args.prefix.now row ≡ true = search rules in
+    record {
+      same_reference = search rules;
+      looks = looks_on old (state g.S.Store c.rows.rows.conn.now) new c.next.result was.looks was.is_given moved.survives moved.same moved.kept;
+      mode = λ h. moved.mode (was.mode h);
+      given = was.given ++ row ∷ [];
+      is_given = λ clean has.
+          let before = was.is_given (omega (arith, moved.survives.clean)) has in
+          let given = (rw (c.in_ok-row.was, c.in-Some.is) at (moved.ok clean)) select_prefixed (Text c.args.prefix.now ∷ []) was.given before.0 in
+          (given, unchanged_then _ _ _ before.1 ((rw (c.in_ok-row.was) at moved.same) clean));
+      each = all_last _ was.given row was.each good;
+      read = subst (AreRead tag_row_columns (was.given ++ row ∷ [])) (sym pushed) (are_read_push tag_row_columns was.given c.rows.found.items row c.in_ok-tag.tag was.read c.in_ok-tag.ensures.columns);
+    }
+
+pub returns-in_err-row-clause-looks : goal.returns-in_err-row-clause-looks
+returns-in_err-row-clause-looks g c =
+    let was = c.rows.invariant in
+    let moved = c.next.follows.holds-at-none in
+    let now = c.next.follows.lender-at-none.conn.now in
+    let old = state g.S.Store c.args.conn.now in
+    let last : now ≡ c.conn-in_err-row-1.given.0 = search rules in
+    subst (λ h. Looks old (state g.S.Store h)) last (looks_on old (state g.S.Store c.rows.rows.conn.now) (state g.S.Store now) c.next.result was.looks was.is_given moved.survives moved.same moved.kept)
+
+pub returns-in_default-clause-looks : goal.returns-in_default-clause-looks
+returns-in_default-clause-looks g c =
+    let was = c.rows.invariant in
+    let moved = c.next.follows.holds-at-none in
+    let now = c.next.follows.lender-at-none.conn.now in
+    let old = state g.S.Store c.args.conn.now in
+    let last : now ≡ c.conn-in_default-1.given.0 = search rules in
+    subst (λ h. Looks old (state g.S.Store h)) last (looks_on old (state g.S.Store c.rows.rows.conn.now) (state g.S.Store now) c.next.result was.looks was.is_given moved.survives moved.same moved.kept)
+
+pub returns-then-not-has_prefix-clause-looks : goal.returns-then-not-has_prefix-clause-looks
+returns-then-not-has_prefix-clause-looks g c =
+    let was = c.rows.invariant in
+    let moved = c.next.follows.holds-at-none in
+    let now = c.next.follows.lender-at-none.conn.now in
+    let old = state g.S.Store c.args.conn.now in
+    let last : now ≡ c.conn-then-not-has_prefix-1.given.0 = search rules in
+    subst (λ h. Looks old (state g.S.Store h)) last (looks_on old (state g.S.Store c.rows.rows.conn.now) (state g.S.Store now) c.next.result was.looks was.is_given moved.survives moved.same moved.kept)
+
+pub returns-in_err-tag-clause-looks : goal.returns-in_err-tag-clause-looks
+returns-in_err-tag-clause-looks g c =
+    let was = c.rows.invariant in
+    let moved = c.next.follows.holds-at-none in
+    let now = c.next.follows.lender-at-none.conn.now in
+    let old = state g.S.Store c.args.conn.now in
+    let last : now ≡ c.conn-in_err-tag-1.given.0 = search rules in
+    subst (λ h. Looks old (state g.S.Store h)) last (looks_on old (state g.S.Store c.rows.rows.conn.now) (state g.S.Store now) c.next.result was.looks was.is_given moved.survives moved.same moved.kept)
+
+pub returns-in_err-push-clause-looks : goal.returns-in_err-push-clause-looks
+returns-in_err-push-clause-looks g c =
+    let was = c.rows.invariant in
+    let moved = c.next.follows.holds-at-none in
+    let now = c.next.follows.lender-at-none.conn.now in
+    let old = state g.S.Store c.args.conn.now in
+    let last : now ≡ c.conn-in_err-push-1.given.0 = search rules in
+    subst (λ h. Looks old (state g.S.Store h)) last (looks_on old (state g.S.Store c.rows.rows.conn.now) (state g.S.Store now) c.next.result was.looks was.is_given moved.survives moved.same moved.kept)
+
+pub returns-in_default-clause-rows : goal.returns-in_default-clause-rows
+returns-in_default-clause-rows g c clean has m s =
+    let moved = c.next.follows.holds-at-none in
+    let now = c.next.follows.lender-at-none.conn.now in
+    let old = state g.S.Store c.args.conn.now in
+    let late : HasCleanDisk (state g.S.Store now) = search rules in
+    let was = c.rows.invariant.is_given (omega (arith, moved.survives.clean)) has in
+    let given = c.rows.invariant.given in
+    let shown = (rw (c.in_ok-row.was, c.in_default.is) at (moved.ok late)) select_prefixed (Text c.args.prefix.now ∷ []) given was.0 in
+    told_prefixed c.args.prefix.now old.now.trees m s given (ended c.args.prefix.now old _ has was.1 _ given c.rows.invariant.each shown) c.rows.found.items c.rows.invariant.read
+
+pub returns-then-not-has_prefix-clause-rows : goal.returns-then-not-has_prefix-clause-rows
+returns-then-not-has_prefix-clause-rows g c clean has m s =
+    let moved = c.next.follows.holds-at-none in
+    let now = c.next.follows.lender-at-none.conn.now in
+    let old = state g.S.Store c.args.conn.now in
+    let late : HasCleanDisk (state g.S.Store now) = search rules in
+    let was = c.rows.invariant.is_given (omega (arith, moved.survives.clean)) has in
+    let given = c.rows.invariant.given in
+    let begins = (rw (c.in_ok-row.was, c.in-Some.is) at (moved.ok late)) select_prefixed (Text c.args.prefix.now ∷ []) given was.0 in
+    let other : with_prefix c.args.prefix.now c.in-Some.row.now ≡ false = search rules in
+    let same = unchanged_then _ _ _ was.1 ((rw (c.in_ok-row.was) at moved.same) late) in
+    told_prefixed c.args.prefix.now old.now.trees m s given (stopped c.args.prefix.now old (state g.S.Store now) has same given c.in-Some.row.now c.rows.invariant.each other (given_begin g.S.Store _ _ now _ begins)) c.rows.found.items c.rows.invariant.read

@@ -7,6 +7,7 @@ use Rattle.tables.specs.Stands.{StandsFor}
 use Rattle.tables.specs.State.{nothing}
 use Rattle.tables.proofs.Crashes.{implied}
 use Rattle.tables.proofs.Empty.{made_rests, stands_empty, rests_format, unchanged_rests}
+use Rattle.tables.proofs.Found.{is_format_one, resting}
 use Rattle.tables.proofs.tables.Tables.open.Goals as goal
 
 pub returns-in-Ok-clause-fresh : goal.returns-in-Ok-clause-fresh
@@ -28,29 +29,31 @@ returns-in-Err-make-clause-left g c has =
     (tt, implied _ _ WasMade (λ db. StandsFor db nothing) stands_empty (subst (λ h. Survives (state g.S.Store h) (state g.S.Store c.make.new.conn) WasMade) found.1 crash))
 
 pub returns-in-Ok-clause-stands : goal.returns-in-Ok-clause-stands
-returns-in-Ok-clause-stands g c m is = (
+returns-in-Ok-clause-stands g c m it = (
   (λ clean.
-      let found = c.find_format.ensures.known (c.make.ensures.clean clean) (rests_format _ m is) in
+      let found = c.find_format.ensures.known (c.make.ensures.clean clean) (rests_format _ m (resting _ m it)) in
       absurd (search (found, rules))),
   tt,
 )
 
 pub returns-in-Ok-Two-clause-stands : goal.returns-in-Ok-Two-clause-stands
-returns-in-Ok-Two-clause-stands g c m is = ((λ clean. unchanged_rests _ _ m (c.in-Ok-Two.ensures.known clean (rests_format _ m is)).1 is), tt)
+returns-in-Ok-Two-clause-stands g c m it =
+    let is = resting _ m it in
+    ((λ clean. unchanged_rests _ _ m (c.in-Ok-Two.ensures.known clean (rests_format _ m is)).1 is), tt)
 
 pub returns-in-Ok-One-clause-stands : goal.returns-in-Ok-One-clause-stands
-returns-in-Ok-One-clause-stands g c m is = (
+returns-in-Ok-One-clause-stands g c m it = (
   tt,
   (λ clean.
-      let found = c.find_format.ensures.known clean (rests_format _ m is) in
+      let found = c.find_format.ensures.known clean (rests_format _ m (resting _ m it)) in
       absurd (search (found, rules))),
 )
 
 pub returns-in-Ok-Unknown-clause-stands : goal.returns-in-Ok-Unknown-clause-stands
-returns-in-Ok-Unknown-clause-stands g c m is = (
+returns-in-Ok-Unknown-clause-stands g c m it = (
   tt,
   (λ clean.
-      let found = c.find_format.ensures.known clean (rests_format _ m is) in
+      let found = c.find_format.ensures.known clean (rests_format _ m (resting _ m it)) in
       absurd (search (found, rules))),
 )
 
@@ -59,7 +62,26 @@ returns-in-Ok-clause-known g c is clean =
     let found = c.find_format.ensures.known (c.make.ensures.clean clean) is in
     absurd (search (found, rules))
 
-pub returns-in-Ok-clause-never : goal.returns-in-Ok-clause-never
-returns-in-Ok-clause-never g c is clean =
-    let found = c.find_format.ensures.old (c.make.ensures.clean clean) is in
-    search (found, rules)
+pub returns-in-Ok-clause-old : goal.returns-in-Ok-clause-old
+returns-in-Ok-clause-old g c it = (
+  (λ clean.
+      let found = c.find_format.ensures.old (c.make.ensures.clean clean) (is_format_one _ it) in
+      absurd (search (found, rules))),
+  tt,
+)
+
+pub returns-in-Ok-Two-clause-old : goal.returns-in-Ok-Two-clause-old
+returns-in-Ok-Two-clause-old g c it = (
+  (λ clean.
+      let found = c.find_format.ensures.old clean (is_format_one _ it) in
+      absurd (search (found, rules))),
+  tt,
+)
+
+pub returns-in-Ok-Unknown-clause-old : goal.returns-in-Ok-Unknown-clause-old
+returns-in-Ok-Unknown-clause-old g c it = (
+  tt,
+  (λ clean.
+      let found = c.find_format.ensures.old clean (is_format_one _ it) in
+      absurd (search (found, rules))),
+)
