@@ -46,7 +46,9 @@ fn add_own<'a>(
     range: &Id,
 ) -> Result<(), FlattenFault>
     requires { (k : ℕ) × (line_of elements.now.dump.now.elements (id_value range.now) ≡ Some k) }
-    ensures { OnOk result ((place : FoundValue) → Contains (map place_found found.new.items) place ↔ (Contains (map place_found found.old.items) place ⊎ ((place.project ≡ query.now.project.now) × HasPlace query.now.request query.now.roles.now elements.now.dump.now (id_value range.now) place.place))) }
+    ensures { OnOk result ((place : FoundValue)
+        → Contains (map place_found found.new.items) place ↔ (Contains (map place_found found.old.items) place ⊎ ((place.project ≡ query.now.project.now)
+        × HasPlace query.now.request query.now.roles.now elements.now.dump.now (id_value range.now) place.place))) }
 {
     line_law();
     match elements.dump.line_of(range) {
@@ -74,7 +76,8 @@ fn add_joined<'a>(
     project: &'a str,
     elements: &WalkedElements<'a>,
 ) -> Result<(), FlattenFault>
-    ensures { OnOk result ((place : FoundValue) → Contains (map place_found found.new.items) place ↔ (Contains (map place_found found.old.items) place ⊎ IsPlaceThere query.now.request query.now.roles.now (contains_text keys.now) project.now elements.now.dump.now place)) }
+    ensures { OnOk result ((place : FoundValue)
+        → Contains (map place_found found.new.items) place ↔ (Contains (map place_found found.old.items) place ⊎ IsPlaceThere query.now.request query.now.roles.now (contains_text keys.now) project.now elements.now.dump.now place)) }
 {
     let vertices = joined(alloc, elements, query.request, keys)?;
     add_places(
@@ -97,7 +100,8 @@ fn add_other<'a>(
     name: &'a String,
     project: &'a Project,
 ) -> Result<(), FlattenFault>
-    ensures places { OnOk result ((place : FoundValue) → Contains (map place_found found.new.items) place ↔ (Contains (map place_found found.old.items) place ⊎ IsPlaceElsewhere query.now.request query.now.roles.now (contains_text keys.now) query.now.project.now name.now project.now place)) }
+    ensures places { OnOk result ((place : FoundValue)
+        → Contains (map place_found found.new.items) place ↔ (Contains (map place_found found.old.items) place ⊎ IsPlaceElsewhere query.now.request query.now.roles.now (contains_text keys.now) query.now.project.now name.now project.now place)) }
     ensures faultless { OnOk result (IsFaultlessElsewhere query.now.project.now name.now project.now) }
 {
     match &project.dump {
@@ -117,7 +121,8 @@ fn add_others<'a>(
     keys: &HashSet<String>,
     projects: &'a BTreeMap<String, Project>,
 ) -> Result<(), FlattenFault>
-    ensures places { OnOk result ((place : FoundValue) → Contains (map place_found found.new.items) place ↔ (Contains (map place_found found.old.items) place ⊎ IsPlaceOfOthers query.now.request query.now.roles.now (contains_text keys.now) query.now.project.now projects.now.entries place)) }
+    ensures places { OnOk result ((place : FoundValue)
+        → Contains (map place_found found.new.items) place ↔ (Contains (map place_found found.old.items) place ⊎ IsPlaceOfOthers query.now.request query.now.roles.now (contains_text keys.now) query.now.project.now projects.now.entries place)) }
     ensures faultless { OnOk result (AreFaultlessElsewhere query.now.project.now projects.now.entries) }
     ensures ordered { IsOrdered string_cmp projects.now }
 {
@@ -134,7 +139,8 @@ pub(crate) fn find_places<'a>(
     dump: &'a CheckedDump,
     query: &PlaceQuery<'a>,
 ) -> Result<Vec<FoundPlace<'a>>, FlattenFault>
-    ensures { (m : State) → Stands projects.now m → IfOk result (λ found. AnswersPlaces m query.now.request query.now.roles.now (at_value query.now.project.now query.now.uri.now query.now.at) dump.now (places_found (map place_found found.items))) }
+    ensures { (m : State) → Stands projects.now m
+        → IfOk result (λ found. AnswersPlaces m query.now.request query.now.roles.now (at_value query.now.project.now query.now.uri.now query.now.at) dump.now (places_found (map place_found found.items))) }
 {
     ends_law();
     joined_law();

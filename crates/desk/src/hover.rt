@@ -107,7 +107,8 @@ pub(crate) fn find_contents<'a>(
     uri: &str,
     at: Position,
 ) -> Result<Option<&'a str>, FlattenFault>
-    ensures { (m : State) → Stands projects.now m → IfOk result (λ contents. AnswersHover m (at_value project.now uri.now at) dump.now (hover_found (option_map (λ text. text.now) contents))) }
+    ensures { (m : State) → Stands projects.now m
+        → IfOk result (λ contents. AnswersHover m (at_value project.now uri.now at) dump.now (hover_found (option_map (λ text. text.now) contents))) }
 {
     ends_law();
     joined_law();

@@ -24,9 +24,11 @@ use tags::text_law;
 /// What is said of a body is the fault of the dump that it is by the profile, or of the tags file, and where it has none the
 /// dump or the tags.
 pub fn judgement_law()
-    ensures dump_fault { (profile : Profile) (body : List ℕ) (f : dumps.LineFault) → (judged_dump profile body ≡ Err f) ↔ IsFault (dump_of profile body) (Some f) }
+    ensures dump_fault { (profile : Profile) (body : List ℕ) (f : dumps.LineFault)
+        → (judged_dump profile body ≡ Err f) ↔ IsFault (dump_of profile body) (Some f) }
     ensures dump { (profile : Profile) (body : List ℕ) (dump : DumpValue)
-        → (judged_dump profile body ≡ Ok dump) ↔ ((dump.profile ≡ profile) × IsFault (dump_of profile body) None × (dump_of profile body ≡ map Ok dump.elements)) }
+        → (judged_dump profile body ≡ Ok dump) ↔ ((dump.profile ≡ profile) × IsFault (dump_of profile body) None
+        × (dump_of profile body ≡ map Ok dump.elements)) }
     ensures tags_fault { (body : List ℕ) (f : tags.LineFault) → (judged_tags body ≡ Err f) ↔ HasFault body f }
     ensures tags { (body : List ℕ) (tags : List TagValue) → (judged_tags body ≡ Ok tags) ↔ HasTags body tags }
 {
@@ -67,5 +69,6 @@ pub fn retry_law()
         → (is_refusal reply ≡ true) ⊎ (reply ≡ r) }
     ensures runs { (store_may_refuse : Bool) (events : List Event) (t : Moment) (requests : List RequestValue) (replies : List ReplyValue) (n : State)
         → Life store_may_refuse events t → Run store_may_refuse t.now requests replies n
-        → (u : Moment) × Life store_may_refuse (with_run requests replies events) u × (u.now ≡ n) × (states_left u ≡ left_by t.now (states_left t) requests replies) }
+        → (u : Moment) × Life store_may_refuse (with_run requests replies events) u × (u.now ≡ n)
+        × (states_left u ≡ left_by t.now (states_left t) requests replies) }
 {}

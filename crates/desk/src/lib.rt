@@ -13,6 +13,7 @@ mod index_desk;
 mod laws;
 mod line_reader;
 mod listed;
+mod memory_desk;
 mod names;
 mod plain;
 mod project;
@@ -31,12 +32,13 @@ pub use desk::Desk;
 pub use index::{Index, IndexFault};
 pub use index_desk::IndexDesk;
 pub use laws::{answer_law, judgement_law, reply_law, retry_law};
+pub use memory_desk::{MemoryDesk, memory_law};
 pub use names::{DocUri, Key, ProjectName, read_number};
 pub use plain::PlainDesk;
 pub use reply::Reply;
 pub use request::{Command, Query, Request};
 pub use running::{RunFault, run};
-pub use table_desk::{TableDesk, memory_law};
+pub use table_desk::TableDesk;
 pub use upload::{Upload, UploadFault};
 
 #[cfg(test)]

@@ -58,7 +58,8 @@ fn read_line(
 
 /// Takes the next line of a dump.
 fn feed_dump(checker: &mut Checker, alloc: Global, line: Option<&[u8]>) -> ReadingState
-    ensures judged { (bytes : List ℕ) → IsHanded dumps.longest_line line.entry bytes → Judges result (next (dump_lines checker.old.profile checker.old.progress) bytes true) (dump_lines checker.new.profile checker.new.progress) }
+    ensures judged { (bytes : List ℕ) → IsHanded dumps.longest_line line.entry bytes
+        → Judges result (next (dump_lines checker.old.profile checker.old.progress) bytes true) (dump_lines checker.new.profile checker.new.progress) }
     ensures profile { checker.new.profile ≡ checker.old.profile }
 {
     let Ok(reading) = read_line(alloc, checker.profile(), line) else {
@@ -73,7 +74,8 @@ fn feed_dump(checker: &mut Checker, alloc: Global, line: Option<&[u8]>) -> Readi
 
 /// Takes the next line of a tags file.
 fn feed_tags(reader: &mut TagReader, line: Option<&[u8]>, is_ended: bool) -> ReadingState
-    ensures { (bytes : List ℕ) → IsHanded tags.longest_line line.entry bytes → Judges result (next (tags_lines reader.old) bytes is_ended) (tags_lines reader.new) }
+    ensures { (bytes : List ℕ) → IsHanded tags.longest_line line.entry bytes
+        → Judges result (next (tags_lines reader.old) bytes is_ended) (tags_lines reader.new) }
 {
     reading_law();
     match reader.feed(line.ok_or(TagsCode::T01), is_ended) {
@@ -91,7 +93,8 @@ impl LineReader {
         line: Option<&[u8]>,
         is_ended: bool,
     ) -> ReadingState
-        ensures judged { (bytes : List ℕ) → IsHanded (longest_of (taken self.old)) line.entry bytes → Judges result (next (taken self.old) bytes is_ended) (taken self.new) }
+        ensures judged { (bytes : List ℕ) → IsHanded (longest_of (taken self.old)) line.entry bytes
+            → Judges result (next (taken self.old) bytes is_ended) (taken self.new) }
         ensures same { emptied (taken self.new) ≡ emptied (taken self.old) }
     {
         match self {

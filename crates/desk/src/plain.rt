@@ -84,9 +84,12 @@ fn change(
     change: Change,
     accepted: Accepted,
 ) -> Result<(), AllocError>
-    ensures dumps { OnOk result ((p : List ℕ) → dump_in projects.new p ≡ (if bytes_eq (string_bytes project) p then dump_after (change_value change) (dump_in projects.old p) else dump_in projects.old p)) }
-    ensures tags { OnOk result ((p : List ℕ) → tags_in projects.new p ≡ (if bytes_eq (string_bytes project) p then tags_after (change_value change) (tags_in projects.old p) else tags_in projects.old p)) }
-    ensures kept { OnOk result ((p k : List ℕ) → kept_in projects.new p k ≡ (if bytes_eq (string_bytes project) p && bytes_eq (string_bytes key) k then Some (accepted_value accepted) else kept_in projects.old p k)) }
+    ensures dumps { OnOk result ((p : List ℕ)
+        → dump_in projects.new p ≡ (if bytes_eq (string_bytes project) p then dump_after (change_value change) (dump_in projects.old p) else dump_in projects.old p)) }
+    ensures tags { OnOk result ((p : List ℕ)
+        → tags_in projects.new p ≡ (if bytes_eq (string_bytes project) p then tags_after (change_value change) (tags_in projects.old p) else tags_in projects.old p)) }
+    ensures kept { OnOk result ((p k : List ℕ)
+        → kept_in projects.new p k ≡ (if bytes_eq (string_bytes project) p && bytes_eq (string_bytes key) k then Some (accepted_value accepted) else kept_in projects.old p k)) }
     ensures same_dumps { OnErr result ((p : List ℕ) → dump_in projects.new p ≡ dump_in projects.old p) }
     ensures same_tags { OnErr result ((p : List ℕ) → tags_in projects.new p ≡ tags_in projects.old p) }
     ensures same_kept { OnErr result ((p k : List ℕ) → kept_in projects.new p k ≡ kept_in projects.old p k) }
@@ -113,7 +116,8 @@ impl PlainDesk {
         key: &Key,
         made: Change,
     ) -> Result<Reply, AllocError>
-        ensures reply { (m : State) → Stands self.old.projects m → IfOk result (λ r. r ≡ reply_of (accepted (change_value made) (m.dump project.now) (m.tags project.now))) }
+        ensures reply { (m : State) → Stands self.old.projects m
+            → IfOk result (λ r. r ≡ reply_of (accepted (change_value made) (m.dump project.now) (m.tags project.now))) }
         ensures ok { (m : State) → Stands self.old.projects m → OnOk result (Stands self.new.projects (changed m project.now key.now (change_value made))) }
         ensures err { (m : State) → Stands self.old.projects m → OnErr result (Stands self.new.projects m) }
     {
@@ -133,8 +137,10 @@ impl PlainDesk {
         key: &Key,
         said: Result<Change, Reply>,
     ) -> Result<Reply, AllocError>
-        ensures reply { (m : State) (c : CommandValue) → Stands self.old.projects m → Concludes c project.now key.now said → IfOk result (λ r. r ≡ reply_to m c) }
-        ensures ok { (m : State) (c : CommandValue) → Stands self.old.projects m → Concludes c project.now key.now said → OnOk result (Stands self.new.projects (after m c)) }
+        ensures reply { (m : State) (c : CommandValue) → Stands self.old.projects m → Concludes c project.now key.now said
+            → IfOk result (λ r. r ≡ reply_to m c) }
+        ensures ok { (m : State) (c : CommandValue) → Stands self.old.projects m → Concludes c project.now key.now said
+            → OnOk result (Stands self.new.projects (after m c)) }
         ensures err { (m : State) → Stands self.old.projects m → OnErr result (Stands self.new.projects m) }
     {
         if let Some(kept) = kept_in(&self.projects, project.as_str(), key.as_str()) {
@@ -158,8 +164,10 @@ impl PlainDesk {
 
     /// Serves the command that an upload is. Nothing changes where memory is refused.
     fn finish(&mut self, upload: Upload) -> Result<Reply, AllocError>
-        ensures reply { (m : State) (body : List ℕ) → Stands self.old.projects m → StandsFor upload.body body → IfOk result (λ r. r ≡ reply_to m (command_of upload body)) }
-        ensures ok { (m : State) (body : List ℕ) → Stands self.old.projects m → StandsFor upload.body body → OnOk result (Stands self.new.projects (after m (command_of upload body))) }
+        ensures reply { (m : State) (body : List ℕ) → Stands self.old.projects m → StandsFor upload.body body
+            → IfOk result (λ r. r ≡ reply_to m (command_of upload body)) }
+        ensures ok { (m : State) (body : List ℕ) → Stands self.old.projects m → StandsFor upload.body body
+            → OnOk result (Stands self.new.projects (after m (command_of upload body))) }
         ensures err { (m : State) → Stands self.old.projects m → OnErr result (Stands self.new.projects m) }
         ensures memory { upload.body.is_out_of_memory ≡ true → is_err result ≡ true }
     {
@@ -190,7 +198,8 @@ impl PlainDesk {
         uri: &DocUri,
         at: Position,
     ) -> Result<Reply, FlattenFault>
-        ensures { (m : State) → Stands self.now.projects m → IfOk result (λ r. AnswersAt m (at_value project.now uri.now at) (AnswersPlaces m request roles.now (at_value project.now uri.now at)) r) }
+        ensures { (m : State) → Stands self.now.projects m
+            → IfOk result (λ r. AnswersAt m (at_value project.now uri.now at) (AnswersPlaces m request roles.now (at_value project.now uri.now at)) r) }
     {
         let Some(dump) = dump_in(&self.projects, project.as_str()) else {
             return Ok(Reply::refused(Code::D01));
@@ -217,7 +226,8 @@ impl PlainDesk {
         uri: &DocUri,
         at: Position,
     ) -> Result<Reply, FlattenFault>
-        ensures { (m : State) → Stands self.now.projects m → IfOk result (λ r. AnswersAt m (at_value project.now uri.now at) (AnswersHover m (at_value project.now uri.now at)) r) }
+        ensures { (m : State) → Stands self.now.projects m
+            → IfOk result (λ r. AnswersAt m (at_value project.now uri.now at) (AnswersHover m (at_value project.now uri.now at)) r) }
     {
         let Some(dump) = dump_in(&self.projects, project.as_str()) else {
             return Ok(Reply::refused(Code::D01));

@@ -103,7 +103,8 @@ impl Project {
     ) -> Result<(), AllocError>
         ensures dump { OnOk result (self.new.dump ≡ dump_after (change_value change) self.old.dump) }
         ensures tags { OnOk result (self.new.tags ≡ tags_after (change_value change) self.old.tags) }
-        ensures kept { OnOk result ((k : List ℕ) → get_by_text self.new.kept k ≡ (if bytes_eq (string_bytes key) k then Some accepted else get_by_text self.old.kept k)) }
+        ensures kept { OnOk result ((k : List ℕ)
+            → get_by_text self.new.kept k ≡ (if bytes_eq (string_bytes key) k then Some accepted else get_by_text self.old.kept k)) }
         ensures same_dump { OnErr result (self.new.dump ≡ self.old.dump) }
         ensures same_tags { OnErr result (self.new.tags ≡ self.old.tags) }
         ensures same_kept { OnErr result ((k : List ℕ) → get_by_text self.new.kept k ≡ get_by_text self.old.kept k) }

@@ -1,16 +1,16 @@
 //! The desk over the tables of a database. Its clauses say from outside, both ways, which states it stands for, what a stop may leave and when it is
 //! reliable: as `tables/specs/Stands` says it of the tables and `sqlite` of their disk.
-ghost use Rattle.std.specs.Prelude.{◌≡◌, ◌↔◌, ◌∷◌, [], List, IfOk, IsTrue};
+ghost use Rattle.std.specs.Prelude.{◌↔◌, ◌∷◌, [], List, IsTrue};
 ghost use Rattle.sqlite.specs.Held.{state};
 ghost use Rattle.sqlite.specs.State.{HasCleanDisk};
 ghost use Rattle.tables.specs.Stands.{Rests};
-ghost use Rattle.tables.specs.State.{State, nothing};
+ghost use Rattle.tables.specs.State.{State};
 ghost use Rattle.desk.specs.TableStates.{LeavesOneOf, ServesFor};
 
 use crate::desk::Desk;
 use crate::index_desk::IndexDesk;
-use sqlite::{Alter, Connection, MemStore};
-use std::alloc::{AllocError, Global};
+use sqlite::Alter;
+use std::alloc::Global;
 use tables::Tables;
 
 /// A desk over the tables of a database, in a file or in memory.
@@ -38,27 +38,3 @@ impl<S: Alter> TableDesk<S> {
         self.index
     }
 }
-
-impl TableDesk<MemStore> {
-    /// A desk over a new database in memory, which stands for the state of an empty one and leaves that state alone. Such a database is nobody else's, so
-    /// each fault of it is for want of memory.
-    pub fn open_in_memory(alloc: Global) -> Result<TableDesk<MemStore>, AllocError>
-        ensures stands { IfOk result (λ desk. ⟦<IndexDesk<Tables<MemStore>> as Desk>⟧.stands desk nothing) }
-        ensures may_leave { IfOk result (λ desk. ⟦<IndexDesk<Tables<MemStore>> as Desk>⟧.may_leave desk (nothing ∷ [])) }
-    {
-        let conn = Connection::open_in_memory(alloc)?;
-        match Tables::open(conn) {
-            Ok(tables) => {
-                let desk = TableDesk::new(alloc, tables.in_memory());
-                memory_law(&desk);
-                Ok(desk)
-            }
-            Err(_) => Err(AllocError),
-        }
-    }
-}
-
-/// A desk over a database in memory is reliable: its store returns what was written to it.
-pub fn memory_law(desk: &TableDesk<MemStore>)
-    ensures { ⟦<IndexDesk<Tables<MemStore>> as Desk>⟧.is_reliable desk.now }
-{}

@@ -70,7 +70,8 @@ fn take_line(alloc: Global, cutter: &mut Cutter, lines: &mut LineReader, piece: 
     requires longest { cutter.old.longest ≡ longest_of (taken lines.old) }
     ensures some { length piece.now ≢ 0 → 0 < result.count }
     ensures within { result.count ≤ length piece.now }
-    ensures stands { (body : List ℕ) → TookBody (taken lines.old) (begun cutter.old) body → StandsBy (body_value (taken lines.new) cutter.new result.state) (body ++ take result.count piece.now) }
+    ensures stands { (body : List ℕ) → TookBody (taken lines.old) (begun cutter.old) body
+        → StandsBy (body_value (taken lines.new) cutter.new result.state) (body ++ take result.count piece.now) }
     ensures state { HasState result.state (taken lines.new) cutter.new }
     ensures longest { cutter.new.longest ≡ cutter.old.longest }
     ensures same { emptied (taken lines.new) ≡ emptied (taken lines.old) }
@@ -102,7 +103,8 @@ fn end_line(
 ) -> ReadingState
     requires state { HasState state (taken lines.old) cutter.now }
     requires longest { cutter.now.longest ≡ longest_of (taken lines.old) }
-    ensures said { (body : List ℕ) → StandsBy (body_value (taken lines.old) cutter.now state) body → Says result (taken lines.new) (judged (action_of (taken lines.old) body)) }
+    ensures said { (body : List ℕ) → StandsBy (body_value (taken lines.old) cutter.now state) body
+        → Says result (taken lines.new) (judged (action_of (taken lines.old) body)) }
     ensures refused { state ≡ ReadingState.OutOfMemory → result ≡ ReadingState.OutOfMemory }
 {
     cuts_law();
@@ -269,7 +271,8 @@ impl Upload {
     pub fn piece(&mut self, bytes: &[u8]) -> Result<(), UploadFault>
         ensures stands { (body : List ℕ) → StandsFor self.old.body body → StandsFor self.new.body (body ++ bytes.now) }
         ensures same { (body : List ℕ) → command_of self.new body ≡ command_of self.old body }
-        ensures answer { MatchResult result (λ _. self.new.body.is_out_of_memory ≡ false) (λ fault. (fault ≡ UploadFault.Memory) × (self.new.body.is_out_of_memory ≡ true)) }
+        ensures answer { MatchResult result (λ _. self.new.body.is_out_of_memory ≡ false) (λ fault. (fault ≡ UploadFault.Memory)
+            × (self.new.body.is_out_of_memory ≡ true)) }
         ensures for_good { self.old.body.is_out_of_memory ≡ true → self.new.body.is_out_of_memory ≡ true }
     {
         self.body.piece(bytes)?;

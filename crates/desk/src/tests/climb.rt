@@ -3,7 +3,7 @@ use super::{reply_to, text_of};
 use crate::{Command, Desk, DocUri, Key, PlainDesk, ProjectName, Query, TableDesk};
 use lsif::Profile;
 use positions::Position;
-use sqlite::MemStore;
+use sqlite::{Alter, Connection};
 use std::alloc::Global;
 use std::test::Fail;
 use tables::Tables;
@@ -42,23 +42,28 @@ const ROWS: &[(&str, &str, &str)] = &[
     ),
 ];
 
-/// The desk over the tables in which this statement was run.
-fn changed(
-    alloc: Global,
-    desk: TableDesk<MemStore>,
-    sql: &str,
-) -> Result<TableDesk<MemStore>, Fail> {
-    let mut conn = desk.into_tables().into_connection();
-    if !sql.is_empty() {
-        conn.execute(sql, &[])?;
-    }
+/// The tables that a connection shows.
+fn opened<S: Alter + Drop>(conn: Connection<S>) -> Result<Tables<S>, Fail> {
     if !conn.is_autocommit() {
         return Err("in a transaction")?;
     }
     match Tables::open(conn) {
-        Ok(tables) => Ok(TableDesk::new(alloc, tables)),
+        Ok(tables) => Ok(tables),
         Err(_) => Err("not opened")?,
     }
+}
+
+/// The desk over the tables in which this statement was run.
+fn changed<S: Alter + Drop>(
+    alloc: Global,
+    desk: TableDesk<S>,
+    sql: &str,
+) -> Result<TableDesk<S>, Fail> {
+    let mut conn = desk.into_tables().into_connection();
+    if !sql.is_empty() {
+        conn.execute(sql, &[])?;
+    }
+    Ok(TableDesk::new(alloc, opened(conn)?))
 }
 
 /// The reply to the request of a row, over the tables in which this statement was run.
