@@ -10,7 +10,7 @@ use Rattle.clap.specs.declared.error.kind.ErrorKind.TheVariants.{ValueValidation
 use Rattle.lsif.specs.declared.element.Profile.{Profile}
 use Rattle.lsif.specs.declared.element.Profile.TheVariants.{One, Two}
 use Rattle.codenav.specs.declared.call.Call.{Call}
-use Rattle.codenav.specs.declared.call.Call.TheVariants.{CheckLsif, CheckTags, Replay, Serve}
+use Rattle.codenav.specs.declared.call.Call.TheVariants.{CheckLsif, CheckTags, Replay, Serve, Migrate}
 use Rattle.codenav.specs.declared.call.CallFault.{CallFault}
 use Rattle.codenav.specs.declared.call.CallFault.TheVariants.{Memory, Clap}
 
@@ -20,12 +20,14 @@ pub data CallValue : Type 0 where
   check_tags : Text → CallValue
   replay : Text → Text → CallValue
   serve : Text → ℕ → ℕ → CallValue
+  migrate : Text → CallValue
 
 abbrev pub call_value : Call → CallValue
 call_value (CheckLsif file profile) = check_lsif file.now profile
 call_value (CheckTags file) = check_tags file.now
 call_value (Replay database file) = replay database.now file.now
 call_value (Serve database port requests) = serve database.now port requests
+call_value (Migrate database) = migrate database.now
 
 -- the greatest port
 abbrev pub most_port : ℕ
@@ -41,6 +43,7 @@ IsWithinBounds (check_lsif file profile) = ⊤
 IsWithinBounds (check_tags file) = ⊤
 IsWithinBounds (replay database file) = ⊤
 IsWithinBounds (serve database port requests) = (1 ≤ port) × (port ≤ most_port) × (1 ≤ requests) × (requests ≤ most_connections)
+IsWithinBounds (migrate database) = ⊤
 
 -- a word that has to be there
 abbrev pub word : Text → Rule
@@ -72,6 +75,10 @@ serve_app =
     with_rule (with_rule (with_rule (new_app (codes "serve")) (word (codes "db"))) (required_number (codes "port") (pos 1) (pos most_port)))
     (required_number (codes "requests") (pos 1) (pos most_connections))
 
+-- migrate DB
+abbrev pub migrate_app : App
+migrate_app = with_rule (new_app (codes "migrate")) (word (codes "db"))
+
 -- the program, which has a version and has to have a subcommand
 abbrev pub top_app : App
 top_app =
@@ -80,8 +87,8 @@ top_app =
 -- the command line
 abbrev pub app : App
 app =
-    with_subcommand (with_subcommand (with_subcommand (with_subcommand top_app check_lsif_app.top) check_tags_app.top) replay_app.top)
-    serve_app.top
+    with_subcommand (with_subcommand (with_subcommand (with_subcommand (with_subcommand top_app check_lsif_app.top) check_tags_app.top) replay_app.top)
+    serve_app.top) migrate_app.top
 
 -- the profile of this number; profile 1 where none is given
 abbrev pub profile_named : Option Text → Option Profile
@@ -139,6 +146,10 @@ serve_of rows =
     serve_with (first_of (codes "db") rows) (number_named most_port (one_of (codes "port") rows))
     (number_named most_connections (one_of (codes "requests") rows))
 
+-- the call of migrate with these matches
+abbrev pub migrate_of : List Row → Option CallValue
+migrate_of rows = option_map migrate (first_of (codes "db") rows)
+
 -- the call of the subcommand with this name and these matches
 abbrev pub call_of : Option (Text × List Row) → Option CallValue
 call_of None = None
@@ -147,6 +158,7 @@ call_of (Some sub) =
     else if bytes_eq sub.0 (codes "check-tags") then check_tags_of sub.1
     else if bytes_eq sub.0 (codes "replay") then replay_of sub.1
     else if bytes_eq sub.0 (codes "serve") then serve_of sub.1
+    else if bytes_eq sub.0 (codes "migrate") then migrate_of sub.1
     else None
 
 -- clap takes the words, and they say this call

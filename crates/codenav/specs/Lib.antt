@@ -1,4 +1,5 @@
 pub mod Call
+pub mod Databases
 pub mod Replay
 pub mod Report
 pub mod Serve

@@ -4,7 +4,7 @@ use Rattle.tables.specs.State.{State}
 use Rattle.lsif.specs.Streams.{Output}
 use Rattle.http_edge.specs.Replies.{AnswerValue}
 use Rattle.http_edge.specs.Requests.{MessageValue}
-use Rattle.http_edge.specs.Serving.{Serves}
+use Rattle.http_edge.specs.Serving.{Serves, left_by}
 use Rattle.http_edge.specs.declared.serve.ServeFault.{ServeFault}
 use Rattle.codenav.specs.declared.serve.ServerFault.{ServerFault}
 use Rattle.codenav.specs.declared.serve.ServerFault.TheVariants.{Accept, Memory}
@@ -26,11 +26,12 @@ ServesConnection store_may_refuse m c n =
     × Serves store_may_refuse most_requests m left left' output output' c.messages c.answers n result
 
 -- connections, the newest first, take it from one state to another: each is served from the state in which the one before
--- it ended
-abbrev pub ServesEach : Bool → State → List ConnectionValue → State → Type 0
-ServesEach store_may_refuse m [] n = n ≡ m
-ServesEach store_may_refuse m (c ∷ before) n =
-    (mid : State) × ServesEach store_may_refuse m before mid × ServesConnection store_may_refuse mid c n
+-- it ended; and where a stop left one of the states at first, it leaves one of the others then
+abbrev pub ServesEach : Bool → State → List State → List ConnectionValue → State → List State → Type 0
+ServesEach store_may_refuse m states [] n left = (n ≡ m) × (left ≡ states)
+ServesEach store_may_refuse m states (c ∷ before) n left =
+    (mid : State) × (held : List State) × ServesEach store_may_refuse m states before mid held × ServesConnection store_may_refuse mid c n
+    × (left ≡ left_by mid held c.messages c.answers)
 
 -- a connection that was accepted is counted
 abbrev pub CountsAccept : {A : Type 0} → ℕ → Option A → ℕ → Type 0

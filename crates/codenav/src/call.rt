@@ -1,27 +1,15 @@
-//! What the program's words ask for.
+//! What the program's words ask for, by what `clap` finds in them.
 ghost use Rattle.std.specs.Prelude.{◌≡◌, ◌≢◌, ◌≤◌, List, Option, Some, None, IfOk, IfSome, IfErr, MatchResult, map, option_map, false, codes, pos};
-ghost use Rattle.clap.specs.Words.{app_of, first_of, found_of, kind_of, one_of, rows_of, rule_of, subcommand_rows_of, with_subcommand};
-ghost use Rattle.codenav.specs.Call.{IsCall, IsRefused, IsWithinBounds, app, call_of, call_value, check_lsif_app, check_lsif_of, check_lsif_with, check_tags_app, check_tags_of, most_connections, most_port, number_named, number_option, profile_named, replay_app, replay_of, replay_with, required_number, serve_app, serve_of, serve_with, top_app, word};
+ghost use Rattle.clap.specs.Words.{app_of, first_of, found_of, kind_of, one_of, rows_of, subcommand_rows_of};
+ghost use Rattle.codenav.specs.Call.{IsCall, IsRefused, IsWithinBounds, app, call_of, call_value, check_lsif_of, check_lsif_with, check_tags_of, migrate_of, most_connections, most_port, number_named, profile_named, replay_of, replay_with, serve_of, serve_with};
 ghost use Rattle.codenav.specs.Steps.Call.{IsMissing, ShowsError, up_to};
 
-use clap::builder::ValueParser;
+use crate::command_line::{MOST_CONNECTIONS, MOST_PORT, command};
 use clap::error::ErrorKind;
-use clap::{Arg, ArgAction, ArgMatches, Command, Error};
+use clap::{ArgMatches, Command, Error};
 use lsif::Profile;
 use std::alloc::{AllocError, Global};
 use std::convert::AsStr;
-
-/// The version of the program.
-const VERSION: &str = "0.1.0";
-
-/// What the word DB is.
-const DATABASE: &str = "The database: a file, which is made where there is none, or :memory:";
-
-/// The greatest port.
-const MOST_PORT: u32 = 65535;
-
-/// How many connections are served at most.
-const MOST_CONNECTIONS: u32 = 1000000;
 
 /// What the program is to do.
 #[derive(Clone, Copy, Debug, PartialEq, Eq)]
@@ -45,6 +33,10 @@ pub enum Call<'a> {
         database: &'a str,
         port: u16,
         requests: u32,
+    },
+    /// Bring the tables of this database from format 1 to format 2.
+    Migrate {
+        database: &'a str,
     },
 }
 
@@ -79,172 +71,6 @@ impl From<Error> for CallFault {
             _ => CallFault::Clap(error),
         }
     }
-}
-
-/// A word that has to be there, with its name in texts of help and what it is.
-fn word<'a>(alloc: Global, id: &'a str, name: &'a str, help: &'a str) -> Arg<'a>
-    ensures rule { rule_of result ≡ word id.entry.now }
-    ensures local { result.global ≡ false }
-{
-    Arg::new(alloc, id)
-        .required(true)
-        .action(ArgAction::Set)
-        .value_name(name)
-        .help(help)
-}
-
-/// An option whose value is a number in these bounds.
-fn number_option<'a>(alloc: Global, id: &'a str, least: i64, most: i64, help: &'a str) -> Arg<'a>
-    ensures rule { rule_of result ≡ number_option id.entry.now least most }
-    ensures local { result.global ≡ false }
-{
-    Arg::new(alloc, id)
-        .long(id)
-        .action(ArgAction::Set)
-        .value_parser(ValueParser::signed(least, most))
-        .value_name("N")
-        .help(help)
-}
-
-/// An option that has to be there, whose value is a number in these bounds.
-fn required_number<'a>(alloc: Global, id: &'a str, least: i64, most: i64, help: &'a str) -> Arg<'a>
-    ensures rule { rule_of result ≡ required_number id.entry.now least most }
-    ensures local { result.global ≡ false }
-{
-    number_option(alloc, id, least, most, help).required(true)
-}
-
-/// `check-lsif FILE --profile N`.
-fn check_lsif<'a>(alloc: Global) -> Result<Command<'a>, AllocError>
-    ensures { IfOk result (λ c. app_of c ≡ check_lsif_app) }
-{
-    let file = word(alloc, "file", "FILE", "The dump, one element on each line");
-    let profile = number_option(
-        alloc,
-        "profile",
-        1,
-        2,
-        "The profile that the dump is read by: 1, or 2, which has declarations and implementations too [default: 1]",
-    );
-    Command::new(alloc, "check-lsif")
-        .about(
-            "Checks a dump in the Language Server Index Format 0.6.0, and prints how many elements it has or its first fault",
-        )
-        .arg(file)?
-        .arg(profile)
-}
-
-/// `check-tags FILE`.
-fn check_tags<'a>(alloc: Global) -> Result<Command<'a>, AllocError>
-    ensures { IfOk result (λ c. app_of c ≡ check_tags_app) }
-{
-    let file = word(alloc, "file", "FILE", "The tags file");
-    Command::new(alloc, "check-tags")
-        .about(
-            "Checks a tags file of Universal Ctags, and prints how many tags it has or its first fault",
-        )
-        .arg(file)
-}
-
-/// `replay DB FILE`.
-fn replay<'a>(alloc: Global) -> Result<Command<'a>, AllocError>
-    ensures { IfOk result (λ c. app_of c ≡ replay_app) }
-{
-    let database = word(alloc, "db", "DB", DATABASE);
-    let file = word(
-        alloc,
-        "file",
-        "FILE",
-        "The requests, as HTTP/1.1 sends them",
-    );
-    Command::new(alloc, "replay")
-        .about("Answers the requests in a file over a database, and prints the replies")
-        .arg(database)?
-        .arg(file)
-}
-
-/// The option `--port N`.
-fn port<'a>(alloc: Global) -> Arg<'a>
-    ensures rule { rule_of result ≡ required_number (codes "port") (pos 1) (pos most_port) }
-    ensures local { result.global ≡ false }
-{
-    required_number(
-        alloc,
-        "port",
-        1,
-        i64::from(MOST_PORT),
-        "The port on 127.0.0.1 that is listened on, 1 to 65535",
-    )
-}
-
-/// The option `--requests N`.
-fn requests<'a>(alloc: Global) -> Arg<'a>
-    ensures rule { rule_of result ≡ required_number (codes "requests") (pos 1) (pos most_connections) }
-    ensures local { result.global ≡ false }
-{
-    required_number(
-        alloc,
-        "requests",
-        1,
-        i64::from(MOST_CONNECTIONS),
-        "How many connections are served, with one request each, 1 to 1000000",
-    )
-}
-
-/// `serve DB --port N --requests N`.
-fn serve<'a>(alloc: Global) -> Result<Command<'a>, AllocError>
-    ensures { IfOk result (λ c. app_of c ≡ serve_app) }
-{
-    let database = word(alloc, "db", "DB", DATABASE);
-    let port = port(alloc);
-    let requests = requests(alloc);
-    Command::new(alloc, "serve")
-        .about("Serves connections on a port of 127.0.0.1, one after the other, over a database")
-        .arg(database)?
-        .arg(port)?
-        .arg(requests)
-}
-
-/// The program with no subcommand yet.
-fn top<'a>(alloc: Global) -> Command<'a>
-    ensures { app_of result ≡ top_app }
-{
-    Command::new(alloc, "codenav")
-        .version(VERSION)
-        .about("A code navigation index server: it answers from uploaded indexes alone")
-        .subcommand_required(true)
-}
-
-/// The program with the subcommand `check-lsif`.
-fn with_check_lsif<'a>(alloc: Global) -> Result<Command<'a>, AllocError>
-    ensures { IfOk result (λ c. app_of c ≡ with_subcommand top_app check_lsif_app.top) }
-{
-    let check_lsif = check_lsif(alloc)?;
-    top(alloc).subcommand(check_lsif)
-}
-
-/// The program with both checks.
-fn with_checks<'a>(alloc: Global) -> Result<Command<'a>, AllocError>
-    ensures { IfOk result (λ c. app_of c ≡ with_subcommand (with_subcommand top_app check_lsif_app.top) check_tags_app.top) }
-{
-    let check_tags = check_tags(alloc)?;
-    with_check_lsif(alloc)?.subcommand(check_tags)
-}
-
-/// The program with both checks and `replay`.
-fn with_replay<'a>(alloc: Global) -> Result<Command<'a>, AllocError>
-    ensures { IfOk result (λ c. app_of c ≡ with_subcommand (with_subcommand (with_subcommand top_app check_lsif_app.top) check_tags_app.top) replay_app.top) }
-{
-    let replay = replay(alloc)?;
-    with_checks(alloc)?.subcommand(replay)
-}
-
-/// The command line.
-fn command<'a>(alloc: Global) -> Result<Command<'a>, AllocError>
-    ensures { IfOk result (λ c. app_of c ≡ app) }
-{
-    let serve = serve(alloc)?;
-    with_replay(alloc)?.subcommand(serve)
 }
 
 /// The value of FILE among these matches.
@@ -379,6 +205,17 @@ fn read_serve<'a>(found: &ArgMatches<'a>) -> Option<Call<'a>>
     serve_call(database_of(found), port, requests)
 }
 
+/// The call of `migrate` with these matches.
+fn read_migrate<'a>(found: &ArgMatches<'a>) -> Option<Call<'a>>
+    ensures call { option_map call_value result ≡ migrate_of (rows_of (found_of found.now)) }
+    ensures bounds { IfSome result (λ call. IsWithinBounds (call_value call)) }
+{
+    match database_of(found) {
+        Some(database) => Some(Call::Migrate { database }),
+        None => None,
+    }
+}
+
 /// The call of the subcommand with that name and these matches.
 fn read_subcommand<'a>(name: &str, found: &ArgMatches<'a>) -> Option<Call<'a>>
     ensures call { option_map call_value result ≡ call_of (Some (name.now, rows_of (found_of found.now))) }
@@ -395,6 +232,9 @@ fn read_subcommand<'a>(name: &str, found: &ArgMatches<'a>) -> Option<Call<'a>>
     }
     if name == "serve" {
         return read_serve(found);
+    }
+    if name == "migrate" {
+        return read_migrate(found);
     }
     None
 }

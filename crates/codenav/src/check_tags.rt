@@ -43,7 +43,8 @@ fn feed(
     line: Result<&[u8], Code>,
     has_feed: bool,
 ) -> Result<Step, CheckFault>
-    ensures { (reading : Reading) → IsHanded (result_map (λ bytes. bytes.now) line.entry) has_feed reading → Feeds result checker.new (next counted checker.old reading) }
+    ensures { (reading : Reading) → IsHanded (result_map (λ bytes. bytes.now) line.entry) has_feed reading
+        → Feeds result checker.new (next counted checker.old reading) }
 {
     match checker.feed(line, has_feed) {
         Ok(()) => Ok(Step::Good),

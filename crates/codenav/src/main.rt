@@ -4,6 +4,7 @@
 mod call;
 mod check;
 mod check_tags;
+mod command_line;
 mod database;
 mod replay;
 mod report;
@@ -15,13 +16,14 @@ mod timed;
 use call::{Call, CallFault, read_call};
 use check::check_lsif;
 use check_tags::check_tags;
-use database::{MEMORY, MemoryDesk, open_file, open_in_memory};
-use desk::Desk;
+use database::{MEMORY, close_file, migrate_file, open_file};
+use desk::{Desk, MemoryDesk, TableDesk};
 use http_edge::ServeFault;
 use lsif::{Counted, Profile};
-use replay::{replay, replay_in_memory};
+use replay::{replay_file, replay_in_memory};
 use report::{CheckFault, Status};
 use serve::{CountedListener, ServerFault, serve_connections, serve_in_memory};
+use sqlite::Unknown;
 use std::alloc::Global;
 use std::io::ErrorKind;
 use std::net::{Ipv4Addr, Net, SocketAddr, TcpListener};
@@ -29,6 +31,7 @@ use std::process::ExitCode;
 use std::rt::{Env, Files};
 use std::time::{Clock, Duration};
 use std::{env, fs, io};
+use tables::TablesFault;
 use timed::Limits;
 
 /// The status of a call that could not be carried out.
@@ -57,7 +60,7 @@ fn run(rt: &HostRuntime) -> u8 {
     match read_call(rt.alloc(), words.as_slice()) {
         Ok(Call::CheckLsif { file, profile }) => check_dump(rt, profile, file),
         Ok(Call::CheckTags { file }) => check_tags_file(rt, file),
-        Ok(Call::Replay { database, file }) => replay_file(rt, database, file),
+        Ok(Call::Replay { database, file }) => replay_stream(rt, database, file),
         Ok(
             Call::Serve {
                 database,
@@ -65,6 +68,7 @@ fn run(rt: &HostRuntime) -> u8 {
                 requests,
             },
         ) => serve_port(rt, database, port, requests),
+        Ok(Call::Migrate { database }) => migrate_tables(rt, database),
         Err(CallFault::Memory) => fail(rt, "out of memory"),
         Err(CallFault::Clap(error)) => show(rt, &error),
     }
@@ -116,7 +120,7 @@ fn check_tags_file<R: Alloc<A = Global> + Files + Print + Eprint>(rt: &R, name: 
 
 /// `codenav replay DB FILE`: prints the replies to the requests in that file, over the database in the file DB, or over one in memory that is empty at
 /// first where DB is `:memory:`.
-fn replay_file(rt: &HostRuntime, database: &str, name: &str) -> u8 {
+fn replay_stream(rt: &HostRuntime, database: &str, name: &str) -> u8 {
     let file = match open(rt, name) {
         Ok(file) => file,
         Err(status) => return status,
@@ -126,8 +130,11 @@ fn replay_file(rt: &HostRuntime, database: &str, name: &str) -> u8 {
     if database == MEMORY {
         return replayed(rt, replay_in_memory(rt.alloc(), &mut r, &mut w));
     }
-    match open_file(rt, database) {
-        Ok(mut desk) => replayed(rt, replay(rt.alloc(), &mut desk, &mut r, &mut w)),
+    match replay_file(rt, database, Unknown, &mut r, &mut w) {
+        Ok((answer, desk)) => {
+            close_file(desk);
+            replayed(rt, answer)
+        }
         Err(fault) => fail(rt, fault.text()),
     }
 }
@@ -146,13 +153,17 @@ fn replayed(rt: &impl Eprint, answer: Result<u32, ServeFault>) -> u8 {
 /// file DB, or over one in memory that is empty at first where DB is `:memory:`.
 fn serve_port(rt: &HostRuntime, database: &str, port: u16, requests: u32) -> u8 {
     if database == MEMORY {
-        return match open_in_memory(rt.alloc()) {
+        return match TableDesk::open_in_memory(rt.alloc()) {
             Ok(mut desk) => serve_memory(rt, &mut desk, port, requests),
             Err(_) => fail(rt, "out of memory"),
         };
     }
-    match open_file(rt, database) {
-        Ok(mut desk) => serve_desk(rt, &mut desk, port, requests),
+    match open_file(rt, database, Unknown) {
+        Ok(mut desk) => {
+            let status = serve_desk(rt, &mut desk, port, requests);
+            close_file(desk);
+            status
+        }
         Err(fault) => fail(rt, fault.text()),
     }
 }
@@ -205,6 +216,23 @@ fn served(rt: &impl Eprint, answer: Result<(), ServerFault>) -> u8 {
         Ok(()) => 0,
         Err(ServerFault::Accept) => fail(rt, "cannot accept"),
         Err(ServerFault::Memory) => fail(rt, "out of memory"),
+    }
+}
+
+/// `codenav migrate DB`: brings the database in that file from format 1 to format 2, and prints how many projects it has; or that there is nothing to do,
+/// where it's of format 2.
+fn migrate_tables(rt: &HostRuntime, database: &str) -> u8 {
+    if database == MEMORY {
+        return fail(rt, TablesFault::Foreign.text());
+    }
+    let printed = match migrate_file(rt, database) {
+        Ok(Some(count)) => println!(rt; "migrated {count} projects"),
+        Ok(None) => println!(rt; "nothing to migrate"),
+        Err(fault) => return fail(rt, fault.text()),
+    };
+    match printed {
+        Ok(()) => 0,
+        Err(_) => fail(rt, "cannot write the output"),
     }
 }
 

@@ -1,18 +1,22 @@
 //! `codenav replay`: the replies to the requests of a stream.
-ghost use Rattle.std.specs.Prelude.{◌≡◌, ◌-◌, ◌^◌, ◌<◌, List, Err};
+ghost use Rattle.std.specs.Prelude.{◌≡◌, ◌-◌, ◌^◌, ◌<◌, ◌∷◌, [], true, List, Err, IfOk, IfErr};
+ghost use Rattle.sqlite_wal.specs.Files.{image_at};
 ghost use Rattle.tables.specs.State.{State};
 ghost use Rattle.lsif.specs.Streams.{CanCount};
 ghost use Rattle.http_edge.specs.Replies.{AnswerValue};
 ghost use Rattle.http_edge.specs.Requests.{MessageValue};
 ghost use Rattle.http_edge.specs.Serving.{CountsRead, CountsWrite, Serves, left_by};
 ghost use Rattle.http_edge.specs.declared.serve.ServeFault.TheVariants.{Memory};
+ghost use Rattle.codenav.specs.Databases.{HoldsIndex};
 ghost use Rattle.codenav.specs.Replay.{Replays, most_requests};
 
-use crate::database::{memory_law, open_in_memory};
-use desk::Desk;
+use crate::database::{FileDesk, open_file};
+use desk::{Desk, IndexDesk, TableDesk, memory_law};
 use http_edge::{ServeFault, serve_stream};
 use lsif::{Sink, Source};
+use sqlite::{FileFrom, FileStore, Start};
 use std::alloc::Global;
+use tables::{Tables, TablesFault};
 
 /// How many requests of a stream are answered at most.
 const MOST_REQUESTS: u32 = 1000000;
@@ -53,10 +57,39 @@ pub fn replay_in_memory<R: Source, W: Sink>(
     ensures read { CountsRead (R.failed r.old) (R.failed r.new) result }
     ensures write { CountsWrite (W.output w.old) result (W.output w.new) }
 {
-    let Ok(mut desk) = open_in_memory(alloc) else {
+    let Ok(mut desk) = TableDesk::open_in_memory(alloc) else {
         return Err(ServeFault::Memory);
     };
     let answer = replay(alloc, &mut desk, r, w);
     memory_law(&desk);
     answer
+}
+
+/// What a replay over a database in a file gives back: its answer, as `replay` has it, and the desk, which has the file still.
+pub type FileReplay<S> = (Result<u32, ServeFault>, FileDesk<S>);
+
+/// The same over the database in this file, which is made where there is none. Where the file and its log hold a database that stands for a state of the
+/// index, as `S` says what they hold, the replies are given from that state; and of the desk that is left, and so of the file, a stop then leaves what
+/// it leaves of such an index. Refuses where the file can't be opened as a database of this product, and then nothing was read or written.
+pub fn replay_file<S: Start, R: Source, W: Sink>(
+    rt: &HostRuntime,
+    path: &str,
+    start: S,
+    r: &mut R,
+    w: &mut W,
+) -> Result<FileReplay<S>, TablesFault>
+    requires reads { R.failed r.old < 2 ^ 64 - 1 }
+    requires writes { CanCount (W.output w.old) }
+    ensures replays { IfOk result (λ o. ⟦<IndexDesk<Tables<FileStore<FileFrom<S>>>> as Desk>⟧.is_reliable o.1 → (m : State) → HoldsIndex (image_at S.Start) m
+        → (messages : List MessageValue) × (answers : List AnswerValue) × (n : State)
+        × Serves true most_requests m (R.left r.old) (R.left r.new) (W.output w.old) (W.output w.new) messages answers n o.0
+        × ⟦<IndexDesk<Tables<FileStore<FileFrom<S>>>> as Desk>⟧.stands o.1 n
+        × ⟦<IndexDesk<Tables<FileStore<FileFrom<S>>>> as Desk>⟧.may_leave o.1 (left_by m (m ∷ []) messages answers)) }
+    ensures unread { IfErr result (λ _. (r.new ≡ r.old) × (w.new ≡ w.old)) }
+    ensures read { IfOk result (λ o. CountsRead (R.failed r.old) (R.failed r.new) o.0) }
+    ensures write { IfOk result (λ o. CountsWrite (W.output w.old) o.0 (W.output w.new)) }
+{
+    let mut desk = open_file(rt, path, start)?;
+    let answer = replay(rt.alloc(), &mut desk, r, w);
+    Ok((answer, desk))
 }

@@ -6,9 +6,8 @@ ghost use Rattle.http_edge.specs.Serving.{CountsRead, CountsWrite, Serves, left_
 ghost use Rattle.http_edge.specs.declared.serve.ServeFault.TheVariants as serve_fault;
 ghost use Rattle.codenav.specs.Serve.{ConnectionValue, CountsAccept, CountsServed, ServesConnection, ServesEach, most_requests};
 
-use crate::database::{MemoryDesk, memory_law};
 use crate::timed::{Limits, Timed};
-use desk::{Desk, IndexDesk};
+use desk::{Desk, IndexDesk, MemoryDesk, memory_law};
 use http_edge::{ServeFault, serve_stream};
 use lsif::{Counted, Sink, Source};
 use sqlite::FileStore;
@@ -79,8 +78,10 @@ pub fn serve_request<D: Desk, R: Source, W: Sink>(
         × Serves D.store_may_refuse most_requests m (R.left r.old) (R.left r.new) (W.output w.old) (W.output w.new) c.messages c.answers n result
         × D.stands desk.new n
         × ((states : List State) → D.may_leave desk.old states → D.may_leave desk.new (left_by m states c.messages c.answers))) }
-    ensures connection { (c : ConnectionValue) × (D.is_reliable desk.new → (m : State) → D.stands desk.old m
-        → (n : State) × ServesConnection D.store_may_refuse m c n × D.stands desk.new n) }
+    ensures connection { (c : ConnectionValue)
+        × (D.is_reliable desk.new → (m : State) → D.stands desk.old m → (n : State) × ServesConnection D.store_may_refuse m c n
+        × D.stands desk.new n
+        × ((states : List State) → D.may_leave desk.old states → D.may_leave desk.new (left_by m states c.messages c.answers))) }
     ensures memory { result ≡ Err serve_fault.Memory → (desk.new ≡ desk.old) × (r.new ≡ r.old) × (w.new ≡ w.old) }
     ensures read { CountsRead (R.failed r.old) (R.failed r.new) result }
     ensures write { CountsWrite (W.output w.old) result (W.output w.new) }
@@ -108,8 +109,10 @@ fn serve_ends<D: Desk, S: OpenStream + Read + Write + Drop, C: Clock>(
     writer: Timed<'_, S, C>,
 ) -> Result<(), AllocError>
     ensures reliable { D.is_reliable desk.new → D.is_reliable desk.old }
-    ensures served { (c : ConnectionValue) × (D.is_reliable desk.new → (m : State) → D.stands desk.old m
-        → (n : State) × ServesConnection D.store_may_refuse m c n × D.stands desk.new n) }
+    ensures served { (c : ConnectionValue)
+        × (D.is_reliable desk.new → (m : State) → D.stands desk.old m → (n : State) × ServesConnection D.store_may_refuse m c n
+        × D.stands desk.new n
+        × ((states : List State) → D.may_leave desk.old states → D.may_leave desk.new (left_by m states c.messages c.answers))) }
     ensures memory { IfErr result (λ _. desk.new ≡ desk.old) }
 {
     let mut r = Counted::new(reader);
@@ -135,8 +138,10 @@ pub fn serve_connection<D: Desk, S: OpenStream + Read + Write + Drop, C: Clock>(
     stream: S,
 ) -> Result<(), AllocError>
     ensures reliable { D.is_reliable desk.new → D.is_reliable desk.old }
-    ensures served { (c : ConnectionValue) × (D.is_reliable desk.new → (m : State) → D.stands desk.old m
-        → (n : State) × ServesConnection D.store_may_refuse m c n × D.stands desk.new n) }
+    ensures served { (c : ConnectionValue)
+        × (D.is_reliable desk.new → (m : State) → D.stands desk.old m → (n : State) × ServesConnection D.store_may_refuse m c n
+        × D.stands desk.new n
+        × ((states : List State) → D.may_leave desk.old states → D.may_leave desk.new (left_by m states c.messages c.answers))) }
     ensures memory { IfErr result (λ _. desk.new ≡ desk.old) }
 {
     match ends(stream, clock, limits) {
@@ -159,7 +164,8 @@ where
     L::Stream: OpenStream + Read + Write,
     requires { listener.old.accepted + requests < 2 ^ 64 }
     ensures { (connections : List ConnectionValue) × CountsServed requests (length connections) listener.old.accepted result listener.new.accepted
-        × (D.is_reliable desk.new → (m : State) → D.stands desk.old m → (n : State) × ServesEach D.store_may_refuse m connections n × D.stands desk.new n) }
+        × (D.is_reliable desk.new → (m : State) (states : List State) → D.stands desk.old m → D.may_leave desk.old states → (n : State) × (left : List State)
+        × ServesEach D.store_may_refuse m states connections n left × D.stands desk.new n × D.may_leave desk.new left) }
 {
     let mut count = 0;
     'serving: while count < requests {
@@ -189,8 +195,10 @@ where
     L::Stream: OpenStream + Read + Write,
     requires { listener.old.accepted + requests < 2 ^ 64 }
     ensures { (connections : List ConnectionValue) × CountsServed requests (length connections) listener.old.accepted result listener.new.accepted
-        × ((m : State) → ⟦<IndexDesk<Tables<FileStore<MemoryDisk>>> as Desk>⟧.stands desk.old m → (n : State)
-        × ServesEach true m connections n × ⟦<IndexDesk<Tables<FileStore<MemoryDisk>>> as Desk>⟧.stands desk.new n) }
+        × ((m : State) (states : List State) → ⟦<IndexDesk<Tables<FileStore<MemoryDisk>>> as Desk>⟧.stands desk.old m
+        → ⟦<IndexDesk<Tables<FileStore<MemoryDisk>>> as Desk>⟧.may_leave desk.old states → (n : State) × (left : List State)
+        × ServesEach true m states connections n left × ⟦<IndexDesk<Tables<FileStore<MemoryDisk>>> as Desk>⟧.stands desk.new n
+        × ⟦<IndexDesk<Tables<FileStore<MemoryDisk>>> as Desk>⟧.may_leave desk.new left) }
 {
     let answer = serve_connections(alloc, desk, clock, limits, listener, requests);
     memory_law(desk);

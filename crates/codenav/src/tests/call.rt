@@ -25,11 +25,15 @@ serve|:memory:|--port|8080|--requests|3 => serve|:memory:|8080|3
 serve|index.db|--requests=1|--port=1 => serve|index.db|1|1
 serve|--port|65535|--requests|1000000|:memory: => serve|:memory:|65535|1000000
 serve|:memory:|--port|+80|--requests|0007 => serve|:memory:|80|7
+migrate|index.db => migrate|index.db
+migrate|:memory: => migrate|:memory:
  => MissingSubcommand on the standard error
 check-lsif => MissingRequiredArgument on the standard error
 check-tags => MissingRequiredArgument on the standard error
 replay|:memory: => MissingRequiredArgument on the standard error
 replay|:memory:|a|b => UnknownArgument on the standard error
+migrate => MissingRequiredArgument on the standard error
+migrate|a|b => UnknownArgument on the standard error
 check|a => InvalidSubcommand on the standard error
 check-lsif|a|b => UnknownArgument on the standard error
 check-lsif|--deep|a => UnknownArgument on the standard error
@@ -73,6 +77,7 @@ fn call_text(alloc: Global, call: Call<'_>) -> Result<String, Fail> {
             port,
             requests,
         } => Ok(format!(in alloc; "serve|{database}|{port}|{requests}")?),
+        Call::Migrate { database } => Ok(format!(in alloc; "migrate|{database}")?),
     }
 }
 

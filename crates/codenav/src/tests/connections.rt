@@ -1,9 +1,10 @@
 //! Connections on loopback and clients that take their time, and what they're replied.
 use super::samples::{BASE, reply, text_of};
-use crate::database::open_in_memory;
+use crate::database::{close_file, open_file};
 use crate::serve::{CountedListener, ServerFault, serve_connection, serve_in_memory};
 use crate::timed::Limits;
-use desk::PlainDesk;
+use desk::{Desk, PlainDesk, TableDesk};
+use sqlite::Unknown;
 use std::alloc::Global;
 use std::cell::Cell;
 use std::io;
@@ -74,18 +75,32 @@ fn received(alloc: Global, client: TcpStream) -> Result<String, Fail> {
     Ok(text)
 }
 
-/// Three connections and one more, one request each: the base dump, a list of projects, a definition and a removal.
-/// Each client writes its request, then it's served, and then it reads.
-#[test]
-fn served(rt: HostRuntime) -> Result<(), Fail> {
-    let alloc = rt.alloc();
-    let listener = listen(&rt)?;
-    let mut desk = PlainDesk::new(alloc);
+/// An upload of the base dump.
+fn upload(alloc: Global) -> Result<String, Fail> {
     let dump = text_of(alloc, BASE)?;
-    let upload = format!(in alloc;
+    Ok(format!(in alloc;
         "PUT /projects/app/lsif?key=k1 HTTP/1.1\r\nContent-Length: {}\r\n\r\n{dump}",
         dump.len()
-    )?;
+    )?)
+}
+
+/// What a client is sent for its request: it writes, then it's served, and then it reads.
+fn answer<D: Desk>(
+    rt: &HostRuntime,
+    listener: &TcpListener,
+    desk: &mut D,
+    request: &str,
+) -> Result<String, Fail> {
+    let client = client(rt, listener, request)?;
+    let (stream, _) = listener.accept()?;
+    serve_connection(rt.alloc(), desk, rt, limits(50, 5000), stream)?;
+    received(rt.alloc(), client)
+}
+
+/// The first of four connections, one request each, that isn't replied as it is to be: the base dump, a list of projects, a definition and a removal.
+fn first_other<D: Desk>(rt: &HostRuntime, desk: &mut D) -> Result<Option<String>, Fail> {
+    let listener = listen(rt)?;
+    let upload = upload(rt.alloc())?;
     let accepted = (
         upload.as_str(),
         "200 OK",
@@ -93,15 +108,24 @@ fn served(rt: HostRuntime) -> Result<(), Fail> {
         r#"{"accepted":"lsif","count":11}"#,
     );
     for (request, status, length, body) in [accepted, ROWS[0], ROWS[1], ROWS[2]] {
-        let client = client(&rt, &listener, request)?;
-        let (stream, _) = listener.accept()?;
-        serve_connection(alloc, &mut desk, &rt, limits(50, 5000), stream)?;
-        let found = received(alloc, client)?;
-        assert_eq!(rt;
-            found.as_str(),
-            reply(alloc, status, length, body)?.as_str(),
-            "{request}"
-        );
+        let found = answer(rt, &listener, desk, request)?;
+        if found.as_str() != reply(rt.alloc(), status, length, body)?.as_str() {
+            return Ok(Some(found));
+        }
+    }
+    Ok(None)
+}
+
+/// The same over a desk that keeps dumps in memory, and over a database in a file.
+#[test]
+fn served(rt: HostRuntime) -> Result<(), Fail> {
+    assert_eq!(rt; first_other(&rt, &mut PlainDesk::new(rt.alloc()))?, None);
+    match open_file(&rt, "served.db", Unknown) {
+        Ok(mut desk) => {
+            assert_eq!(rt; first_other(&rt, &mut desk)?, None);
+            close_file(desk);
+        }
+        Err(fault) => return Err(fault.text())?,
     }
     Ok(())
 }
@@ -123,7 +147,7 @@ fn counted(rt: HostRuntime) -> Result<(), Fail> {
     }
     let refused = client(&rt, &listener, bytes.as_str())?;
     let last = client(&rt, &listener, "GET /projects HTTP/1.1\r\n\r\n")?;
-    let mut desk = open_in_memory(alloc)?;
+    let mut desk = TableDesk::open_in_memory(alloc)?;
     let mut counted = CountedListener::new(&listener);
     assert_eq!(rt;
         serve_in_memory(alloc, &mut desk, &rt, limits(50, 5000), &mut counted, 5),

@@ -298,7 +298,11 @@ fn reply_of(alloc: Global, short: &str) -> Result<String, Fail> {
 }
 
 /// The first so many requests of a stream, one after the other, and the replies to them.
-fn exchange(alloc: Global, rows: &'static str, count: usize) -> Result<(String, String), Fail> {
+pub(super) fn exchange(
+    alloc: Global,
+    rows: &'static str,
+    count: usize,
+) -> Result<(String, String), Fail> {
     let mut requests = String::new(alloc);
     let mut replies = String::new(alloc);
     for row in rows.trim_matches('\n').lines().take(count) {

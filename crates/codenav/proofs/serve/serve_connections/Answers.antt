@@ -1,4 +1,5 @@
 use Rattle.std.proofs.Common.{[], ◌∷◌, refl, arith}
+use Rattle.http_edge.specs.Serving.{left_by}
 use Rattle.codenav.proofs.serve.serve_connections.Goals as goal
 
 pub serving-init : goal.serving-init
@@ -8,7 +9,7 @@ serving-init g c = record {
   accepted = omega arith;
   within = omega arith;
   reliable = λ k. k;
-  each = λ k m s. (m, refl, s);
+  each = λ k m states s may. (m, states, (refl, refl), s, may);
 }
 
 pub serving-preserved : goal.serving-preserved
@@ -21,9 +22,15 @@ serving-preserved g c =
       accepted = omega (arith, i.accepted, c.in-Some.ensures);
       within = omega (arith, c.serving-test.true);
       reliable = λ k. i.reliable (c.in-Ok.ensures.reliable k);
-      each = λ k m s.
-          let before = i.each (c.in-Ok.ensures.reliable k) m s in
-          let after = one.1 k before.0 before.2 in (after.0, (before.0, before.1, after.1), after.2);
+      each = λ k m states s may.
+          let before = i.each (c.in-Ok.ensures.reliable k) m states s may in
+          let after = one.1 k before.0 before.3 in (
+            after.0,
+            left_by before.0 before.1 one.0.messages one.0.answers,
+            (before.0, before.1, before.2, after.1, refl),
+            after.2,
+            after.3 before.1 before.4,
+          );
     }
 
 pub returns : goal.returns
@@ -41,5 +48,6 @@ returns-in-Err g c =
     let i = c.serving.invariant in (
       i.connections,
       (omega (arith, i.served, c.serving-test.true), omega (arith, i.accepted, i.served, c.in-Some.ensures)),
-      λ k m s. let before = i.each (rw c.in-Err.ensures.memory at k) m s in (before.0, before.1, rw c.in-Err.ensures.memory before.2),
+      λ k m states s may.
+          let before = i.each (rw c.in-Err.ensures.memory at k) m states s may in (before.0, before.1, before.2, rw c.in-Err.ensures.memory before.3, rw c.in-Err.ensures.memory before.4),
     )

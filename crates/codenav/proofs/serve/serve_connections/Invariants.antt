@@ -10,7 +10,8 @@ invariant-serving g l = record {
   accepted : l.listener.accepted ≡ l.fn.listener.accepted + l.count;
   within : l.count ≤ l.requests;
   reliable : g.D.Desk.is_reliable l.desk → g.D.Desk.is_reliable l.fn.desk;
-  each : g.D.Desk.is_reliable l.desk → (m : State) → g.D.Desk.stands l.fn.desk m → (n : State) × ServesEach g.D.Desk.store_may_refuse m connections n × g.D.Desk.stands l.desk n;
+  each : g.D.Desk.is_reliable l.desk → (m : State) (states : List State) → g.D.Desk.stands l.fn.desk m → g.D.Desk.may_leave l.fn.desk states → (n : State) × (left : List State)
+      × ServesEach g.D.Desk.store_may_refuse m states connections n left × g.D.Desk.stands l.desk n × g.D.Desk.may_leave l.desk left;
 }
 
 abbrev pub decreases-serving : goal.decreases-serving

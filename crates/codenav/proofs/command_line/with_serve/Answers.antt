@@ -1,0 +1,12 @@
+use Rattle.std.proofs.Common.{◌∙◌, ap, ap₂}
+use Rattle.std.proofs.lemmas.Result.{IfOk-weaker}
+use Rattle.clap.specs.Words.{App, with_subcommand}
+use Rattle.clap.proofs.SimpleLemmas.{plain_fields}
+use Rattle.codenav.proofs.command_line.with_serve.Goals as goal
+
+pub returns : goal.returns
+returns c =
+    let local = (plain_fields c.in_ok-serve.serve (ap (λ (a : App). a.top.is_plain) c.in_ok-serve.ensures)).globals in
+    IfOk-weaker c.subcommand.result _ _
+    (λ m h. h.shape local ∙ ap₂ with_subcommand c.in_ok-with_replay.ensures (ap (λ (a : App). a.top) c.in_ok-serve.ensures))
+    c.subcommand.ensures

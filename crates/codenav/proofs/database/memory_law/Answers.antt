@@ -1,8 +1,0 @@
-use Rattle.std.proofs.Common.{true, refl}
-use Rattle.sqlite_pool.specs.Pool.{state}
-use Rattle.sqlite_trees.proofs.Doubt.{no_doubt}
-use Rattle.codenav.proofs.database.memory_law.Goals as goal
-
-pub returns : goal.returns
-unfolding state
-returns c = no_doubt true refl

@@ -1,0 +1,206 @@
+//! The command line, as `clap` is told of it: the subcommands with their words and options.
+ghost use Rattle.std.specs.Prelude.{◌≡◌, IfOk, false, codes, pos};
+ghost use Rattle.clap.specs.Words.{app_of, rule_of, with_subcommand};
+ghost use Rattle.codenav.specs.Call.{app, check_lsif_app, check_tags_app, migrate_app, most_connections, most_port, number_option, replay_app, required_number, serve_app, top_app, word};
+
+use clap::builder::ValueParser;
+use clap::{Arg, ArgAction, Command};
+use std::alloc::{AllocError, Global};
+
+/// The version of the program.
+const VERSION: &str = "0.1.0";
+
+/// What the word DB is.
+const DATABASE: &str = "The database: a file, which is made where there is none, or :memory:";
+
+/// The greatest port.
+pub const MOST_PORT: u32 = 65535;
+
+/// How many connections are served at most.
+pub const MOST_CONNECTIONS: u32 = 1000000;
+
+/// A word that has to be there, with its name in texts of help and what it is.
+fn word<'a>(alloc: Global, id: &'a str, name: &'a str, help: &'a str) -> Arg<'a>
+    ensures rule { rule_of result ≡ word id.entry.now }
+    ensures local { result.global ≡ false }
+{
+    Arg::new(alloc, id)
+        .required(true)
+        .action(ArgAction::Set)
+        .value_name(name)
+        .help(help)
+}
+
+/// An option whose value is a number in these bounds.
+fn number_option<'a>(alloc: Global, id: &'a str, least: i64, most: i64, help: &'a str) -> Arg<'a>
+    ensures rule { rule_of result ≡ number_option id.entry.now least most }
+    ensures local { result.global ≡ false }
+{
+    Arg::new(alloc, id)
+        .long(id)
+        .action(ArgAction::Set)
+        .value_parser(ValueParser::signed(least, most))
+        .value_name("N")
+        .help(help)
+}
+
+/// An option that has to be there, whose value is a number in these bounds.
+fn required_number<'a>(alloc: Global, id: &'a str, least: i64, most: i64, help: &'a str) -> Arg<'a>
+    ensures rule { rule_of result ≡ required_number id.entry.now least most }
+    ensures local { result.global ≡ false }
+{
+    number_option(alloc, id, least, most, help).required(true)
+}
+
+/// `check-lsif FILE --profile N`.
+fn check_lsif<'a>(alloc: Global) -> Result<Command<'a>, AllocError>
+    ensures { IfOk result (λ c. app_of c ≡ check_lsif_app) }
+{
+    let file = word(alloc, "file", "FILE", "The dump, one element on each line");
+    let profile = number_option(
+        alloc,
+        "profile",
+        1,
+        2,
+        "The profile that the dump is read by: 1, or 2, which has declarations and implementations too [default: 1]",
+    );
+    Command::new(alloc, "check-lsif")
+        .about(
+            "Checks a dump in the Language Server Index Format 0.6.0, and prints how many elements it has or its first fault",
+        )
+        .arg(file)?
+        .arg(profile)
+}
+
+/// `check-tags FILE`.
+fn check_tags<'a>(alloc: Global) -> Result<Command<'a>, AllocError>
+    ensures { IfOk result (λ c. app_of c ≡ check_tags_app) }
+{
+    let file = word(alloc, "file", "FILE", "The tags file");
+    Command::new(alloc, "check-tags")
+        .about(
+            "Checks a tags file of Universal Ctags, and prints how many tags it has or its first fault",
+        )
+        .arg(file)
+}
+
+/// `replay DB FILE`.
+fn replay<'a>(alloc: Global) -> Result<Command<'a>, AllocError>
+    ensures { IfOk result (λ c. app_of c ≡ replay_app) }
+{
+    let database = word(alloc, "db", "DB", DATABASE);
+    let file = word(
+        alloc,
+        "file",
+        "FILE",
+        "The requests, as HTTP/1.1 sends them",
+    );
+    Command::new(alloc, "replay")
+        .about("Answers the requests in a file over a database, and prints the replies")
+        .arg(database)?
+        .arg(file)
+}
+
+/// The option `--port N`.
+fn port<'a>(alloc: Global) -> Arg<'a>
+    ensures rule { rule_of result ≡ required_number (codes "port") (pos 1) (pos most_port) }
+    ensures local { result.global ≡ false }
+{
+    required_number(
+        alloc,
+        "port",
+        1,
+        i64::from(MOST_PORT),
+        "The port on 127.0.0.1 that is listened on, 1 to 65535",
+    )
+}
+
+/// The option `--requests N`.
+fn requests<'a>(alloc: Global) -> Arg<'a>
+    ensures rule { rule_of result ≡ required_number (codes "requests") (pos 1) (pos most_connections) }
+    ensures local { result.global ≡ false }
+{
+    required_number(
+        alloc,
+        "requests",
+        1,
+        i64::from(MOST_CONNECTIONS),
+        "How many connections are served, with one request each, 1 to 1000000",
+    )
+}
+
+/// `serve DB --port N --requests N`.
+fn serve<'a>(alloc: Global) -> Result<Command<'a>, AllocError>
+    ensures { IfOk result (λ c. app_of c ≡ serve_app) }
+{
+    let database = word(alloc, "db", "DB", DATABASE);
+    let port = port(alloc);
+    let requests = requests(alloc);
+    Command::new(alloc, "serve")
+        .about("Serves connections on a port of 127.0.0.1, one after the other, over a database")
+        .arg(database)?
+        .arg(port)?
+        .arg(requests)
+}
+
+/// `migrate DB`.
+fn migrate<'a>(alloc: Global) -> Result<Command<'a>, AllocError>
+    ensures { IfOk result (λ c. app_of c ≡ migrate_app) }
+{
+    let database = word(alloc, "db", "DB", "The database, a file");
+    Command::new(alloc, "migrate")
+        .about(
+            "Brings a database from format 1 to format 2, and prints how many projects it has; a database of format 2 stays as it is",
+        )
+        .arg(database)
+}
+
+/// The program with no subcommand yet.
+fn top<'a>(alloc: Global) -> Command<'a>
+    ensures { app_of result ≡ top_app }
+{
+    Command::new(alloc, "codenav")
+        .version(VERSION)
+        .about("A code navigation index server: it answers from uploaded indexes alone")
+        .subcommand_required(true)
+}
+
+/// The program with the subcommand `check-lsif`.
+fn with_check_lsif<'a>(alloc: Global) -> Result<Command<'a>, AllocError>
+    ensures { IfOk result (λ c. app_of c ≡ with_subcommand top_app check_lsif_app.top) }
+{
+    let check_lsif = check_lsif(alloc)?;
+    top(alloc).subcommand(check_lsif)
+}
+
+/// The program with both checks.
+fn with_checks<'a>(alloc: Global) -> Result<Command<'a>, AllocError>
+    ensures { IfOk result (λ c. app_of c ≡ with_subcommand (with_subcommand top_app check_lsif_app.top) check_tags_app.top) }
+{
+    let check_tags = check_tags(alloc)?;
+    with_check_lsif(alloc)?.subcommand(check_tags)
+}
+
+/// The program with both checks and `replay`.
+fn with_replay<'a>(alloc: Global) -> Result<Command<'a>, AllocError>
+    ensures { IfOk result (λ c. app_of c ≡ with_subcommand (with_subcommand (with_subcommand top_app check_lsif_app.top) check_tags_app.top) replay_app.top) }
+{
+    let replay = replay(alloc)?;
+    with_checks(alloc)?.subcommand(replay)
+}
+
+/// The program with both checks, `replay` and `serve`.
+fn with_serve<'a>(alloc: Global) -> Result<Command<'a>, AllocError>
+    ensures { IfOk result (λ c. app_of c ≡ with_subcommand (with_subcommand (with_subcommand (with_subcommand top_app check_lsif_app.top) check_tags_app.top) replay_app.top) serve_app.top) }
+{
+    let serve = serve(alloc)?;
+    with_replay(alloc)?.subcommand(serve)
+}
+
+/// The command line.
+pub fn command<'a>(alloc: Global) -> Result<Command<'a>, AllocError>
+    ensures { IfOk result (λ c. app_of c ≡ app) }
+{
+    let migrate = migrate(alloc)?;
+    with_serve(alloc)?.subcommand(migrate)
+}

@@ -1,0 +1,111 @@
+//! Databases in files: what a second start answers, and what a migration keeps.
+use super::replay::exchange;
+use super::samples::{Slow, in_pieces, slow_writer};
+use crate::database::{close_file, migrate_file};
+use crate::replay::replay_file;
+use lsif::Counted;
+use sqlite::{Connection, Unknown};
+use std::fs;
+use std::test::Fail;
+use tables::TablesFault;
+
+/// Uploads of two dumps under two keys, the first of them a second time, and what is found then; written as the streams of `replay.rt` are.
+const TWICE: &str = r#"
+PUT /projects/app/lsif?key=k1 < base => 200 {"accepted":"lsif","count":11}
+PUT /projects/app/lsif?key=k2 < base | 3 range 0:5 0:7 => 200 {"accepted":"lsif","count":11}
+PUT /projects/app/lsif?key=k1 < base => 200 {"accepted":"lsif","count":11}
+GET /projects/app/definition?uri=file:///a.ts&line=2&character=1 => 200 {"places":[{"end":{"character":7,"line":0},"project":"app","start":{"character":5,"line":0},"uri":"file:///a.ts"}]}
+"#;
+
+/// What the second start finds, before any upload.
+const FOUND: &str = r#"
+GET /projects => 200 {"projects":[{"dump":true,"name":"app","tags":false}]}
+GET /projects/app/definition?uri=file:///a.ts&line=2&character=1 => 200 {"places":[{"end":{"character":7,"line":0},"project":"app","start":{"character":5,"line":0},"uri":"file:///a.ts"}]}
+"#;
+
+/// Two projects, one of which imports what the other exports, and a third that is removed.
+const BEFORE: &str = r#"
+PUT /projects/app/lsif?key=k1 < importing => 200 {"accepted":"lsif","count":8}
+PUT /projects/lib/lsif?key=k1 < exporting => 200 {"accepted":"lsif","count":11}
+PUT /projects/lib/tags?key=k2 < tags a>f.c>1 => 200 {"accepted":"tags","count":1}
+PUT /projects/old/tags?key=k1 < tags b>f.c>1 => 200 {"accepted":"tags","count":1}
+DELETE /projects/old?key=d1 => 200 {"removed":true}
+"#;
+
+/// What their database finds after a migration.
+const AFTER: &str = r#"
+GET /projects/app/definition?uri=file:///app.ts&line=1&character=0 => 200 {"places":[{"end":{"character":10,"line":0},"project":"lib","start":{"character":9,"line":0},"uri":"file:///lib.ts"}]}
+DELETE /projects/old?key=d1 => 200 {"removed":true}
+GET /projects/lib/profile => 200 {"profile":1}
+GET /projects => 200 {"projects":[{"dump":true,"name":"app","tags":false},{"dump":true,"name":"lib","tags":true}]}
+GET /names?name=a => 200 {"tags":[{"address":"1","fields":[],"file":"f.c","kind":null,"line":1,"name":"a","project":"lib"}]}
+"#;
+
+/// The statements that make format 1 of format 2.
+const BACK: &str =
+    "DROP INDEX range_by_start; DROP INDEX bearer_by_key; DROP INDEX tag_by_name; DROP TABLE part_profile; DROP TABLE more; UPDATE format SET version = 1";
+
+/// What is written for the requests of a stream over the database in this file.
+fn replayed(
+    rt: &HostRuntime,
+    path: &str,
+    requests: &str,
+) -> Result<Result<Vec<u8>, TablesFault>, Fail> {
+    let mut r = Counted::new(in_pieces(requests.as_bytes(), 100));
+    let mut w = Counted::new(slow_writer(rt.alloc(), 1_000_000, 0));
+    match replay_file(rt, path, Unknown, &mut r, &mut w) {
+        Ok((_, desk)) => close_file(desk),
+        Err(fault) => return Ok(Err(fault)),
+    }
+    let Slow { taken, .. } = w.into_inner();
+    Ok(Ok(taken))
+}
+
+/// What is written for the requests of these rows over the database in this file, and what is to be.
+fn written(rt: &HostRuntime, path: &str, rows: &'static str) -> Result<(String, String), Fail> {
+    let (requests, replies) = exchange(rt.alloc(), rows, usize::MAX)?;
+    match replayed(rt, path, requests.as_str())? {
+        Ok(found) => {
+            let found = str::from_utf8(&found).unwrap_or("not UTF-8");
+            Ok((String::from_str(rt.alloc(), found)?, replies))
+        }
+        Err(fault) => Err(fault.text())?,
+    }
+}
+
+#[test]
+fn same_file_twice(rt: HostRuntime) -> Result<(), Fail> {
+    for rows in [TWICE, FOUND, TWICE, FOUND] {
+        let (found, wanted) = written(&rt, "twice.db", rows)?;
+        assert_eq!(rt; found.as_str(), wanted.as_str());
+    }
+    Ok(())
+}
+
+/// Runs statements over the database in this file.
+fn change(rt: &HostRuntime, path: &str, statements: &str) -> Result<(), Fail> {
+    let mut conn = Connection::open(rt, path)?;
+    conn.execute_batch(statements)?;
+    conn.close()?;
+    Ok(())
+}
+
+/// Two projects are migrated once. A database that isn't there, and one without tables, are refused, and the one isn't made.
+#[test]
+fn migrated(rt: HostRuntime) -> Result<(), Fail> {
+    let path = "migrated.db";
+    assert_eq!(rt; migrate_file(&rt, path), Err(TablesFault::Foreign));
+    assert!(rt; !fs::exists(&rt, path)?);
+    change(&rt, path, "")?;
+    assert_eq!(rt; migrate_file(&rt, path), Err(TablesFault::Foreign));
+    let (found, wanted) = written(&rt, path, BEFORE)?;
+    assert_eq!(rt; found.as_str(), wanted.as_str());
+    assert_eq!(rt; migrate_file(&rt, path), Ok(None));
+    change(&rt, path, BACK)?;
+    assert_eq!(rt; replayed(&rt, path, "")?, Err(TablesFault::OldFormat));
+    assert_eq!(rt; migrate_file(&rt, path), Ok(Some(2)));
+    let (found, wanted) = written(&rt, path, AFTER)?;
+    assert_eq!(rt; found.as_str(), wanted.as_str());
+    assert_eq!(rt; migrate_file(&rt, path), Ok(None));
+    Ok(())
+}
