@@ -1,0 +1,214 @@
+"""What bench/kills.py and bench/full_disk.py share: a server whose every step has a time limit, and uploads that say which they are."""
+
+import json
+import select
+import socket
+import subprocess
+from dataclasses import dataclass
+from typing import Optional
+from urllib.parse import urlencode
+
+SECONDS = 60
+FIRST_LINES = '!_TAG_FILE_FORMAT\t2\t//\n!_TAG_FILE_SORTED\t1\t//\n'
+APART = 8
+
+
+class Wrong(Exception):
+    """The program did something else than it should."""
+
+
+class NoReply(Exception):
+    """A request without a whole reply: whether there was a connection, and whether all of the request was sent."""
+
+    def __init__(self, connected: bool, sent: bool) -> None:
+        super().__init__("no reply")
+        self.connected, self.sent = connected, sent
+
+
+class NotStarted(Exception):
+    """A server that ended before it listened: its standard error and its status."""
+
+    def __init__(self, error: str, status: int) -> None:
+        super().__init__(f"serve ended with status {status}: {error!r}")
+        self.error, self.status = error, status
+
+
+# ---- servers
+
+def free_port() -> int:
+    """A port of this machine that nobody listens on now."""
+    with socket.socket() as one:
+        one.bind(("127.0.0.1", 0))
+        port: int = one.getsockname()[1]
+    return port
+
+
+@dataclass
+class Server:
+    process: "subprocess.Popen[bytes]"
+    port: int
+
+    def listens(self, seconds: float = SECONDS) -> None:
+        """Waits until it says that it listens."""
+        assert self.process.stdout is not None and self.process.stderr is not None
+        if not select.select([self.process.stdout], [], [], seconds)[0]:
+            self.kill()
+            raise Wrong(f"serve neither listens nor ends within {seconds} seconds")
+        line = self.process.stdout.readline().decode(errors="replace")
+        if line != f"listening on 127.0.0.1:{self.port}\n":
+            _, error = self.process.communicate(timeout=seconds)
+            raise NotStarted(error.decode(errors="replace"), self.process.returncode)
+
+    def ask(self, method: str, path: str, body: bytes = b"") -> bytes:
+        """The reply to a request, as it's written."""
+        text = f"{method} {path} HTTP/1.1\r\nHost: localhost\r\nContent-Length: {len(body)}\r\n\r\n".encode() + body
+        connected, sent, reply = False, False, b""
+        try:
+            with socket.create_connection(("127.0.0.1", self.port), SECONDS) as peer:
+                connected = True
+                try:
+                    peer.sendall(text)
+                    sent = True
+                except (BrokenPipeError, ConnectionResetError):
+                    pass
+                while piece := peer.recv(65536):
+                    reply += piece
+        except TimeoutError:
+            raise Wrong(f"{method} {path}: no reply within {SECONDS} seconds") from None
+        except OSError:
+            pass
+        if not is_whole(reply):
+            raise NoReply(connected, sent)
+        return reply
+
+    def kill(self) -> None:
+        """Ends it by SIGKILL, where it still runs."""
+        self.process.kill()
+        self.process.communicate()
+
+
+def launched(program: str, database: str, before: tuple[str, ...] = (), requests: int = 1_000_000) -> Server:
+    """A server over a database, of so many requests, which may not listen yet; it's started by the words before it."""
+    port = free_port()
+    words = [*before, program, "serve", database, "--port", str(port), "--requests", str(requests)]
+    return Server(subprocess.Popen(words, stdin=subprocess.DEVNULL, stdout=subprocess.PIPE, stderr=subprocess.PIPE), port)
+
+
+def started(program: str, database: str, before: tuple[str, ...] = (), requests: int = 1_000_000, seconds: float = SECONDS) -> Server:
+    """A server over a database that listens."""
+    server = launched(program, database, before, requests)
+    server.listens(seconds)
+    return server
+
+
+def ended(server: Server) -> None:
+    """Ends a server by SIGTERM, and waits for its end."""
+    server.process.terminate()
+    try:
+        server.process.communicate(timeout=SECONDS)
+    except subprocess.TimeoutExpired:
+        server.kill()
+        raise Wrong(f"serve goes on {SECONDS} seconds after SIGTERM") from None
+
+
+# ---- replies
+
+def is_whole(reply: bytes) -> bool:
+    """Whether there is a head and as many bytes behind it as it says."""
+    head, end, body = reply.partition(b"\r\n\r\n")
+    lengths = [line.partition(b":")[2] for line in head.split(b"\r\n") if line.lower().startswith(b"content-length:")]
+    return bool(end) and len(lengths) == 1 and len(body) == int(lengths[0])
+
+
+def status_of(reply: bytes) -> int:
+    return int(reply.split(b" ", 2)[1])
+
+
+def body_of(reply: bytes) -> bytes:
+    return reply.partition(b"\r\n\r\n")[2]
+
+
+def short(reply: bytes) -> str:
+    """The status of a reply, with the code where it's a fault."""
+    found = json.loads(body_of(reply))
+    return f"{status_of(reply)} {found['fault']}" if "fault" in found else str(status_of(reply))
+
+
+def accepted(part: str, count: int) -> bytes:
+    """The body of the reply to an upload that was accepted."""
+    return f'{{"accepted":"{part}","count":{count}}}'.encode()
+
+
+# ---- uploads
+
+def document_of(project: str) -> str:
+    return f"file:///{project}/main.rs"
+
+
+def said(project: str, number: int, function: int) -> str:
+    """What the hover of a function says, in the dump of the upload of that number."""
+    return f"function {function} of {project}, upload {number}"
+
+
+def dump(project: str, number: int, functions: int, profile: int = 1, joined: Optional[str] = None) -> bytes:
+    """The dump of a project: functions that are each defined in one line and called in the next. Every eighth one is exported, and below its call
+    another project's function of the same number is called. In profile 2 each call is a declaration too. Ids are numbers of lines."""
+    lines: list[str] = []
+    ranges: list[int] = []
+
+    def vertex(label: str, members: str = "") -> int:
+        lines.append(f'{{"id":{len(lines) + 1},"type":"vertex","label":"{label}"{members}}}')
+        return len(lines)
+
+    def edge(label: str, source: int, target: int) -> None:
+        lines.append(f'{{"id":{len(lines) + 1},"type":"edge","label":"{label}","outV":{source},"inV":{target}}}')
+
+    def item(source: int, targets: str, members: str = "") -> None:
+        lines.append(f'{{"id":{len(lines) + 1},"type":"edge","label":"item","outV":{source},"inVs":[{targets}],"shard":2{members}}}')
+
+    def span(line: int) -> int:
+        ranges.append(vertex("range", f',"start":{{"line":{line},"character":0}},"end":{{"line":{line},"character":9}}'))
+        return ranges[-1]
+
+    def result(label: str, request: str, owner: int, members: str = "") -> int:
+        found = vertex(label, members)
+        edge(f"textDocument/{request}", owner, found)
+        return found
+
+    def moniker(owner: int, kind: str, name: str, function: int) -> None:
+        found = vertex("moniker", f',"kind":"{kind}","scheme":"bench","identifier":"{name}::{function}"')
+        package = vertex("packageInformation", f',"name":"{name}","manager":"bench","version":"1"')
+        edge("packageInformation", found, package)
+        edge("moniker", owner, found)
+
+    vertex("metaData", ',"version":"0.6.0","positionEncoding":"utf-16"')
+    vertex("document", f',"uri":"{document_of(project)}"')
+    for function in range(functions):
+        both = vertex("resultSet")
+        own, call = span(4 * function), span(4 * function + 1)
+        edge("next", own, both)
+        edge("next", call, both)
+        item(result("definitionResult", "definition", both), str(own))
+        references = result("referenceResult", "references", both)
+        item(references, str(own), ',"property":"definitions"')
+        item(references, str(call), ',"property":"references"')
+        result("hoverResult", "hover", both, f',"result":{{"contents":"{said(project, number, function)}"}}')
+        if profile == 2:
+            item(result("declarationResult", "declaration", both), str(call))
+        if function % APART == 0:
+            moniker(both, "export", project, function)
+            if joined:
+                moniker(span(4 * function + 2), "import", joined, function)
+    lines.append(f'{{"id":{len(lines) + 1},"type":"edge","label":"contains","outV":2,"inVs":[{",".join(map(str, ranges))}]}}')
+    return "".join(f"{line}\n" for line in lines).encode()
+
+
+def tags(project: str, number: int, count: int) -> bytes:
+    """A tags file of so many tags, of which the first says which upload it is."""
+    first = f'about\tmain.rs\t/^upload {number} of {project}$/;"\tf\n'
+    return (FIRST_LINES + first + "".join(f'name_{one:06}\tmain.rs\t{one};"\tf\tline:{one}\n' for one in range(1, count))).encode()
+
+
+def at(project: str, kind: str, line: int) -> str:
+    """The path of a query at the beginning of a line of a project's document."""
+    return f"/projects/{project}/{kind}?" + urlencode({"uri": document_of(project), "line": line, "character": 3})
