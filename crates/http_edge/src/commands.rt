@@ -17,7 +17,8 @@ pub(crate) fn read_dump(
     project: &str,
     parameters: &Parameters<'_>,
 ) -> Result<Option<Upload>, AllocError>
-    ensures asks { IfOk result (λ o. (body : List ℕ) → option_map (upload_request body) o ≡ option_map (dump_put body) (both (project_name project.now) (both (key_in parameters.now) (profile_in parameters.now)))) }
+    ensures asks { IfOk result (λ o. (body : List ℕ)
+        → option_map (upload_request body) o ≡ option_map (dump_put body) (both (project_name project.now) (both (key_in parameters.now) (profile_in parameters.now)))) }
     ensures stands { IfOk result (λ o. IfSome o (λ u. StandsFor u.body [])) }
 {
     let project = ProjectName::read(alloc, project)?;
@@ -40,7 +41,8 @@ pub(crate) fn read_tags(
     project: &str,
     parameters: &Parameters<'_>,
 ) -> Result<Option<Upload>, AllocError>
-    ensures asks { IfOk result (λ o. (body : List ℕ) → option_map (upload_request body) o ≡ option_map (command_of (put_tags body)) (both (project_name project.now) (key_in parameters.now))) }
+    ensures asks { IfOk result (λ o. (body : List ℕ)
+        → option_map (upload_request body) o ≡ option_map (command_of (put_tags body)) (both (project_name project.now) (key_in parameters.now))) }
     ensures stands { IfOk result (λ o. IfSome o (λ u. StandsFor u.body [])) }
 {
     let project = ProjectName::read(alloc, project)?;

@@ -64,7 +64,8 @@ fn take_piece(buffer: &mut Buffer, message: &mut Message<'_>, most: usize) -> us
     ensures some { result ≡ 0 → most ≢ 0 → buffer.old.pending ≡ [] }
     ensures fits { result ≤ length buffer.old.pending }
     ensures pending { buffer.new.pending ≡ drop result buffer.old.pending }
-    ensures asked { (method target body : List ℕ) → AsksAfter message.old method target body → AsksAfter message.new method target (body ++ take result buffer.old.pending) }
+    ensures asked { (method target body : List ℕ) → AsksAfter message.old method target body
+        → AsksAfter message.new method target (body ++ take result buffer.old.pending) }
     ensures capacity { buffer.new.capacity ≡ buffer.old.capacity }
 {
     let pending = buffer.pending();
