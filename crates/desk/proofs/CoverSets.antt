@@ -1,14 +1,15 @@
 -- The ranges that cover a position have a list, and a request at the position is asked of one of them or of none.
-use Rattle.std.proofs.Common.{◌≡◌, ⊎_elim, ℕ, true, List, [], ◌∷◌, map, subst, arith}
-use Rattle.std.specs.Prelude.{Contains, Option, Some, None, Ok}
+use Rattle.std.proofs.Common.{◌≡◌, ◌&&◌, ⊎_elim, ℕ, true, List, [], ◌∷◌, map, subst, arith}
+use Rattle.std.specs.Prelude.{◌↔◌, Contains, Option, Some, None, Ok, if◌then◌else◌}
 use Rattle.std.specs.Cmp.{IsTotalOrder, on_total}
-use Rattle.std.specs.List.{AllPairs}
+use Rattle.std.specs.List.{AllPairs, flat_map}
 use Rattle.std.specs.List.Sorted.{IsStrictlySortedBy}
 use Rattle.std.specs.declared.cmp.Ordering.{Ordering}
 use Rattle.std.proofs.lemmas.List.Elements.{All-from_recursion}
 use Rattle.std.proofs.lemmas.List.Kept.{AllPairs-cons}
 use Rattle.positions.specs.Position.{PositionValue}
-use Rattle.lsif.specs.Element.{IdValue, document, ElementValue}
+use Rattle.positions.specs.Span.{covers}
+use Rattle.lsif.specs.Element.{IdValue, VertexValue, meta_data, project, document, range, result_set, definition_result, reference_result, declaration_result, implementation_result, hover_result, moniker, package_information, event, other_vertex, ElementValue, vertex, edge}
 use Rattle.dump.specs.declared.request.Request.{Request}
 use Rattle.dump.specs.Contained.{is_in, IsNested}
 use Rattle.dump.specs.Fault.{IsFaultless}
@@ -18,13 +19,60 @@ use Rattle.dump.specs.Requests.{Cover, IsFirst, nobody, here, later, IsWithin, P
 use Rattle.dump.proofs.Nests.{nested}
 use Rattle.dump.proofs.Progresses.{sound_of}
 use Rattle.dump.proofs.Uniques.{one_document, vertex_is}
-use Rattle.desk.specs.Steps.Covering.{covering_in, inner_order}
-use Rattle.desk.proofs.Covers.{Lies, VertexIs, inner_total, lies_from, lies_to, two, within}
+use Rattle.desk.specs.Steps.Selected.{inner_order}
+use Rattle.desk.proofs.Covers.{Lies, covers_from, covers_of, inner_total, two, within}
 use Rattle.desk.proofs.DumpSets.{speaks}
 use Rattle.desk.proofs.EntryLists.{all_of, rises_head, rises_tail}
 use Rattle.desk.proofs.Finite.{Decision, Finite, listing}
-use Rattle.desk.proofs.Members.{contains_head, contains_tail}
+use Rattle.desk.proofs.Members.{and_both, and_of, contains_head, contains_one, contains_tail, flat_from, flat_of, if_in, in_if, not_in_nil}
 use Rattle.desk.proofs.Ties.{inner_tie}
+
+-- ---- those of a document, element by element
+
+-- the element, where it's a range that lies in the document and covers the position
+abbrev covering_of : List ElementValue → IdValue → PositionValue → ElementValue → List RangeValue
+covering_of elements doc position (vertex i (range s)) = if covers s position && is_in elements doc i then record { id = i; span = s } ∷ [] else []
+covering_of elements doc position (vertex i v) = []
+covering_of elements doc position (edge i e) = []
+
+abbrev covering_in : List ElementValue → IdValue → PositionValue → List RangeValue
+covering_in elements doc position = flat_map (covering_of elements doc position) elements
+
+abbrev VertexIs : List ElementValue → Type 0
+VertexIs d = (i : IdValue) (v : VertexValue) → vertex_at d i ≡ Some v ↔ Contains d (vertex i v)
+
+module _ (d : List ElementValue) (doc : IdValue) (p : PositionValue) (vertices : VertexIs d) where
+  lies_of : (x : ElementValue) (r : RangeValue) → Contains d x → Contains (covering_of d doc p x) r → Lies d doc p r
+  lies_of (vertex i (range s)) r inside at =
+      let this : RangeValue = record { id = i; span = s } in
+      let h = in_if (covers s p && is_in d doc i) (this ∷ []) r at in
+      let b = and_both (covers s p) (is_in d doc i) h.0 in
+      subst (Lies d doc p) (contains_one this r h.1) (b.1, covers_of s p b.0, (vertices i (range s)).1 inside)
+  lies_of (vertex i (document s)) r inside at = absurd (not_in_nil r at)
+  lies_of (vertex i (meta_data b)) r inside at = absurd (not_in_nil r at)
+  lies_of (vertex i project) r inside at = absurd (not_in_nil r at)
+  lies_of (vertex i result_set) r inside at = absurd (not_in_nil r at)
+  lies_of (vertex i definition_result) r inside at = absurd (not_in_nil r at)
+  lies_of (vertex i declaration_result) r inside at = absurd (not_in_nil r at)
+  lies_of (vertex i implementation_result) r inside at = absurd (not_in_nil r at)
+  lies_of (vertex i reference_result) r inside at = absurd (not_in_nil r at)
+  lies_of (vertex i (hover_result t)) r inside at = absurd (not_in_nil r at)
+  lies_of (vertex i (moniker m)) r inside at = absurd (not_in_nil r at)
+  lies_of (vertex i (package_information k)) r inside at = absurd (not_in_nil r at)
+  lies_of (vertex i (event v)) r inside at = absurd (not_in_nil r at)
+  lies_of (vertex i other_vertex) r inside at = absurd (not_in_nil r at)
+  lies_of (edge i e) r inside at = absurd (not_in_nil r at)
+
+  lies_to : (r : RangeValue) → Contains (covering_in d doc p) r → Lies d doc p r
+  lies_to r at = let f = flat_of (covering_of d doc p) d r at in lies_of f.0 r f.1 f.2
+
+  lies_from : (r : RangeValue) → Lies d doc p r → Contains (covering_in d doc p) r
+  lies_from r h =
+      let test = and_of (covers r.span p) (is_in d doc r.id) (covers_from r.span p h.1) h.0 in
+      flat_from (covering_of d doc p) d (vertex r.id (range r.span)) r ((vertices r.id (range r.span)).0 h.2)
+      (if_in (covers r.span p && is_in d doc r.id) (r ∷ []) r test (contains_head r []))
+
+-- ---- in order
 
 pub first_that : {X : Type 0} (P : X → Type 0) → ((x : X) → Decision (P x)) → (xs : List X) → (found : Option X) × IsFirst P xs found
 first_that P decide [] = (None, nobody)

@@ -4,13 +4,10 @@ use Rattle.std.specs.Prelude.{ℕ, Option, Some, None}
 use Rattle.serde_json.specs.View.{items_of}
 use Rattle.serde_json.specs.Written.{has_float, items_have_float}
 use Rattle.tags.specs.Values.{FieldValue}
-use Rattle.desk.specs.Reply.{FoundPlace, place_data, kind_data, tag_data, project_data, projects_data}
+use Rattle.desk.specs.Reply.{kind_data, tag_data, project_data, projects_data}
 use Rattle.tables.specs.Columns.{field_data}
 use Rattle.tables.specs.Names.{FoundTag}
 use Rattle.tables.specs.Selections.{ProjectValue}
-
-pub place_without : (found : FoundPlace) → has_float (place_data found) ≡ false
-place_without found = refl
 
 each_project : (projects : List ProjectValue) → items_have_float (items_of (map project_data projects)) ≡ false
 each_project [] = refl

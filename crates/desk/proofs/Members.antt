@@ -3,7 +3,7 @@ use Rattle.std.proofs.Common.{◌≡◌, ◌⊎◌, inl, inr, ⊎_elim, ◌∙�
 use Rattle.std.specs.Prelude.{Contains, if◌then◌else◌}
 use Rattle.std.specs.List.{list_any, flat_map}
 use Rattle.std.proofs.lemmas.Slice.Eq.{bytes_eq-Decides}
-use Rattle.std.proofs.lemmas.List.Elements.{Contains-append_left, Contains-append_right, Contains-append_cases, Contains-push_cases, Contains-get_or}
+use Rattle.std.proofs.lemmas.List.Elements.{Contains-append_left, Contains-append_right, Contains-append_cases, Contains-push_cases}
 use Rattle.lsif.specs.Element.{IdValue, number, text, same_id}
 
 pub contains_head : {X : Type 0} (x : X) (xs : List X) → Contains (x ∷ xs) x
@@ -53,9 +53,6 @@ if_in false xs x e at = cc
 -- the item at an index, and those after it
 pub drop_next : {A : Type 0} (xs : List A) (k : ℕ) (x : A) → k < length xs → x ≡ get_or xs k x → drop k xs ≡ x ∷ drop (k + 1) xs
 drop_next xs k x lt e = let d : drop k xs ≡ get_or xs k x ∷ drop (suc k) xs = drop-cons xs k x lt in rw add-one (d ∙ ap (λ y. y ∷ drop (suc k) xs) (sym e))
-
-pub item_in : {A B : Type 0} (f : A → B) (xs : List A) (k : ℕ) (x : A) → k < length xs → x ≡ get_or xs k x → Contains (map f xs) (f x)
-item_in f xs k x lt e = contains_map f xs x (subst (Contains xs) (sym e) (Contains-get_or xs k x lt))
 
 -- ---- tests
 

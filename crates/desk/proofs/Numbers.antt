@@ -32,9 +32,6 @@ zero_to text h = elim (or_cases (bytes_eq text (codes "0")) (not (slice_index te
   | inr e ↦ inr (eqb-false (slice_index text 0) 48 (not-true (slice_index text 0 == 48) e))
 ]
 
-or_left : (a b : Bool) → a ≡ true → (a || b) ≡ true
-or_left a b e = rw e refl
-
 or_right : (a b : Bool) → b ≡ true → (a || b) ≡ true
 or_right true b e = refl
 or_right false b e = e

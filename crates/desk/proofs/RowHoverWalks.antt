@@ -23,8 +23,7 @@ use Rattle.desk.specs.Answers.{HasContents, HasJoinedContents, HoversAt, own, jo
 use Rattle.desk.specs.Steps.RowHovers.{HasContentsOf, IsLeast, RowHovers, joined_cmp}
 use Rattle.desk.specs.Indexes.{AreFaultless}
 use Rattle.desk.specs.Steps.Rows.{HasRow, IsRowJoined, JoinedValue}
-use Rattle.desk.proofs.Hovers.{first_line}
-use Rattle.desk.proofs.Keys.{moniker_ends}
+use Rattle.desk.proofs.EdgeEnds.{first_line, moniker_ends}
 use Rattle.desk.proofs.Members.{flat_of}
 use Rattle.desk.proofs.RowWalks.{each_results, first_number, joined_from, joined_to, number_first, one_number, some_is}
 

@@ -29,11 +29,9 @@ use Rattle.desk.specs.Joins.{IsJoined}
 use Rattle.desk.specs.Reply.{FoundPlace}
 use Rattle.desk.specs.Indexes.{AreFaultless}
 use Rattle.desk.specs.Steps.Rows.{HasRow, IsAnsweringResult, IsPlaceOfOne, IsResultPlace, IsRowJoined, JoinedValue, PicksRow, ProjectResultValue, RowSpeaks}
-use Rattle.desk.proofs.FirstResults.{result_line}
-use Rattle.desk.proofs.Lines.{HasEnds, HasVertexLines}
+use Rattle.desk.proofs.EdgeEnds.{HasEnds, HasVertexLines, bears_line, result_line}
 use Rattle.desk.proofs.Members.{contains_head, contains_one, contains_tail}
 use Rattle.desk.proofs.ResultKinds.{first_result}
-use Rattle.desk.proofs.Speaking.{bears_line}
 
 pub some_is : {X : Type 0} (x y : X) → Some x ≡ Some y → x ≡ y
 some_is x y e = cc

@@ -1,5 +1,5 @@
 -- What an upload stands for, by the lines that were taken.
-use Rattle.std.proofs.Common.{suc, zero, ◌≡◌, ◌∙◌, ◌↔◌, ℕ, ◌+◌, List, [], ◌∷◌, ◌++◌, map, fold, true, false, is_err, slice_get, Some, None, Result, Ok, Err, refl, sym, ap, ap₂, subst, inl, inr, arith, ◌-◌, ◌==◌, length, take, drop, append_assoc, append-nil}
+use Rattle.std.proofs.Common.{suc, zero, ◌≡◌, ◌∙◌, ◌↔◌, ℕ, ◌+◌, List, [], ◌∷◌, ◌++◌, map, fold, true, false, slice_get, Some, None, Ok, refl, sym, ap, ap₂, subst, inl, inr, arith, ◌-◌, ◌==◌, length, take, drop, append_assoc, append-nil}
 use Rattle.std.proofs.lemmas.Bool.Decides.{nat_tests}
 use Rattle.std.proofs.lemmas.List.{take-append-drop, take_rest}
 use Rattle.lsif.specs.Element.{ElementValue}
@@ -194,8 +194,3 @@ empty_tags = inr ([], [], (tt, tt, refl), ([], tt, (λ k c has. no_line k has.0 
 
 pub empty_reader : (state : State (List TagValue)) (held : BodyValue) → state ≡ tags.start [] → held ≡ empty (tags_lines state) → StandsFor held []
 empty_reader state held none is = subst (λ b. StandsFor b []) (sym (is ∙ ap (λ s. empty (tags_lines s)) none)) empty_tags
-
--- what is refused has no value
-pub not_ok : {X E : Type 0} (r : Result X E) (x : X) → r ≡ Ok x → is_err r ≡ true → ⊥
-not_ok (Ok y) x is failed = cc
-not_ok (Err e) x is failed = cc

@@ -20,13 +20,12 @@ use Rattle.std.proofs.lemmas.Slice.Eq.{bytes_eq-Decides}
 use Rattle.tags.specs.Judging.{lines_rise}
 use Rattle.tags.specs.Values.{TagValue}
 use Rattle.dump.specs.Places.{IsListing}
-use Rattle.tables.specs.Names.{IsAsked, IsTag, BeginsWith, line_cmp, name_cmp, FoundTag}
+use Rattle.tables.specs.Names.{IsAsked, IsTag, BeginsWith, line_cmp, name_cmp, FoundTag, tag_found}
 use Rattle.tables.specs.Selections.{text_cmp}
-use Rattle.desk.specs.Found.{tag_found}
 use Rattle.tables.specs.State.{State}
 use Rattle.desk.specs.Steps.Listed.{is_asked, tags_so, project_tags, tags_of, by_value, TagsRise, AllRise}
 use Rattle.desk.specs.Steps.Plain.{Stands}
-use Rattle.desk.specs.declared.found.FoundTag as program
+use Rattle.tables.specs.declared.found_tags.FoundTag as program
 use Rattle.desk.specs.declared.project.Project.{Project}
 use Rattle.desk.proofs.EntryLists.{entry_found, found_entry, rises_cons, rises_nil, rises_head, rises_tail, rises_append}
 use Rattle.desk.proofs.Listing.{text_eq, rises_map}

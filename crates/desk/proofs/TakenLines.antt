@@ -1,7 +1,7 @@
 -- The lines of a body, taken from its pieces.
-use Rattle.std.proofs.Common.{suc, zero, ◌≡◌, ◌≢◌, ◌∙◌, ℕ, ◌+◌, ◌<◌, ◌≤◌, ◌⊎◌, ◌==◌, nat_lt, List, [], ◌∷◌, ◌++◌, length, take, Bool, true, false, Some, None, Ok, Err, refl, sym, ap, subst, inl, inr, arith, append_assoc, append-nil, length-append}
+use Rattle.std.proofs.Common.{suc, zero, ◌≡◌, ◌≢◌, ◌∙◌, ℕ, ◌+◌, ◌<◌, ◌≤◌, ◌⊎◌, ◌==◌, nat_lt, List, [], ◌∷◌, ◌++◌, length, take, Bool, true, false, Some, Ok, Err, refl, sym, ap, subst, inl, inr, arith, append_assoc, append-nil, length-append}
 use Rattle.std.specs.List.{AllByRecursion, flat_map}
-use Rattle.std.proofs.Math.Seq.{take-append_seam, take-length}
+use Rattle.std.proofs.Math.Seq.{take-append_seam}
 use Rattle.std.proofs.lemmas.List.Sums.{fold-append}
 use Rattle.std.proofs.lemmas.Bool.{lt-ltb}
 use Rattle.std.proofs.lemmas.Bool.Decides.{nat_tests}
@@ -157,20 +157,6 @@ cut_ended body lines last part cut is =
 
 -- ---- what a piece makes of it
 
--- the line goes on
-pub took_open : (known : TakenLines) (held body part : List ℕ) → IsRunning known → TookBody known held body → IsLine part
-    → length (held ++ part) ≤ longest_of known → TookBody known (held ++ part) (body ++ part)
-took_open known held body part runs t is short =
-    let lines = t.0 in
-    let last = t.1 in
-    let took = t.3 in
-    let same : held ≡ last = took.1 runs in
-    let before : length last ≤ longest_of known = short_last known held lines last took runs in
-    let later : length (last ++ part) ≤ longest_of known = subst (λ l. length (l ++ part) ≤ longest_of known) same short in
-    let settles : settled (longest_of known) lines last ≡ settled (longest_of known) lines (last ++ part) =
-    settled_short (longest_of known) lines last before ∙ sym (settled_short (longest_of known) lines (last ++ part) later) in
-    (lines, last ++ part, cut_open body lines last part t.2 is, (took.0 ∙ ap (after (emptied known)) settles, λ r. ap (λ l. l ++ part) same))
-
 -- the line has ended
 pub took_ended : (known : TakenLines) (held body part : List ℕ) → IsRunning known → TookBody known held body → IsLine part
     → TookBody (next known (held ++ part) true) [] (body ++ (part ++ line_feed ∷ []))
@@ -286,14 +272,6 @@ cut_some old cut piece line n takes some = elim takes.3 [
   | inr g ↦ cc (some, g.2)
 ]
 
--- a line goes on
-cut_none : (old cut : CutterValue) (piece : List ℕ) (n : ℕ) → Takes old piece (Ok n) cut → None ≡ line_in cut
-    → (take n piece ≡ piece) × IsLine piece × (begun cut ≡ begun old ++ piece) × (length (begun old ++ piece) ≤ old.longest)
-cut_none old cut piece n takes none = elim takes.3 [
-  | inl e ↦ cc (none, e.5)
-  | inr g ↦ (ap (λ k. take k piece) g.1 ∙ take-length piece, g.0, ap begun g.2, subst (λ (c : CutterValue). length c.line ≤ c.longest) g.2 takes.2)
-]
-
 taken_line : (known new : TakenLines) (old cut : CutterValue) (piece line body : List ℕ) (n : ℕ)
     → IsRunning known → Takes old piece (Ok n) cut → Some line ≡ line_in cut → new ≡ next known line true
     → TookBody known (begun old) body → TookBody new (begun cut) (body ++ take n piece)
@@ -314,14 +292,6 @@ ended_stands known new states.Running old cut piece line body n runs takes some 
     inr (taken_line known new old cut piece line body n runs takes some judges.0 t)
 ended_stands known new states.Faulty old cut piece line body n runs takes some judges t =
     inr (taken_line known new old cut piece line body n runs takes some judges.0 t)
-
-pub open_stands : (known : TakenLines) (old cut : CutterValue) (piece body : List ℕ) (n : ℕ) → IsRunning known → old.longest ≡ longest_of known
-    → Takes old piece (Ok n) cut → None ≡ line_in cut → TookBody known (begun old) body → StandsBy (body_value known cut states.Running) (body ++ take n piece)
-open_stands known old cut piece body n runs same takes none t =
-    let cuts = cut_none old cut piece n takes none in
-    let short : length (begun old ++ piece) ≤ longest_of known = subst (λ n. length (begun old ++ piece) ≤ n) same cuts.3 in
-    let here = took_open known (begun old) body piece runs t cuts.1 short in
-    inr (subst (λ p. TookBody known (begun cut) (body ++ p)) (sym cuts.0) (subst (λ h. TookBody known h (body ++ piece)) (sym cuts.2) here))
 
 -- a cutter refuses by that alone
 pub too_long : (fault : LinesFault) (old cut : CutterValue) (piece : List ℕ) → Takes old piece (Err fault) cut → Takes old piece (Err faults.TooLong) cut

@@ -10,7 +10,7 @@ use Rattle.tables.specs.Names.{FoundTag, line_cmp}
 use Rattle.tables.specs.Selections.{text_cmp}
 use Rattle.desk.specs.Answers.{found_cmp}
 use Rattle.desk.specs.Reply.{FoundPlace}
-use Rattle.desk.specs.Steps.Covering.{inner_order}
+use Rattle.desk.specs.Steps.Selected.{inner_order}
 use Rattle.desk.proofs.EntryLists.{text_same}
 use Rattle.desk.proofs.Listing.{eq_of}
 use Rattle.desk.proofs.OneReplies.{then_equal}

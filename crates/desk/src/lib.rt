@@ -2,18 +2,18 @@
 //! and the abstract machine that a desk, which serves them, stands for. A desk that keeps dumps and tags in memory.
 #![tactic(auto)]
 
-mod answers;
 mod bodies;
 mod code;
 mod desk;
 mod found;
-mod hover;
 mod index;
 mod index_desk;
+mod kept;
 mod laws;
 mod line_reader;
 mod listed;
 mod memory_desk;
+mod memory_index;
 mod names;
 mod plain;
 mod project;
@@ -21,11 +21,11 @@ mod reply;
 mod request;
 mod rows;
 mod running;
+mod selected;
 mod table_desk;
 mod table_index;
 mod tags_part;
 mod upload;
-mod walks;
 
 pub use code::Code;
 pub use desk::Desk;
@@ -33,6 +33,7 @@ pub use index::{Index, IndexFault};
 pub use index_desk::IndexDesk;
 pub use laws::{answer_law, judgement_law, reply_law, retry_law};
 pub use memory_desk::{MemoryDesk, memory_law};
+pub use memory_index::MemoryIndex;
 pub use names::{DocUri, Key, ProjectName, read_number};
 pub use plain::PlainDesk;
 pub use reply::Reply;

@@ -1,20 +1,19 @@
-//! The projects and the tags that queries list.
-ghost use Rattle.std.specs.Prelude.{◌≡◌, ◌++◌, ◌&&◌, IfOk, OnOk, map, length};
+//! The projects and the tags that an index in memory lists.
+ghost use Rattle.std.specs.Prelude.{◌≡◌, ◌++◌, IfOk, OnOk, map, option_map, string_bytes};
 ghost use Rattle.std.specs.BTreeMap.{IsOrdered};
 ghost use Rattle.std.specs.String.{string_cmp};
 ghost use Rattle.std.specs.List.Sorted.{IsPermutation, IsSorted};
-ghost use Rattle.tags.specs.Views.{tag_value};
-ghost use Rattle.tables.specs.Names.{name_cmp};
-ghost use Rattle.desk.specs.Found.{project_found, tag_found};
+ghost use Rattle.tags.specs.Views.{field_value, tag_value};
+ghost use Rattle.tables.specs.Names.{name_cmp, tag_found};
+ghost use Rattle.tables.specs.Selections.{project_found};
 ghost use Rattle.desk.specs.Steps.Listed.{is_asked, is_wanted, by_value, project_tags, projects_of, tags_of, tags_so, AllRise, TagsRise};
 
-use crate::found::{FoundProject, FoundTag};
-use crate::names::ProjectName;
 use crate::project::Project;
 use std::alloc::{AllocError, Global};
 use std::cmp::Ordering;
 use std::collections::BTreeMap;
-use tags::Tag;
+use tables::{FoundTag, ProjectRow};
+use tags::{Field, Tag};
 
 /// Which names of tags are asked for: those that are equal to a text, or that begin with it.
 #[derive(Clone, Copy)]
@@ -33,26 +32,71 @@ fn is_wanted(wanted: Wanted<'_>, name: &str) -> bool
 }
 
 /// Whether this project's tags are asked for.
-fn is_asked(asked: &Option<ProjectName>, project: &str) -> bool
-    ensures { result ≡ is_asked asked.now project.now }
+fn is_asked(asked: Option<&str>, project: &str) -> bool
+    ensures { result ≡ is_asked (option_map (λ p. p.now) asked.entry) project.now }
 {
     match asked {
-        Some(name) => name.as_str() == project,
+        Some(name) => name == project,
         None => true,
     }
 }
 
+/// A copy of fields.
+fn copy_fields(alloc: Global, fields: &[Field]) -> Result<Vec<Field>, AllocError>
+    ensures { IfOk result (λ copies. map field_value copies.items ≡ map field_value fields.now) }
+{
+    let mut copies = Vec::new(alloc);
+    for field in fields {
+        let name = String::from_str(alloc, field.name.as_str())?;
+        let value = String::from_str(alloc, field.value.as_str())?;
+        copies.push(Field { name, value })?;
+    }
+    Ok(copies)
+}
+
+/// A copy of a text, where there is one.
+fn copy_text(alloc: Global, text: &Option<String>) -> Result<Option<String>, AllocError>
+    ensures { IfOk result (λ copy. option_map string_bytes copy ≡ option_map string_bytes text.now) }
+{
+    match text {
+        Some(text) => Ok(Some(String::from_str(alloc, text.as_str())?)),
+        None => Ok(None),
+    }
+}
+
+/// A copy of a tag.
+fn copy_tag(alloc: Global, tag: &Tag) -> Result<Tag, AllocError>
+    ensures { IfOk result (λ copy. tag_value copy ≡ tag_value tag.now) }
+{
+    let name = String::from_str(alloc, tag.name.as_str())?;
+    let file = String::from_str(alloc, tag.file.as_str())?;
+    let address = String::from_str(alloc, tag.address.as_str())?;
+    let kind = copy_text(alloc, &tag.kind)?;
+    let fields = copy_fields(alloc, &tag.fields)?;
+    Ok(Tag {
+        line: tag.line,
+        name,
+        file,
+        address,
+        kind,
+        fields,
+    })
+}
+
 /// Adds the tags of a project with the names that are asked for.
-fn add_tags<'a>(
-    found: &mut Vec<FoundTag<'a>>,
+fn add_tags(
+    found: &mut Vec<FoundTag>,
+    alloc: Global,
     wanted: Wanted<'_>,
-    project: &'a str,
-    tags: &'a [Tag],
+    project: &str,
+    tags: &[Tag],
 ) -> Result<(), AllocError>
     ensures { OnOk result (map tag_found found.new.items ≡ map tag_found found.old.items ++ tags_so (is_wanted wanted.entry) project.now (map tag_value tags.now)) }
 {
     for tag in tags {
         if is_wanted(wanted, tag.name.as_str()) {
+            let project = String::from_str(alloc, project)?;
+            let tag = copy_tag(alloc, tag)?;
             found.push(FoundTag { project, tag })?;
         }
     }
@@ -60,21 +104,23 @@ fn add_tags<'a>(
 }
 
 /// Adds those of a project, where its tags are asked for.
-fn add_project<'a>(
-    found: &mut Vec<FoundTag<'a>>,
+fn add_project(
+    found: &mut Vec<FoundTag>,
+    alloc: Global,
     wanted: Wanted<'_>,
-    asked: &Option<ProjectName>,
-    name: &'a str,
-    project: &'a Project,
+    asked: Option<&str>,
+    name: &str,
+    project: &Project,
 ) -> Result<(), AllocError>
-    ensures found { OnOk result (map tag_found found.new.items ≡ map tag_found found.old.items ++ project_tags (is_wanted wanted.entry) asked.now name.now project.now.tags) }
+    ensures found { OnOk result (map tag_found found.new.items
+        ≡ map tag_found found.old.items ++ project_tags (is_wanted wanted.entry) (option_map (λ p. p.now) asked.entry) name.now project.now.tags) }
     ensures rising { TagsRise project.now.tags }
 {
     match &project.tags {
         Some(part) => {
             let tags = part.tags();
             if is_asked(asked, name) {
-                add_tags(found, wanted, name, tags)
+                add_tags(found, alloc, wanted, name, tags)
             } else {
                 Ok(())
             }
@@ -84,34 +130,35 @@ fn add_project<'a>(
 }
 
 /// The tags with the names that are asked for, of all projects or of one, in the order of projects and lines.
-pub(crate) fn list_tags<'a>(
+pub(crate) fn list_tags(
     alloc: Global,
-    projects: &'a BTreeMap<String, Project>,
+    projects: &BTreeMap<String, Project>,
     wanted: Wanted<'_>,
-    asked: &Option<ProjectName>,
-) -> Result<Vec<FoundTag<'a>>, AllocError>
-    ensures found { IfOk result (λ found. map tag_found found.items ≡ tags_of (is_wanted wanted.entry) asked.now projects.now.entries) }
+    asked: Option<&str>,
+) -> Result<Vec<FoundTag>, AllocError>
+    ensures found { IfOk result (λ found. map tag_found found.items ≡ tags_of (is_wanted wanted.entry) (option_map (λ p. p.now) asked.entry) projects.now.entries) }
     ensures rising { OnOk result (AllRise projects.now.entries) }
     ensures ordered { IsOrdered string_cmp projects.now }
 {
     let mut found = Vec::new(alloc);
     for (name, project) in projects {
-        add_project(&mut found, wanted, asked, name.as_str(), project)?;
+        add_project(&mut found, alloc, wanted, asked, name.as_str(), project)?;
     }
     Ok(found)
 }
 
 /// The order of names, projects and lines.
-fn by_name(a: &FoundTag<'_>, b: &FoundTag<'_>) -> Ordering
+fn by_name(a: &FoundTag, b: &FoundTag) -> Ordering
     ensures { result ≡ by_value name_cmp a.now b.now }
 {
     let lines = a.tag.line.cmp(&b.tag.line);
     let names = a.tag.name.as_str().cmp(b.tag.name.as_str());
-    names.then(a.project.cmp(b.project).then(lines))
+    let projects = a.project.as_str().cmp(b.project.as_str());
+    names.then(projects.then(lines))
 }
 
 /// Puts tags in the order of names, projects and lines.
-pub(crate) fn list_by_name(found: &mut Vec<FoundTag<'_>>)
+pub(crate) fn list_by_name(found: &mut Vec<FoundTag>)
     ensures permutation { IsPermutation found.old.items found.new.items }
     ensures sorted { IsSorted (by_value name_cmp) found.new.items }
 {
@@ -119,10 +166,10 @@ pub(crate) fn list_by_name(found: &mut Vec<FoundTag<'_>>)
 }
 
 /// The projects that have a dump or tags, in the order of their names.
-pub(crate) fn list_projects<'a>(
+pub(crate) fn list_projects(
     alloc: Global,
-    projects: &'a BTreeMap<String, Project>,
-) -> Result<Vec<FoundProject<'a>>, AllocError>
+    projects: &BTreeMap<String, Project>,
+) -> Result<Vec<ProjectRow>, AllocError>
     ensures found { IfOk result (λ found. map project_found found.items ≡ projects_of projects.now.entries) }
     ensures ordered { IsOrdered string_cmp projects.now }
 {
@@ -130,8 +177,8 @@ pub(crate) fn list_projects<'a>(
     for (name, project) in projects {
         let (dump, tags) = (project.dump.is_some(), project.tags.is_some());
         if dump || tags {
-            let name = name.as_str();
-            found.push(FoundProject { name, dump, tags })?;
+            let name = String::from_str(alloc, name.as_str())?;
+            found.push(ProjectRow { name, dump, tags })?;
         }
     }
     Ok(found)

@@ -4,10 +4,9 @@ use Rattle.std.specs.List.{starts_with}
 use Rattle.std.specs.declared.cmp.Ordering.{Ordering}
 use Rattle.tags.specs.Judging.{lines_rise}
 use Rattle.tags.specs.Values.{TagValue}
-use Rattle.desk.specs.Found.{tag_found}
-use Rattle.tables.specs.Names.{FoundTag}
+use Rattle.tables.specs.Names.{FoundTag, tag_found}
 use Rattle.tables.specs.Selections.{ProjectValue}
-use Rattle.desk.specs.declared.found.FoundTag as program
+use Rattle.tables.specs.declared.found_tags.FoundTag as program
 use Rattle.desk.specs.declared.listed.Wanted.{Wanted}
 use Rattle.desk.specs.declared.listed.Wanted.TheVariants.{Name, Prefix}
 use Rattle.desk.specs.declared.project.Project.{Project}

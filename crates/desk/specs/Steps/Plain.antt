@@ -5,6 +5,7 @@ use Rattle.std.specs.BTreeMap.{BTreeMap}
 use Rattle.std.specs.HashMap as hash
 use Rattle.dump.specs.Progress.{DumpValue}
 use Rattle.tags.specs.Values.{TagValue}
+use Rattle.desk.specs.Indexes.{AreFaultless}
 use Rattle.desk.specs.Judging.{judged}
 use Rattle.tables.specs.State.{Change, set_dump, set_tags, clear, Accepted, dump_put, tags_put, parts_removed, State}
 use Rattle.desk.specs.Reply.{ReplyValue}
@@ -51,3 +52,7 @@ pub record Stands {Y : Type 0} (projects : BTreeMap (String Y) Project) (m : Sta
   pub dump : (project : List ℕ) → m.dump project ≡ dump_in projects project
   pub tags : (project : List ℕ) → m.tags project ≡ tags_in projects project
   pub kept : (project key : List ℕ) → m.kept project key ≡ kept_in projects project key
+
+-- and no dump has a fault
+abbrev pub StandsFaultless : {Y : Type 0} → BTreeMap (String Y) Project → State → Type 0
+StandsFaultless projects m = Stands projects m × AreFaultless m

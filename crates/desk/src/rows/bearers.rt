@@ -1,6 +1,7 @@
 //! The vertices of other projects that are joined to a range: those that bear a moniker with one of its keys (`IsJoined` of `specs/Joins`). They are
 //! found by the rows of the bearers.
 ghost use Rattle.std.specs.Prelude.{◌≡◌, Contains, IfOk, IfErr, IfSome, IfNone, OnOk, map, string_bytes, true};
+ghost use Rattle.dump.specs.Requests.{finds};
 ghost use Rattle.flatten.specs.Flat.{result_for};
 ghost use Rattle.tables.specs.Selections.{BearerFound, bearer_found};
 ghost use Rattle.tables.specs.State.{State};
@@ -9,8 +10,8 @@ ghost use Rattle.desk.specs.Steps.Rows.{Adds, AreJoined, AreThose, IsKeyJoined, 
 ghost use Rattle.desk.specs.declared.index.IndexFault.TheVariants.{Refused};
 
 use crate::index::{Index, IndexFault};
-use crate::walks::keys::finds;
 use dump::Request;
+use lsif::MonikerKind;
 use std::alloc::{AllocError, Global};
 use tables::FoundBearer;
 
@@ -34,6 +35,17 @@ fn result_of(bearer: &FoundBearer, request: Request) -> Option<u32>
         Request::Hover => bearer.hover,
         Request::Declaration => bearer.decl,
         Request::Implementation => bearer.imp,
+    }
+}
+
+/// Whether a request looks in other projects for marks of this kind.
+fn finds(request: Request, kind: MonikerKind) -> bool
+    ensures { result ≡ finds request kind }
+{
+    match kind {
+        MonikerKind::Import => matches!(request, Request::References),
+        MonikerKind::Export => true,
+        MonikerKind::Local => false,
     }
 }
 

@@ -16,7 +16,6 @@ use crate::code::Code;
 use crate::found::{FoundProject, FoundTag};
 use crate::index::{Index, IndexFault};
 use crate::names::{DocUri, ProjectName};
-use crate::plain::reference_roles;
 use crate::reply::Reply;
 use crate::request::Query;
 use crate::rows::hovers::hover;
@@ -27,6 +26,17 @@ use dump::{Request, Role};
 use positions::Position;
 use std::alloc::{AllocError, Global};
 use tables::ProjectRow;
+
+/// The roles of the places that a references query asks for.
+fn reference_roles(declaration: bool) -> &'static [Role]
+    ensures { result.now ≡ reference_roles declaration }
+{
+    if declaration {
+        &[Role::Definitions, Role::References]
+    } else {
+        &[Role::References]
+    }
+}
 
 /// Answers a query for places.
 pub(crate) fn places<I: Index>(

@@ -1,7 +1,7 @@
 //! The range that a request at a position is asked of: the smallest that covers it and has a result, or a key by which the request goes on to other
 //! projects (`Pick` of the crate dump). It is found by the rows of the ranges and of their marks.
 ghost use Rattle.std.specs.Prelude.{◌≡◌, IfOk, IfErr, IfSome, OnOk, map, option_map, string_bytes, true};
-ghost use Rattle.dump.specs.Requests.{IsFirst};
+ghost use Rattle.dump.specs.Requests.{IsFirst, follows};
 ghost use Rattle.flatten.specs.Flat.{result_for};
 ghost use Rattle.tables.specs.Selections.{mark_found, range_found};
 ghost use Rattle.tables.specs.State.{State};
@@ -10,8 +10,8 @@ ghost use Rattle.desk.specs.Steps.Rows.{AreFollowed, AreKeys, Picks, RowSpeaks};
 ghost use Rattle.desk.specs.declared.index.IndexFault.TheVariants.{Refused};
 
 use crate::index::{Index, IndexFault};
-use crate::walks::marks::follows;
 use dump::Request;
+use lsif::MonikerKind;
 use positions::Position;
 use std::alloc::{AllocError, Global};
 use tables::{Covering, FoundMark, FoundRange};
@@ -39,6 +39,17 @@ pub(crate) fn result_of(range: &FoundRange, request: Request) -> Option<u32>
         Request::Hover => range.hover,
         Request::Declaration => range.decl,
         Request::Implementation => range.imp,
+    }
+}
+
+/// Whether a request goes on to other projects by marks of this kind.
+fn follows(request: Request, kind: MonikerKind) -> bool
+    ensures { result ≡ follows request kind }
+{
+    match kind {
+        MonikerKind::Import => true,
+        MonikerKind::Export => matches!(request, Request::References),
+        MonikerKind::Local => false,
     }
 }
 

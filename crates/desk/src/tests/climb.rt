@@ -1,6 +1,6 @@
 //! Ranges around ranges, and a row that isn't one of this product's.
 use super::{reply_to, text_of};
-use crate::{Command, Desk, DocUri, Key, PlainDesk, ProjectName, Query, TableDesk};
+use crate::{Command, Desk, DocUri, Key, ProjectName, Query, TableDesk};
 use lsif::Profile;
 use positions::Position;
 use sqlite::{Alter, Connection};
@@ -140,8 +140,6 @@ fn ten_thousand_levels(rt: HostRuntime) -> Result<(), Fail> {
     let dump = levels(rt.alloc())?;
     let wanted =
         r#"200 {"places":[{"end":{"character":20000,"line":0},"project":"app","start":{"character":0,"line":0},"uri":"file:///d.ts"}]}"#;
-    let found = deepest(rt.alloc(), &mut PlainDesk::new(rt.alloc()), dump.as_str())?;
-    assert_eq!(rt; found.as_str(), wanted);
     let mut desk = TableDesk::open_in_memory(rt.alloc())?;
     let found = deepest(rt.alloc(), &mut desk, dump.as_str())?;
     assert_eq!(rt; found.as_str(), wanted);

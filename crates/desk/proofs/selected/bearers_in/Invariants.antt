@@ -1,0 +1,7 @@
+use Rattle.std.proofs.Common.{map}
+use Rattle.tables.specs.Selections.{bearer_found}
+use Rattle.desk.specs.Steps.Selected.{FoundSoFar}
+use Rattle.desk.proofs.selected.bearers_in.Given as goal
+
+abbrev pub invariant-loop-name : goal.invariant-loop-name
+invariant-loop-name l = FoundSoFar l.key l.projects.entries l.name-iterator (map bearer_found l.found.items)

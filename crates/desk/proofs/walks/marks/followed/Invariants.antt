@@ -1,8 +1,0 @@
-use Rattle.std.proofs.Common.{◌≡◌, ◌++◌, map, drop}
-use Rattle.std.specs.List.{flat_map}
-use Rattle.lsif.specs.Element.{element_value}
-use Rattle.desk.specs.Steps.Lines.{followed_in}
-use Rattle.desk.proofs.walks.marks.followed.Given as goal
-
-abbrev pub invariant-loop-element : goal.invariant-loop-element
-invariant-loop-element l = l.lines.items ++ flat_map (followed_in l.request l.elements.dump.now.elements) (map (λ e. element_value e.now) (drop l.element-index l.element-items)) ≡ flat_map (followed_in l.request l.elements.dump.now.elements) l.elements.dump.now.elements

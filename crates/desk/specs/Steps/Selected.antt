@@ -1,0 +1,104 @@
+-- What selections in memory want of the rows of a dump.
+use Rattle.std.specs.Prelude.{◌≡◌, ◌&&◌, ◌==◌, ◌++◌, ℕ, List, Option, Some, None, String, Contains, bytes_eq, string_bytes, if◌then◌else◌}
+use Rattle.std.specs.List.Sorted.{IsStrictlySortedBy}
+use Rattle.std.specs.Map.{keys_of}
+use Rattle.std.specs.String.{string_cmp}
+use Rattle.std.specs.declared.cmp.Ordering.{Ordering}
+use Rattle.std.specs.Ordering.{nat_cmp, ordering_then}
+use Rattle.positions.specs.Position.{PositionValue}
+use Rattle.positions.specs.Span.{SpanValue, covers}
+use Rattle.lsif.specs.Element.{ElementValue}
+use Rattle.dump.specs.declared.role.Role.{Role}
+use Rattle.dump.specs.Places.{IsListing, PlaceValue, position_cmp}
+use Rattle.dump.specs.Progress.{DumpValue}
+use Rattle.flatten.specs.Flat.{RangeRowValue, ItemRowValue, HoverRowValue, MarkRowValue, BearerRowValue, kind_index, IsItemRow, IsHoverRow, IsMarkRow, IsBearerRow}
+use Rattle.flatten.specs.Rows.{range_value}
+use Rattle.flatten.specs.declared.rows.RangeRow.{RangeRow}
+use Rattle.tables.specs.Selections.{MarkText, RangeFound, BearerFound, bearer_found_cmp, bearer_row}
+use Rattle.tables.specs.Steps.Climbs.{row_found}
+use Rattle.desk.specs.declared.project.Project.{Project}
+use Rattle.desk.specs.Steps.Places.{same_role}
+
+-- ---- items
+
+abbrev pub item_row : ℕ → Role → PlaceValue → ItemRowValue
+item_row result role place = record { result = result; role = role; place = place }
+
+abbrev pub item_wanted : ℕ → Role → ItemRowValue → Option PlaceValue
+item_wanted result role row = if row.result == result && same_role row.role role then Some row.place else None
+
+-- the result of this number has the place in the role
+abbrev pub IsItemOf : List ElementValue → ℕ → Role → PlaceValue → Type 0
+IsItemOf elements result role place = IsItemRow elements (item_row result role place)
+
+-- ---- marks
+
+abbrev pub mark_row : ℕ → MarkText → MarkRowValue
+mark_row line mark = record { range = line; kind = mark.kind; key = mark.key }
+
+abbrev pub mark_wanted : ℕ → MarkRowValue → Option MarkText
+mark_wanted line row = if row.range == line then Some (record { kind = row.kind; key = row.key }) else None
+
+-- the range at this line has the mark
+abbrev pub IsMarkOf : List ElementValue → ℕ → MarkText → Type 0
+IsMarkOf elements line mark = IsMarkRow elements (mark_row line mark)
+
+-- ---- hovers
+
+abbrev pub hover_row : ℕ → List ℕ → HoverRowValue
+hover_row result contents = record { result = result; contents = contents }
+
+abbrev pub hover_wanted : ℕ → HoverRowValue → Option (List ℕ)
+hover_wanted result row = if row.result == result then Some row.contents else None
+
+-- the hover result of this number has the contents, or there is none
+abbrev pub IsHoverOf : List ElementValue → ℕ → Option (List ℕ) → Type 0
+IsHoverOf elements result (Some contents) = IsHoverRow elements (hover_row result contents)
+IsHoverOf elements result None = (contents : List ℕ) → IsHoverRow elements (hover_row result contents) → ⊥
+
+-- ---- bearers
+
+abbrev pub bearer_wanted : List ℕ → List ℕ → BearerRowValue → Option BearerFound
+bearer_wanted project key row = if bytes_eq row.key key then Some (record { project = project; line = row.line; kind = row.kind; results = row.results }) else None
+
+-- those of one project: by line, then by kind
+abbrev pub bearer_in_cmp : BearerFound → BearerFound → Ordering
+bearer_in_cmp a b = ordering_then (nat_cmp a.line b.line) (nat_cmp (kind_index a.kind) (kind_index b.kind))
+
+-- a bearer of the key in the project's dump
+abbrev pub IsBearerOf : List ElementValue → List ℕ → List ℕ → BearerFound → Type 0
+IsBearerOf elements project key b = (b.project ≡ project) × IsBearerRow elements (bearer_row key b)
+
+-- ---- ranges
+
+abbrev pub range_wanted : List ℕ → PositionValue → RangeRowValue → Option RangeRowValue
+range_wanted uri at row = if bytes_eq row.place.uri uri && covers row.place.span at then Some row else None
+
+-- the later start first, and of one start the lesser end
+abbrev pub inner_order : SpanValue → SpanValue → Ordering
+inner_order s t = ordering_then (position_cmp t.start s.start) (position_cmp s.«end» t.«end»)
+
+abbrev pub by_span : RangeRow → RangeRow → Ordering
+by_span a b = inner_order a.span.now b.span.now
+
+abbrev pub range_found_of : RangeRow → RangeFound
+range_found_of r = row_found (range_value r)
+
+-- ---- bearers in all projects
+
+-- a bearer of the key in the dump of the project of this name, where it has one
+abbrev pub IsBearerHere : List ℕ → List ℕ → Option DumpValue → BearerFound → Type 0
+IsBearerHere key name kept b = (dump : DumpValue) × (kept ≡ Some dump) × IsBearerOf dump.elements name key b
+
+-- in the dump of one of these projects
+abbrev pub IsBearerAmong : {Y : Type 0} → List ℕ → List (String Y × Project) → BearerFound → Type 0
+IsBearerAmong {Y} key entries b = (e : String Y × Project) × Contains entries e × IsBearerHere key (string_bytes e.0) e.1.dump b
+
+-- those of one project were added
+abbrev pub AddsBearers : List ℕ → List ℕ → Option DumpValue → List BearerFound → List BearerFound → Type 0
+AddsBearers key name kept old new = (more : List BearerFound) × (new ≡ old ++ more) × IsListing bearer_in_cmp (IsBearerHere key name kept) more
+
+-- those of the projects before the rest were found: with a listing of those of the rest they're a listing of those of all
+pub record FoundSoFar {Y : Type 0} (key : List ℕ) (all rest : List (String Y × Project)) (found : List BearerFound) : Type 0 where
+  pub up : IsStrictlySortedBy string_cmp (keys_of rest)
+  pub listed : (more : List BearerFound) → IsListing bearer_found_cmp (IsBearerAmong key rest) more → IsListing bearer_found_cmp (IsBearerAmong key all) (found ++ more)

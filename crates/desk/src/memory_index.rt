@@ -1,0 +1,197 @@
+//! An index in memory, for tests and for reading: the plainest body of each selection. It keeps no row of a dump: a selection makes the dump flat and
+//! looks at each row (`selected`, `listed`). A dump with more rows than `flatten` makes is kept here, and each query of it answers that memory ran out.
+ghost use Rattle.std.specs.Prelude.{◌≡◌, IfOk, OnOk, OnErr, string_bytes};
+ghost use Rattle.tables.specs.State.{State, accepted, accepted_text, changed, nothing};
+ghost use Rattle.desk.specs.Steps.Plain.{Stands, accepted_value, change_value};
+
+use crate::index::{Index, IndexFault};
+use crate::kept::{accepted, change, dump_in, kept_in};
+use crate::listed::{Wanted, list_by_name, list_projects, list_tags};
+use crate::project::{Accepted, Change, Project, reply_of};
+use crate::selected::{bearers_in, covering_of, hover_of, items_of, marks_of};
+use crate::tags_part::TagsPart;
+use dump::{CheckedDump, Role};
+use lsif::Profile;
+use positions::Position;
+use std::alloc::{AllocError, Global};
+use std::collections::BTreeMap;
+use tables::{Covering, FoundBearer, FoundItem, FoundMark, FoundTag, ProjectRow};
+
+/// Keeps in memory the dump and the tags that each project has, and the keys of accepted commands with what their replies say. What another dump or other
+/// tags are put in the place of is given up.
+#[derive(Drop)]
+pub struct MemoryIndex {
+    alloc: Global,
+    projects: BTreeMap<String, Project>,
+}
+
+/// The text of the reply that says this.
+fn text_of(alloc: Global, accepted: Accepted) -> Result<String, AllocError>
+    ensures { IfOk result (λ text. string_bytes text ≡ accepted_text (accepted_value accepted)) }
+{
+    let reply = reply_of(alloc, accepted)?;
+    String::from_str(alloc, reply.body())
+}
+
+impl MemoryIndex {
+    /// An index that stands for the state of an empty database. It takes no memory.
+    pub fn new(alloc: Global) -> MemoryIndex
+        ensures { ⟦<MemoryIndex as Index>⟧.stands result nothing }
+    {
+        MemoryIndex {
+            alloc,
+            projects: BTreeMap::new(alloc),
+        }
+    }
+
+    /// Makes a change, and keeps under the key what its reply says. Nothing changes where memory is refused.
+    fn make(&mut self, project: &str, key: &str, made: Change) -> Result<Accepted, AllocError>
+        ensures said { (m : State) → Stands self.old.projects m
+            → IfOk result (λ said. accepted_value said ≡ accepted (change_value made) (m.dump project.now) (m.tags project.now)) }
+        ensures ok { (m : State) → Stands self.old.projects m
+            → OnOk result (Stands self.new.projects (changed m project.now key.now (change_value made))) }
+        ensures err { (m : State) → Stands self.old.projects m → OnErr result (Stands self.new.projects m) }
+    {
+        let said = accepted(&self.projects, project, &made);
+        let name = String::from_str(self.alloc, project)?;
+        let key = String::from_str(self.alloc, key)?;
+        change(&mut self.projects, self.alloc, name, key, made, said)?;
+        Ok(said)
+    }
+}
+
+impl Index for MemoryIndex {
+    ghost use Rattle.std.specs.Prelude.{false};
+    ghost use Rattle.desk.specs.Steps.Plain.{StandsFaultless};
+
+    ghost stands = { λ i m. StandsFaultless i.projects m };
+
+    ghost is_reliable = { λ i. Unit {0} };
+
+    ghost may_leave = { λ i states. Unit {0} };
+
+    ghost may_refuse = { false };
+
+    fn kept_reply(&mut self, project: &str, key: &str) -> Result<Option<String>, IndexFault> {
+        match kept_in(&self.projects, project, key) {
+            Some(kept) => Ok(Some(text_of(self.alloc, kept)?)),
+            None => Ok(None),
+        }
+    }
+
+    #[tactic(auto, using(crate::proofs::MemoryStates::finds_hover))]
+    fn hover(&mut self, project: &str, result_number: u32) -> Result<Option<String>, IndexFault> {
+        match dump_in(&self.projects, project) {
+            Some(dump) => Ok(hover_of(self.alloc, dump, result_number)?),
+            None => Ok(None),
+        }
+    }
+
+    fn covering(
+        &mut self,
+        alloc: Global,
+        project: &str,
+        uri: &str,
+        at: Position,
+    ) -> Result<Covering, IndexFault> {
+        let Some(dump) = dump_in(&self.projects, project) else {
+            return Ok(Covering::NoDump);
+        };
+        if dump.document_of(uri).is_none() {
+            return Ok(Covering::NoDocument);
+        }
+        Ok(Covering::Ranges(covering_of(alloc, dump, uri, at)?))
+    }
+
+    fn items(
+        &mut self,
+        alloc: Global,
+        project: &str,
+        result_number: u32,
+        role: Role,
+    ) -> Result<Vec<FoundItem>, IndexFault> {
+        match dump_in(&self.projects, project) {
+            Some(dump) => Ok(items_of(alloc, dump, result_number, role)?),
+            None => Ok(Vec::new(alloc)),
+        }
+    }
+
+    fn marks(
+        &mut self,
+        alloc: Global,
+        project: &str,
+        line: u32,
+    ) -> Result<Vec<FoundMark>, IndexFault> {
+        match dump_in(&self.projects, project) {
+            Some(dump) => Ok(marks_of(alloc, dump, line)?),
+            None => Ok(Vec::new(alloc)),
+        }
+    }
+
+    fn bearers(&mut self, alloc: Global, key: &str) -> Result<Vec<FoundBearer>, IndexFault> {
+        Ok(bearers_in(alloc, &self.projects, key)?)
+    }
+
+    fn names_exact(
+        &mut self,
+        alloc: Global,
+        name: &str,
+        project: Option<&str>,
+    ) -> Result<Vec<FoundTag>, IndexFault> {
+        Ok(list_tags(alloc, &self.projects, Wanted::Name(name), project)?)
+    }
+
+    fn names_prefix(
+        &mut self,
+        alloc: Global,
+        prefix: &str,
+        project: Option<&str>,
+    ) -> Result<Vec<FoundTag>, IndexFault> {
+        let mut found = list_tags(alloc, &self.projects, Wanted::Prefix(prefix), project)?;
+        list_by_name(&mut found);
+        Ok(found)
+    }
+
+    fn projects(&mut self, alloc: Global) -> Result<Vec<ProjectRow>, IndexFault> {
+        Ok(list_projects(alloc, &self.projects)?)
+    }
+
+    fn profile(&mut self, project: &str) -> Result<Option<Profile>, IndexFault> {
+        match dump_in(&self.projects, project) {
+            Some(dump) => Ok(Some(dump.profile())),
+            None => Ok(None),
+        }
+    }
+
+    fn replace_dump(
+        &mut self,
+        _alloc: Global,
+        project: &str,
+        key: &str,
+        _reply: &str,
+        dump: CheckedDump,
+    ) -> Result<(), IndexFault> {
+        let _faultless = dump.elements();
+        self.make(project, key, Change::SetDump(dump))?;
+        Ok(())
+    }
+
+    fn replace_tags(
+        &mut self,
+        _alloc: Global,
+        project: &str,
+        key: &str,
+        _reply: &str,
+        part: TagsPart,
+    ) -> Result<(), IndexFault> {
+        self.make(project, key, Change::SetTags(part))?;
+        Ok(())
+    }
+
+    fn remove(&mut self, project: &str, key: &str) -> Result<bool, IndexFault> {
+        let said = self.make(project, key, Change::Clear)?;
+        Ok(matches!(said, Accepted::Removed(true)))
+    }
+
+    ghost weaker = { λ index states n leaves. tt };
+}

@@ -1,0 +1,228 @@
+//! What is selected of dumps in memory: the rows of a dump are made, and what is wanted of them is copied.
+ghost use Rattle.std.specs.Prelude.{◌≡◌, Contains, map, IfOk, OnOk, option_map, string_bytes};
+ghost use Rattle.std.specs.BTreeMap.{IsOrdered};
+ghost use Rattle.std.specs.String.{string_cmp};
+ghost use Rattle.std.specs.List.{filter_map};
+ghost use Rattle.std.specs.List.Sorted.{IsStrictlySortedBy};
+ghost use Rattle.dump.specs.Places.{IsListing, place_cmp};
+ghost use Rattle.flatten.specs.Rows.{range_value};
+ghost use Rattle.tables.specs.Selections.{FindsCover, bearer_found, bearer_found_cmp, item_found, mark_found, mark_text_cmp, range_found};
+ghost use Rattle.desk.specs.Steps.Selected.{AddsBearers, IsBearerAmong, IsBearerOf, IsItemOf, IsMarkOf, IsHoverOf, bearer_in_cmp, by_span, inner_order, range_found_of, range_wanted};
+ghost use Rattle.desk.specs.Steps.Places.{same_role};
+
+use crate::project::Project;
+use dump::{CheckedDump, Role, nesting_law, uri_law};
+use flatten::{FlattenFault, RangeRow, flatten};
+use positions::{Position, Span};
+use std::alloc::{AllocError, Global};
+use std::cmp::Ordering;
+use std::collections::BTreeMap;
+use std::rc::RcStr;
+use tables::{FoundBearer, FoundItem, FoundMark, FoundRange};
+
+/// Whether the roles are the same.
+fn same_role(a: Role, b: Role) -> bool
+    ensures { result ≡ same_role a b }
+{
+    match (a, b) {
+        (Role::Definitions, Role::Definitions) | (Role::References, Role::References) => true,
+        _ => false,
+    }
+}
+
+/// The places that the result of this number has in a role, each once.
+pub(crate) fn items_of(
+    alloc: Global,
+    dump: &CheckedDump,
+    result_number: u32,
+    role: Role,
+) -> Result<Vec<FoundItem>, FlattenFault>
+    ensures { IfOk result (λ found. IsListing place_cmp (IsItemOf dump.now.elements result_number role) (map item_found found.items)) }
+{
+    let rows = flatten(alloc, dump)?;
+    let mut found = Vec::new(alloc);
+    for row in &rows.items {
+        if row.result == result_number && same_role(row.role, role) {
+            let uri = RcStr::from_string(String::from_str(alloc, row.uri)?)?;
+            found.push(FoundItem {
+                uri,
+                span: *row.span,
+            })?;
+        }
+    }
+    Ok(found)
+}
+
+/// The marks of the range at this line, each once.
+pub(crate) fn marks_of(
+    alloc: Global,
+    dump: &CheckedDump,
+    line: u32,
+) -> Result<Vec<FoundMark>, FlattenFault>
+    ensures { IfOk result (λ found. IsListing mark_text_cmp (IsMarkOf dump.now.elements line) (map mark_found found.items)) }
+{
+    let rows = flatten(alloc, dump)?;
+    let mut found = Vec::new(alloc);
+    for row in &rows.marks {
+        if row.range == line {
+            let key = String::from_str(alloc, row.key.as_str())?;
+            found.push(FoundMark {
+                kind: row.kind,
+                key,
+            })?;
+        }
+    }
+    Ok(found)
+}
+
+/// The contents of the hover result of this number.
+pub(crate) fn hover_of(
+    alloc: Global,
+    dump: &CheckedDump,
+    result_number: u32,
+) -> Result<Option<String>, FlattenFault>
+    ensures { IfOk result (λ found. IsHoverOf dump.now.elements result_number (option_map string_bytes found)) }
+{
+    let rows = flatten(alloc, dump)?;
+    for row in &rows.hovers {
+        if row.result == result_number {
+            return Ok(Some(String::from_str(alloc, row.contents)?));
+        }
+    }
+    Ok(None)
+}
+
+/// The bearers of the key in the dump of this project, by line, then by kind, each once.
+pub(crate) fn bearers_of(
+    alloc: Global,
+    dump: &CheckedDump,
+    project: &str,
+    key: &str,
+) -> Result<Vec<FoundBearer>, FlattenFault>
+    ensures { IfOk result (λ found. IsListing bearer_in_cmp (IsBearerOf dump.now.elements project.now key.now) (map bearer_found found.items)) }
+{
+    let rows = flatten(alloc, dump)?;
+    let mut found = Vec::new(alloc);
+    for row in &rows.bearers {
+        if row.key.as_str() == key {
+            let project = String::from_str(alloc, project)?;
+            found.push(FoundBearer {
+                project,
+                line: row.line,
+                kind: row.kind,
+                def: row.def,
+                refs: row.refs,
+                hover: row.hover,
+                decl: row.decl,
+                imp: row.imp,
+            })?;
+        }
+    }
+    Ok(found)
+}
+
+/// Of rows of ranges those of the document of this serialized URL that cover the position.
+fn covering_rows<'a>(
+    alloc: Global,
+    rows: &[RangeRow<'a>],
+    uri: &str,
+    at: Position,
+) -> Result<Vec<RangeRow<'a>>, AllocError>
+    ensures { IfOk result (λ found. map range_value found.items ≡ filter_map (range_wanted uri.now at) (map range_value rows.now)) }
+{
+    let mut found = Vec::new(alloc);
+    for row in rows {
+        if row.uri == uri && row.span.covers(at) {
+            found.push(*row)?;
+        }
+    }
+    Ok(found)
+}
+
+/// The later start first, and of one start the lesser end.
+fn order(a: &Span, b: &Span) -> Ordering
+    ensures { result ≡ inner_order a.now b.now }
+{
+    let ends = a.end().cmp(&b.end());
+    b.start().cmp(&a.start()).then(ends)
+}
+
+/// Puts the rows in order, of each span one: the later start first, and of one start the lesser end.
+fn list_rows(rows: &mut Vec<RangeRow<'_>>)
+    ensures rises { IsStrictlySortedBy by_span rows.new.items }
+    ensures from { (r : RangeRow) → Contains rows.new.items r → Contains rows.old.items r }
+    ensures each { (r : RangeRow) → Contains rows.old.items r → (s : RangeRow) × Contains rows.new.items s × (s.span.now ≡ r.span.now) }
+{
+    rows.sort_unstable_by(|a, b| order(a.span, b.span));
+    rows.dedup_by_key(|r| *r.span);
+}
+
+/// What is found of the ranges of these rows.
+fn found_ranges(alloc: Global, rows: &[RangeRow<'_>]) -> Result<Vec<FoundRange>, AllocError>
+    ensures { IfOk result (λ found. map range_found found.items ≡ map range_found_of rows.now) }
+{
+    let mut found = Vec::new(alloc);
+    for row in rows {
+        found.push(FoundRange {
+            line: row.line,
+            span: *row.span,
+            def: row.def,
+            refs: row.refs,
+            hover: row.hover,
+            decl: row.decl,
+            imp: row.imp,
+        })?;
+    }
+    Ok(found)
+}
+
+/// The ranges of the document of this serialized URL that cover the position, the smallest first.
+pub(crate) fn covering_of(
+    alloc: Global,
+    dump: &CheckedDump,
+    uri: &str,
+    at: Position,
+) -> Result<Vec<FoundRange>, FlattenFault>
+    ensures { IfOk result (λ found. FindsCover dump.now.elements uri.now at (map range_found found.items)) }
+{
+    nesting_law();
+    uri_law();
+    let _faultless = dump.elements();
+    let rows = flatten(alloc, dump)?;
+    let mut covering = covering_rows(alloc, &rows.ranges, uri, at)?;
+    list_rows(&mut covering);
+    Ok(found_ranges(alloc, &covering)?)
+}
+
+/// Adds the bearers of the key in the dump of this project, where it has one.
+fn add_bearers(
+    found: &mut Vec<FoundBearer>,
+    alloc: Global,
+    project: &str,
+    kept: &Option<CheckedDump>,
+    key: &str,
+) -> Result<(), FlattenFault>
+    ensures { OnOk result (AddsBearers key.now project.now kept.now (map bearer_found found.old.items) (map bearer_found found.new.items)) }
+{
+    if let Some(dump) = kept {
+        let mut more = bearers_of(alloc, dump, project, key)?;
+        found.append(&mut more)?;
+    }
+    Ok(())
+}
+
+/// The bearers of the key in the dumps of all projects, by project, line and kind, each once.
+pub(crate) fn bearers_in(
+    alloc: Global,
+    projects: &BTreeMap<String, Project>,
+    key: &str,
+) -> Result<Vec<FoundBearer>, FlattenFault>
+    ensures found { IfOk result (λ found. IsListing bearer_found_cmp (IsBearerAmong key.now projects.now.entries) (map bearer_found found.items)) }
+    ensures ordered { IsOrdered string_cmp projects.now }
+{
+    let mut found = Vec::new(alloc);
+    for (name, project) in projects {
+        add_bearers(&mut found, alloc, name.as_str(), &project.dump, key)?;
+    }
+    Ok(found)
+}
