@@ -1,11 +1,13 @@
 //! The databases that the program runs over: in a file, or in memory.
-ghost use Rattle.std.specs.Prelude.{◌≡◌, ◌∷◌, [], false, IfOk};
+ghost use Rattle.std.specs.Prelude.{◌≡◌, ◌↔◌, ◌∷◌, [], false, IfOk, List};
 ghost use Rattle.sqlite_wal.specs.Files.{image_at};
+ghost use Rattle.sqlite.specs.Files.{file_state};
 ghost use Rattle.sqlite.specs.Held.{state};
 ghost use Rattle.sqlite.specs.State.{HasCleanDisk};
-ghost use Rattle.tables.specs.Stands.{Finds};
+ghost use Rattle.tables.specs.Stands.{Finds, FindsOne};
 ghost use Rattle.tables.specs.State.{State};
-ghost use Rattle.codenav.specs.Databases.{HoldsIndex};
+ghost use Rattle.desk.specs.TableStates.{LeavesOneOf, ServesFor};
+ghost use Rattle.codenav.specs.Databases.{HoldsIndex, HoldsIndexOne, IsMigrated, IsOfFormatTwo};
 
 use desk::{Desk, IndexDesk, TableDesk};
 use sqlite::{Alter, Connection, Error, ErrorCode, FileFrom, FileStore, Start};
@@ -19,6 +21,9 @@ pub const MEMORY: &str = ":memory:";
 
 /// A desk over a database in a file of which this is supposed at the start.
 pub type FileDesk<S> = TableDesk<FileStore<FileFrom<S>>>;
+
+/// A connection to a database in a file of which this is supposed at the start.
+pub type FileConnection<S> = Connection<FileStore<FileFrom<S>>>;
 
 /// Why the file can't be opened as a database.
 fn fault_of(error: Error) -> TablesFault {
@@ -65,14 +70,23 @@ pub fn open_file<S: Start>(
     }
 }
 
-/// The connection of a desk's tables.
-fn connection_of<S: Alter + Drop>(desk: TableDesk<S>) -> Connection<S> {
+/// The connection of a desk's tables. It stands for what the desk stood for, and a stop leaves of it what it would have left of the desk.
+fn connection_of<S: Alter + Drop>(desk: TableDesk<S>) -> Connection<S>
+    ensures stands { (m : State) → ServesFor (state S.Store result) m ↔ ⟦<IndexDesk<Tables<S>> as Desk>⟧.stands desk m }
+    ensures may_leave { (states : List State) → LeavesOneOf (state S.Store result) states ↔ ⟦<IndexDesk<Tables<S>> as Desk>⟧.may_leave desk states }
+    ensures reliable { HasCleanDisk (state S.Store result) ↔ ⟦<IndexDesk<Tables<S>> as Desk>⟧.is_reliable desk }
+{
     desk.into_tables().into_connection()
 }
 
 /// Ends the use of the file: what its log has goes into it. Where that fails, the log has all, and the next start reads it.
+pub fn close_connection<S: Start>(conn: FileConnection<S>) {
+    let _ = conn.close();
+}
+
+/// The same of a desk's file.
 pub fn close_file<S: Start>(desk: FileDesk<S>) {
-    let _ = connection_of(desk).close();
+    close_connection(connection_of(desk));
 }
 
 /// Whether there is no file of this name.
@@ -87,6 +101,9 @@ fn migrate_database<S: Alter + Drop>(
     conn: Connection<S>,
 ) -> Result<(Option<usize>, Connection<S>), TablesFault>
     requires mode { conn.in_transaction ≡ false }
+    ensures clean { IfOk result (λ r. HasCleanDisk (state S.Store r.1) → HasCleanDisk (state S.Store conn)) }
+    ensures migrated { IfOk result (λ r. HasCleanDisk (state S.Store r.1) → (m : State) → FindsOne (state S.Store conn) m → IsMigrated (state S.Store r.1) m r.0) }
+    ensures known { IfOk result (λ r. HasCleanDisk (state S.Store r.1) → (m : State) → Finds (state S.Store conn) m → IsOfFormatTwo (state S.Store r.1) m r.0) }
 {
     match migrate(conn) {
         Ok((mut tables, true)) => {
@@ -98,17 +115,22 @@ fn migrate_database<S: Alter + Drop>(
     }
 }
 
-/// The same for the database in this file. It's `Foreign` where there is no such file, and none is made.
-pub fn migrate_file(rt: &HostRuntime, path: &str) -> Result<Option<usize>, TablesFault> {
+/// The same for the database in this file. Where the file and its log hold tables of format 1 that stand for a state of the index, as `S` says what they
+/// hold, the connection shows tables of format 2 that stand for it, and the number is that of its projects. It's `Foreign` where there is no such file, and
+/// none is made.
+pub fn migrate_file<S: Start>(
+    rt: &HostRuntime,
+    path: &str,
+    start: S,
+) -> Result<(Option<usize>, FileConnection<S>), TablesFault>
+    ensures migrated { IfOk result (λ r. HasCleanDisk (file_state r.1) → (m : State) → HoldsIndexOne (image_at S.Start) m → IsMigrated (file_state r.1) m r.0) }
+    ensures known { IfOk result (λ r. HasCleanDisk (file_state r.1) → (m : State) → HoldsIndex (image_at S.Start) m → IsOfFormatTwo (file_state r.1) m r.0) }
+{
     if is_missing(rt, path) {
         return Err(TablesFault::Foreign);
     }
-    match Connection::open(rt, path) {
-        Ok(conn) => {
-            let (count, conn) = migrate_database(rt.alloc(), conn)?;
-            let _ = conn.close();
-            Ok(count)
-        }
-        Err(error) => Err(fault_of(error)),
+    match Connection::open_from(rt, path, false, start) {
+        Ok(conn) => migrate_database(rt.alloc(), conn),
+        Err((error, _)) => Err(fault_of(error)),
     }
 }

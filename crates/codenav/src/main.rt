@@ -16,7 +16,7 @@ mod timed;
 use call::{Call, CallFault, read_call};
 use check::check_lsif;
 use check_tags::check_tags;
-use database::{MEMORY, close_file, migrate_file, open_file};
+use database::{MEMORY, close_connection, close_file, migrate_file, open_file};
 use desk::{Desk, MemoryDesk, TableDesk};
 use http_edge::ServeFault;
 use lsif::{Counted, Profile};
@@ -225,10 +225,16 @@ fn migrate_tables(rt: &HostRuntime, database: &str) -> u8 {
     if database == MEMORY {
         return fail(rt, TablesFault::Foreign.text());
     }
-    let printed = match migrate_file(rt, database) {
-        Ok(Some(count)) => println!(rt; "migrated {count} projects"),
-        Ok(None) => println!(rt; "nothing to migrate"),
+    let count = match migrate_file(rt, database, Unknown) {
+        Ok((count, conn)) => {
+            close_connection(conn);
+            count
+        }
         Err(fault) => return fail(rt, fault.text()),
+    };
+    let printed = match count {
+        Some(count) => println!(rt; "migrated {count} projects"),
+        None => println!(rt; "nothing to migrate"),
     };
     match printed {
         Ok(()) => 0,

@@ -1,7 +1,7 @@
 //! Databases in files: what a second start answers, and what a migration keeps.
 use super::replay::exchange;
 use super::samples::{Slow, in_pieces, slow_writer};
-use crate::database::{close_file, migrate_file};
+use crate::database::{close_connection, close_file, migrate_file};
 use crate::replay::replay_file;
 use lsif::Counted;
 use sqlite::{Connection, Unknown};
@@ -90,22 +90,29 @@ fn change(rt: &HostRuntime, path: &str, statements: &str) -> Result<(), Fail> {
     Ok(())
 }
 
+/// How many projects a migration of the database in this file counts.
+fn counted(rt: &HostRuntime, path: &str) -> Result<Option<usize>, TablesFault> {
+    let (count, conn) = migrate_file(rt, path, Unknown)?;
+    close_connection(conn);
+    Ok(count)
+}
+
 /// Two projects are migrated once. A database that isn't there, and one without tables, are refused, and the one isn't made.
 #[test]
 fn migrated(rt: HostRuntime) -> Result<(), Fail> {
     let path = "migrated.db";
-    assert_eq!(rt; migrate_file(&rt, path), Err(TablesFault::Foreign));
+    assert_eq!(rt; counted(&rt, path), Err(TablesFault::Foreign));
     assert!(rt; !fs::exists(&rt, path)?);
     change(&rt, path, "")?;
-    assert_eq!(rt; migrate_file(&rt, path), Err(TablesFault::Foreign));
+    assert_eq!(rt; counted(&rt, path), Err(TablesFault::Foreign));
     let (found, wanted) = written(&rt, path, BEFORE)?;
     assert_eq!(rt; found.as_str(), wanted.as_str());
-    assert_eq!(rt; migrate_file(&rt, path), Ok(None));
+    assert_eq!(rt; counted(&rt, path), Ok(None));
     change(&rt, path, BACK)?;
     assert_eq!(rt; replayed(&rt, path, "")?, Err(TablesFault::OldFormat));
-    assert_eq!(rt; migrate_file(&rt, path), Ok(Some(2)));
+    assert_eq!(rt; counted(&rt, path), Ok(Some(2)));
     let (found, wanted) = written(&rt, path, AFTER)?;
     assert_eq!(rt; found.as_str(), wanted.as_str());
-    assert_eq!(rt; migrate_file(&rt, path), Ok(None));
+    assert_eq!(rt; counted(&rt, path), Ok(None));
     Ok(())
 }

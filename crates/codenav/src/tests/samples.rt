@@ -45,26 +45,38 @@ fn vertex_members(alloc: Global, label: &str, short: &str) -> Result<String, Fai
     })
 }
 
+/// The targets of an edge: one, as `5`, or a list, as `[5,6]`.
+fn targets(alloc: Global, short: &str) -> Result<String, Fail> {
+    let Some(list) = short.strip_prefix('[') else {
+        return Ok(format!(in alloc; ",'inV':<{short}>")?);
+    };
+    if list == "]" {
+        return Ok(String::from_str(alloc, ",'inVs':[]")?);
+    }
+    let list = list.replace(alloc, ",", ">,<")?;
+    let list = list.replace(alloc, "]", ">]")?;
+    Ok(format!(in alloc; ",'inVs':[<{list}")?)
+}
+
+/// The property and the shard of an `item` edge, as `references @2`; or other members in full.
+fn further_members(alloc: Global, short: &str) -> Result<String, Fail> {
+    if short.is_empty() {
+        return Ok(String::new(alloc));
+    }
+    let Some((property, shard)) = short.split_once('@') else {
+        return Ok(format!(in alloc; ",{short}")?);
+    };
+    match property.split_once(' ') {
+        Some((name, _)) => Ok(format!(in alloc; ",'property':'{name}','shard':<{shard}>")?),
+        None => Ok(format!(in alloc; ",'shard':<{shard}>")?),
+    }
+}
+
 /// The members of an edge besides its id, type, label and source.
 fn edge_members(alloc: Global, short: &str) -> Result<String, Fail> {
-    let (targets, rest) = short.split_once(' ').unwrap_or((short, ""));
-    let mut text = match targets.strip_prefix('[') {
-        Some("]") => String::from_str(alloc, ",'inVs':[]")?,
-        Some(list) => {
-            let list = list.replace(alloc, ",", ">,<")?;
-            let list = list.replace(alloc, "]", ">]")?;
-            format!(in alloc; ",'inVs':[<{list}")?
-        }
-        None => format!(in alloc; ",'inV':<{targets}>")?,
-    };
-    if let Some((property, shard)) = rest.split_once('@') {
-        if let Some((property, _)) = property.split_once(' ') {
-            text.push_str(format!(in alloc; ",'property':'{property}'")?.as_str())?;
-        }
-        text.push_str(format!(in alloc; ",'shard':<{shard}>")?.as_str())?;
-    } else if !rest.is_empty() {
-        text.push_str(format!(in alloc; ",{rest}")?.as_str())?;
-    }
+    let (ends, rest) = short.split_once(' ').unwrap_or((short, ""));
+    let mut text = targets(alloc, ends)?;
+    text.push_str(further_members(alloc, rest)?.as_str())?;
     Ok(text)
 }
 
