@@ -15,4 +15,5 @@ most_requests = 1000000
 -- that were read
 abbrev pub Replays : Option (List ℕ) → Option (List ℕ) → Output → Output → Result ℕ ServeFault → Type 0
 Replays left left' output output' result =
-    (messages : List MessageValue) × (answers : List AnswerValue) × (n : State) × Serves true most_requests nothing left left' output output' messages answers n result
+    (messages : List MessageValue) × (answers : List AnswerValue) × (n : State)
+    × Serves true most_requests nothing left left' output output' messages answers n result

@@ -61,7 +61,8 @@ fn take_line<R: Source>(
 ) -> Result<Step, CheckFault>
     requires count { R.failed r.old < 2 ^ 64 - 1 }
     requires ready { IsReady lines.old }
-    ensures takes { IfOk result (λ step. Takes (unread lines.old.pending (R.left r.old)) checker.old step checker.new lines.new (unread lines.new.pending (R.left r.new))) }
+    ensures takes { IfOk result (λ step. Takes (unread lines.old.pending (R.left r.old)) checker.old step checker.new lines.new
+        (unread lines.new.pending (R.left r.new))) }
     ensures counted { CountsRead (R.failed r.old) (R.failed r.new) result }
 {
     reading_law();

@@ -1,7 +1,8 @@
 //! The command line, as `clap` is told of it: the subcommands with their words and options.
 ghost use Rattle.std.specs.Prelude.{◌≡◌, IfOk, false, codes, pos};
 ghost use Rattle.clap.specs.Words.{app_of, rule_of, with_subcommand};
-ghost use Rattle.codenav.specs.Call.{app, check_lsif_app, check_tags_app, migrate_app, most_connections, most_port, number_option, replay_app, required_number, serve_app, top_app, word};
+ghost use Rattle.codenav.specs.Call.{app, app_with_checks, app_with_replay, app_with_serve, check_lsif_app, check_tags_app, migrate_app, most_connections, most_port};
+ghost use Rattle.codenav.specs.Call.{number_option, replay_app, required_number, serve_app, top_app, word};
 
 use clap::builder::ValueParser;
 use clap::{Arg, ArgAction, Command};
@@ -9,9 +10,6 @@ use std::alloc::{AllocError, Global};
 
 /// The version of the program.
 const VERSION: &str = "0.1.0";
-
-/// What the word DB is.
-const DATABASE: &str = "The database: a file, which is made where there is none, or :memory:";
 
 /// The greatest port.
 pub const MOST_PORT: u32 = 65535;
@@ -56,49 +54,57 @@ fn required_number<'a>(alloc: Global, id: &'a str, least: i64, most: i64, help: 
 fn check_lsif<'a>(alloc: Global) -> Result<Command<'a>, AllocError>
     ensures { IfOk result (λ c. app_of c ≡ check_lsif_app) }
 {
-    let file = word(alloc, "file", "FILE", "The dump, one element on each line");
-    let profile = number_option(
-        alloc,
-        "profile",
-        1,
-        2,
-        "The profile that the dump is read by: 1, or 2, which has declarations and implementations too [default: 1]",
-    );
     Command::new(alloc, "check-lsif")
         .about(
             "Checks a dump in the Language Server Index Format 0.6.0, and prints how many elements it has or its first fault",
         )
-        .arg(file)?
-        .arg(profile)
+        .arg(word(alloc, "file", "FILE", "The dump, one element on each line"))?
+        .arg(number_option(
+            alloc,
+            "profile",
+            1,
+            2,
+            "The profile that the dump is read by: 1, or 2, which has declarations and implementations too [default: 1]",
+        ))
 }
 
 /// `check-tags FILE`.
 fn check_tags<'a>(alloc: Global) -> Result<Command<'a>, AllocError>
     ensures { IfOk result (λ c. app_of c ≡ check_tags_app) }
 {
-    let file = word(alloc, "file", "FILE", "The tags file");
     Command::new(alloc, "check-tags")
         .about(
             "Checks a tags file of Universal Ctags, and prints how many tags it has or its first fault",
         )
-        .arg(file)
+        .arg(word(alloc, "file", "FILE", "The tags file"))
+}
+
+/// The word DB of a command that makes the database where there is none.
+fn database<'a>(alloc: Global) -> Arg<'a>
+    ensures rule { rule_of result ≡ word (codes "db") }
+    ensures local { result.global ≡ false }
+{
+    word(
+        alloc,
+        "db",
+        "DB",
+        "The database: a file, which is made where there is none, or :memory:",
+    )
 }
 
 /// `replay DB FILE`.
 fn replay<'a>(alloc: Global) -> Result<Command<'a>, AllocError>
     ensures { IfOk result (λ c. app_of c ≡ replay_app) }
 {
-    let database = word(alloc, "db", "DB", DATABASE);
-    let file = word(
-        alloc,
-        "file",
-        "FILE",
-        "The requests, as HTTP/1.1 sends them",
-    );
     Command::new(alloc, "replay")
         .about("Answers the requests in a file over a database, and prints the replies")
-        .arg(database)?
-        .arg(file)
+        .arg(database(alloc))?
+        .arg(word(
+            alloc,
+            "file",
+            "FILE",
+            "The requests, as HTTP/1.1 sends them",
+        ))
 }
 
 /// The option `--port N`.
@@ -133,26 +139,22 @@ fn requests<'a>(alloc: Global) -> Arg<'a>
 fn serve<'a>(alloc: Global) -> Result<Command<'a>, AllocError>
     ensures { IfOk result (λ c. app_of c ≡ serve_app) }
 {
-    let database = word(alloc, "db", "DB", DATABASE);
-    let port = port(alloc);
-    let requests = requests(alloc);
     Command::new(alloc, "serve")
         .about("Serves connections on a port of 127.0.0.1, one after the other, over a database")
-        .arg(database)?
-        .arg(port)?
-        .arg(requests)
+        .arg(database(alloc))?
+        .arg(port(alloc))?
+        .arg(requests(alloc))
 }
 
 /// `migrate DB`.
 fn migrate<'a>(alloc: Global) -> Result<Command<'a>, AllocError>
     ensures { IfOk result (λ c. app_of c ≡ migrate_app) }
 {
-    let database = word(alloc, "db", "DB", "The database, a file");
     Command::new(alloc, "migrate")
         .about(
             "Brings a database from format 1 to format 2, and prints how many projects it has; a database of format 2 stays as it is",
         )
-        .arg(database)
+        .arg(word(alloc, "db", "DB", "The database, a file"))
 }
 
 /// The program with no subcommand yet.
@@ -175,7 +177,7 @@ fn with_check_lsif<'a>(alloc: Global) -> Result<Command<'a>, AllocError>
 
 /// The program with both checks.
 fn with_checks<'a>(alloc: Global) -> Result<Command<'a>, AllocError>
-    ensures { IfOk result (λ c. app_of c ≡ with_subcommand (with_subcommand top_app check_lsif_app.top) check_tags_app.top) }
+    ensures { IfOk result (λ c. app_of c ≡ app_with_checks) }
 {
     let check_tags = check_tags(alloc)?;
     with_check_lsif(alloc)?.subcommand(check_tags)
@@ -183,7 +185,7 @@ fn with_checks<'a>(alloc: Global) -> Result<Command<'a>, AllocError>
 
 /// The program with both checks and `replay`.
 fn with_replay<'a>(alloc: Global) -> Result<Command<'a>, AllocError>
-    ensures { IfOk result (λ c. app_of c ≡ with_subcommand (with_subcommand (with_subcommand top_app check_lsif_app.top) check_tags_app.top) replay_app.top) }
+    ensures { IfOk result (λ c. app_of c ≡ app_with_replay) }
 {
     let replay = replay(alloc)?;
     with_checks(alloc)?.subcommand(replay)
@@ -191,7 +193,7 @@ fn with_replay<'a>(alloc: Global) -> Result<Command<'a>, AllocError>
 
 /// The program with both checks, `replay` and `serve`.
 fn with_serve<'a>(alloc: Global) -> Result<Command<'a>, AllocError>
-    ensures { IfOk result (λ c. app_of c ≡ with_subcommand (with_subcommand (with_subcommand (with_subcommand top_app check_lsif_app.top) check_tags_app.top) replay_app.top) serve_app.top) }
+    ensures { IfOk result (λ c. app_of c ≡ app_with_serve) }
 {
     let serve = serve(alloc)?;
     with_replay(alloc)?.subcommand(serve)

@@ -102,7 +102,8 @@ fn migrate_database<S: Alter + Drop>(
 ) -> Result<(Option<usize>, Connection<S>), TablesFault>
     requires mode { conn.in_transaction ≡ false }
     ensures clean { IfOk result (λ r. HasCleanDisk (state S.Store r.1) → HasCleanDisk (state S.Store conn)) }
-    ensures migrated { IfOk result (λ r. HasCleanDisk (state S.Store r.1) → (m : State) → FindsOne (state S.Store conn) m → IsMigrated (state S.Store r.1) m r.0) }
+    ensures migrated { IfOk result (λ r. HasCleanDisk (state S.Store r.1) → (m : State) → FindsOne (state S.Store conn) m
+        → IsMigrated (state S.Store r.1) m r.0) }
     ensures known { IfOk result (λ r. HasCleanDisk (state S.Store r.1) → (m : State) → Finds (state S.Store conn) m → IsOfFormatTwo (state S.Store r.1) m r.0) }
 {
     match migrate(conn) {

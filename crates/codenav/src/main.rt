@@ -17,13 +17,13 @@ use call::{Call, CallFault, read_call};
 use check::check_lsif;
 use check_tags::check_tags;
 use database::{MEMORY, close_connection, close_file, migrate_file, open_file};
-use desk::{Desk, MemoryDesk, TableDesk};
+use desk::{MemoryDesk, TableDesk};
 use http_edge::ServeFault;
 use lsif::{Counted, Profile};
 use replay::{replay_file, replay_in_memory};
 use report::{CheckFault, Status};
 use serve::{CountedListener, ServerFault, serve_connections, serve_in_memory};
-use sqlite::Unknown;
+use sqlite::{Alter, Unknown};
 use std::alloc::Global;
 use std::io::ErrorKind;
 use std::net::{Ipv4Addr, Net, SocketAddr, TcpListener};
@@ -179,8 +179,8 @@ fn serve_memory(rt: &HostRuntime, desk: &mut MemoryDesk, port: u16, requests: u3
     served(rt, answer)
 }
 
-/// Listens, and serves by the desk.
-fn serve_desk<D: Desk>(rt: &HostRuntime, desk: &mut D, port: u16, requests: u32) -> u8 {
+/// Listens, and serves by the desk over the tables of a database.
+fn serve_desk<S: Alter>(rt: &HostRuntime, desk: &mut TableDesk<S>, port: u16, requests: u32) -> u8 {
     let listener = match listen(rt, port) {
         Ok(listener) => listener,
         Err(status) => return status,

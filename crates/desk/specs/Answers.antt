@@ -80,7 +80,8 @@ pub data AnswersHover (m : State) (target : DocumentPositionValue) (dump : DumpV
 -- D01 and D02 come before what the project's dump answers
 pub data AnswersAt (m : State) (target : DocumentPositionValue) (Answers : DumpValue → ReplyValue → Type 0) : ReplyValue → Type 0 where
   no_dump : m.dump target.project ≡ None → AnswersAt m target Answers (refused D01)
-  no_such_document : (dump : DumpValue) → m.dump target.project ≡ Some dump → (HasDocument dump.elements target.uri → ⊥) → AnswersAt m target Answers (refused D02)
+  no_such_document : (dump : DumpValue) → m.dump target.project ≡ Some dump → (HasDocument dump.elements target.uri → ⊥)
+      → AnswersAt m target Answers (refused D02)
   answered : {r : ReplyValue} (dump : DumpValue) → m.dump target.project ≡ Some dump → HasDocument dump.elements target.uri → Answers dump r
       → AnswersAt m target Answers r
 
@@ -102,7 +103,9 @@ Answers m (references target declared) r = AnswersAt m target (AnswersPlaces m r
 Answers m (hover target) r = AnswersAt m target (AnswersHover m target) r
 Answers m (declaration target) r = AnswersAt m target (AnswersPlaces m requests.Declaration (roles.Definitions ∷ []) target) r
 Answers m (implementation target) r = AnswersAt m target (AnswersPlaces m requests.Implementation (roles.Definitions ∷ []) target) r
-Answers m (names name asked) r = (found : List FoundTag) × IsListing line_cmp (λ (f : FoundTag). IsTag m asked f × (f.tag.name ≡ name)) found × (r ≡ tags_found found)
-Answers m (prefix start asked) r = (found : List FoundTag) × IsListing name_cmp (λ (f : FoundTag). IsTag m asked f × BeginsWith f.tag.name start) found × (r ≡ tags_found found)
+Answers m (names name asked) r =
+    (found : List FoundTag) × IsListing line_cmp (λ (f : FoundTag). IsTag m asked f × (f.tag.name ≡ name)) found × (r ≡ tags_found found)
+Answers m (prefix start asked) r =
+    (found : List FoundTag) × IsListing name_cmp (λ (f : FoundTag). IsTag m asked f × BeginsWith f.tag.name start) found × (r ≡ tags_found found)
 Answers m projects r = (found : List ProjectValue) × IsListing project_cmp (IsProject m) found × (r ≡ projects_found found)
 Answers m (profile project) r = r ≡ profile_reply (m.dump project)

@@ -10,7 +10,8 @@ use Rattle.tables.specs.State.{State}
 
 -- the vertex y of another project is joined to the range r of this project's dump: a mark of the range has the key of a mark that
 -- y bears
-pub record IsJoined (m : State) (request : Request) (project : List ℕ) (dump : DumpValue) (r : IdValue) (other : List ℕ) (second : DumpValue) (y : IdValue) : Type 0 where
+pub record IsJoined (m : State) (request : Request) (project : List ℕ) (dump : DumpValue) (r : IdValue) (other : List ℕ) (second : DumpValue)
+    (y : IdValue) : Type 0 where
   pub elsewhere : other ≢ project
   pub is_there : m.dump other ≡ Some second
   pub mark : MarkValue

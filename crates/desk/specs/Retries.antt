@@ -47,7 +47,8 @@ plain_tags (k ∷ ks) project = if bytes_eq k.project project then tags_after k.
 abbrev pub plain_kept : List KeptValue → List ℕ → List ℕ → Option Accepted
 plain_kept [] project key = None
 plain_kept (k ∷ ks) project key =
-    if bytes_eq k.project project && bytes_eq k.key key then Some (accepted k.change (plain_dump ks k.project) (plain_tags ks k.project)) else plain_kept ks project key
+    if bytes_eq k.project project && bytes_eq k.key key then Some (accepted k.change (plain_dump ks k.project) (plain_tags ks k.project))
+    else plain_kept ks project key
 
 -- ---- lives
 

@@ -74,11 +74,14 @@ pub(crate) fn change(
     accepted: Accepted,
 ) -> Result<(), AllocError>
     ensures dumps { OnOk result ((p : List ℕ)
-        → dump_in projects.new p ≡ (if bytes_eq (string_bytes project) p then dump_after (change_value change) (dump_in projects.old p) else dump_in projects.old p)) }
+        → dump_in projects.new p ≡ (if bytes_eq (string_bytes project) p then dump_after (change_value change) (dump_in projects.old p)
+        else dump_in projects.old p)) }
     ensures tags { OnOk result ((p : List ℕ)
-        → tags_in projects.new p ≡ (if bytes_eq (string_bytes project) p then tags_after (change_value change) (tags_in projects.old p) else tags_in projects.old p)) }
+        → tags_in projects.new p ≡ (if bytes_eq (string_bytes project) p then tags_after (change_value change) (tags_in projects.old p)
+        else tags_in projects.old p)) }
     ensures kept { OnOk result ((p k : List ℕ)
-        → kept_in projects.new p k ≡ (if bytes_eq (string_bytes project) p && bytes_eq (string_bytes key) k then Some (accepted_value accepted) else kept_in projects.old p k)) }
+        → kept_in projects.new p k ≡ (if bytes_eq (string_bytes project) p && bytes_eq (string_bytes key) k then Some (accepted_value accepted)
+        else kept_in projects.old p k)) }
     ensures same_dumps { OnErr result ((p : List ℕ) → dump_in projects.new p ≡ dump_in projects.old p) }
     ensures same_tags { OnErr result ((p : List ℕ) → tags_in projects.new p ≡ tags_in projects.old p) }
     ensures same_kept { OnErr result ((p k : List ℕ) → kept_in projects.new p k ≡ kept_in projects.old p k) }

@@ -1,5 +1,6 @@
 //! What the server takes and answers: project names, keys, document URLs and numbers, commands and queries, replies,
-//! and the abstract machine that a desk, which serves them, stands for. A desk that keeps dumps and tags in memory.
+//! and the abstract machine that a desk, which serves them, stands for. A desk over the tables of a database, and one that keeps dumps and tags in memory.
+//! Its tests call public functions alone, and stand in `codenav` (`tests/desks`).
 #![tactic(auto)]
 
 mod bodies;
@@ -41,6 +42,3 @@ pub use request::{Command, Query, Request};
 pub use running::{RunFault, run};
 pub use table_desk::TableDesk;
 pub use upload::{Upload, UploadFault};
-
-#[cfg(test)]
-mod tests;

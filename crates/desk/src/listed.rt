@@ -91,7 +91,8 @@ fn add_tags(
     project: &str,
     tags: &[Tag],
 ) -> Result<(), AllocError>
-    ensures { OnOk result (map tag_found found.new.items ≡ map tag_found found.old.items ++ tags_so (is_wanted wanted.entry) project.now (map tag_value tags.now)) }
+    ensures { OnOk result (map tag_found found.new.items ≡ map tag_found found.old.items
+        ++ tags_so (is_wanted wanted.entry) project.now (map tag_value tags.now)) }
 {
     for tag in tags {
         if is_wanted(wanted, tag.name.as_str()) {
@@ -136,7 +137,8 @@ pub(crate) fn list_tags(
     wanted: Wanted<'_>,
     asked: Option<&str>,
 ) -> Result<Vec<FoundTag>, AllocError>
-    ensures found { IfOk result (λ found. map tag_found found.items ≡ tags_of (is_wanted wanted.entry) (option_map (λ p. p.now) asked.entry) projects.now.entries) }
+    ensures found { IfOk result (λ found. map tag_found found.items
+        ≡ tags_of (is_wanted wanted.entry) (option_map (λ p. p.now) asked.entry) projects.now.entries) }
     ensures rising { OnOk result (AllRise projects.now.entries) }
     ensures ordered { IsOrdered string_cmp projects.now }
 {

@@ -54,7 +54,8 @@ impl Model for BodyReader {
 
     ghost view = { λ b. body_value (taken b.lines) b.cutter b.state };
 
-    ghost invariant = { λ b. (b.cutter.longest ≡ longest_of (taken b.lines)) × HasState b.state (taken b.lines) b.cutter × (body : List ℕ) × StandsBy (body_value (taken b.lines) b.cutter b.state) body };
+    ghost invariant = { λ b. (b.cutter.longest ≡ longest_of (taken b.lines)) × HasState b.state (taken b.lines) b.cutter × (body : List ℕ)
+        × StandsBy (body_value (taken b.lines) b.cutter b.state) body };
 }
 
 /// How many bytes of a piece were taken, and how far the reading is then.

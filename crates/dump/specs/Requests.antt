@@ -27,7 +27,8 @@ label_of requests.Implementation = labels.Implementation
 
 -- the first result of the vertex: that of the first member of its chain that has one
 abbrev pub First : Request → List ElementValue → IdValue → Option IdValue → Type 0
-First request elements x result = (xs : List IdValue) × IsChain (next_pairs elements) x xs × (result ≡ first_of_list (single_pairs (label_of request) elements) xs)
+First request elements x result =
+    (xs : List IdValue) × IsChain (next_pairs elements) x xs × (result ≡ first_of_list (single_pairs (label_of request) elements) xs)
 
 abbrev pub is_import : MonikerKind → Bool
 is_import kinds.Import = true

@@ -74,7 +74,8 @@ pub(crate) fn follow(
     requires sound { IsSound (map element_value elements.now) }
     requires free { order_code (map element_value elements.now) (element_value element.now) ≡ None }
     requires joined { JoinsIndices (map element_value elements.now) (element_value element.now) joined }
-    ensures { HasShortcuts (next_pairs (map element_value elements.now ++ element_value element.now ∷ [])) (map element_value elements.now ++ element_value element.now ∷ []) shortcuts.new.items }
+    ensures { HasShortcuts (next_pairs (map element_value elements.now ++ element_value element.now ∷ []))
+        (map element_value elements.now ++ element_value element.now ∷ []) shortcuts.new.items }
 {
     if let Some((from, to)) = joined {
         join(shortcuts, elements, from, to);

@@ -169,7 +169,8 @@ impl CheckedDump {
     /// it that has one.
     pub fn first<'a>(&'a self, request: Request, vertex: &'a Id) -> Option<&'a Id>
         ensures value { First request self.now.elements (id_value vertex.now) (option_map (λ i. id_value i.now) result) }
-        ensures only { (other : Option IdValue) → First request self.now.elements (id_value vertex.now) other → other ≡ option_map (λ i. id_value i.now) result }
+        ensures only { (other : Option IdValue) → First request self.now.elements (id_value vertex.now) other
+            → other ≡ option_map (λ i. id_value i.now) result }
         ensures faultless { IsFaultless (map Ok self.now.elements) }
     {
         chain_law();

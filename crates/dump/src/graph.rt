@@ -156,7 +156,8 @@ impl Graph {
     /// Whether the span of one of these ranges conflicts with that of a range that the document contains, or with
     /// another's of them.
     pub(crate) fn conflict(&self, document: &Id, ranges: &[Id]) -> Result<bool, AllocError>
-        ensures { IfOk result (λ b. b ≡ (any_conflicts (spans_of self.now (id_values ranges.now)) (spans_in self.now (id_value document.now)) || has_conflict (spans_of self.now (id_values ranges.now)))) }
+        ensures { IfOk result (λ b. b ≡ (any_conflicts (spans_of self.now (id_values ranges.now)) (spans_in self.now (id_value document.now))
+            || has_conflict (spans_of self.now (id_values ranges.now)))) }
     {
         self.tables.conflict(&self.elements, document, ranges)
     }

@@ -45,7 +45,8 @@ pub fn chain_law()
 
 /// In a dump without fault each end of an edge is a vertex.
 pub fn ends_law()
-    ensures { (elements : List ElementValue) → IsFaultless (map Ok elements) → (x : ElementValue) → Contains elements x → (i : IdValue) → Contains (ends x) i → (v : VertexValue) × (vertex_at elements i ≡ Some v) }
+    ensures { (elements : List ElementValue) → IsFaultless (map Ok elements) → (x : ElementValue) → Contains elements x → (i : IdValue) → Contains (ends x) i
+        → (v : VertexValue) × (vertex_at elements i ≡ Some v) }
 {}
 
 /// The line of an id is that of no other. In a dump without fault a vertex has a line, and it's the element there.
@@ -67,33 +68,42 @@ pub fn nesting_law()
 
 /// In a dump without fault the vertex of an id is the one element with this id.
 pub fn vertex_law()
-    ensures { (elements : List ElementValue) → IsFaultless (map Ok elements) → (i : IdValue) (v : VertexValue) → vertex_at elements i ≡ Some v ↔ Contains elements (vertex i v) }
+    ensures { (elements : List ElementValue) → IsFaultless (map Ok elements) → (i : IdValue) (v : VertexValue) → vertex_at elements i ≡ Some v
+        ↔ Contains elements (vertex i v) }
 {}
 
 /// In a dump without fault two documents of one serialized URL are one.
 pub fn uri_law()
-    ensures { (elements : List ElementValue) → IsFaultless (map Ok elements) → (d e : IdValue) (uri : List ℕ) → vertex_at elements d ≡ Some (document uri) → vertex_at elements e ≡ Some (document uri) → d ≡ e }
+    ensures { (elements : List ElementValue) → IsFaultless (map Ok elements) → (d e : IdValue) (uri : List ℕ) → vertex_at elements d ≡ Some (document uri)
+        → vertex_at elements e ≡ Some (document uri) → d ≡ e }
 {}
 
 /// In a dump without fault a result of another request than references has the places of its own items alone.
 pub fn own_law()
-    ensures { (elements : List ElementValue) → IsFaultless (map Ok elements) → (request : Request) → (request ≢ References) → (x result : IdValue) → First request elements x (Some result) → (in_roles : List Role) (place : PlaceValue) → Places in_roles elements result place ↔ IsItemPlace in_roles elements result place }
+    ensures { (elements : List ElementValue) → IsFaultless (map Ok elements) → (request : Request) → (request ≢ References) → (x result : IdValue)
+        → First request elements x (Some result) → (in_roles : List Role) (place : PlaceValue) → Places in_roles elements result place
+        ↔ IsItemPlace in_roles elements result place }
 {}
 
 /// In a dump without fault the first result of a hover request is a hover result.
 pub fn hover_law()
-    ensures { (elements : List ElementValue) → IsFaultless (map Ok elements) → (x result : IdValue) → First Hover elements x (Some result) → (contents : List ℕ) × (vertex_at elements result ≡ Some (hover_result contents)) }
+    ensures { (elements : List ElementValue) → IsFaultless (map Ok elements) → (x result : IdValue) → First Hover elements x (Some result) → (contents : List ℕ)
+        × (vertex_at elements result ≡ Some (hover_result contents)) }
 {}
 
 /// Places have one list in order, each once.
 pub fn listing_law()
-    ensures { (places others : List PlaceValue) → IsStrictlySortedBy place_cmp places → IsStrictlySortedBy place_cmp others → ((place : PlaceValue) → Contains places place ↔ Contains others place) → places ≡ others }
+    ensures { (places others : List PlaceValue) → IsStrictlySortedBy place_cmp places → IsStrictlySortedBy place_cmp others
+        → ((place : PlaceValue) → Contains places place ↔ Contains others place) → places ≡ others }
 {}
 
 /// A request at a vertex is answered by one result at most; the ranges that cover a position have one list; and a request at
 /// the position is asked of one range at most.
 pub fn pick_law()
-    ensures first { (request : Request) (elements : List ElementValue) (x : IdValue) (found other : Option IdValue) → First request elements x found → First request elements x other → found ≡ other }
-    ensures cover { (elements : List ElementValue) (uri : List ℕ) (position : PositionValue) (ranges others : List RangeValue) → Cover elements uri position ranges → Cover elements uri position others → ranges ≡ others }
-    ensures pick { (request : Request) (elements : List ElementValue) (uri : List ℕ) (position : PositionValue) (picked other : Option RangeValue) → Pick request elements uri position picked → Pick request elements uri position other → picked ≡ other }
+    ensures first { (request : Request) (elements : List ElementValue) (x : IdValue) (found other : Option IdValue) → First request elements x found
+        → First request elements x other → found ≡ other }
+    ensures cover { (elements : List ElementValue) (uri : List ℕ) (position : PositionValue) (ranges others : List RangeValue)
+        → Cover elements uri position ranges → Cover elements uri position others → ranges ≡ others }
+    ensures pick { (request : Request) (elements : List ElementValue) (uri : List ℕ) (position : PositionValue) (picked other : Option RangeValue)
+        → Pick request elements uri position picked → Pick request elements uri position other → picked ≡ other }
 {}

@@ -61,7 +61,8 @@ fn joins_no_vertex(graph: &Graph, element: &Element) -> bool
 
 /// Whether a `contains` edge joins what it may: a project contains documents, a document contains ranges.
 fn contents_fit(graph: &Graph, from: &Id, to: &[Id]) -> bool
-    ensures { result ≡ (are_vertices graph.now (id_value from.now ∷ id_values to.now) && may_contain graph.now (vertex_at graph.now (id_value from.now)) (id_values to.now)) }
+    ensures { result ≡ (are_vertices graph.now (id_value from.now ∷ id_values to.now)
+        && may_contain graph.now (vertex_at graph.now (id_value from.now)) (id_values to.now)) }
 {
     match vertex_at(graph, from) {
         Some(Vertex::Project) => are_of_kind(graph, Kind::Document, to),
@@ -106,7 +107,8 @@ fn may_be_unnamed(graph: &Graph, item: &Item) -> bool
 /// Whether an `item` edge joins what it may: a definition result has ranges as its definitions, a declaration result and an
 /// implementation result ranges by no property; a vertex of another label any vertices.
 fn item_fits(graph: &Graph, item: &Item) -> bool
-    ensures { result ≡ (are_vertices graph.now (id_value item.now.source ∷ id_values item.now.targets.items) && may_have_item graph.now (vertex_at graph.now (id_value item.now.source)) (item_value item.now)) }
+    ensures { result ≡ (are_vertices graph.now (id_value item.now.source ∷ id_values item.now.targets.items)
+        && may_have_item graph.now (vertex_at graph.now (id_value item.now.source)) (item_value item.now)) }
 {
     match vertex_at(graph, &item.source) {
         Some(Vertex::DefinitionResult) => {

@@ -44,7 +44,8 @@ fn next_reading<R: Source>(
 ) -> Result<Option<Result<Element, Code>>, DumpFault>
     requires count { R.failed r.old < 2 ^ 64 - 1 }
     requires ready { IsReady lines.old }
-    ensures read { IfOk result (λ next. ReadsNext profile (unread lines.old.pending (R.left r.old)) (option_map reading_value next) (unread lines.new.pending (R.left r.new))) }
+    ensures read { IfOk result (λ next. ReadsNext profile (unread lines.old.pending (R.left r.old)) (option_map reading_value next)
+        (unread lines.new.pending (R.left r.new))) }
     ensures goes_on { IfOk result (λ next. GoesOn next lines.new) }
     ensures unfaulty { IfErr result IsOutside }
     ensures counted { CountsRead (R.failed r.old) (R.failed r.new) result }

@@ -83,7 +83,8 @@ fn enter_document(
     uri: &str,
     index: usize,
 ) -> Result<(), AllocError>
-    ensures ok { OnOk result ((other : List ℕ) → get_by_text documents.new other ≡ (if bytes_eq uri.now other then Some index else get_by_text documents.old other)) }
+    ensures ok { OnOk result ((other : List ℕ) → get_by_text documents.new other
+        ≡ (if bytes_eq uri.now other then Some index else get_by_text documents.old other)) }
     ensures err { OnErr result ((other : List ℕ) → get_by_text documents.new other ≡ get_by_text documents.old other) }
 {
     let uri = String::from_str(alloc, uri)?;
@@ -101,8 +102,10 @@ fn keep(
     targets: Vec<Span>,
     index: usize,
 ) -> Result<(), AllocError>
-    ensures spans { OnOk result ((i : IdValue) → IsFilled (is_id i (contains_source (element_value element.now))) targets.items (value_at spans.old i) (value_at spans.new i)) }
-    ensures documents { OnOk result ((uri : List ℕ) → get_by_text documents.new uri ≡ (if is_document_of uri (element_value element.now) then Some index else get_by_text documents.old uri)) }
+    ensures spans { OnOk result ((i : IdValue) → IsFilled (is_id i (contains_source (element_value element.now))) targets.items (value_at spans.old i)
+        (value_at spans.new i)) }
+    ensures documents { OnOk result ((uri : List ℕ) → get_by_text documents.new uri
+        ≡ (if is_document_of uri (element_value element.now) then Some index else get_by_text documents.old uri)) }
     ensures spans_stay { OnErr result ((i : IdValue) → kept (value_at spans.new i) ≡ kept (value_at spans.old i)) }
     ensures documents_stay { OnErr result ((uri : List ℕ) → get_by_text documents.new uri ≡ get_by_text documents.old uri) }
 {
@@ -209,7 +212,8 @@ impl Tables {
         id: &Id,
     ) -> Option<&'a Element>
         requires { AreTables self.now (map element_value elements.now) }
-        ensures { option_map (λ e. element_value e.now) result ≡ find (is_link (map element_value elements.now) link (id_value id.now)) (map element_value elements.now) }
+        ensures { option_map (λ e. element_value e.now) result ≡ find (is_link (map element_value elements.now) link (id_value id.now))
+            (map element_value elements.now) }
     {
         at(elements, self.linked_index(link, id))
     }
@@ -264,7 +268,9 @@ impl Tables {
         ranges: &[Id],
     ) -> Result<bool, AllocError>
         requires { AreTables self.now (map element_value elements.now) }
-        ensures { IfOk result (λ b. b ≡ (any_conflicts (spans_of (map element_value elements.now) (id_values ranges.now)) (spans_in (map element_value elements.now) (id_value document.now)) || has_conflict (spans_of (map element_value elements.now) (id_values ranges.now)))) }
+        ensures { IfOk result (λ b. b ≡ (any_conflicts (spans_of (map element_value elements.now) (id_values ranges.now))
+            (spans_in (map element_value elements.now) (id_value document.now))
+            || has_conflict (spans_of (map element_value elements.now) (id_values ranges.now)))) }
     {
         let targets = self.spans_of(elements, ranges)?;
         conflict_after(self.alloc, lists(&self.spans, document), targets)
@@ -307,9 +313,12 @@ impl Tables {
     fn enter(&mut self, element: &Element, targets: Vec<Span>, index: u32) -> Result<(), AllocError>
         requires { index_at self.old.indices (element_id (element_value element.now)) ≡ None }
         ensures rows { self.new.rows ≡ self.old.rows }
-        ensures indices { OnOk result ((i : IdValue) → index_at self.new.indices i ≡ entered (same_id (element_id (element_value element.now)) i) index (index_at self.old.indices i)) }
-        ensures spans { OnOk result ((i : IdValue) → IsFilled (is_id i (contains_source (element_value element.now))) targets.items (value_at self.old.spans i) (value_at self.new.spans i)) }
-        ensures documents { OnOk result ((uri : List ℕ) → get_by_text self.new.documents uri ≡ (if is_document_of uri (element_value element.now) then Some index else get_by_text self.old.documents uri)) }
+        ensures indices { OnOk result ((i : IdValue) → index_at self.new.indices i
+            ≡ entered (same_id (element_id (element_value element.now)) i) index (index_at self.old.indices i)) }
+        ensures spans { OnOk result ((i : IdValue) → IsFilled (is_id i (contains_source (element_value element.now))) targets.items (value_at self.old.spans i)
+            (value_at self.new.spans i)) }
+        ensures documents { OnOk result ((uri : List ℕ) → get_by_text self.new.documents uri
+            ≡ (if is_document_of uri (element_value element.now) then Some index else get_by_text self.old.documents uri)) }
         ensures indices_stay { OnErr result ((i : IdValue) → index_at self.new.indices i ≡ index_at self.old.indices i) }
         ensures spans_stay { OnErr result ((i : IdValue) → kept (value_at self.new.spans i) ≡ kept (value_at self.old.spans i)) }
         ensures documents_stay { OnErr result ((uri : List ℕ) → get_by_text self.new.documents uri ≡ get_by_text self.old.documents uri) }

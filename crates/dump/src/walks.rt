@@ -21,7 +21,8 @@ pub(crate) fn leads(graph: &Graph, from: &Id, to: &Id) -> bool
 /// one.
 pub(crate) fn first_result<'a>(graph: &'a Graph, label: SingleLabel, from: &'a Id) -> Option<&'a Id>
     requires { HasChain (next_pairs graph.now) (id_value from.now) }
-    ensures { (xs : List IdValue) → IsChain (next_pairs graph.now) (id_value from.now) xs → option_map (λ i. id_value i.now) result ≡ first_of_list (single_pairs label graph.now) xs }
+    ensures { (xs : List IdValue) → IsChain (next_pairs graph.now) (id_value from.now) xs
+        → option_map (λ i. id_value i.now) result ≡ first_of_list (single_pairs label graph.now) xs }
 {
     let mut vertex = from;
     for _step in 0..graph.len() {

@@ -179,7 +179,8 @@ impl<'a> Chains<'a> {
     /// Goes along the chain of `next` edges from the vertex, up to one of which it's found what it has.
     fn walk(&self, alloc: Global, vertex: &'a Id) -> Result<Walk<'a>, AllocError>
         requires { AreChains self.now }
-        ensures { IfOk result (λ walk. IsWalk self.now.dump.now.elements self.now.borne.items (id_value vertex.now) (map (λ i. id_value i.now) walk.path.items) (along_value walk.after)) }
+        ensures { IfOk result (λ walk. IsWalk self.now.dump.now.elements self.now.borne.items (id_value vertex.now) (map (λ i. id_value i.now) walk.path.items)
+            (along_value walk.after)) }
     {
         chain_law();
         let mut path = Vec::new(alloc);

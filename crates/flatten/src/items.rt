@@ -68,7 +68,8 @@ fn add_pairs(
     source: &Id,
     targets: &[Id],
 ) -> Result<(), AllocError>
-    ensures { OnOk result (pairs.new.items ≡ pairs.old.items ++ flat_map (numbers_of_pair dump.now.elements) (map (λ to. (id_value source.now, to)) (id_values targets.now))) }
+    ensures { OnOk result (pairs.new.items ≡ pairs.old.items ++ flat_map (numbers_of_pair dump.now.elements)
+        (map (λ to. (id_value source.now, to)) (id_values targets.now))) }
 {
     for target in targets {
         if let Some(pair) = number_pair(dump, source, target) {
@@ -104,7 +105,8 @@ fn is_role(role: Role, property: Option<Property>) -> bool
 
 /// The number of the source with the place of the target, where each has one.
 fn placed<'a>(dump: &'a CheckedDump, source: &Id, target: &Id) -> Option<(u32, Place<'a>)>
-    ensures { option_map placed_values result ≡ with_places (number_of dump.now.elements (id_value source.now)) (option_map twice (place_of dump.now.elements (id_value target.now))) }
+    ensures { option_map placed_values result ≡ with_places (number_of dump.now.elements (id_value source.now))
+        (option_map twice (place_of dump.now.elements (id_value target.now))) }
 {
     match (number_of(dump, source), place_of(dump, target)) {
         (Some(number), Some(place)) => Some((number, place)),
@@ -119,7 +121,8 @@ fn add_places<'a>(
     source: &Id,
     targets: &[Id],
 ) -> Result<(), AllocError>
-    ensures { OnOk result (map placed_values items.new.items ≡ map placed_values items.old.items ++ flat_map (placed_of_pair dump.now.elements) (map (λ to. (id_value source.now, to)) (id_values targets.now))) }
+    ensures { OnOk result (map placed_values items.new.items ≡ map placed_values items.old.items
+        ++ flat_map (placed_of_pair dump.now.elements) (map (λ to. (id_value source.now, to)) (id_values targets.now))) }
 {
     for target in targets {
         if let Some(item) = placed(dump, source, target) {
@@ -136,7 +139,8 @@ pub(crate) fn add_items<'a>(
     role: Role,
     element: &Element,
 ) -> Result<(), AllocError>
-    ensures { OnOk result (map placed_values items.new.items ≡ map placed_values items.old.items ++ placed_in role dump.now.elements (element_value element.now)) }
+    ensures { OnOk result (map placed_values items.new.items ≡ map placed_values items.old.items
+        ++ placed_in role dump.now.elements (element_value element.now)) }
 {
     match element {
         Element::Edge(_, Edge::Item(item)) if is_role(role, item.property) => {

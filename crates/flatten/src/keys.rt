@@ -38,7 +38,8 @@ pub fn key_text(
     moniker: &Moniker,
     package: Option<&Package>,
 ) -> Result<String, FlattenFault>
-    ensures { IfOk result (λ text. string_bytes text ≡ key_text (key_value (moniker_value moniker.now) (option_map (λ p. package_value p.now) «package».entry))) }
+    ensures { IfOk result (λ text. string_bytes text ≡ key_text (key_value (moniker_value moniker.now)
+        (option_map (λ p. package_value p.now) «package».entry))) }
 {
     let mut text = String::new(alloc);
     push_counted(&mut text, moniker.scheme.as_str())?;

@@ -64,7 +64,9 @@ fn add_member(
     budget: &mut Budget,
 ) -> Result<(), FlattenFault>
     requires { AreChains chains.now }
-    ensures { OnOk result (Adds (map mark_row_value rows.old.items) (IsMarkOfVertex chains.now.dump.now.elements chains.now.borne.items (marks_in chains.now.dump.now.elements) number (id_value member.now)) (map mark_row_value rows.new.items)) }
+    ensures { OnOk result (Adds (map mark_row_value rows.old.items)
+        (IsMarkOfVertex chains.now.dump.now.elements chains.now.borne.items (marks_in chains.now.dump.now.elements) number (id_value member.now))
+        (map mark_row_value rows.new.items)) }
 {
     if let Some(vertex) = number_of(chains.dump, member) {
         let pairs = pairs_from(&chains.borne, vertex);
@@ -81,7 +83,8 @@ fn next_bearer<'a>(
     vertex: &Id,
 ) -> Result<Option<&'a Id>, AllocError>
     requires { AreChains chains.old }
-    ensures bearer { IfOk result (λ o. IsNextBearer chains.old.dump.now.elements chains.old.borne.items (id_value vertex.now) (option_map (λ i. id_value i.now) o)) }
+    ensures bearer { IfOk result (λ o. IsNextBearer chains.old.dump.now.elements chains.old.borne.items (id_value vertex.now)
+        (option_map (λ i. id_value i.now) o)) }
     ensures chains { OnOk result (AreChains chains.new) }
     ensures dump { chains.new.dump ≡ chains.old.dump }
     ensures borne { chains.new.borne ≡ chains.old.borne }
@@ -102,7 +105,9 @@ fn add_chain<'a>(
     budget: &mut Budget,
 ) -> Result<(), FlattenFault>
     requires { AreChains chains.old }
-    ensures rows { OnOk result (Adds (map mark_row_value rows.old.items) (IsMarkAlong chains.old.dump.now.elements chains.old.borne.items (marks_in chains.old.dump.now.elements) number (id_value range.now)) (map mark_row_value rows.new.items)) }
+    ensures rows { OnOk result (Adds (map mark_row_value rows.old.items)
+        (IsMarkAlong chains.old.dump.now.elements chains.old.borne.items (marks_in chains.old.dump.now.elements) number (id_value range.now))
+        (map mark_row_value rows.new.items)) }
     ensures chains { OnOk result (AreChains chains.new) }
     ensures dump { chains.new.dump ≡ chains.old.dump }
     ensures borne { chains.new.borne ≡ chains.old.borne }
@@ -129,7 +134,9 @@ fn add_range<'a>(
     budget: &mut Budget,
 ) -> Result<(), FlattenFault>
     requires { AreChains chains.old }
-    ensures rows { OnOk result (Adds (map mark_row_value rows.old.items) (IsMarkOfRange chains.old.dump.now.elements chains.old.borne.items (marks_in chains.old.dump.now.elements) (element_value element.now)) (map mark_row_value rows.new.items)) }
+    ensures rows { OnOk result (Adds (map mark_row_value rows.old.items)
+        (IsMarkOfRange chains.old.dump.now.elements chains.old.borne.items (marks_in chains.old.dump.now.elements) (element_value element.now))
+        (map mark_row_value rows.new.items)) }
     ensures chains { OnOk result (AreChains chains.new) }
     ensures dump { chains.new.dump ≡ chains.old.dump }
     ensures borne { chains.new.borne ≡ chains.old.borne }
@@ -232,7 +239,8 @@ fn add_bearer<'a>(
     requires faultless { IsFaultless (map Ok chains.old.dump.now.elements) }
     requires borne { IsBorneRow chains.old.dump.now.elements (mark_row_value mark) }
     requires rows { All (IsBearerRow chains.old.dump.now.elements) (map bearer_value rows.old.items) }
-    ensures marks { OnOk result (map bearer_mark (map bearer_value rows.new.items) ≡ map bearer_mark (map bearer_value rows.old.items) ++ mark_row_value mark ∷ []) }
+    ensures marks { OnOk result (map bearer_mark (map bearer_value rows.new.items) ≡ map bearer_mark (map bearer_value rows.old.items)
+        ++ mark_row_value mark ∷ []) }
     ensures rows { OnOk result (All (IsBearerRow chains.old.dump.now.elements) (map bearer_value rows.new.items)) }
     ensures chains { OnOk result (AreChains chains.new) }
     ensures dump { chains.new.dump ≡ chains.old.dump }

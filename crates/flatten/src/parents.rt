@@ -64,7 +64,8 @@ pub(crate) fn add_interval(
     dump: &CheckedDump,
     element: &Element,
 ) -> Result<(), AllocError>
-    ensures intervals { OnOk result (map interval_value intervals.new.items ≡ map interval_value intervals.old.items ++ intervals_in dump.now.elements (element_value element.now)) }
+    ensures intervals { OnOk result (map interval_value intervals.new.items ≡ map interval_value intervals.old.items
+        ++ intervals_in dump.now.elements (element_value element.now)) }
     ensures within { IsWithinLimit (element_value element.now) }
 {
     if let Element::Vertex(id, Vertex::Range(span)) = element {

@@ -69,7 +69,8 @@ pub(crate) fn add_found<'a>(
     requires faultless { IsFaultless (map Ok chains.old.dump.now.elements) }
     requires element { Contains chains.old.dump.now.elements (element_value element.now) }
     requires found { All (IsFoundRange chains.old.dump.now.elements) (map range_value found.old.items) }
-    ensures lines { OnOk result (map (λ r. r.line) (map range_value found.new.items) ≡ map (λ r. r.line) (map range_value found.old.items) ++ range_lines chains.old.dump.now.elements (element_value element.now)) }
+    ensures lines { OnOk result (map (λ r. r.line) (map range_value found.new.items) ≡ map (λ r. r.line) (map range_value found.old.items)
+        ++ range_lines chains.old.dump.now.elements (element_value element.now)) }
     ensures found { OnOk result (All (IsFoundRange chains.old.dump.now.elements) (map range_value found.new.items)) }
     ensures chains { OnOk result (AreChains chains.new) }
     ensures dump { chains.new.dump ≡ chains.old.dump }

@@ -18,7 +18,8 @@ pub(crate) fn read_dump(
     parameters: &Parameters<'_>,
 ) -> Result<Option<Upload>, AllocError>
     ensures asks { IfOk result (λ o. (body : List ℕ)
-        → option_map (upload_request body) o ≡ option_map (dump_put body) (both (project_name project.now) (both (key_in parameters.now) (profile_in parameters.now)))) }
+        → option_map (upload_request body) o ≡ option_map (dump_put body)
+        (both (project_name project.now) (both (key_in parameters.now) (profile_in parameters.now)))) }
     ensures stands { IfOk result (λ o. IfSome o (λ u. StandsFor u.body [])) }
 {
     let project = ProjectName::read(alloc, project)?;
@@ -62,7 +63,8 @@ pub(crate) fn read_removal<'b>(
     project: &str,
     parameters: &Parameters<'_>,
 ) -> Result<Option<Command<'b>>, AllocError>
-    ensures { IfOk result (λ o. option_map (λ c. command (command_value c)) o ≡ option_map (command_of remove) (both (project_name project.now) (key_in parameters.now))) }
+    ensures { IfOk result (λ o. option_map (λ c. command (command_value c)) o
+        ≡ option_map (command_of remove) (both (project_name project.now) (key_in parameters.now))) }
 {
     let project = ProjectName::read(alloc, project)?;
     let key = read_key(alloc, parameters)?;

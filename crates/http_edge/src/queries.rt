@@ -85,7 +85,8 @@ pub(crate) fn read_references(
     project: &str,
     parameters: &Parameters<'_>,
 ) -> Result<Option<Query>, AllocError>
-    ensures { IfOk result (λ o. option_map query_value o ≡ option_map references_of (both (place_in project.now parameters.now) (declaration_in parameters.now))) }
+    ensures { IfOk result (λ o. option_map query_value o ≡ option_map references_of
+        (both (place_in project.now parameters.now) (declaration_in parameters.now))) }
 {
     let place = read_place(alloc, project, parameters)?;
     let declaration = read_declaration(parameters);
@@ -146,7 +147,8 @@ pub(crate) fn read_tags_query(
     alloc: Global,
     parameters: &Parameters<'_>,
 ) -> Result<Option<Query>, AllocError>
-    ensures { IfOk result (λ o. option_map query_value o ≡ tags_of (parameter (codes "name") parameters.now) (parameter (codes "prefix") parameters.now) (searched_in parameters.now)) }
+    ensures { IfOk result (λ o. option_map query_value o ≡ tags_of (parameter (codes "name") parameters.now) (parameter (codes "prefix") parameters.now)
+        (searched_in parameters.now)) }
 {
     match (parameters.value("name"), parameters.value("prefix")) {
         (ParameterValue::Single(name), ParameterValue::Absent) => {

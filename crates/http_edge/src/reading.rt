@@ -184,7 +184,8 @@ impl MessageReader {
         requires count { R.failed r.old < 2 ^ 64 - 1 }
         requires line { IsWithin (length self.old) line.method × IsWithin (length self.old) line.target }
         requires taken { taken ≤ length self.old }
-        ensures message { TakesBody len (span_bytes self.old line.method) (span_bytes self.old line.target) (drop taken self.old) (R.left r.old) self.new (R.left r.new) result }
+        ensures message { TakesBody len (span_bytes self.old line.method) (span_bytes self.old line.target) (drop taken self.old) (R.left r.old) self.new
+            (R.left r.new) result }
         ensures counted { CountsFailure (R.failed r.old) (R.failed r.new) result }
     {
         let held = self.buffer.pending();

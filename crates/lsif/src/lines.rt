@@ -61,7 +61,13 @@ impl Model for LineBuffer {
 
     ghost Value = { LineBufferValue };
 
-    ghost view = { λ l. record { pending = begun l.cutter ++ l.buffer.pending; longest = l.cutter.longest; fault = l.fault; line = last_line l.cutter; has_feed = l.has_feed } };
+    ghost view = { λ l. record {
+      pending = begun l.cutter ++ l.buffer.pending;
+      longest = l.cutter.longest;
+      fault = l.fault;
+      line = last_line l.cutter;
+      has_feed = l.has_feed;
+    } };
 
     ghost invariant = { λ l. (0 < l.buffer.capacity) × IsLater l.fault × (l.fault ≡ None → l.cutter.state ≢ TooLong) };
 }
@@ -94,7 +100,8 @@ fn cut_line<S: Source>(
     requires count { S.failed source.old < 2 ^ 64 - 1 }
     requires room { 0 < buffer.old.capacity }
     requires begun { cutter.old.state ≢ LineState.TooLong }
-    ensures cut { CutsLine (unread (begun cutter.old ++ buffer.old.pending) (S.left source.old)) cutter.new result (unread (begun cutter.new ++ buffer.new.pending) (S.left source.new)) }
+    ensures cut { CutsLine (unread (begun cutter.old ++ buffer.old.pending) (S.left source.old)) cutter.new result
+        (unread (begun cutter.new ++ buffer.new.pending) (S.left source.new)) }
     ensures counted { CountsRead (S.failed source.old) (S.failed source.new) result }
     ensures capacity { buffer.new.capacity ≡ buffer.old.capacity }
     ensures longest { cutter.new.longest ≡ cutter.old.longest }
@@ -116,7 +123,8 @@ fn cut_line<S: Source>(
 impl LineBuffer {
     /// Room for lines of at most `longest` bytes, each without its line feed.
     pub fn new(alloc: Global, longest: usize) -> Result<LineBuffer, LinesFault>
-        ensures { MatchResult result (λ l. l ≡ record { pending = []; longest = longest; fault = None; line = []; has_feed = false }) (λ fault. fault ≡ LinesFault.Memory) }
+        ensures { MatchResult result (λ l. l ≡ record { pending = []; longest = longest; fault = None; line = []; has_feed = false })
+            (λ fault. fault ≡ LinesFault.Memory) }
     {
         let cutter = Cutter::new(alloc, longest)?;
         let buffer = Buffer::new(alloc, BUFFER_LEN)?;
@@ -132,7 +140,8 @@ impl LineBuffer {
     fn take_next<S: Source>(&mut self, source: &mut S) -> Result<bool, LinesFault>
         requires failures { S.failed source.old < 2 ^ 64 - 1 }
         requires sound { self.old.fault ≡ None }
-        ensures { NextTaken (over self.old (S.left source.old) (S.failed source.old)) (shown result self.new.line) (over self.new (S.left source.new) (S.failed source.new)) }
+        ensures { NextTaken (over self.old (S.left source.old) (S.failed source.old)) (shown result self.new.line)
+            (over self.new (S.left source.new) (S.failed source.new)) }
     {
         match cut_line(source, &mut self.buffer, &mut self.cutter) {
             Ok(None) => Ok(false),
@@ -151,7 +160,8 @@ impl LineBuffer {
     /// the same for good.
     pub fn advance<S: Source>(&mut self, source: &mut S) -> Result<bool, LinesFault>
         requires { S.failed source.old < 2 ^ 64 - 1 }
-        ensures { NextLine (over self.old (S.left source.old) (S.failed source.old)) (shown result self.new.line) (over self.new (S.left source.new) (S.failed source.new)) }
+        ensures { NextLine (over self.old (S.left source.old) (S.failed source.old)) (shown result self.new.line)
+            (over self.new (S.left source.new) (S.failed source.new)) }
     {
         match self.fault {
             Some(fault) => Err(fault),
@@ -179,7 +189,14 @@ impl<S: Source> Lines<S> {
     pub fn new(alloc: Global, source: S, longest: usize) -> Result<Lines<S>, LinesFault>
     where
         S: Drop,
-        ensures { MatchResult result (λ l. l ≡ record { left = S.left source; longest = longest; failures = S.failed source; fault = None; line = []; has_feed = false }) (λ fault. fault ≡ LinesFault.Memory) }
+        ensures { MatchResult result (λ l. l ≡ record {
+          left = S.left source;
+          longest = longest;
+          failures = S.failed source;
+          fault = None;
+          line = [];
+          has_feed = false;
+        }) (λ fault. fault ≡ LinesFault.Memory) }
     {
         let lines = LineBuffer::new(alloc, longest)?;
         Ok(Lines { source, lines })

@@ -42,7 +42,8 @@ abbrev pub mark_columns : MarkRowValue → Row
 mark_columns m = number m.range ∷ number (kind_index m.kind) ∷ Text m.key ∷ []
 
 abbrev pub bearer_columns : BearerRowValue → Row
-bearer_columns b = number b.line ∷ Text b.key ∷ number (kind_index b.kind) ∷ optional b.results.definition ∷ optional b.results.references ∷ optional b.results.hover ∷ []
+bearer_columns b =
+    number b.line ∷ Text b.key ∷ number (kind_index b.kind) ∷ optional b.results.definition ∷ optional b.results.references ∷ optional b.results.hover ∷ []
 
 abbrev pub profile_number : Profile → ℕ
 profile_number One = 1
@@ -81,7 +82,8 @@ nowhere t = []
 abbrev pub dump_rows : Profile → RowsValue → ℕ → List Row
 dump_rows profile flat =
     laid 24 (more_rows flat) (laid 22 (profile_columns profile ∷ []) (laid 15 (map bearer_columns flat.bearers) (laid 13 (map mark_columns flat.marks)
-    (laid 11 (map hover_columns flat.hovers) (laid 9 (map item_columns flat.items) (laid 7 (map range_columns flat.ranges) (laid 5 (map document_columns flat.documents) nowhere)))))))
+    (laid 11 (map hover_columns flat.hovers) (laid 9 (map item_columns flat.items)
+    (laid 7 (map range_columns flat.ranges) (laid 5 (map document_columns flat.documents) nowhere)))))))
 
 -- ---- tags
 

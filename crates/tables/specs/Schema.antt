@@ -67,13 +67,17 @@ abbrev pub format : Table
 format = format_at 0
 
 abbrev pub slot_at : ℕ → Table
-slot_at tree = by_rowid (codes "slot") tree (integer_column (codes "id") false ∷ text_column (codes "project") true ∷ integer_column (codes "part") true ∷ []) ((2 ∷ 3 ∷ []) ∷ []) (plain ∷ [])
+slot_at tree =
+    by_rowid (codes "slot") tree (integer_column (codes "id") false ∷ text_column (codes "project") true ∷ integer_column (codes "part") true ∷ [])
+    ((2 ∷ 3 ∷ []) ∷ []) (plain ∷ [])
 
 abbrev pub slot : Table
 slot = slot_at 1
 
 abbrev pub keyed_at : ℕ → Table
-keyed_at tree = keyed_by (codes "keyed") tree (text_column (codes "project") true ∷ text_column (codes "cmdkey") true ∷ text_column (codes "reply") true ∷ []) (1 ∷ 2 ∷ []) ([])
+keyed_at tree =
+    keyed_by (codes "keyed") tree (text_column (codes "project") true ∷ text_column (codes "cmdkey") true ∷ text_column (codes "reply") true ∷ []) (1 ∷ 2 ∷ [])
+    ([])
 
 abbrev pub keyed : Table
 keyed = keyed_at 3
@@ -85,67 +89,94 @@ abbrev pub document : Table
 document = document_at 5
 
 abbrev pub range_row_at : ℕ → Table
-range_row_at tree = keyed_by (codes "range_row") tree (integer_column (codes "slot") true ∷ integer_column (codes "line") true ∷ text_column (codes "uri") true ∷ integer_column (codes "first") true ∷ integer_column (codes "last") true ∷ integer_column (codes "parent") false ∷ integer_column (codes "def") false ∷ integer_column (codes "refs") false ∷ integer_column (codes "hover") false ∷ []) (1 ∷ 2 ∷ []) (to_slot ∷ [])
+range_row_at tree =
+    keyed_by (codes "range_row") tree (integer_column (codes "slot") true ∷ integer_column (codes "line") true ∷ text_column (codes "uri") true
+    ∷ integer_column (codes "first") true ∷ integer_column (codes "last") true ∷ integer_column (codes "parent") false ∷ integer_column (codes "def") false
+    ∷ integer_column (codes "refs") false ∷ integer_column (codes "hover") false ∷ []) (1 ∷ 2 ∷ []) (to_slot ∷ [])
 
 abbrev pub range_row : Table
 range_row = range_row_at 7
 
 abbrev pub item_at : ℕ → Table
-item_at tree = keyed_by (codes "item") tree (integer_column (codes "slot") true ∷ integer_column (codes "result") true ∷ integer_column (codes "role") true ∷ text_column (codes "uri") true ∷ integer_column (codes "first") true ∷ integer_column (codes "last") true ∷ []) (1 ∷ 2 ∷ 3 ∷ 4 ∷ 5 ∷ 6 ∷ []) (to_slot ∷ [])
+item_at tree =
+    keyed_by (codes "item") tree (integer_column (codes "slot") true ∷ integer_column (codes "result") true ∷ integer_column (codes "role") true
+    ∷ text_column (codes "uri") true ∷ integer_column (codes "first") true ∷ integer_column (codes "last") true ∷ []) (1 ∷ 2 ∷ 3 ∷ 4 ∷ 5 ∷ 6 ∷ [])
+    (to_slot ∷ [])
 
 abbrev pub item : Table
 item = item_at 9
 
 abbrev pub hover_at : ℕ → Table
-hover_at tree = keyed_by (codes "hover") tree (integer_column (codes "slot") true ∷ integer_column (codes "result") true ∷ text_column (codes "contents") true ∷ []) (1 ∷ 2 ∷ []) (to_slot ∷ [])
+hover_at tree =
+    keyed_by (codes "hover") tree (integer_column (codes "slot") true ∷ integer_column (codes "result") true ∷ text_column (codes "contents") true ∷ [])
+    (1 ∷ 2 ∷ []) (to_slot ∷ [])
 
 abbrev pub hover : Table
 hover = hover_at 11
 
 abbrev pub mark_at : ℕ → Table
-mark_at tree = keyed_by (codes "mark") tree (integer_column (codes "slot") true ∷ integer_column (codes "line") true ∷ integer_column (codes "kind") true ∷ text_column (codes "keytext") true ∷ []) (1 ∷ 2 ∷ 3 ∷ 4 ∷ []) (to_slot ∷ [])
+mark_at tree =
+    keyed_by (codes "mark") tree (integer_column (codes "slot") true ∷ integer_column (codes "line") true ∷ integer_column (codes "kind") true
+    ∷ text_column (codes "keytext") true ∷ []) (1 ∷ 2 ∷ 3 ∷ 4 ∷ []) (to_slot ∷ [])
 
 abbrev pub mark : Table
 mark = mark_at 13
 
 abbrev pub bearer_at : ℕ → Table
-bearer_at tree = keyed_by (codes "bearer") tree (integer_column (codes "slot") true ∷ integer_column (codes "line") true ∷ text_column (codes "keytext") true ∷ integer_column (codes "kind") true ∷ integer_column (codes "def") false ∷ integer_column (codes "refs") false ∷ integer_column (codes "hover") false ∷ []) (1 ∷ 2 ∷ 3 ∷ 4 ∷ []) (to_slot ∷ [])
+bearer_at tree =
+    keyed_by (codes "bearer") tree (integer_column (codes "slot") true ∷ integer_column (codes "line") true ∷ text_column (codes "keytext") true
+    ∷ integer_column (codes "kind") true ∷ integer_column (codes "def") false ∷ integer_column (codes "refs") false ∷ integer_column (codes "hover") false ∷ [])
+    (1 ∷ 2 ∷ 3 ∷ 4 ∷ []) (to_slot ∷ [])
 
 abbrev pub bearer : Table
 bearer = bearer_at 15
 
 abbrev pub tag_at : ℕ → Table
-tag_at tree = keyed_by (codes "tag") tree (integer_column (codes "slot") true ∷ integer_column (codes "line") true ∷ text_column (codes "name") true ∷ text_column (codes "file") true ∷ text_column (codes "address") true ∷ text_column (codes "kind") false ∷ text_column (codes "fields") true ∷ []) (1 ∷ 2 ∷ []) (to_slot ∷ [])
+tag_at tree =
+    keyed_by (codes "tag") tree (integer_column (codes "slot") true ∷ integer_column (codes "line") true ∷ text_column (codes "name") true
+    ∷ text_column (codes "file") true ∷ text_column (codes "address") true ∷ text_column (codes "kind") false ∷ text_column (codes "fields") true ∷ [])
+    (1 ∷ 2 ∷ []) (to_slot ∷ [])
 
 abbrev pub tag : Table
 tag = tag_at 17
 
 abbrev pub part_profile_at : ℕ → Table
-part_profile_at tree = record (keyed_by (codes "part_profile") tree (integer_column (codes "slot") true ∷ integer_column (codes "profile") true ∷ []) (1 ∷ []) (to_slot ∷ [])) { primary = [] }
+part_profile_at tree =
+    record (keyed_by (codes "part_profile") tree (integer_column (codes "slot") true ∷ integer_column (codes "profile") true ∷ []) (1 ∷ [])
+    (to_slot ∷ [])) { primary = [] }
 
 abbrev pub part_profile : Table
 part_profile = part_profile_at 22
 
 abbrev pub more_at : ℕ → Table
-more_at tree = keyed_by (codes "more") tree (integer_column (codes "slot") true ∷ integer_column (codes "line") true ∷ integer_column (codes "decl") false ∷ integer_column (codes "imp") false ∷ []) (1 ∷ 2 ∷ []) (to_slot ∷ [])
+more_at tree =
+    keyed_by (codes "more") tree (integer_column (codes "slot") true ∷ integer_column (codes "line") true ∷ integer_column (codes "decl") false
+    ∷ integer_column (codes "imp") false ∷ []) (1 ∷ 2 ∷ []) (to_slot ∷ [])
 
 abbrev pub more : Table
 more = more_at 24
 
 abbrev pub range_by_start_on : ℕ → ℕ → Index
-range_by_start_on tree on = record { name = codes "range_by_start"; tree = tree; table = on; columns = 1 ∷ 3 ∷ 4 ∷ 5 ∷ []; order = record { digits = 512 }; is_unique = false }
+range_by_start_on tree on =
+    record { name = codes "range_by_start"; tree = tree; table = on; columns = 1 ∷ 3 ∷ 4 ∷ 5 ∷ []; order = record { digits = 512 }; is_unique = false }
 
 abbrev pub bearer_by_key_on : ℕ → ℕ → Index
-bearer_by_key_on tree on = record { name = codes "bearer_by_key"; tree = tree; table = on; columns = 3 ∷ 4 ∷ []; order = record { digits = 0 }; is_unique = false }
+bearer_by_key_on tree on =
+    record { name = codes "bearer_by_key"; tree = tree; table = on; columns = 3 ∷ 4 ∷ []; order = record { digits = 0 }; is_unique = false }
 
 abbrev pub tag_by_name_on : ℕ → ℕ → Index
-tag_by_name_on tree on = record { name = codes "tag_by_name"; tree = tree; table = on; columns = 3 ∷ 1 ∷ 2 ∷ []; order = record { digits = 0 }; is_unique = false }
+tag_by_name_on tree on =
+    record { name = codes "tag_by_name"; tree = tree; table = on; columns = 3 ∷ 1 ∷ 2 ∷ []; order = record { digits = 0 }; is_unique = false }
 
 -- format 1: ten tables
 abbrev pub schema_one : Schema
 schema_one = record {
   tables = format ∷ slot ∷ keyed ∷ document ∷ range_row ∷ item ∷ hover ∷ mark ∷ bearer ∷ tag ∷ [];
-  indexes = key_of (codes "sqlite_autoindex_slot_1") 1 (2 ∷ 3 ∷ []) ∷ key_of (codes "sqlite_autoindex_keyed_1") 3 (1 ∷ 2 ∷ []) ∷ key_of (codes "sqlite_autoindex_document_1") 5 (1 ∷ 2 ∷ []) ∷ key_of (codes "sqlite_autoindex_range_row_1") 7 (1 ∷ 2 ∷ []) ∷ key_of (codes "sqlite_autoindex_item_1") 9 (1 ∷ 2 ∷ 3 ∷ 4 ∷ 5 ∷ 6 ∷ []) ∷ key_of (codes "sqlite_autoindex_hover_1") 11 (1 ∷ 2 ∷ []) ∷ key_of (codes "sqlite_autoindex_mark_1") 13 (1 ∷ 2 ∷ 3 ∷ 4 ∷ []) ∷ key_of (codes "sqlite_autoindex_bearer_1") 15 (1 ∷ 2 ∷ 3 ∷ 4 ∷ []) ∷ key_of (codes "sqlite_autoindex_tag_1") 17 (1 ∷ 2 ∷ []) ∷ [];
+  indexes = key_of (codes "sqlite_autoindex_slot_1") 1 (2 ∷ 3 ∷ []) ∷ key_of (codes "sqlite_autoindex_keyed_1") 3 (1 ∷ 2 ∷ [])
+      ∷ key_of (codes "sqlite_autoindex_document_1") 5 (1 ∷ 2 ∷ []) ∷ key_of (codes "sqlite_autoindex_range_row_1") 7 (1 ∷ 2 ∷ [])
+      ∷ key_of (codes "sqlite_autoindex_item_1") 9 (1 ∷ 2 ∷ 3 ∷ 4 ∷ 5 ∷ 6 ∷ []) ∷ key_of (codes "sqlite_autoindex_hover_1") 11 (1 ∷ 2 ∷ [])
+      ∷ key_of (codes "sqlite_autoindex_mark_1") 13 (1 ∷ 2 ∷ 3 ∷ 4 ∷ []) ∷ key_of (codes "sqlite_autoindex_bearer_1") 15 (1 ∷ 2 ∷ 3 ∷ 4 ∷ [])
+      ∷ key_of (codes "sqlite_autoindex_tag_1") 17 (1 ∷ 2 ∷ []) ∷ [];
   views = [];
 }
 
@@ -153,6 +184,11 @@ schema_one = record {
 abbrev pub schema_two : Schema
 schema_two = record {
   tables = format ∷ slot ∷ keyed ∷ document ∷ range_row ∷ item ∷ hover ∷ mark ∷ bearer ∷ tag ∷ part_profile ∷ more ∷ [];
-  indexes = key_of (codes "sqlite_autoindex_slot_1") 1 (2 ∷ 3 ∷ []) ∷ key_of (codes "sqlite_autoindex_keyed_1") 3 (1 ∷ 2 ∷ []) ∷ key_of (codes "sqlite_autoindex_document_1") 5 (1 ∷ 2 ∷ []) ∷ key_of (codes "sqlite_autoindex_range_row_1") 7 (1 ∷ 2 ∷ []) ∷ key_of (codes "sqlite_autoindex_item_1") 9 (1 ∷ 2 ∷ 3 ∷ 4 ∷ 5 ∷ 6 ∷ []) ∷ key_of (codes "sqlite_autoindex_hover_1") 11 (1 ∷ 2 ∷ []) ∷ key_of (codes "sqlite_autoindex_mark_1") 13 (1 ∷ 2 ∷ 3 ∷ 4 ∷ []) ∷ key_of (codes "sqlite_autoindex_bearer_1") 15 (1 ∷ 2 ∷ 3 ∷ 4 ∷ []) ∷ key_of (codes "sqlite_autoindex_tag_1") 17 (1 ∷ 2 ∷ []) ∷ range_by_start_on 19 7 ∷ bearer_by_key_on 20 15 ∷ tag_by_name_on 21 17 ∷ key_of (codes "sqlite_autoindex_part_profile_1") 22 (1 ∷ []) ∷ key_of (codes "sqlite_autoindex_more_1") 24 (1 ∷ 2 ∷ []) ∷ [];
+  indexes = key_of (codes "sqlite_autoindex_slot_1") 1 (2 ∷ 3 ∷ []) ∷ key_of (codes "sqlite_autoindex_keyed_1") 3 (1 ∷ 2 ∷ [])
+      ∷ key_of (codes "sqlite_autoindex_document_1") 5 (1 ∷ 2 ∷ []) ∷ key_of (codes "sqlite_autoindex_range_row_1") 7 (1 ∷ 2 ∷ [])
+      ∷ key_of (codes "sqlite_autoindex_item_1") 9 (1 ∷ 2 ∷ 3 ∷ 4 ∷ 5 ∷ 6 ∷ []) ∷ key_of (codes "sqlite_autoindex_hover_1") 11 (1 ∷ 2 ∷ [])
+      ∷ key_of (codes "sqlite_autoindex_mark_1") 13 (1 ∷ 2 ∷ 3 ∷ 4 ∷ []) ∷ key_of (codes "sqlite_autoindex_bearer_1") 15 (1 ∷ 2 ∷ 3 ∷ 4 ∷ [])
+      ∷ key_of (codes "sqlite_autoindex_tag_1") 17 (1 ∷ 2 ∷ []) ∷ range_by_start_on 19 7 ∷ bearer_by_key_on 20 15 ∷ tag_by_name_on 21 17
+      ∷ key_of (codes "sqlite_autoindex_part_profile_1") 22 (1 ∷ []) ∷ key_of (codes "sqlite_autoindex_more_1") 24 (1 ∷ 2 ∷ []) ∷ [];
   views = [];
 }

@@ -53,7 +53,8 @@ FindsProjects m = IsListing project_cmp (IsProject m)
 
 -- the hover result of this number, in the project's dump, has these contents
 abbrev pub HasHover : State → List ℕ → ℕ → List ℕ → Type 0
-HasHover m project result contents = (dump : DumpValue) × (m.dump project ≡ Some dump) × IsHoverRow dump.elements (record { result = result; contents = contents })
+HasHover m project result contents =
+    (dump : DumpValue) × (m.dump project ≡ Some dump) × IsHoverRow dump.elements (record { result = result; contents = contents })
 
 -- the contents of the hover result, or none where there is no such result
 abbrev pub FindsHover : State → List ℕ → ℕ → Option (List ℕ) → Type 0
@@ -72,7 +73,8 @@ mark_found mark = record { kind = mark.kind; key = string_bytes mark.key }
 
 -- the range at this line of the project's dump has the mark
 abbrev pub HasMark : State → List ℕ → ℕ → MarkText → Type 0
-HasMark m project line mark = (dump : DumpValue) × (m.dump project ≡ Some dump) × IsMarkRow dump.elements (record { range = line; kind = mark.kind; key = mark.key })
+HasMark m project line mark =
+    (dump : DumpValue) × (m.dump project ≡ Some dump) × IsMarkRow dump.elements (record { range = line; kind = mark.kind; key = mark.key })
 
 -- by kind, then by key
 abbrev pub mark_text_cmp : MarkText → MarkText → Ordering
@@ -89,7 +91,8 @@ item_found item = record { uri = rc_str_bytes item.uri; span = item.span }
 
 -- the result of this number, in the project's dump, has the place in the role
 abbrev pub HasItem : State → List ℕ → ℕ → Role → PlaceValue → Type 0
-HasItem m project result role place = (dump : DumpValue) × (m.dump project ≡ Some dump) × IsItemRow dump.elements (record { result = result; role = role; place = place })
+HasItem m project result role place =
+    (dump : DumpValue) × (m.dump project ≡ Some dump) × IsItemRow dump.elements (record { result = result; role = role; place = place })
 
 -- the places of the result in the role, each once
 abbrev pub FindsItems : State → List ℕ → ℕ → Role → List PlaceValue → Type 0

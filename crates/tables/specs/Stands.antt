@@ -43,7 +43,8 @@ replies_of m project key = option_map accepted_text (m.kept project key)
 
 -- The database lists the tables of a schema. They keep rows for each part, which are those of the state's dumps and tags, and its replies: rows as a
 -- format keeps them.
-pub record StandsIn (schema : Schema) (KeepsRows : Trees → Contents → Replies → Type 0) (IsDumpOf : DumpValue → (ℕ → List Row) → Type 0) (db : Trees) (m : State) : Type 0 where
+pub record StandsIn (schema : Schema) (KeepsRows : Trees → Contents → Replies → Type 0) (IsDumpOf : DumpValue → (ℕ → List Row) → Type 0) (db : Trees)
+    (m : State) : Type 0 where
   pub listed : IsListed schema db
   pub parts : Contents
   pub keeps : KeepsRows db parts (replies_of m)

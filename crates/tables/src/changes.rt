@@ -39,7 +39,8 @@ fn change_dump<S: Alter>(
         → (state S.Store tx.old.conn.now).now.schema ≡ schema_two
         → (parts : Contents) (replies : Replies) → Keeps (state S.Store tx.old.conn.now).now.trees parts replies → replies project.now key.now ≡ None
         → OnOk result (GoesOn (state S.Store tx.old.conn.now) (state S.Store tx.new.conn.now)
-        × Keeps (state S.Store tx.new.conn.now).now.trees (replaced parts project.now (pos 1) (Some (dump_rows rows.now.profile (rows_value rows.now)))) (kept replies project.now key.now reply.now)
+        × Keeps (state S.Store tx.new.conn.now).now.trees (replaced parts project.now (pos 1) (Some (dump_rows rows.now.profile (rows_value rows.now))))
+        (kept replies project.now key.now reply.now)
         × IsListed schema_two (state S.Store tx.new.conn.now).now.trees) }
     ensures kept { HasCleanDisk (state S.Store tx.new.conn.now) → KeepsCommit (state S.Store tx.old.conn.now) (state S.Store tx.new.conn.now) }
     ensures survives { Survives (state S.Store tx.old.conn.now) (state S.Store tx.new.conn.now) (λ _. ⊥) }
@@ -94,7 +95,8 @@ fn change_tags<S: Alter>(
         → (state S.Store tx.old.conn.now).now.schema ≡ schema_two
         → (parts : Contents) (replies : Replies) → Keeps (state S.Store tx.old.conn.now).now.trees parts replies → replies project.now key.now ≡ None
         → OnOk result (GoesOn (state S.Store tx.old.conn.now) (state S.Store tx.new.conn.now)
-        × Keeps (state S.Store tx.new.conn.now).now.trees (replaced parts project.now (pos 2) (Some (tag_rows (tag_values tags.now)))) (kept replies project.now key.now reply.now)
+        × Keeps (state S.Store tx.new.conn.now).now.trees (replaced parts project.now (pos 2) (Some (tag_rows (tag_values tags.now))))
+        (kept replies project.now key.now reply.now)
         × IsListed schema_two (state S.Store tx.new.conn.now).now.trees) }
     ensures kept { HasCleanDisk (state S.Store tx.new.conn.now) → KeepsCommit (state S.Store tx.old.conn.now) (state S.Store tx.new.conn.now) }
     ensures survives { Survives (state S.Store tx.old.conn.now) (state S.Store tx.new.conn.now) (λ _. ⊥) }
@@ -181,7 +183,8 @@ fn change_both<S: Alter>(
         → (parts : Contents) (replies : Replies) → Keeps (state S.Store tx.old.conn.now).now.trees parts replies → replies project.now key.now ≡ None
         → IfOk result (λ was_there. (was_there ≡ (is_some (parts project.now (pos 1)) || is_some (parts project.now (pos 2))))
         × GoesOn (state S.Store tx.old.conn.now) (state S.Store tx.new.conn.now)
-        × Keeps (state S.Store tx.new.conn.now).now.trees (replaced (replaced parts project.now (pos 1) None) project.now (pos 2) None) (kept replies project.now key.now (accepted_text (parts_removed was_there)))
+        × Keeps (state S.Store tx.new.conn.now).now.trees (replaced (replaced parts project.now (pos 1) None) project.now (pos 2) None)
+        (kept replies project.now key.now (accepted_text (parts_removed was_there)))
         × IsListed schema_two (state S.Store tx.new.conn.now).now.trees) }
     ensures kept { HasCleanDisk (state S.Store tx.new.conn.now) → KeepsCommit (state S.Store tx.old.conn.now) (state S.Store tx.new.conn.now) }
     ensures survives { Survives (state S.Store tx.old.conn.now) (state S.Store tx.new.conn.now) (λ _. ⊥) }

@@ -24,8 +24,10 @@ fn insert_places<S: Alter>(
 ) -> Result<(), Error>
     ensures same_reference { tx.new.conn.ghost_name ≡ tx.old.conn.ghost_name }
     ensures put { HasCleanDisk (state S.Store tx.new.conn.now) → IsTrue tx.old.conn.now.in_transaction → (state S.Store tx.old.conn.now).now.schema ≡ schema_two
-        → OnOk result (Steps (Then (PutsAll 5 (map (λ columns. Int slot ∷ columns) (map document_columns (rows_value rows.now).documents))) (Then (PutsAll 7 (map (λ columns. Int slot ∷ columns) (map range_columns (rows_value rows.now).ranges)))
-        (PutsAll 9 (map (λ columns. Int slot ∷ columns) (map item_columns (rows_value rows.now).items))))) (state S.Store tx.old.conn.now) (state S.Store tx.new.conn.now)) }
+        → OnOk result (Steps (Then (PutsAll 5 (map (λ columns. Int slot ∷ columns) (map document_columns (rows_value rows.now).documents)))
+        (Then (PutsAll 7 (map (λ columns. Int slot ∷ columns) (map range_columns (rows_value rows.now).ranges)))
+        (PutsAll 9 (map (λ columns. Int slot ∷ columns) (map item_columns (rows_value rows.now).items))))) (state S.Store tx.old.conn.now)
+        (state S.Store tx.new.conn.now)) }
     ensures kept { HasCleanDisk (state S.Store tx.new.conn.now) → KeepsCommit (state S.Store tx.old.conn.now) (state S.Store tx.new.conn.now) }
     ensures survives { Survives (state S.Store tx.old.conn.now) (state S.Store tx.new.conn.now) (λ _. ⊥) }
 {
@@ -42,8 +44,10 @@ fn insert_contents<S: Alter>(
 ) -> Result<(), Error>
     ensures same_reference { tx.new.conn.ghost_name ≡ tx.old.conn.ghost_name }
     ensures put { HasCleanDisk (state S.Store tx.new.conn.now) → IsTrue tx.old.conn.now.in_transaction → (state S.Store tx.old.conn.now).now.schema ≡ schema_two
-        → OnOk result (Steps (Then (PutsAll 11 (map (λ columns. Int slot ∷ columns) (map hover_columns (rows_value rows.now).hovers))) (Then (PutsAll 13 (map (λ columns. Int slot ∷ columns) (map mark_columns (rows_value rows.now).marks)))
-        (PutsAll 15 (map (λ columns. Int slot ∷ columns) (map bearer_columns (rows_value rows.now).bearers))))) (state S.Store tx.old.conn.now) (state S.Store tx.new.conn.now)) }
+        → OnOk result (Steps (Then (PutsAll 11 (map (λ columns. Int slot ∷ columns) (map hover_columns (rows_value rows.now).hovers)))
+        (Then (PutsAll 13 (map (λ columns. Int slot ∷ columns) (map mark_columns (rows_value rows.now).marks)))
+        (PutsAll 15 (map (λ columns. Int slot ∷ columns) (map bearer_columns (rows_value rows.now).bearers))))) (state S.Store tx.old.conn.now)
+        (state S.Store tx.new.conn.now)) }
     ensures kept { HasCleanDisk (state S.Store tx.new.conn.now) → KeepsCommit (state S.Store tx.old.conn.now) (state S.Store tx.new.conn.now) }
     ensures survives { Survives (state S.Store tx.old.conn.now) (state S.Store tx.new.conn.now) (λ _. ⊥) }
 {
@@ -90,7 +94,8 @@ pub(crate) fn insert_dump<S: Alter>(
     ensures put { HasCleanDisk (state S.Store tx.new.conn.now) → IsTrue tx.old.conn.now.in_transaction → (state S.Store tx.old.conn.now).now.schema ≡ schema_two
         → (parts : Contents) (replies : Replies) → Keeps (state S.Store tx.old.conn.now).now.trees (changed parts project.now (pos 1) None) replies
         → OnOk result (GoesOn (state S.Store tx.old.conn.now) (state S.Store tx.new.conn.now)
-        × Keeps (state S.Store tx.new.conn.now).now.trees (changed parts project.now (pos 1) (Some (dump_rows rows.now.profile (rows_value rows.now)))) replies) }
+        × Keeps (state S.Store tx.new.conn.now).now.trees (changed parts project.now (pos 1) (Some (dump_rows rows.now.profile (rows_value rows.now))))
+        replies) }
     ensures kept { HasCleanDisk (state S.Store tx.new.conn.now) → KeepsCommit (state S.Store tx.old.conn.now) (state S.Store tx.new.conn.now) }
     ensures survives { Survives (state S.Store tx.old.conn.now) (state S.Store tx.new.conn.now) (λ _. ⊥) }
 {

@@ -1,5 +1,5 @@
 //! The index in a database: its tables, opened, made where there are none, and made of those of the format before; the parts of projects, replaced
-//! and removed; and what is selected of them.
+//! and removed; and what is selected of them. Its tests call public functions alone, and stand in `codenav` (`tests/databases`).
 #![tactic(auto)]
 
 mod bearers;
@@ -40,6 +40,3 @@ pub use memory_disk::MemoryDisk;
 pub use migration::migrate;
 pub use projects::ProjectRow;
 pub use tables::Tables;
-
-#[cfg(test)]
-mod tests;

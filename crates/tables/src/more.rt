@@ -25,7 +25,8 @@ fn insert_row<S: Alter>(
 ) -> Result<usize, Error>
     ensures same_reference { tx.new.conn.ghost_name ≡ tx.old.conn.ghost_name }
     ensures put { HasCleanDisk (state S.Store tx.new.conn.now) → IsTrue tx.old.conn.now.in_transaction → (state S.Store tx.old.conn.now).now.schema ≡ schema_two
-        → OnOk result (Steps (PutsAll 24 ((Int slot ∷ number line ∷ optional decl ∷ optional imp ∷ []) ∷ [])) (state S.Store tx.old.conn.now) (state S.Store tx.new.conn.now)) }
+        → OnOk result (Steps (PutsAll 24 ((Int slot ∷ number line ∷ optional decl ∷ optional imp ∷ []) ∷ [])) (state S.Store tx.old.conn.now)
+        (state S.Store tx.new.conn.now)) }
     ensures kept { HasCleanDisk (state S.Store tx.new.conn.now) → KeepsCommit (state S.Store tx.old.conn.now) (state S.Store tx.new.conn.now) }
     ensures survives { Survives (state S.Store tx.old.conn.now) (state S.Store tx.new.conn.now) (λ _. ⊥) }
 {
@@ -45,7 +46,8 @@ fn insert_line<S: Alter>(
 ) -> Result<(), Error>
     ensures same_reference { tx.new.conn.ghost_name ≡ tx.old.conn.ghost_name }
     ensures put { HasCleanDisk (state S.Store tx.new.conn.now) → IsTrue tx.old.conn.now.in_transaction → (state S.Store tx.old.conn.now).now.schema ≡ schema_two
-        → OnOk result (Steps (PutsAll 24 (map (λ columns. Int slot ∷ columns) (more_columns line decl imp))) (state S.Store tx.old.conn.now) (state S.Store tx.new.conn.now)) }
+        → OnOk result (Steps (PutsAll 24 (map (λ columns. Int slot ∷ columns) (more_columns line decl imp))) (state S.Store tx.old.conn.now)
+        (state S.Store tx.new.conn.now)) }
     ensures kept { HasCleanDisk (state S.Store tx.new.conn.now) → KeepsCommit (state S.Store tx.old.conn.now) (state S.Store tx.new.conn.now) }
     ensures survives { Survives (state S.Store tx.old.conn.now) (state S.Store tx.new.conn.now) (λ _. ⊥) }
 {
@@ -64,7 +66,8 @@ fn insert_ranges<S: Alter>(
 ) -> Result<(), Error>
     ensures same_reference { tx.new.conn.ghost_name ≡ tx.old.conn.ghost_name }
     ensures put { HasCleanDisk (state S.Store tx.new.conn.now) → IsTrue tx.old.conn.now.in_transaction → (state S.Store tx.old.conn.now).now.schema ≡ schema_two
-        → OnOk result (Steps (PutsAll 24 (flat_map (λ row. map (λ columns. Int slot ∷ columns) (range_more (range_value row))) ranges.now)) (state S.Store tx.old.conn.now) (state S.Store tx.new.conn.now)) }
+        → OnOk result (Steps (PutsAll 24 (flat_map (λ row. map (λ columns. Int slot ∷ columns) (range_more (range_value row))) ranges.now))
+        (state S.Store tx.old.conn.now) (state S.Store tx.new.conn.now)) }
     ensures kept { HasCleanDisk (state S.Store tx.new.conn.now) → KeepsCommit (state S.Store tx.old.conn.now) (state S.Store tx.new.conn.now) }
     ensures survives { Survives (state S.Store tx.old.conn.now) (state S.Store tx.new.conn.now) (λ _. ⊥) }
 {
@@ -85,7 +88,8 @@ fn has_same(bearer: &BearerRow, line: u32, decl: Option<u32>, imp: Option<u32>) 
 fn is_listed(rows: &Rows<'_>, at: usize, bearer: &BearerRow) -> bool
     requires { at ≤ length rows.now.bearers.items }
     ensures { IsTrue result → (row : Columns) → Has (bearer_more (bearer_value bearer.now)) row
-        → Has (flat_map (λ r. range_more (range_value r)) rows.now.ranges.items) row ⊎ Has (flat_map (λ b. bearer_more (bearer_value b)) (take at rows.now.bearers.items)) row }
+        → Has (flat_map (λ r. range_more (range_value r)) rows.now.ranges.items) row
+        ⊎ Has (flat_map (λ b. bearer_more (bearer_value b)) (take at rows.now.bearers.items)) row }
 {
     if let Some(before) = rows.bearers[..at].last() {
         if has_same(bearer, before.line, before.decl, before.imp) {
@@ -119,7 +123,8 @@ fn insert_bearer<S: Alter>(
         → Holds (state S.Store tx.old.conn.now).now.trees 24 row)
         → ((row : Columns) → Has (map (λ columns. Int slot ∷ columns) (flat_map (λ b. bearer_more (bearer_value b)) (take at rows.now.bearers.items))) row
         → Holds (state S.Store tx.old.conn.now).now.trees 24 row)
-        → OnOk result (Steps (PutsAll 24 (map (λ columns. Int slot ∷ columns) (bearer_more (bearer_value bearer.now)))) (state S.Store tx.old.conn.now) (state S.Store tx.new.conn.now)) }
+        → OnOk result (Steps (PutsAll 24 (map (λ columns. Int slot ∷ columns) (bearer_more (bearer_value bearer.now)))) (state S.Store tx.old.conn.now)
+        (state S.Store tx.new.conn.now)) }
     ensures kept { HasCleanDisk (state S.Store tx.new.conn.now) → KeepsCommit (state S.Store tx.old.conn.now) (state S.Store tx.new.conn.now) }
     ensures survives { Survives (state S.Store tx.old.conn.now) (state S.Store tx.new.conn.now) (λ _. ⊥) }
 {
@@ -139,7 +144,8 @@ fn insert_bearers<S: Alter>(
     ensures put { HasCleanDisk (state S.Store tx.new.conn.now) → IsTrue tx.old.conn.now.in_transaction → (state S.Store tx.old.conn.now).now.schema ≡ schema_two
         → ((row : Columns) → Has (map (λ columns. Int slot ∷ columns) (flat_map (λ r. range_more (range_value r)) rows.now.ranges.items)) row
         → Holds (state S.Store tx.old.conn.now).now.trees 24 row)
-        → OnOk result (Steps (PutsAll 24 (flat_map (λ b. map (λ columns. Int slot ∷ columns) (bearer_more (bearer_value b))) rows.now.bearers.items)) (state S.Store tx.old.conn.now) (state S.Store tx.new.conn.now)) }
+        → OnOk result (Steps (PutsAll 24 (flat_map (λ b. map (λ columns. Int slot ∷ columns) (bearer_more (bearer_value b))) rows.now.bearers.items))
+        (state S.Store tx.old.conn.now) (state S.Store tx.new.conn.now)) }
     ensures kept { HasCleanDisk (state S.Store tx.new.conn.now) → KeepsCommit (state S.Store tx.old.conn.now) (state S.Store tx.new.conn.now) }
     ensures survives { Survives (state S.Store tx.old.conn.now) (state S.Store tx.new.conn.now) (λ _. ⊥) }
 {
@@ -157,7 +163,8 @@ pub(crate) fn insert_more<S: Alter>(
 ) -> Result<(), Error>
     ensures same_reference { tx.new.conn.ghost_name ≡ tx.old.conn.ghost_name }
     ensures put { HasCleanDisk (state S.Store tx.new.conn.now) → IsTrue tx.old.conn.now.in_transaction → (state S.Store tx.old.conn.now).now.schema ≡ schema_two
-        → OnOk result (Steps (PutsAll 24 (map (λ columns. Int slot ∷ columns) (more_rows (rows_value rows.now)))) (state S.Store tx.old.conn.now) (state S.Store tx.new.conn.now)) }
+        → OnOk result (Steps (PutsAll 24 (map (λ columns. Int slot ∷ columns) (more_rows (rows_value rows.now)))) (state S.Store tx.old.conn.now)
+        (state S.Store tx.new.conn.now)) }
     ensures kept { HasCleanDisk (state S.Store tx.new.conn.now) → KeepsCommit (state S.Store tx.old.conn.now) (state S.Store tx.new.conn.now) }
     ensures survives { Survives (state S.Store tx.old.conn.now) (state S.Store tx.new.conn.now) (λ _. ⊥) }
 {

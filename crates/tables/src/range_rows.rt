@@ -32,7 +32,8 @@ pub(crate) struct SlotRange {
 }
 
 impl Listed for SlotRange {
-    ghost columns = { λ r. number r.line ∷ position r.span.start ∷ position r.span.«end» ∷ optional r.parent ∷ optional r.def ∷ optional r.refs ∷ optional r.hover ∷ [] };
+    ghost columns = { λ r. number r.line ∷ position r.span.start ∷ position r.span.«end» ∷ optional r.parent ∷ optional r.def ∷ optional r.refs
+        ∷ optional r.hover ∷ [] };
 
     ghost is_sound = { λ r. IsPosition r.span.start × IsPosition r.span.«end» };
 

@@ -59,7 +59,8 @@ pub(crate) fn insert_slot<S: Alter>(
 ) -> Result<i64, Error>
     ensures same_reference { tx.new.conn.ghost_name ≡ tx.old.conn.ghost_name }
     ensures put { HasCleanDisk (state S.Store tx.new.conn.now) → IsTrue tx.old.conn.now.in_transaction → (state S.Store tx.old.conn.now).now.schema ≡ schema_two
-        → IfOk result (λ id. Steps (Puts 1 id (Null ∷ Text project.now ∷ Int (part_number part) ∷ [])) (state S.Store tx.old.conn.now) (state S.Store tx.new.conn.now)) }
+        → IfOk result (λ id. Steps (Puts 1 id (Null ∷ Text project.now ∷ Int (part_number part) ∷ [])) (state S.Store tx.old.conn.now)
+        (state S.Store tx.new.conn.now)) }
     ensures kept { HasCleanDisk (state S.Store tx.new.conn.now) → KeepsCommit (state S.Store tx.old.conn.now) (state S.Store tx.new.conn.now) }
     ensures survives { Survives (state S.Store tx.old.conn.now) (state S.Store tx.new.conn.now) (λ _. ⊥) }
 {
@@ -80,7 +81,8 @@ pub(crate) fn insert_reply<S: Alter>(
 ) -> Result<usize, Error>
     ensures same_reference { tx.new.conn.ghost_name ≡ tx.old.conn.ghost_name }
     ensures put { HasCleanDisk (state S.Store tx.new.conn.now) → IsTrue tx.old.conn.now.in_transaction → (state S.Store tx.old.conn.now).now.schema ≡ schema_two
-        → OnOk result (Steps (PutsAll 3 ((Text project.now ∷ Text key.now ∷ Text reply.now ∷ []) ∷ [])) (state S.Store tx.old.conn.now) (state S.Store tx.new.conn.now)) }
+        → OnOk result (Steps (PutsAll 3 ((Text project.now ∷ Text key.now ∷ Text reply.now ∷ []) ∷ [])) (state S.Store tx.old.conn.now)
+        (state S.Store tx.new.conn.now)) }
     ensures listed { HasCleanDisk (state S.Store tx.new.conn.now) → IsTrue tx.old.conn.now.in_transaction
         → (state S.Store tx.old.conn.now).now.schema ≡ schema_two
         → OnOk result (IsListed schema_two (state S.Store tx.new.conn.now).now.trees) }

@@ -176,7 +176,8 @@ impl TagChecker {
     /// LF follows, and is false for the last line alone. After a fault of a line it answers that fault for
     /// good; where memory runs out the line has no fault, and the checker is as before.
     pub fn feed(&mut self, line: Result<&[u8], Code>, ended: bool) -> Result<(), TagsFault>
-        ensures { (reading : Reading) → IsHanded (result_map (λ bytes. bytes.now) line.entry) ended reading → Tells result self.old self.new (next counted self.old reading) }
+        ensures { (reading : Reading) → IsHanded (result_map (λ bytes. bytes.now) line.entry) ended reading
+            → Tells result self.old self.new (next counted self.old reading) }
     {
         self.take_line(line, ended)
     }

@@ -81,7 +81,8 @@ impl TagReader {
     /// LF follows, and is false for the last line alone. After a fault of a line it answers that fault for
     /// good; where memory runs out the line has no fault, and the reader is as before.
     pub fn feed(&mut self, line: Result<&[u8], Code>, ended: bool) -> Result<(), TagsFault>
-        ensures { (reading : Reading) → IsHanded (result_map (λ bytes. bytes.now) line.entry) ended reading → Tells result self.old self.new (next listed self.old reading) }
+        ensures { (reading : Reading) → IsHanded (result_map (λ bytes. bytes.now) line.entry) ended reading
+            → Tells result self.old self.new (next listed self.old reading) }
     {
         self.keep_line(line, ended)
     }

@@ -1,9 +1,7 @@
-//! The bytes that are written for streams of requests, also for streams that are cut, and over readers and writers that
-//! fail.
+//! The bytes that are written for streams of requests that come whole. Streams that are cut, and readers and writers that fail, are in `cut.rt`.
 use super::samples::{BASE, Pieces, Slow, changed, in_pieces, reply, slow_writer};
 use crate::replay::replay_in_memory;
-use desk::PlainDesk;
-use http_edge::{ServeFault, serve_stream};
+use http_edge::ServeFault;
 use lsif::Counted;
 use std::alloc::Global;
 use std::process::Abort;
@@ -194,7 +192,7 @@ GET /projects => 200 {"projects":[]}
 "#;
 
 /// The stream that readers and writers fail in: uploads under keys, one of them a second time, and tags.
-const UPLOADS: &str = r#"
+pub(super) const UPLOADS: &str = r#"
 PUT /projects/app/lsif?key=k1 < base => 200 {"accepted":"lsif","count":11}
 PUT /projects/app/lsif?key=k2 < base | 3 range 0:5 0:7 => 200 {"accepted":"lsif","count":11}
 PUT /projects/app/lsif?key=k1 < base => 200 {"accepted":"lsif","count":11}
@@ -204,47 +202,11 @@ GET /names?prefix=aA => 200 {"tags":[{"address":"/a\\/b/","fields":[],"file":"f.
 PUT /projects/app/tags?key=k4 < tags \q>f.c>/a\/b/;">f => 422 {"fault":"T05","line":1,"text":"bad escape"}
 "#;
 
-/// Commands whose reply the writer fails to take, each with what is asked before it and after it. What comes after shows that the
-/// command had its effect: another command under its key gets its reply, and changes nothing.
-const CUT: [(&str, &str, &str); 3] = [
-    (
-        "",
-        r#"PUT /projects/app/lsif?key=k1 < base => 200 {"accepted":"lsif","count":11}"#,
-        r#"
-GET /projects => 200 {"projects":[{"dump":true,"name":"app","tags":false}]}
-PUT /projects/app/lsif?key=k1 < nested => 200 {"accepted":"lsif","count":11}
-GET /projects/app/definition?uri=file:///a.ts&line=2&character=1 => 200 {"places":[{"end":{"character":7,"line":0},"project":"app","start":{"character":4,"line":0},"uri":"file:///a.ts"}]}
-"#,
-    ),
-    (
-        "",
-        r#"PUT /projects/app/tags?key=k1 < tags a>f.c>1 => 200 {"accepted":"tags","count":1}"#,
-        r#"
-GET /projects => 200 {"projects":[{"dump":false,"name":"app","tags":true}]}
-PUT /projects/app/tags?key=k1 < tags b>f.c>1 | c>f.c>2 => 200 {"accepted":"tags","count":1}
-GET /names?name=b => 200 {"tags":[]}
-"#,
-    ),
-    (
-        r#"PUT /projects/app/lsif?key=k1 < base => 200 {"accepted":"lsif","count":11}"#,
-        r#"DELETE /projects/app?key=k2 => 200 {"removed":true}"#,
-        r#"
-GET /projects => 200 {"projects":[]}
-PUT /projects/app/lsif?key=k2 < base => 200 {"removed":true}
-GET /projects => 200 {"projects":[]}
-"#,
-    ),
-];
-
-/// An upload whose body isn't JSON, of 66 bytes, of which 61 are the head.
-const SHORT_PUT: &str =
-    "PUT /projects/app/lsif?key=k1 HTTP/1.1\r\nContent-Length: 5\r\n\r\n{\"id\"";
-
 /// A request for the projects, of 26 bytes.
-const PROJECTS: &str = "GET /projects HTTP/1.1\r\n\r\n";
+pub(super) const PROJECTS: &str = "GET /projects HTTP/1.1\r\n\r\n";
 
 /// The reply to it while there are none, of 105 bytes.
-const NO_PROJECTS: &str =
+pub(super) const NO_PROJECTS: &str =
     "HTTP/1.1 200 OK\r\nConnection: close\r\nContent-Type: application/json\r\nContent-Length: 15\r\n\r\n{\"projects\":[]}";
 
 /// The body of an upload that a row names.
@@ -291,7 +253,7 @@ fn status_of(status: &str) -> Result<&'static str, Fail> {
 }
 
 /// The text of a reply whose status and body stand in a row.
-fn reply_of(alloc: Global, short: &str) -> Result<String, Fail> {
+pub(super) fn reply_of(alloc: Global, short: &str) -> Result<String, Fail> {
     let (status, body) = short.split_once(' ').ok_or("no status")?;
     let length = u32::try_from(body.len())?;
     reply(alloc, status_of(status)?, length, body)
@@ -315,7 +277,7 @@ pub(super) fn exchange(
 
 /// What is answered and written over a reader, and how many bytes are left in it, where the writer takes so many bytes at a
 /// time and fails at the write of that number.
-fn replay_over(
+pub(super) fn replay_over(
     alloc: Global,
     reader: Pieces<'_>,
     most: usize,
@@ -330,7 +292,7 @@ fn replay_over(
 }
 
 /// Asserts what is answered and written for a stream, whose bytes are read and written so many at a time.
-pub(crate) fn expect<R: AllocGlobal + Abort>(
+pub(super) fn expect<R: AllocGlobal + Abort>(
     rt: &R,
     stream: &[u8],
     most: usize,
@@ -348,7 +310,7 @@ pub(crate) fn expect<R: AllocGlobal + Abort>(
 
 /// Asserts that a dump of so many elements is accepted, and the places of a request at the first position of `file:///a.ts`: the
 /// first character of so many lines.
-pub(crate) fn expect_places<R: AllocGlobal + Abort>(
+pub(super) fn expect_places<R: AllocGlobal + Abort>(
     rt: &R,
     dump: &str,
     request: &str,
@@ -406,153 +368,4 @@ fn all_rows(rt: HostRuntime) -> Result<(), Fail> {
     expect_streams(&rt, FURTHER)?;
     expect(&rt, PROJECTS.as_bytes(), 1, 1, NO_PROJECTS);
     Ok(())
-}
-
-/// The reply to an upload and how many there are, where only so many bytes of it come.
-fn reply_to_cut(at: usize) -> (usize, &'static str) {
-    match at {
-        0 => (0, ""),
-        1..=60 => (1, r#"400 {"fault":"H01","text":"bad head"}"#),
-        61..=65 => (1, r#"400 {"fault":"H05","text":"body cut"}"#),
-        _ => (1, r#"422 {"fault":"L02","line":1,"text":"not JSON"}"#),
-    }
-}
-
-/// Streams that end in a request, and a reader that fails in one.
-fn cut_streams<R: AllocGlobal + Abort>(rt: &R) -> Result<(), Fail> {
-    for at in 0..67 {
-        let (count, short) = reply_to_cut(at);
-        let wanted = if count == 0 {
-            String::new(rt.alloc())
-        } else {
-            reply_of(rt.alloc(), short)?
-        };
-        expect(rt, &SHORT_PUT.as_bytes()[..at], 9, count, wanted.as_str());
-    }
-    let (_, bad_head) = reply_to_cut(1);
-    let bad_head = reply_of(rt.alloc(), bad_head)?;
-    let stream = format!(in rt.alloc(); "{PROJECTS}{PROJECTS}")?;
-    let wanted = format!(in rt.alloc(); "{NO_PROJECTS}{bad_head}")?;
-    for at in 27..52 {
-        expect(rt, &stream.as_bytes()[..at], 9, 2, wanted.as_str());
-    }
-    Ok(())
-}
-
-/// What is served over a desk of a stream whose bytes are read one at a time, where the reader fails at one read and the writer
-/// at one write.
-fn serve_over(
-    alloc: Global,
-    desk: &mut PlainDesk,
-    stream: &str,
-    read: u32,
-    write: u32,
-) -> (Result<u32, ServeFault>, Vec<u8>) {
-    let mut reader = in_pieces(stream.as_bytes(), 1);
-    reader.fails_at = read;
-    let mut r = Counted::new(reader);
-    let mut w = Counted::new(slow_writer(alloc, 1, write));
-    let answer = serve_stream(alloc, desk, &mut r, &mut w, 9);
-    let Slow { taken, .. } = w.into_inner();
-    (answer, taken)
-}
-
-/// A reader that fails at any byte of an upload: it has no effect.
-fn without_effect<R: AllocGlobal + Abort>(rt: &R) {
-    let mut desk = PlainDesk::new(rt.alloc());
-    for fails_at in 1..67 {
-        let (answer, written) = serve_over(rt.alloc(), &mut desk, SHORT_PUT, fails_at, 0);
-        assert_eq!(rt; answer, Err(ServeFault::Read), "{fails_at}");
-        assert!(rt; written.is_empty(), "{fails_at}");
-    }
-    let (answer, written) = serve_over(rt.alloc(), &mut desk, PROJECTS, 0, 0);
-    assert_eq!(rt; answer, Ok(1));
-    assert_eq!(rt; written.as_slice(), NO_PROJECTS.as_bytes());
-}
-
-/// Asserts what is written for the requests of these rows over a desk.
-fn expect_over<R: AllocGlobal + Abort>(
-    rt: &R,
-    desk: &mut PlainDesk,
-    rows: &'static str,
-    row: &str,
-) -> Result<(), Fail> {
-    let (requests, replies) = exchange(rt.alloc(), rows, usize::MAX)?;
-    let (_, written) = serve_over(rt.alloc(), desk, requests.as_str(), 0, 0);
-    assert_eq!(rt;
-        str::from_utf8(&written).unwrap_or("not UTF-8"),
-        replies.as_str(),
-        "{row}"
-    );
-    Ok(())
-}
-
-/// A writer that fails at the first byte of the reply to a command, or at a later one: the command has its effect.
-fn with_effect<R: AllocGlobal + Abort>(rt: &R) -> Result<(), Fail> {
-    for (before, row, after) in CUT {
-        let (command, wanted) = exchange(rt.alloc(), row, 1)?;
-        for taken in [0, 1, 9, 20, wanted.len().saturating_sub(1)] {
-            let mut desk = PlainDesk::new(rt.alloc());
-            expect_over(rt, &mut desk, before, row)?;
-            let fails_at = u32::try_from(taken)?.saturating_add(1);
-            let (answer, written) = serve_over(
-                rt.alloc(),
-                &mut desk,
-                command.as_str(),
-                0,
-                fails_at,
-            );
-            assert_eq!(rt; answer, Err(ServeFault::Write), "{taken}: {row}");
-            let front = wanted.get(..taken).ok_or("no such place")?;
-            assert_eq!(rt; written.as_slice(), front.as_bytes(), "{taken}: {row}");
-            expect_over(rt, &mut desk, after, row)?;
-        }
-    }
-    Ok(())
-}
-
-/// A reader that fails at each of its reads: the requests that came whole are answered.
-fn readers_that_fail<R: AllocGlobal + Abort>(rt: &R) -> Result<(), Fail> {
-    let (stream, _) = exchange(rt.alloc(), UPLOADS, 7)?;
-    let reads = u32::try_from(stream.len() / 100)?;
-    for fails_at in 1..=reads {
-        let mut reader = in_pieces(stream.as_bytes(), 100);
-        reader.fails_at = fails_at;
-        let (answer, written, left) = replay_over(rt.alloc(), reader, 1_000_000, 0);
-        assert_eq!(rt; answer, Err(ServeFault::Read), "{fails_at}");
-        let mut wanted = String::new(rt.alloc());
-        for count in 1..8 {
-            let (requests, replies) = exchange(rt.alloc(), UPLOADS, count)?;
-            if requests.len() <= stream.len().saturating_sub(left) {
-                wanted = replies;
-            }
-        }
-        assert_eq!(rt; written.as_slice(), wanted.as_bytes(), "{fails_at}");
-    }
-    Ok(())
-}
-
-/// A writer that takes one byte at a time and fails at each of its writes: it took what comes before in the replies.
-fn writers_that_fail<R: AllocGlobal + Abort>(rt: &R) -> Result<(), Fail> {
-    let (stream, replies) = exchange(rt.alloc(), UPLOADS, 7)?;
-    for (requests, wanted) in [(PROJECTS, NO_PROJECTS), (stream.as_str(), replies.as_str())] {
-        for before in 0..wanted.len() {
-            let mut desk = PlainDesk::new(rt.alloc());
-            let fails_at = u32::try_from(before)?.saturating_add(1);
-            let (answer, written) = serve_over(rt.alloc(), &mut desk, requests, 0, fails_at);
-            assert_eq!(rt; answer, Err(ServeFault::Write), "{before}");
-            let taken = wanted.get(..before).ok_or("no such place")?;
-            assert_eq!(rt; written.as_slice(), taken.as_bytes(), "{before}");
-        }
-    }
-    Ok(())
-}
-
-#[test]
-fn cut_and_failed(rt: HostRuntime) -> Result<(), Fail> {
-    cut_streams(&rt)?;
-    without_effect(&rt);
-    with_effect(&rt)?;
-    readers_that_fail(&rt)?;
-    writers_that_fail(&rt)
 }

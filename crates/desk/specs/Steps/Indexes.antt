@@ -24,7 +24,8 @@ module _ {I : Type 0} (stands : I → State → Type 0) (may_leave : I → List 
   -- a change was made and its reply given, or it was refused
   abbrev pub IsAccepted : I → I → State → List ℕ → List ℕ → Change → Result ReplyValue IndexFault → Type 0
   IsAccepted old new m project key change result =
-      IfOk result (λ r. r ≡ reply_of (accepted change (m.dump project) (m.tags project))) × Changes stands may_leave old new m (changed m project key change) result
+      IfOk result (λ r. r ≡ reply_of (accepted change (m.dump project) (m.tags project)))
+      × Changes stands may_leave old new m (changed m project key change) result
 
   -- a command has its effect: the index stands for the machine's next state, and where that is a new one a stop leaves it alone
   pub record IsApplied (old new : I) (m : State) (c : CommandValue) : Type 0 where

@@ -63,7 +63,8 @@ abbrev pub Picks : State → Request → List ℕ → List ℕ → PositionValue
 Picks m request project uri at picks.NoDump = m.dump project ≡ None
 Picks m request project uri at picks.NoDocument = (dump : DumpValue) × (m.dump project ≡ Some dump) × (HasDocument dump.elements uri → ⊥)
 Picks m request project uri at picks.NoRange = PicksIn m request project uri at None
-Picks m request project uri at (picks.Range row keys) = PicksIn m request project uri at (Some (range_found row)) × AreKeys m request project row.line (map string_bytes keys.items)
+Picks m request project uri at (picks.Range row keys) =
+    PicksIn m request project uri at (Some (range_found row)) × AreKeys m request project row.line (map string_bytes keys.items)
 
 -- ---- what is joined
 

@@ -59,7 +59,8 @@ IsHoverOf elements result None = (contents : List ℕ) → IsHoverRow elements (
 -- ---- bearers
 
 abbrev pub bearer_wanted : List ℕ → List ℕ → BearerRowValue → Option BearerFound
-bearer_wanted project key row = if bytes_eq row.key key then Some (record { project = project; line = row.line; kind = row.kind; results = row.results }) else None
+bearer_wanted project key row =
+    if bytes_eq row.key key then Some (record { project = project; line = row.line; kind = row.kind; results = row.results }) else None
 
 -- those of one project: by line, then by kind
 abbrev pub bearer_in_cmp : BearerFound → BearerFound → Ordering
@@ -101,4 +102,5 @@ AddsBearers key name kept old new = (more : List BearerFound) × (new ≡ old ++
 -- those of the projects before the rest were found: with a listing of those of the rest they're a listing of those of all
 pub record FoundSoFar {Y : Type 0} (key : List ℕ) (all rest : List (String Y × Project)) (found : List BearerFound) : Type 0 where
   pub up : IsStrictlySortedBy string_cmp (keys_of rest)
-  pub listed : (more : List BearerFound) → IsListing bearer_found_cmp (IsBearerAmong key rest) more → IsListing bearer_found_cmp (IsBearerAmong key all) (found ++ more)
+  pub listed : (more : List BearerFound) → IsListing bearer_found_cmp (IsBearerAmong key rest) more
+      → IsListing bearer_found_cmp (IsBearerAmong key all) (found ++ more)

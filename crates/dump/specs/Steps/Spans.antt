@@ -29,7 +29,8 @@ goes_by s t = not (is_lt (span_order t s))
 -- the spans from a span's link up to it end no later than it
 pub record HasLinks (spans : List SpanValue) (links : List ℕ) : Type 0 where
   pub below : (i : ℕ) → i < length links → get_or links i 0 ≤ i
-  pub over : (i k : ℕ) (d : SpanValue) → i < length links → get_or links i 0 ≤ k → k < i → is_before (slice_index_or spans i d).«end» (slice_index_or spans k d).«end» ≡ false
+  pub over : (i k : ℕ) (d : SpanValue) → i < length links → get_or links i 0 ≤ k → k < i
+      → is_before (slice_index_or spans i d).«end» (slice_index_or spans k d).«end» ≡ false
 
 -- the span conflicts with the last of so many
 abbrev pub conflicts_before : List SpanValue → ℕ → SpanValue → Bool

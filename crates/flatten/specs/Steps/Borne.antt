@@ -37,6 +37,7 @@ pub record IsBorne (elements : List ElementValue) (p : ℕ × ℕ) : Type 0 wher
 
 -- the same, by the `moniker` edge that the element is
 abbrev pub IsBorneBy : List ElementValue → List (ℕ × ℕ) → ElementValue → ℕ × ℕ → Type 0
-IsBorneBy elements attached (edge i (moniker_edge from to)) p = (m : ℕ) × (number_of elements from ≡ Some p.0) × (number_of elements to ≡ Some m) × Path attached m p.1
+IsBorneBy elements attached (edge i (moniker_edge from to)) p =
+    (m : ℕ) × (number_of elements from ≡ Some p.0) × (number_of elements to ≡ Some m) × Path attached m p.1
 IsBorneBy elements attached (edge i e) p = ⊥
 IsBorneBy elements attached (vertex i v) p = ⊥

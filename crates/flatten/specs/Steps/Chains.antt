@@ -108,7 +108,8 @@ vertex_along_value v = record { vertex = v.vertex; along = along_value v.along }
 
 -- what is found is so
 abbrev pub AreFound : List ElementValue → List (ℕ × ℕ) → List VertexAlongValue → Type 0
-AreFound elements borne found = (v : VertexAlongValue) (x : IdValue) → Contains found v → number_of elements x ≡ Some v.vertex → AreAlong elements borne x v.along
+AreFound elements borne found =
+    (v : VertexAlongValue) (x : IdValue) → Contains found v → number_of elements x ≡ Some v.vertex → AreAlong elements borne x v.along
 
 -- the pairs are in the order of their sources, and what is found is so
 pub record AreChains (chains : Chains) : Type 0 where

@@ -35,7 +35,8 @@ IsMarkAlong elements borne marks number x row = (xs : List IdValue) × IsChain (
 
 -- of the range that the element is
 abbrev pub IsMarkOfRange : List ElementValue → List (ℕ × ℕ) → List (Option MarkText) → ElementValue → MarkRowValue → Type 0
-IsMarkOfRange elements borne marks (vertex i (range_vertex span)) row = (number : ℕ) × (number_of elements i ≡ Some number) × IsMarkAlong elements borne marks number i row
+IsMarkOfRange elements borne marks (vertex i (range_vertex span)) row =
+    (number : ℕ) × (number_of elements i ≡ Some number) × IsMarkAlong elements borne marks number i row
 IsMarkOfRange elements borne marks (vertex i v) row = ⊥
 IsMarkOfRange elements borne marks (edge i e) row = ⊥
 

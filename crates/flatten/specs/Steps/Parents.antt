@@ -78,7 +78,8 @@ pub record AreIntervals (intervals : List IntervalValue) : Type 0 where
 abbrev pub IsOpenBefore : List IntervalValue → ℕ → Option ℕ → Type 0
 IsOpenBefore intervals i (Some p) =
     (p < i) × IsInside (interval_at intervals i) (interval_at intervals p)
-    × ((q : ℕ) → q < i → IsInside (interval_at intervals i) (interval_at intervals q) → (q ≡ p) ⊎ ((q < p) × IsInside (interval_at intervals p) (interval_at intervals q)))
+    × ((q : ℕ) → q < i → IsInside (interval_at intervals i) (interval_at intervals q) → (q ≡ p)
+    ⊎ ((q < p) × IsInside (interval_at intervals p) (interval_at intervals q)))
 IsOpenBefore intervals i None = (q : ℕ) → q < i → IsInside (interval_at intervals i) (interval_at intervals q) → ⊥
 
 -- each link leads to it
@@ -109,5 +110,7 @@ pub record IsInterval (elements : List ElementValue) (s : IntervalValue) : Type 
 
 -- the pairs lead from the numbers of ranges to those of their parents
 pub record AreParents (elements : List ElementValue) (pairs : List (ℕ × ℕ)) : Type 0 where
-  pub some : (r : IdValue) (span : SpanValue) (n m : ℕ) → vertex_at elements r ≡ Some (range_vertex span) → number_of elements r ≡ Some n → Contains pairs (n, m) → IsParent elements r (Some m)
-  pub none : (r : IdValue) (span : SpanValue) (n : ℕ) → vertex_at elements r ≡ Some (range_vertex span) → number_of elements r ≡ Some n → ((m : ℕ) → Contains pairs (n, m) → ⊥) → IsParent elements r None
+  pub some : (r : IdValue) (span : SpanValue) (n m : ℕ) → vertex_at elements r ≡ Some (range_vertex span) → number_of elements r ≡ Some n
+      → Contains pairs (n, m) → IsParent elements r (Some m)
+  pub none : (r : IdValue) (span : SpanValue) (n : ℕ) → vertex_at elements r ≡ Some (range_vertex span) → number_of elements r ≡ Some n
+      → ((m : ℕ) → Contains pairs (n, m) → ⊥) → IsParent elements r None

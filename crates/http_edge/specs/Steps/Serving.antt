@@ -39,7 +39,8 @@ Refills held left held' left' (Ok u) = (bytes : List ℕ) × Moves left left' by
 Refills held left held' left' (Err e) = (bytes : List ℕ) × MovesOrHides left left' bytes × (held ++ bytes ≡ [])
 
 -- what a call for the next piece of a body reads and hands on, which is at most so long: none only at the end of the input
-abbrev pub TakesPiece : {E : Type 0} → ℕ → List ℕ → Option (List ℕ) → Result Asked AllocError → List ℕ → Option (List ℕ) → Result Asked AllocError → Result ℕ E → Type 0
+abbrev pub TakesPiece : {E : Type 0} → ℕ → List ℕ → Option (List ℕ) → Result Asked AllocError → List ℕ → Option (List ℕ) → Result Asked AllocError → Result ℕ E
+    → Type 0
 TakesPiece most held left asked held' left' asked' (Ok count) =
     (bytes : List ℕ) × (piece : List ℕ) × Moves left left' bytes × (held ++ bytes ≡ piece ++ held') × (length piece ≡ count) × (count ≤ most)
     × (count ≡ 0 → AtEnd left' × (held' ≡ []))
@@ -47,7 +48,8 @@ TakesPiece most held left asked held' left' asked' (Ok count) =
 TakesPiece most held left asked held' left' asked' (Err e) = (bytes : List ℕ) × MovesOrHides left left' bytes × (held ++ bytes ≡ [])
 
 -- what a call for a body of so many bytes reads and hands on: all of it, or what there was at the end
-abbrev pub ReadsBody : {E : Type 0} → ℕ → List ℕ → Option (List ℕ) → Result Asked AllocError → List ℕ → Option (List ℕ) → Result Asked AllocError → Result Bool E → Type 0
+abbrev pub ReadsBody : {E : Type 0} → ℕ → List ℕ → Option (List ℕ) → Result Asked AllocError → List ℕ → Option (List ℕ) → Result Asked AllocError
+    → Result Bool E → Type 0
 ReadsBody len held left asked held' left' asked' (Ok true) =
     (bytes : List ℕ) × (body : List ℕ) × Moves left left' bytes × (held ++ bytes ≡ body ++ held') × (length body ≡ len)
     × ((method target : List ℕ) → AsksAfter asked method target [] → AsksAfter asked' method target body)
@@ -71,7 +73,8 @@ Gives bytes message rest left =
 -- what a call for the body of a request reads and gives: the message of all of it, or where the input ended in it its refusal
 abbrev pub TakesBody : {E : Type 0} → ℕ → List ℕ → List ℕ → List ℕ → Option (List ℕ) → List ℕ → Option (List ℕ) → Result (Result Asked AllocError) E → Type 0
 TakesBody len method target held left held' left' (Ok asked) =
-    ((bytes : List ℕ) × (body : List ℕ) × Moves left left' bytes × (held ++ bytes ≡ body ++ held') × (length body ≡ len) × Says asked (message_of method target body))
+    ((bytes : List ℕ) × (body : List ℕ) × Moves left left' bytes × (held ++ bytes ≡ body ++ held') × (length body ≡ len)
+    × Says asked (message_of method target body))
     ⊎ ((bytes : List ℕ) × Moves left left' bytes × AtEnd left' × (length (held ++ bytes) < len) × (held' ≡ []) × Says asked (refused BodyCut))
 TakesBody len method target held left held' left' (Err e) = (bytes : List ℕ) × MovesOrHides left left' bytes × (length (held ++ bytes) < len)
 
@@ -86,8 +89,10 @@ NextMessage held left held' left' (Err e) =
 
 -- what was read of a message has this answer from each state that a desk stood for, where it is reliable; it then stands for the next one,
 -- and leaves at a stop one of those of which it left one and of the next
-pub record Responds (store_may_refuse : Bool) (stood stands : State → Type 0) (old_leaves new_leaves : List State → Type 0) (was_reliable is_reliable : Type 0) (asked : Result Asked AllocError) (given : AnswerValue) : Type 0 where
+pub record Responds (store_may_refuse : Bool) (stood stands : State → Type 0) (old_leaves new_leaves : List State → Type 0) (was_reliable is_reliable : Type 0)
+    (asked : Result Asked AllocError) (given : AnswerValue) : Type 0 where
   pub reliable : is_reliable → was_reliable
   pub answer : is_reliable → (m : State) (message : MessageValue) → stood m → Says asked message → MayAnswer store_may_refuse m message given
   pub state : is_reliable → (m : State) (message : MessageValue) → stood m → Says asked message → stands (answered m message given)
-  pub left : is_reliable → (m : State) (states : List State) (message : MessageValue) → stood m → old_leaves states → Says asked message → new_leaves (left_after m states message given)
+  pub left : is_reliable → (m : State) (states : List State) (message : MessageValue) → stood m → old_leaves states → Says asked message
+      → new_leaves (left_after m states message given)

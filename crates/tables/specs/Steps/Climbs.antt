@@ -34,7 +34,8 @@ ComesBefore s t = IsBefore s.start t.start ⊎ ((s.start ≡ t.start) × IsAtOrB
 abbrev pub IsStart : DumpValue → List ℕ → PositionValue → Option SlotRange → Type 0
 IsStart dump uri position None = (r : RangeRowValue) → IsStarted dump uri position r → ⊥
 IsStart dump uri position (Some x) =
-    (r : RangeRowValue) × IsStarted dump uri position r × TellsRange x r × ((o : RangeRowValue) → IsStarted dump uri position o → ComesBefore o.place.span r.place.span)
+    (r : RangeRowValue) × IsStarted dump uri position r × TellsRange x r
+    × ((o : RangeRowValue) → IsStarted dump uri position o → ComesBefore o.place.span r.place.span)
 
 -- the range of the document that the row has as its parent, where it has one
 abbrev pub IsNamed : DumpValue → List ℕ → SlotRange → Option SlotRange → Type 0

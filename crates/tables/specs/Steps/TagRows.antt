@@ -18,7 +18,8 @@ use Rattle.tables.specs.declared.found_tags.TagRow.{TagRow}
 -- what the row has behind the id of its slot
 abbrev pub columns_of : TagRow → Row
 columns_of t =
-    number t.line ∷ Text (string_bytes t.name) ∷ Text (string_bytes t.file) ∷ Text (string_bytes t.address) ∷ or_null (λ s. Text (string_bytes s)) t.kind ∷ Text (string_bytes t.fields) ∷ []
+    number t.line ∷ Text (string_bytes t.name) ∷ Text (string_bytes t.file) ∷ Text (string_bytes t.address) ∷ or_null (λ s. Text (string_bytes s)) t.kind
+    ∷ Text (string_bytes t.fields) ∷ []
 
 abbrev pub tag_row_columns : TagRow → Row
 tag_row_columns t = Int t.slot ∷ columns_of t

@@ -1,4 +1,5 @@
-//! Requests to desks with their replies, and each of the crate's functions called once.
+//! The tests of `desk`, over its public calls alone: requests to desks with their replies, and each of its functions called once. They stand here, since a
+//! crate with tests of its own is proved twice by the gate.
 mod climb;
 mod commands;
 mod forms;
@@ -9,7 +10,7 @@ mod profiles;
 mod queries;
 mod samples;
 
-use crate::{
+use desk::{
     Command, Desk, DocUri, Key, PlainDesk, ProjectName, Query, Reply, Request, RunFault, TableDesk,
     answer_law, judgement_law, read_number, reply_law, retry_law, run,
 };

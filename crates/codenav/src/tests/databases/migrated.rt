@@ -1,10 +1,10 @@
 //! What a migration keeps, and what it leaves where the store stops.
 use super::{FORMAT_ONE, connected, files_of, fuses, opened, reopened};
-use crate::{Tables, TablesFault, migrate};
 use sqlite::{Alter, Connection, Files, MemStore};
 use sqlite_disk::{Fuse, Memory};
 use std::alloc::Global;
 use std::test::Fail;
+use tables::{Tables, TablesFault, migrate};
 
 /// Parts of three projects, of which two have a dump, and the reply to the removal of a fourth.
 const PARTS: &str =

@@ -1,13 +1,13 @@
 //! Which ranges cover a position, as rows of ranges say it, and which rows are refused.
 use super::opened;
 use super::selections::filled;
-use crate::{Covering, FoundRange, Tables, TablesFault};
 use flatten::{DocRow, RangeRow, Rows};
 use lsif::Profile;
 use positions::{Position, Span};
 use sqlite::{Connection, MemStore};
 use std::alloc::Global;
 use std::test::Fail;
+use tables::{Covering, FoundRange, Tables, TablesFault};
 
 /// `n` has a range of 0:0 to 0:20, and in it one of 0:5 to 0:8; `u` a range up to 0:5, one from there, and an empty one at it; `b` a range of its line
 /// 0 and one of its line 2. `tagged` has tags alone.

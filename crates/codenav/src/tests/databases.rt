@@ -1,5 +1,5 @@
-//! The tables over databases in memory and in files. What is asked of a connection stands in functions over any store: one over a store of files takes
-//! long to prove.
+//! The tests of `tables`, over its public calls alone, with databases in memory and in files. They stand here, since a crate with tests of its own is proved
+//! twice by the gate. What is asked of a connection stands in functions over any store: one over a store of files takes long to prove.
 ghost use Rattle.std.specs.Prelude.{◌≡◌, false, IfOk};
 
 mod changes;
@@ -8,12 +8,13 @@ mod migrated;
 mod names;
 mod opening;
 mod selections;
+mod stops;
 
-use crate::Tables;
 use sqlite::{Alter, Connection, FileStore, Files, Options};
 use sqlite_disk::{Crash, Fuse, Memory};
 use std::alloc::Global;
 use std::test::Fail;
+use tables::Tables;
 use tags::{Tag, read_tags};
 
 /// The tables of format 1, as they were made.

@@ -1,7 +1,7 @@
 //! Uploads whose bodies come in pieces.
 use super::samples::dump_text;
 use super::{cut, project, reply_to, text_of, upload};
-use crate::{Desk, Key, PlainDesk, Upload, UploadFault};
+use desk::{Desk, Key, PlainDesk, Upload, UploadFault};
 use lsif::Profile;
 use std::alloc::Global;
 use std::process::Abort;

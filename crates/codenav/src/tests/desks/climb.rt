@@ -1,6 +1,6 @@
 //! Ranges around ranges, and a row that isn't one of this product's.
 use super::{reply_to, text_of};
-use crate::{Command, Desk, DocUri, Key, ProjectName, Query, TableDesk};
+use desk::{Command, Desk, DocUri, Key, ProjectName, Query, TableDesk};
 use lsif::Profile;
 use positions::Position;
 use sqlite::{Alter, Connection};

@@ -1,9 +1,9 @@
 //! Which tags are found by their names.
 use super::{opened, tags_of};
-use crate::{FoundTag, Tables, TablesFault};
 use sqlite::{Connection, MemStore};
 use std::alloc::Global;
 use std::test::Fail;
+use tables::{FoundTag, Tables, TablesFault};
 
 /// The projects, each with its tags file.
 const PROJECTS: &[(&str, &str)] = &[

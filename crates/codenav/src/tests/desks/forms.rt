@@ -1,6 +1,6 @@
 //! Names, keys, URLs and numbers as they are read; codes and their replies; and what a command is of.
 use super::{project, text_of};
-use crate::{Code, Command, DocUri, Key, ProjectName, Reply, read_number};
+use desk::{Code, Command, DocUri, Key, ProjectName, Reply, read_number};
 use std::alloc::Global;
 use std::test::Fail;
 

@@ -1,14 +1,13 @@
-//! Parts replaced and removed: what the tables hold then, also where the store stops.
-use super::{connected, files_of, fuses, opened, reopened, tags_of};
-use crate::{Tables, TablesFault};
+//! Parts replaced and removed: what the tables hold then. Where the store stops is in `stops.rt`.
+use super::{opened, tags_of};
 use dump::{CheckedDump, Checker};
 use flatten::flatten;
 use lsif::{Element, Profile, ReadFault, read_element};
-use sqlite::{Alter, Connection, Files, MemStore};
-use sqlite_disk::{Fuse, Memory};
+use sqlite::{Alter, Connection, MemStore};
 use std::alloc::Global;
 use std::process::Abort;
 use std::test::Fail;
+use tables::{Tables, TablesFault};
 
 /// A dump that has a row in each of its tables.
 const FULL: [&str; 20] = [
@@ -43,7 +42,7 @@ const SMALL: [&str; 4] = [
 ];
 
 /// Two tags, of which one has a field beside its kind.
-const TAGS: &str = "a\tf.c\t1;\"\tf\tclass:B\\tC\nb\tf.c\t/x/\n";
+pub(super) const TAGS: &str = "a\tf.c\t1;\"\tf\tclass:B\\tC\nb\tf.c\t/x/\n";
 
 fn element(alloc: Global, profile: Profile, line: &str) -> Result<Element, Fail> {
     match read_element(alloc, profile, line.as_bytes()) {
@@ -66,7 +65,7 @@ fn dump_of(alloc: Global, profile: Profile, lines: &[&str]) -> Result<CheckedDum
 
 /// A change of the index, each under a key of its own.
 #[derive(Clone, Copy)]
-enum Step {
+pub(super) enum Step {
     /// Puts `FULL`, by profile 2.
     Full(&'static str),
     /// Puts `SMALL`, by profile 1.
@@ -104,7 +103,7 @@ fn put_tags<S: Alter>(
 }
 
 /// What the step answers: of a removal whether there was anything, and else true.
-fn take<S: Alter>(
+pub(super) fn take<S: Alter>(
     alloc: Global,
     tables: &mut Tables<S>,
     step: Step,
@@ -121,13 +120,13 @@ fn take<S: Alter>(
 
 /// A step under a key, and how many rows the tables have before it.
 #[derive(Clone, Copy)]
-struct Row {
-    step: Step,
-    key: &'static str,
+pub(super) struct Row {
+    pub(super) step: Step,
+    pub(super) key: &'static str,
     before: [usize; 11],
 }
 
-const ROWS: &[Row] = &[
+pub(super) const ROWS: &[Row] = &[
     Row {
         step: Step::Full("app"),
         key: "k1",
@@ -169,7 +168,7 @@ const ROWS: &[Row] = &[
 const AFTER: [usize; 11] = [2, 7, 1, 3, 3, 1, 2, 2, 0, 1, 3];
 
 /// How many rows they have when so many steps were taken.
-fn rows_after(steps: usize) -> [usize; 11] {
+pub(super) fn rows_after(steps: usize) -> [usize; 11] {
     match ROWS.get(steps) {
         Some(row) => row.before,
         None => AFTER,
@@ -192,7 +191,7 @@ const COUNTED: &[&str] = &[
 ];
 
 /// The numbers of their rows.
-fn held<S: Alter>(alloc: Global, conn: &mut Connection<S>) -> Result<Vec<usize>, Fail> {
+pub(super) fn held<S: Alter>(alloc: Global, conn: &mut Connection<S>) -> Result<Vec<usize>, Fail> {
     let mut counts = Vec::new(alloc);
     for query in COUNTED {
         counts.push(conn.query_all(*query, &[])?.len())?;
@@ -253,155 +252,5 @@ fn replaced_and_removed(rt: HostRuntime) -> Result<(), Fail> {
     let counts = held(rt.alloc(), &mut conn)?;
     assert!(rt; counts.as_slice() == AFTER.as_slice());
     assert_eq!(rt; unsaid(&mut conn)?, None);
-    Ok(())
-}
-
-/// Takes the steps until one is refused: how many were accepted, and the fault of the next.
-fn take_steps<S: Alter>(
-    alloc: Global,
-    tables: &mut Tables<S>,
-) -> Result<(usize, Option<TablesFault>), Fail> {
-    for (taken, row) in ROWS.iter().enumerate() {
-        if let Err(fault) = take(alloc, tables, row.step, row.key)? {
-            return Ok((taken, Some(fault)));
-        }
-    }
-    Ok((ROWS.len(), None))
-}
-
-/// Opens the tables and takes the steps until one is refused: how many were accepted, the fault, and the connection.
-fn taken<S: Alter + Drop>(
-    alloc: Global,
-    conn: Connection<S>,
-) -> Result<(usize, Option<TablesFault>, Connection<S>), Fail> {
-    if !conn.is_autocommit() {
-        return Err("in a transaction")?;
-    }
-    match Tables::open(conn) {
-        Ok(mut tables) => {
-            let (count, fault) = take_steps(alloc, &mut tables)?;
-            Ok((count, fault, tables.into_connection()))
-        }
-        Err((fault, conn)) => Ok((0, Some(fault), conn)),
-    }
-}
-
-/// How many steps were accepted until one was refused, the fault, and the files.
-type Stopped = (usize, Option<TablesFault>, Files<Fuse<Memory>>);
-
-/// Takes the steps in files that stop after so many calls.
-fn stopped(alloc: Global, log: u64, db: u64) -> Result<Stopped, Fail> {
-    match connected(alloc, log, db) {
-        Ok(conn) => {
-            let (count, fault, conn) = taken(alloc, conn)?;
-            Ok((count, fault, files_of(conn)))
-        }
-        Err(files) => Ok((0, None, files)),
-    }
-}
-
-/// How many rows the tables have that a connection shows.
-fn held_by<S: Alter + Drop>(alloc: Global, conn: Connection<S>) -> Result<Vec<usize>, Fail> {
-    let mut conn = opened(conn)?.into_connection();
-    held(alloc, &mut conn)
-}
-
-/// The same of the tables that are opened over what a crash left of the files.
-fn recovered(alloc: Global, files: Files<Fuse<Memory>>) -> Result<Vec<usize>, Fail> {
-    held_by(alloc, reopened(alloc, files)?)
-}
-
-/// Whether these are the rows after so many steps, or after one more.
-fn is_left(counts: &[usize], steps: usize) -> bool {
-    counts == rows_after(steps).as_slice()
-        || (steps < ROWS.len() && counts == rows_after(steps + 1).as_slice())
-}
-
-/// Each call of one of the files stops the store in turn: what is left is the state before the step that was refused, or the one after
-/// it, and a step that was accepted isn't lost. What is refused answers that the store refused.
-#[test]
-fn stop_at_each_call(rt: HostRuntime) -> Result<(), Fail> {
-    for is_log in [true, false] {
-        let mut taken = 0;
-        for calls in 0..10000u64 {
-            let (log, db) = fuses(is_log, calls);
-            let (count, fault, files) = stopped(rt.alloc(), log, db)?;
-            let left = recovered(rt.alloc(), files)?;
-            assert!(rt; is_left(&left, count));
-            assert!(rt; fault.is_none() || fault == Some(TablesFault::Refused));
-            taken = count;
-            if taken == ROWS.len() {
-                break;
-            }
-        }
-        assert!(rt; taken == ROWS.len());
-    }
-    Ok(())
-}
-
-/// What the first call answers that is refused, of a put of tags and a selection.
-fn refused<S: Alter>(alloc: Global, tables: &mut Tables<S>) -> Result<Option<TablesFault>, Fail> {
-    match take(alloc, tables, Step::Tags("app", TAGS), "k1")? {
-        Ok(_) => Ok(tables.projects(alloc).err()),
-        Err(fault) => Ok(Some(fault)),
-    }
-}
-
-/// How far the calls come in files that each stop after a number of calls.
-#[derive(Clone, Copy, PartialEq, Eq)]
-enum Reached {
-    Unopened,
-    Refused(TablesFault),
-    Whole,
-}
-
-/// How far they come over this connection.
-fn reached_by<S: Alter + Drop>(
-    alloc: Global,
-    conn: Connection<S>,
-    is_in_memory: bool,
-) -> Result<Reached, Fail> {
-    if !conn.is_autocommit() {
-        return Err("in a transaction")?;
-    }
-    let Ok(mut tables) = Tables::open(conn) else {
-        return Ok(Reached::Unopened);
-    };
-    if is_in_memory {
-        tables = tables.in_memory();
-    }
-    match refused(alloc, &mut tables)? {
-        Some(fault) => Ok(Reached::Refused(fault)),
-        None => Ok(Reached::Whole),
-    }
-}
-
-fn reached_in(alloc: Global, calls: u64, is_in_memory: bool) -> Result<Reached, Fail> {
-    match connected(alloc, calls, calls) {
-        Ok(conn) => reached_by(alloc, conn, is_in_memory),
-        Err(_) => Ok(Reached::Unopened),
-    }
-}
-
-/// The faults that the calls answer, for each number of calls after which the files stop.
-fn told_faults(alloc: Global, is_in_memory: bool) -> Result<Vec<TablesFault>, Fail> {
-    let mut told = Vec::new(alloc);
-    for calls in 0..10000u64 {
-        match reached_in(alloc, calls, is_in_memory)? {
-            Reached::Unopened => {}
-            Reached::Refused(fault) => told.push(fault)?,
-            Reached::Whole => break,
-        }
-    }
-    Ok(told)
-}
-
-/// A store that can't do what is asked was refused memory exactly where the database is in memory.
-#[test]
-fn stopped_in_memory(rt: HostRuntime) -> Result<(), Fail> {
-    for (is_in_memory, fault) in [(false, TablesFault::Refused), (true, TablesFault::Memory)] {
-        let told = told_faults(rt.alloc(), is_in_memory)?;
-        assert!(rt; !told.is_empty() && told.iter().all(|found| *found == fault));
-    }
     Ok(())
 }

@@ -1,12 +1,12 @@
 //! What selections find in a database that statements filled, and which rows they refuse.
 use super::opened;
-use crate::{Tables, TablesFault};
 use dump::Role;
 use sqlite::{Connection, MemStore};
 use std::alloc::Global;
 use std::fmt::Debug;
 use std::rc::RcStr;
 use std::test::Fail;
+use tables::{Tables, TablesFault};
 
 /// `app` has a dump of profile 2, `lib` a dump of profile 1 and tags, and `tagged` tags alone. A reply is kept for `old`.
 const PARTS: &str =

@@ -1,6 +1,6 @@
 //! Each list of four requests, and so each shorter one: it's the beginning of others. Both desks give the same replies.
 use super::{requests, served, uploads};
-use crate::{Desk, PlainDesk, Request, TableDesk};
+use desk::{Desk, PlainDesk, Request, TableDesk};
 use std::process::Abort;
 use std::test::Fail;
 

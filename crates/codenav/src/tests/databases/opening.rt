@@ -1,9 +1,9 @@
 //! Which fault the opening and the migration of a database answer, and that tables of other names don't count.
 use super::{FORMAT_ONE, opened};
-use crate::{MemoryDisk, Tables, TablesFault, migrate};
 use sqlite::{Alter, Connection, FileStore, Files, Options};
 use std::alloc::Global;
 use std::test::Fail;
+use tables::{MemoryDisk, Tables, TablesFault, migrate};
 
 /// A text that makes a database, and the fault that its opening answers.
 #[derive(Drop)]
