@@ -1,6 +1,6 @@
 -- Connections of a server, one after the other.
 use Rattle.std.proofs.Common.{ℕ, Bool, List, [], Option, None, Err, Result, refl}
-use Rattle.tables.specs.State.{State}
+use Rattle.machine.specs.State.{State}
 use Rattle.lsif.specs.Streams.{Output}
 use Rattle.http_edge.specs.Serving.{Serves}
 use Rattle.http_edge.specs.declared.serve.ServeFault.{ServeFault}

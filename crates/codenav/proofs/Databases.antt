@@ -5,7 +5,7 @@ use Rattle.sqlite.specs.Effect.{Database}
 use Rattle.sqlite.specs.Start.{FindsIn}
 use Rattle.sqlite.specs.State as sqlite
 use Rattle.tables.specs.Stands.{Finds, FindsOne, StandsFor, StandsForOne}
-use Rattle.tables.specs.State.{State}
+use Rattle.machine.specs.State.{State}
 use Rattle.codenav.specs.Databases.{HoldsIndex, HoldsIndexOne}
 
 pub finds_index : (image : Image) (s : sqlite.State) (m : State) → sqlite.Opens s × sqlite.IsLive s → FindsIn image s → HoldsIndex image m → Finds s m

@@ -4,9 +4,10 @@ use Rattle.sqlite_wal.specs.Recovery.{Image}
 use Rattle.sqlite_trees.specs.Tree.{Trees}
 use Rattle.sqlite.specs.Files.{HoldsDatabase}
 use Rattle.sqlite.specs.State as sqlite
-use Rattle.tables.specs.Selections.{FindsProjects, ProjectValue}
+use Rattle.machine.specs.Projects.{ProjectValue}
+use Rattle.tables.specs.Selections.{FindsProjects}
 use Rattle.tables.specs.Stands.{Rests, StandsFor, StandsForOne}
-use Rattle.tables.specs.State.{State}
+use Rattle.machine.specs.State.{State}
 
 -- the file and its log hold a database that stands for the state
 pub record HoldsIndex (image : Image) (m : State) : Type 0 where

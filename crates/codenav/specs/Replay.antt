@@ -1,10 +1,12 @@
 -- What `codenav replay` answers a stream.
-use Rattle.std.specs.Prelude.{ℕ, true, List, Option, Result}
-use Rattle.tables.specs.State.{State, nothing}
+use Rattle.std.specs.Prelude.{◌∷◌, [], ℕ, true, List, Option, Result}
+use Rattle.sqlite.specs.State as sqlite
+use Rattle.machine.specs.State.{State, nothing}
 use Rattle.lsif.specs.Streams.{Output}
+use Rattle.desk.specs.TableStates.{LeavesOneOf, ServesFor}
 use Rattle.http_edge.specs.Replies.{AnswerValue}
 use Rattle.http_edge.specs.Requests.{MessageValue}
-use Rattle.http_edge.specs.Serving.{Serves}
+use Rattle.http_edge.specs.Serving.{Serves, left_by}
 use Rattle.http_edge.specs.declared.serve.ServeFault.{ServeFault}
 
 -- how many requests are answered at most
@@ -17,3 +19,12 @@ abbrev pub Replays : Option (List ℕ) → Option (List ℕ) → Output → Outp
 Replays left left' output output' result =
     (messages : List MessageValue) × (answers : List AnswerValue) × (n : State)
     × Serves true most_requests nothing left left' output output' messages answers n result
+
+-- the same from the state that the tables of a database stand for: what the connection shows stands for the state after, and what a
+-- stop may leave of it, and so of the file, is what it may leave of the index that served these requests
+abbrev pub ReplaysFrom : State → sqlite.State → Option (List ℕ) → Option (List ℕ) → Output → Output → Result ℕ ServeFault → Type 0
+ReplaysFrom m conn left left' output output' result =
+    (messages : List MessageValue) × (answers : List AnswerValue) × (n : State)
+    × Serves true most_requests m left left' output output' messages answers n result
+    × ServesFor conn n
+    × LeavesOneOf conn (left_by m (m ∷ []) messages answers)

@@ -5,7 +5,7 @@ ghost use Rattle.sqlite.specs.Files.{file_state};
 ghost use Rattle.sqlite.specs.Held.{state};
 ghost use Rattle.sqlite.specs.State.{HasCleanDisk};
 ghost use Rattle.tables.specs.Stands.{Finds, FindsOne};
-ghost use Rattle.tables.specs.State.{State};
+ghost use Rattle.machine.specs.State.{State};
 ghost use Rattle.desk.specs.TableStates.{LeavesOneOf, ServesFor};
 ghost use Rattle.codenav.specs.Databases.{HoldsIndex, HoldsIndexOne, IsMigrated, IsOfFormatTwo};
 
@@ -19,9 +19,6 @@ use tables::{Tables, TablesFault, migrate};
 /// The name of a database in memory.
 pub const MEMORY: &str = ":memory:";
 
-/// A desk over a database in a file of which this is supposed at the start.
-pub type FileDesk<S> = TableDesk<FileStore<FileFrom<S>>>;
-
 /// A connection to a database in a file of which this is supposed at the start.
 pub type FileConnection<S> = Connection<FileStore<FileFrom<S>>>;
 
@@ -33,9 +30,27 @@ fn fault_of(error: Error) -> TablesFault {
     }
 }
 
+/// A connection to the database in this file, which is made where there is none. Where the file and its log hold tables that stand for a state of the
+/// index, as `S` says what they hold, the connection shows them.
+pub fn connect_file<S: Start>(
+    rt: &HostRuntime,
+    path: &str,
+    start: S,
+) -> Result<FileConnection<S>, TablesFault>
+    ensures mode { IfOk result (λ conn. conn.in_transaction ≡ false) }
+    ensures finds { IfOk result (λ conn. HasCleanDisk (file_state conn) → (m : State) → HoldsIndex (image_at S.Start) m → Finds (file_state conn) m) }
+    ensures finds_one { IfOk result (λ conn. HasCleanDisk (file_state conn) → (m : State) → HoldsIndexOne (image_at S.Start) m
+        → FindsOne (file_state conn) m) }
+{
+    match Connection::open_from(rt, path, false, start) {
+        Ok(conn) => Ok(conn),
+        Err((error, _)) => Err(fault_of(error)),
+    }
+}
+
 /// A desk over the tables of a database. Where a new connection shows one that stands for a state of the index, the desk stands for that state, and a stop
 /// leaves it alone.
-fn open_desk<S: Alter + Drop>(
+pub fn open_desk<S: Alter + Drop>(
     alloc: Global,
     conn: Connection<S>,
 ) -> Result<TableDesk<S>, TablesFault>
@@ -52,26 +67,8 @@ fn open_desk<S: Alter + Drop>(
     }
 }
 
-/// A desk over the tables of the database in this file, which is made where there is none. Where the file and its log hold a database that stands for a
-/// state of the index, as `S` says what they hold, the desk stands for that state, and a stop leaves it alone.
-pub fn open_file<S: Start>(
-    rt: &HostRuntime,
-    path: &str,
-    start: S,
-) -> Result<FileDesk<S>, TablesFault>
-    ensures stands { IfOk result (λ desk. ⟦<IndexDesk<Tables<FileStore<FileFrom<S>>>> as Desk>⟧.is_reliable desk → (m : State)
-        → HoldsIndex (image_at S.Start) m → ⟦<IndexDesk<Tables<FileStore<FileFrom<S>>>> as Desk>⟧.stands desk m) }
-    ensures alone { IfOk result (λ desk. ⟦<IndexDesk<Tables<FileStore<FileFrom<S>>>> as Desk>⟧.is_reliable desk → (m : State)
-        → HoldsIndex (image_at S.Start) m → ⟦<IndexDesk<Tables<FileStore<FileFrom<S>>>> as Desk>⟧.may_leave desk (m ∷ [])) }
-{
-    match Connection::open_from(rt, path, false, start) {
-        Ok(conn) => open_desk(rt.alloc(), conn),
-        Err((error, _)) => Err(fault_of(error)),
-    }
-}
-
 /// The connection of a desk's tables. It stands for what the desk stood for, and a stop leaves of it what it would have left of the desk.
-fn connection_of<S: Alter + Drop>(desk: TableDesk<S>) -> Connection<S>
+pub fn connection_of<S: Alter + Drop>(desk: TableDesk<S>) -> Connection<S>
     ensures stands { (m : State) → ServesFor (state S.Store result) m ↔ ⟦<IndexDesk<Tables<S>> as Desk>⟧.stands desk m }
     ensures may_leave { (states : List State) → LeavesOneOf (state S.Store result) states ↔ ⟦<IndexDesk<Tables<S>> as Desk>⟧.may_leave desk states }
     ensures reliable { HasCleanDisk (state S.Store result) ↔ ⟦<IndexDesk<Tables<S>> as Desk>⟧.is_reliable desk }
@@ -82,11 +79,6 @@ fn connection_of<S: Alter + Drop>(desk: TableDesk<S>) -> Connection<S>
 /// Ends the use of the file: what its log has goes into it. Where that fails, the log has all, and the next start reads it.
 pub fn close_connection<S: Start>(conn: FileConnection<S>) {
     let _ = conn.close();
-}
-
-/// The same of a desk's file.
-pub fn close_file<S: Start>(desk: FileDesk<S>) {
-    close_connection(connection_of(desk));
 }
 
 /// Whether there is no file of this name.
@@ -130,8 +122,6 @@ pub fn migrate_file<S: Start>(
     if is_missing(rt, path) {
         return Err(TablesFault::Foreign);
     }
-    match Connection::open_from(rt, path, false, start) {
-        Ok(conn) => migrate_database(rt.alloc(), conn),
-        Err((error, _)) => Err(fault_of(error)),
-    }
+    let conn = connect_file(rt, path, start)?;
+    migrate_database(rt.alloc(), conn)
 }

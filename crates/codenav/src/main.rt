@@ -1,6 +1,8 @@
 //! `codenav`, a code navigation index server.
 #![tactic(auto)]
 
+ghost use Rattle.std.specs.Prelude.{◌≡◌, false};
+
 mod call;
 mod check;
 mod check_tags;
@@ -16,14 +18,14 @@ mod timed;
 use call::{Call, CallFault, read_call};
 use check::check_lsif;
 use check_tags::check_tags;
-use database::{MEMORY, close_connection, close_file, migrate_file, open_file};
+use database::{MEMORY, close_connection, connect_file, connection_of, migrate_file, open_desk};
 use desk::{MemoryDesk, TableDesk};
 use http_edge::ServeFault;
 use lsif::{Counted, Profile};
 use replay::{replay_file, replay_in_memory};
 use report::{CheckFault, Status};
 use serve::{CountedListener, ServerFault, serve_connections, serve_in_memory};
-use sqlite::{Alter, Unknown};
+use sqlite::{Alter, Connection, Unknown};
 use std::alloc::Global;
 use std::io::ErrorKind;
 use std::net::{Ipv4Addr, Net, SocketAddr, TcpListener};
@@ -131,8 +133,8 @@ fn replay_stream(rt: &HostRuntime, database: &str, name: &str) -> u8 {
         return replayed(rt, replay_in_memory(rt.alloc(), &mut r, &mut w));
     }
     match replay_file(rt, database, Unknown, &mut r, &mut w) {
-        Ok((answer, desk)) => {
-            close_file(desk);
+        Ok((answer, conn)) => {
+            close_connection(conn);
             replayed(rt, answer)
         }
         Err(fault) => fail(rt, fault.text()),
@@ -158,14 +160,32 @@ fn serve_port(rt: &HostRuntime, database: &str, port: u16, requests: u32) -> u8 
             Err(_) => fail(rt, "out of memory"),
         };
     }
-    match open_file(rt, database, Unknown) {
-        Ok(mut desk) => {
-            let status = serve_desk(rt, &mut desk, port, requests);
-            close_file(desk);
-            status
-        }
+    match serve_file(rt, database, port, requests) {
+        Ok(status) => status,
         Err(fault) => fail(rt, fault.text()),
     }
+}
+
+/// Serves over the database in this file, and answers the exit status. Refuses where the file can't be opened as a database of this product.
+fn serve_file(rt: &HostRuntime, path: &str, port: u16, requests: u32) -> Result<u8, TablesFault> {
+    let conn = connect_file(rt, path, Unknown)?;
+    let (status, conn) = serve_database(rt, conn, port, requests)?;
+    close_connection(conn);
+    Ok(status)
+}
+
+/// The same over a database of this connection, which comes back.
+fn serve_database<S: Alter + Drop>(
+    rt: &HostRuntime,
+    conn: Connection<S>,
+    port: u16,
+    requests: u32,
+) -> Result<(u8, Connection<S>), TablesFault>
+    requires mode { conn.in_transaction ≡ false }
+{
+    let mut desk = open_desk(rt.alloc(), conn)?;
+    let status = serve_desk(rt, &mut desk, port, requests);
+    Ok((status, connection_of(desk)))
 }
 
 /// Listens, and serves by the desk over a database in memory.

@@ -1,20 +1,24 @@
 //! `codenav replay`: the replies to the requests of a stream.
-ghost use Rattle.std.specs.Prelude.{◌≡◌, ◌-◌, ◌^◌, ◌<◌, ◌∷◌, [], true, List, Err, IfOk, IfErr};
+ghost use Rattle.std.specs.Prelude.{◌≡◌, ◌-◌, ◌^◌, ◌<◌, false, true, List, Err, IfOk, IfErr};
 ghost use Rattle.sqlite_wal.specs.Files.{image_at};
-ghost use Rattle.tables.specs.State.{State};
+ghost use Rattle.sqlite.specs.Files.{file_state};
+ghost use Rattle.sqlite.specs.Held.{state};
+ghost use Rattle.sqlite.specs.State.{HasCleanDisk};
+ghost use Rattle.tables.specs.Stands.{Finds};
+ghost use Rattle.machine.specs.State.{State};
 ghost use Rattle.lsif.specs.Streams.{CanCount};
 ghost use Rattle.http_edge.specs.Replies.{AnswerValue};
 ghost use Rattle.http_edge.specs.Requests.{MessageValue};
 ghost use Rattle.http_edge.specs.Serving.{CountsRead, CountsWrite, Serves, left_by};
 ghost use Rattle.http_edge.specs.declared.serve.ServeFault.TheVariants.{Memory};
 ghost use Rattle.codenav.specs.Databases.{HoldsIndex};
-ghost use Rattle.codenav.specs.Replay.{Replays, most_requests};
+ghost use Rattle.codenav.specs.Replay.{Replays, ReplaysFrom, most_requests};
 
-use crate::database::{FileDesk, open_file};
+use crate::database::{connect_file, connection_of, open_desk};
 use desk::{Desk, IndexDesk, TableDesk, memory_law};
 use http_edge::{ServeFault, serve_stream};
 use lsif::{Sink, Source};
-use sqlite::{FileFrom, FileStore, Start};
+use sqlite::{Alter, Connection, FileFrom, FileStore, Start};
 use std::alloc::Global;
 use tables::{Tables, TablesFault};
 
@@ -24,19 +28,21 @@ const MOST_REQUESTS: u32 = 1000000;
 /// Answers the requests (HTTP/1.1, RFC 9112) of a stream, one after the other and at most 1,000,000 of them, by this desk, from the state that it stands
 /// for, and says how many replies were written. Refuses where memory for its buffers was refused, and then nothing was read or written and the desk is as
 /// before; where the reader failed; and where the writer failed or took no byte.
-pub fn replay<D: Desk, R: Source, W: Sink>(
+pub fn replay<S: Alter, R: Source, W: Sink>(
     alloc: Global,
-    desk: &mut D,
+    desk: &mut TableDesk<S>,
     r: &mut R,
     w: &mut W,
 ) -> Result<u32, ServeFault>
     requires reads { R.failed r.old < 2 ^ 64 - 1 }
     requires writes { CanCount (W.output w.old) }
-    ensures reliable { D.is_reliable desk.new → D.is_reliable desk.old }
-    ensures replays { (messages : List MessageValue) × (answers : List AnswerValue) × (D.is_reliable desk.new → (m : State) → D.stands desk.old m → (n : State)
-        × Serves D.store_may_refuse most_requests m (R.left r.old) (R.left r.new) (W.output w.old) (W.output w.new) messages answers n result
-        × D.stands desk.new n
-        × ((states : List State) → D.may_leave desk.old states → D.may_leave desk.new (left_by m states messages answers))) }
+    ensures reliable { ⟦<IndexDesk<Tables<S>> as Desk>⟧.is_reliable desk.new → ⟦<IndexDesk<Tables<S>> as Desk>⟧.is_reliable desk.old }
+    ensures replays { (messages : List MessageValue) × (answers : List AnswerValue) × (⟦<IndexDesk<Tables<S>> as Desk>⟧.is_reliable desk.new → (m : State)
+        → ⟦<IndexDesk<Tables<S>> as Desk>⟧.stands desk.old m → (n : State)
+        × Serves true most_requests m (R.left r.old) (R.left r.new) (W.output w.old) (W.output w.new) messages answers n result
+        × ⟦<IndexDesk<Tables<S>> as Desk>⟧.stands desk.new n
+        × ((states : List State) → ⟦<IndexDesk<Tables<S>> as Desk>⟧.may_leave desk.old states
+        → ⟦<IndexDesk<Tables<S>> as Desk>⟧.may_leave desk.new (left_by m states messages answers))) }
     ensures memory { result ≡ Err Memory → (desk.new ≡ desk.old) × (r.new ≡ r.old) × (w.new ≡ w.old) }
     ensures read { CountsRead (R.failed r.old) (R.failed r.new) result }
     ensures write { CountsWrite (W.output w.old) result (W.output w.new) }
@@ -65,12 +71,39 @@ pub fn replay_in_memory<R: Source, W: Sink>(
     answer
 }
 
-/// What a replay over a database in a file gives back: its answer, as `replay` has it, and the desk, which has the file still.
-pub type FileReplay<S> = (Result<u32, ServeFault>, FileDesk<S>);
+/// What a replay over a database gives back: its answer, as `replay` has it, and the connection.
+pub type DatabaseReplay<S> = (Result<u32, ServeFault>, Connection<S>);
 
-/// The same over the database in this file, which is made where there is none. Where the file and its log hold a database that stands for a state of the
-/// index, as `S` says what they hold, the replies are given from that state; and of the desk that is left, and so of the file, a stop then leaves what
-/// it leaves of such an index. Refuses where the file can't be opened as a database of this product, and then nothing was read or written.
+/// The same over the tables of a database. Where its connection shows tables that stand for a state of the index, the replies are given from that state,
+/// and the connection then shows tables that stand for the state after them; and a stop leaves of them what it leaves of such an index. Refuses where the
+/// database isn't one of this product, and then nothing was read or written.
+fn replay_database<S: Alter + Drop, R: Source, W: Sink>(
+    alloc: Global,
+    conn: Connection<S>,
+    r: &mut R,
+    w: &mut W,
+) -> Result<DatabaseReplay<S>, TablesFault>
+    requires mode { conn.in_transaction ≡ false }
+    requires reads { R.failed r.old < 2 ^ 64 - 1 }
+    requires writes { CanCount (W.output w.old) }
+    ensures clean { IfOk result (λ o. HasCleanDisk (state S.Store o.1) → HasCleanDisk (state S.Store conn)) }
+    ensures replays { IfOk result (λ o. HasCleanDisk (state S.Store o.1) → (m : State) → Finds (state S.Store conn) m
+        → ReplaysFrom m (state S.Store o.1) (R.left r.old) (R.left r.new) (W.output w.old) (W.output w.new) o.0) }
+    ensures unread { IfErr result (λ _. (r.new ≡ r.old) × (w.new ≡ w.old)) }
+    ensures read { IfOk result (λ o. CountsRead (R.failed r.old) (R.failed r.new) o.0) }
+    ensures write { IfOk result (λ o. CountsWrite (W.output w.old) o.0 (W.output w.new)) }
+{
+    let mut desk = open_desk(alloc, conn)?;
+    let answer = replay(alloc, &mut desk, r, w);
+    Ok((answer, connection_of(desk)))
+}
+
+/// What a replay over a database in a file gives back: its answer, and the connection, which has the file still.
+pub type FileReplay<S> = DatabaseReplay<FileStore<FileFrom<S>>>;
+
+/// The same over the database in this file, which is made where there is none. Where the file and its log hold tables that stand for a state of the index,
+/// as `S` says what they hold, the replies are given from that state. Refuses where the file can't be opened as a database of this product, and then
+/// nothing was read or written.
 pub fn replay_file<S: Start, R: Source, W: Sink>(
     rt: &HostRuntime,
     path: &str,
@@ -80,16 +113,12 @@ pub fn replay_file<S: Start, R: Source, W: Sink>(
 ) -> Result<FileReplay<S>, TablesFault>
     requires reads { R.failed r.old < 2 ^ 64 - 1 }
     requires writes { CanCount (W.output w.old) }
-    ensures replays { IfOk result (λ o. ⟦<IndexDesk<Tables<FileStore<FileFrom<S>>>> as Desk>⟧.is_reliable o.1 → (m : State) → HoldsIndex (image_at S.Start) m
-        → (messages : List MessageValue) × (answers : List AnswerValue) × (n : State)
-        × Serves true most_requests m (R.left r.old) (R.left r.new) (W.output w.old) (W.output w.new) messages answers n o.0
-        × ⟦<IndexDesk<Tables<FileStore<FileFrom<S>>>> as Desk>⟧.stands o.1 n
-        × ⟦<IndexDesk<Tables<FileStore<FileFrom<S>>>> as Desk>⟧.may_leave o.1 (left_by m (m ∷ []) messages answers)) }
+    ensures replays { IfOk result (λ o. HasCleanDisk (file_state o.1) → (m : State) → HoldsIndex (image_at S.Start) m
+        → ReplaysFrom m (file_state o.1) (R.left r.old) (R.left r.new) (W.output w.old) (W.output w.new) o.0) }
     ensures unread { IfErr result (λ _. (r.new ≡ r.old) × (w.new ≡ w.old)) }
     ensures read { IfOk result (λ o. CountsRead (R.failed r.old) (R.failed r.new) o.0) }
     ensures write { IfOk result (λ o. CountsWrite (W.output w.old) o.0 (W.output w.new)) }
 {
-    let mut desk = open_file(rt, path, start)?;
-    let answer = replay(rt.alloc(), &mut desk, r, w);
-    Ok((answer, desk))
+    let conn = connect_file(rt, path, start)?;
+    replay_database(rt.alloc(), conn, r, w)
 }

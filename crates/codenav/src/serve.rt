@@ -1,6 +1,6 @@
 //! `codenav serve`: the replies to the requests of connections.
 ghost use Rattle.std.specs.Prelude.{◌≡◌, ◌+◌, ◌-◌, ◌^◌, ◌<◌, true, List, Err, IfErr, length};
-ghost use Rattle.tables.specs.State.{State};
+ghost use Rattle.machine.specs.State.{State};
 ghost use Rattle.lsif.specs.Streams.{CanCount};
 ghost use Rattle.http_edge.specs.Serving.{CountsRead, CountsWrite, Serves, left_by};
 ghost use Rattle.http_edge.specs.declared.serve.ServeFault.TheVariants as serve_fault;

@@ -25,8 +25,8 @@ use Rattle.tables.specs.Selections.{FindsCover}
 use Rattle.tables.specs.Steps.Climbs.{IsCoverRow, AreWithin, row_found}
 use Rattle.tables.proofs.CoverLists.{covers_rows, range_of}
 use Rattle.desk.specs.Steps.Selected.{by_span, range_found_of}
-use Rattle.desk.proofs.Covers.{Lies, two, within, inner_total, same_position, ties_both, position_ties, position_back, position_same}
-use Rattle.desk.proofs.Members.{contains_head, contains_tail, contains_cases, contains_map, map_source, not_in_nil, and_both}
+use Rattle.machine.proofs.Covers.{Lies, two, within, inner_total, same_position, ties_both, position_ties, position_back, position_same}
+use Rattle.machine.proofs.Members.{contains_head, contains_tail, contains_cases, contains_map, map_source, not_in_nil, and_both}
 
 -- ---- the sort
 

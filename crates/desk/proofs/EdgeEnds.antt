@@ -12,7 +12,7 @@ use Rattle.dump.specs.declared.single.SingleLabel.{SingleLabel}
 use Rattle.dump.specs.declared.single.SingleLabel.TheVariants.{Next, Definition, References, Hover, PackageInformation, Declaration, Implementation}
 use Rattle.std.proofs.lemmas.Option.{get_or_from_slice_get}
 use Rattle.dump.specs.declared.request.Request.TheVariants.{Hover}
-use Rattle.desk.proofs.Members.{contains_head, contains_tail, contains_one, not_in_nil, flat_of, in_if, same_id_self}
+use Rattle.machine.proofs.Members.{contains_head, contains_tail, contains_one, not_in_nil, flat_of, in_if, same_id_self}
 
 abbrev pub HasLine : List ElementValue → IdValue → Type 0
 HasLine elements i = (k : ℕ) × (line_of elements i ≡ Some k)

@@ -12,14 +12,15 @@ use Rattle.std.proofs.lemmas.List.{append_assoc}
 use Rattle.std.proofs.lemmas.List.Elements.{Contains-append_left, Contains-append_right, Contains-append_cases}
 use Rattle.dump.specs.Places.{IsListing}
 use Rattle.dump.specs.Progress.{DumpValue}
-use Rattle.tables.specs.State.{State}
-use Rattle.tables.specs.Selections.{text_cmp, BearerFound, bearer_found_cmp, FindsBearers, Bears}
+use Rattle.machine.specs.State.{State}
+use Rattle.machine.specs.Projects.{text_cmp}
+use Rattle.tables.specs.Selections.{BearerFound, bearer_found_cmp, FindsBearers, Bears}
 use Rattle.desk.specs.Steps.Plain.{Stands}
 use Rattle.desk.specs.Steps.Selected.{bearer_in_cmp, IsBearerOf, IsBearerHere, IsBearerAmong, AddsBearers, FoundSoFar}
 use Rattle.desk.specs.declared.project.Project.{Project}
-use Rattle.desk.proofs.EntryLists.{entry_found, found_entry, rises_cons, rises_nil, rises_head, rises_tail, rises_append}
-use Rattle.desk.proofs.Listing.{relisted}
-use Rattle.desk.proofs.Members.{contains_head, contains_tail, contains_cases, not_in_nil}
+use Rattle.machine.proofs.EntryLists.{entry_found, found_entry, rises_cons, rises_nil, rises_head, rises_tail, rises_append}
+use Rattle.machine.proofs.Listing.{relisted}
+use Rattle.machine.proofs.Members.{contains_head, contains_tail, contains_cases, not_in_nil}
 
 abbrev Entry : Type 0
 Entry = String Global × Project

@@ -6,14 +6,14 @@ use Rattle.std.specs.declared.cmp.Ordering.{Ordering}
 use Rattle.std.specs.declared.cmp.Ordering.TheVariants.{Less, Equal, Greater}
 use Rattle.dump.specs.Places.{IsListing}
 use Rattle.dump.specs.declared.request.Request.{Request}
-use Rattle.tables.specs.State.{State}
+use Rattle.machine.specs.State.{State}
 use Rattle.tables.specs.Selections.{RangeFound}
 use Rattle.desk.specs.Steps.RowHovers.{IsLeast, joined_cmp}
 use Rattle.desk.specs.Steps.Rows.{AreJoined, AreKeys, IsRowJoined, JoinedValue, joined_value}
 use Rattle.desk.specs.declared.rows.bearers.JoinedBearer.{JoinedBearer}
-use Rattle.desk.proofs.EntryLists.{rises_head}
+use Rattle.machine.proofs.EntryLists.{rises_head}
 use Rattle.desk.proofs.ListedRows.{joined_total}
-use Rattle.desk.proofs.Members.{contains_cases, contains_head, not_in_nil}
+use Rattle.machine.proofs.Members.{contains_cases, contains_head, not_in_nil}
 
 self_equal : (o : Ordering) → o ≡ ordering_reverse o → o ≡ Equal
 self_equal Less e = cc

@@ -9,15 +9,15 @@ use Rattle.std.specs.String.{string_eq}
 use Rattle.dump.specs.Places.{place_cmp}
 use Rattle.dump.proofs.OnePicks.{place_total}
 use Rattle.flatten.proofs.RowOrders.{place_ties, place_same, same_place, same_span}
-use Rattle.tables.specs.Selections.{text_cmp}
-use Rattle.desk.specs.Answers.{found_cmp}
+use Rattle.machine.specs.Projects.{text_cmp}
+use Rattle.machine.specs.Answers.{found_cmp}
 use Rattle.desk.specs.Steps.RowHovers.{joined_cmp}
 use Rattle.desk.specs.Steps.RowPlaces.{item_place}
 use Rattle.desk.specs.Steps.Rows.{joined_value, project_result_cmp, project_result_value}
 use Rattle.desk.specs.declared.rows.bearers.JoinedBearer.{JoinedBearer}
 use Rattle.desk.specs.declared.rows.places.ItemPlace.{ItemPlace}
 use Rattle.desk.specs.declared.rows.results.ProjectResult.{ProjectResult}
-use Rattle.desk.proofs.Listing.{eq_of, text_eq, under}
+use Rattle.machine.proofs.Listing.{eq_of, text_eq, under}
 
 -- ---- results
 

@@ -11,12 +11,12 @@ use Rattle.dump.specs.Places.{IsListing, PlaceValue, place_cmp}
 use Rattle.dump.specs.Progress.{DumpValue}
 use Rattle.flatten.specs.Flat.{IsHoverRow}
 use Rattle.tags.specs.Values.{TagValue}
-use Rattle.tables.specs.State.{State, Change, set_dump, set_tags, clear, changed, dump_after}
+use Rattle.machine.specs.State.{State, Change, set_dump, set_tags, clear, changed, dump_after}
 use Rattle.tables.specs.Selections.{MarkText, FindsHover, FindsItems, FindsMarks, mark_text_cmp}
 use Rattle.desk.specs.Indexes.{AreFaultless}
 use Rattle.desk.specs.Steps.Selected.{IsItemOf, IsMarkOf, IsHoverOf, hover_row}
-use Rattle.desk.proofs.Listing.{relisted}
-use Rattle.desk.proofs.Members.{not_in_nil}
+use Rattle.machine.proofs.Listing.{relisted}
+use Rattle.machine.proofs.Members.{not_in_nil}
 
 same_dump : (c d : DumpValue) → ◌≡◌ {A = Option DumpValue} (Some c) (Some d) → c ≡ d
 same_dump c d e = cc

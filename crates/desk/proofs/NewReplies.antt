@@ -5,8 +5,8 @@ use Rattle.lsif.specs.Element.{ElementValue}
 use Rattle.dump.specs.Progress.{DumpValue}
 use Rattle.tags.specs.Values.{TagValue}
 use Rattle.tables.specs.Stands.{IsNew}
-use Rattle.tables.specs.State.{State, accepted_text, dump_put, set_dump, set_tags, tags_put}
-use Rattle.desk.specs.Reply.{ReplyValue, dump_accepted, tags_accepted}
+use Rattle.machine.specs.State.{State, accepted_text, dump_put, set_dump, set_tags, tags_put}
+use Rattle.machine.specs.Reply.{ReplyValue, dump_accepted, tags_accepted}
 
 pub same_count : {A B : Type 0} (value : A → B) (xs : List A) (ys : List B) → map value xs ≡ ys → length xs ≡ length ys
 same_count value xs ys are = sym (length-map xs value) ∙ ap length are

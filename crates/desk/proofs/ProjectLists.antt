@@ -7,13 +7,13 @@ use Rattle.std.specs.Map.{keys_of}
 use Rattle.std.specs.String.{string_cmp}
 use Rattle.std.specs.declared.cmp.Ordering.TheVariants.{Less}
 use Rattle.dump.specs.Places.{IsListing}
-use Rattle.tables.specs.Selections.{text_cmp, IsProject, project_cmp, ProjectValue}
-use Rattle.tables.specs.State.{State}
+use Rattle.machine.specs.Projects.{text_cmp, IsProject, project_cmp, ProjectValue}
+use Rattle.machine.specs.State.{State}
 use Rattle.desk.specs.Steps.Listed.{projects_of}
 use Rattle.desk.specs.Steps.Plain.{Stands}
 use Rattle.desk.specs.declared.project.Project.{Project}
-use Rattle.desk.proofs.EntryLists.{entry_found, found_entry, rises_cons, rises_nil, rises_head, rises_tail}
-use Rattle.desk.proofs.Members.{contains_head, contains_tail, contains_cases, not_in_nil}
+use Rattle.machine.proofs.EntryLists.{entry_found, found_entry, rises_cons, rises_nil, rises_head, rises_tail}
+use Rattle.machine.proofs.Members.{contains_head, contains_tail, contains_cases, not_in_nil}
 
 abbrev Entry : Type 0
 Entry = String Global × Project

@@ -1,10 +1,10 @@
 -- What a refusal of an index leaves of the machine's states.
 use Rattle.std.proofs.Common.{◌≡◌, ◌++◌, [], ◌∷◌, List, sym, subst}
-use Rattle.tables.specs.State.{State}
-use Rattle.desk.specs.Machine.{after}
-use Rattle.desk.specs.Reply.{ReplyValue}
-use Rattle.desk.specs.Requests.{CommandValue, command}
-use Rattle.desk.specs.Runs.{left, moved}
+use Rattle.machine.specs.State.{State}
+use Rattle.machine.specs.Machine.{after}
+use Rattle.machine.specs.Reply.{ReplyValue}
+use Rattle.machine.specs.Requests.{CommandValue, command}
+use Rattle.machine.specs.Runs.{left, moved}
 use Rattle.desk.specs.Steps.Indexes.{refused_by}
 use Rattle.desk.specs.declared.index.IndexFault.{IndexFault}
 use Rattle.desk.specs.declared.index.IndexFault.TheVariants.{Refused, Memory}

@@ -5,15 +5,15 @@ use Rattle.dump.specs.declared.request.Request.TheVariants as requests
 use Rattle.dump.specs.declared.role.Role.{Role}
 use Rattle.dump.specs.Places.{IsListing}
 use Rattle.positions.specs.Position.{PositionValue}
-use Rattle.tables.specs.State.{State}
+use Rattle.machine.specs.State.{State}
 use Rattle.tables.specs.Selections.{RangeFound}
-use Rattle.desk.specs.Answers.{AnswersAt, AnswersHover, AnswersPlaces, IsFound, answered, found_cmp, picked, picked_hover, unpicked, unpicked_hover}
-use Rattle.desk.specs.Reply.{FoundPlace, hover_found, places_found}
-use Rattle.desk.specs.Requests.{at_value}
+use Rattle.machine.specs.Answers.{AnswersAt, AnswersHover, AnswersPlaces, IsFound, answered, found_cmp, picked, picked_hover, unpicked, unpicked_hover}
+use Rattle.machine.specs.Reply.{FoundPlace, hover_found, places_found}
+use Rattle.machine.specs.Requests.{at_value}
 use Rattle.desk.specs.Steps.RowHovers.{RowHovers}
 use Rattle.desk.specs.Indexes.{AreFaultless}
 use Rattle.desk.specs.Steps.Rows.{IsAnsweringResult, IsPlaceOfOne, PicksIn}
-use Rattle.desk.proofs.Listing.{relisted}
+use Rattle.machine.proofs.Listing.{relisted}
 use Rattle.desk.proofs.RowHoverWalks.{hovers_row}
 use Rattle.desk.proofs.RowWalks.{results_found}
 

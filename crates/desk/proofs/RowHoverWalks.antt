@@ -17,14 +17,15 @@ use Rattle.dump.proofs.OwnPlaces.{first_contents}
 use Rattle.dump.proofs.Progresses.{sound_of}
 use Rattle.flatten.specs.Flat.{IsHoverRow, IsResult, result_for}
 use Rattle.flatten.proofs.NumberPairs.{number_line}
-use Rattle.tables.specs.State.{State}
-use Rattle.tables.specs.Selections.{FindsHover, HasHover, RangeFound, text_cmp}
-use Rattle.desk.specs.Answers.{HasContents, HasJoinedContents, HoversAt, own, joined, bare, IsAtOrBefore}
+use Rattle.machine.specs.State.{State}
+use Rattle.machine.specs.Projects.{text_cmp}
+use Rattle.tables.specs.Selections.{FindsHover, HasHover, RangeFound}
+use Rattle.machine.specs.Answers.{HasContents, HasJoinedContents, HoversAt, own, joined, bare, IsAtOrBefore}
 use Rattle.desk.specs.Steps.RowHovers.{HasContentsOf, IsLeast, RowHovers, joined_cmp}
 use Rattle.desk.specs.Indexes.{AreFaultless}
 use Rattle.desk.specs.Steps.Rows.{HasRow, IsRowJoined, JoinedValue}
 use Rattle.desk.proofs.EdgeEnds.{first_line, moniker_ends}
-use Rattle.desk.proofs.Members.{flat_of}
+use Rattle.machine.proofs.Members.{flat_of}
 use Rattle.desk.proofs.RowWalks.{each_results, first_number, joined_from, joined_to, number_first, one_number, some_is}
 
 -- ---- a vertex's first hover result

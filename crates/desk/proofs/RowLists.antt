@@ -4,14 +4,14 @@ use Rattle.std.specs.Prelude.{◌↔◌, Contains, Option, Some}
 use Rattle.dump.specs.declared.request.Request.{Request}
 use Rattle.dump.specs.declared.role.Role.{Role}
 use Rattle.dump.specs.Places.{PlaceValue}
-use Rattle.tables.specs.State.{State}
+use Rattle.machine.specs.State.{State}
 use Rattle.tables.specs.Selections.{BearerFound, FindsItems, HasItem, RangeFound}
-use Rattle.desk.specs.Reply.{FoundPlace}
+use Rattle.machine.specs.Reply.{FoundPlace}
 use Rattle.flatten.specs.Flat.{result_for}
-use Rattle.desk.specs.Steps.Places.{found_in}
+use Rattle.machine.specs.Steps.Places.{found_in}
 use Rattle.desk.specs.Steps.Rows.{AreJoined, AreKeys, IsAnsweringResult, IsKeyJoined, IsOwnResult, IsPlaceOf, IsPlaceOfOne, IsRolePlace, IsRowJoined, JoinedValue, OfBearer, ProjectResultValue, result_of_joined}
 use Rattle.desk.proofs.Finding.{iff_trans, or_step}
-use Rattle.desk.proofs.Members.{contains_cases, contains_head, contains_tail, not_in_nil}
+use Rattle.machine.proofs.Members.{contains_cases, contains_head, contains_tail, not_in_nil}
 
 module _ (m : State) (request : Request) (own : List ℕ) (j : JoinedValue) where
   pub keys_more : (key : List ℕ) (rest : List (List ℕ)) → AreJoined m request own (key ∷ rest) j ↔ (IsKeyJoined m request own key j ⊎ AreJoined m request own rest j)

@@ -22,15 +22,15 @@ use Rattle.flatten.specs.Flat.{AreResults, IsItemRow, IsMarkRow, IsResult, ItemR
 use Rattle.flatten.specs.KeyTexts.{key_text}
 use Rattle.flatten.proofs.KeyLemmas.{key_same}
 use Rattle.flatten.proofs.NumberPairs.{number_ones}
-use Rattle.tables.specs.State.{State}
+use Rattle.machine.specs.State.{State}
 use Rattle.tables.specs.Selections.{BearerFound, FindsCover, HasMark, IsRangeFound, MarkText, RangeFound}
-use Rattle.desk.specs.Answers.{HasPlace, IsFound}
-use Rattle.desk.specs.Joins.{IsJoined}
-use Rattle.desk.specs.Reply.{FoundPlace}
+use Rattle.machine.specs.Answers.{HasPlace, IsFound}
+use Rattle.machine.specs.Joins.{IsJoined}
+use Rattle.machine.specs.Reply.{FoundPlace}
 use Rattle.desk.specs.Indexes.{AreFaultless}
 use Rattle.desk.specs.Steps.Rows.{HasRow, IsAnsweringResult, IsPlaceOfOne, IsResultPlace, IsRowJoined, JoinedValue, PicksRow, ProjectResultValue, RowSpeaks}
 use Rattle.desk.proofs.EdgeEnds.{HasEnds, HasVertexLines, bears_line, result_line}
-use Rattle.desk.proofs.Members.{contains_head, contains_one, contains_tail}
+use Rattle.machine.proofs.Members.{contains_head, contains_one, contains_tail}
 use Rattle.desk.proofs.ResultKinds.{first_result}
 
 pub some_is : {X : Type 0} (x y : X) → Some x ≡ Some y → x ≡ y

@@ -1,6 +1,6 @@
 -- What an index leaves where a change is refused before it was asked for.
 use Rattle.std.specs.Prelude.{◌++◌, [], ◌∷◌, List}
-use Rattle.tables.specs.State.{State}
+use Rattle.machine.specs.State.{State}
 use Rattle.desk.specs.Indexes.{ReadsOnly, Refuses}
 
 module _ {I : Type 0} (stands : I → State → Type 0) (may_leave : I → List State → Type 0) where

@@ -8,7 +8,7 @@ use Rattle.sqlite.specs.Held.{Held, state}
 use Rattle.sqlite.specs.State as sqlite
 use Rattle.sqlite.specs.State.{HasCleanDisk, Survives}
 use Rattle.tables.specs.Stands.{IsAsBefore, Rests, StandsFor}
-use Rattle.tables.specs.State.{State}
+use Rattle.machine.specs.State.{State}
 use Rattle.desk.specs.Indexes.{Commits, Refuses}
 use Rattle.desk.specs.TableStates.{LeavesOneOf, ServesFor, leaves_more}
 

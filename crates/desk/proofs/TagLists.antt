@@ -1,10 +1,10 @@
 -- The lists of tags.
-use Rattle.std.proofs.Common.{Global, ◌≡◌, ◌∙◌, ◌⊎◌, inl, inr, ⊎_elim, ◌+◌, ℕ, Bool, true, false, cond, List, [], ◌∷◌, ◌++◌, length, take, drop, map, nat_lt, refl, sym, ap, subst, arith, get_or}
-use Rattle.std.specs.Prelude.{Option, Some, None, option_and_then, String, string_bytes, Contains, bytes_eq, nat_eq}
+use Rattle.std.proofs.Common.{Global, ◌≡◌, ◌∙◌, ◌⊎◌, inl, inr, ⊎_elim, ◌+◌, ℕ, Bool, true, false, cond, List, [], ◌∷◌, map, nat_lt, refl, sym, ap, subst, arith, get_or}
+use Rattle.std.specs.Prelude.{Option, Some, None, option_and_then, String, string_bytes, Contains, bytes_eq}
 use Rattle.std.specs.BTreeMap.{BTreeMap, IsOrdered, get_by_text}
 use Rattle.std.specs.Cmp.{IsTotalOrder, on_total}
-use Rattle.std.specs.Cmp.Lexicographic.{on_texts, pointwise}
-use Rattle.std.specs.List.{AllByRecursion, list_all, starts_with, IsDistinct}
+use Rattle.std.specs.Cmp.Lexicographic.{on_texts}
+use Rattle.std.specs.List.{AllByRecursion, list_all, IsDistinct}
 use Rattle.std.specs.List.Sorted.{IsSorted, IsStrictlySortedBy, IsPermutation}
 use Rattle.std.specs.Map.{keys_of}
 use Rattle.std.specs.Ordering.{is_eq, is_lt, nat_cmp, ordering_then, ordering_reverse, eq_by_cmp}
@@ -12,7 +12,6 @@ use Rattle.std.specs.String.{string_cmp}
 use Rattle.std.specs.declared.cmp.Ordering.{Ordering}
 use Rattle.std.specs.declared.cmp.Ordering.TheVariants.{Less, Equal, Greater}
 use Rattle.std.proofs.lemmas.Cmp.{eq_by_cmp_equiv}
-use Rattle.std.proofs.lemmas.List.{take-append-drop}
 use Rattle.std.proofs.lemmas.List.Elements.{Contains-append_left, Contains-append_right, Contains-append_cases}
 use Rattle.std.proofs.lemmas.List.Sorted.{Contains-permutation, IsPermutation-sym, IsPermutation-map}
 use Rattle.std.proofs.lemmas.Map.Keys.{IsDistinct-from_sorted, IsDistinct-IsPermutation, apart_from_distinct, sorted_from_all_adjacent}
@@ -20,17 +19,18 @@ use Rattle.std.proofs.lemmas.Slice.Eq.{bytes_eq-Decides}
 use Rattle.tags.specs.Judging.{lines_rise}
 use Rattle.tags.specs.Values.{TagValue}
 use Rattle.dump.specs.Places.{IsListing}
-use Rattle.tables.specs.Names.{IsAsked, IsTag, BeginsWith, line_cmp, name_cmp, FoundTag, tag_found}
-use Rattle.tables.specs.Selections.{text_cmp}
-use Rattle.tables.specs.State.{State}
+use Rattle.machine.specs.FoundTags.{IsAsked, IsTag, line_cmp, name_cmp, FoundTag}
+use Rattle.tables.specs.Names.{tag_found}
+use Rattle.machine.specs.Projects.{text_cmp}
+use Rattle.machine.specs.State.{State}
 use Rattle.desk.specs.Steps.Listed.{is_asked, tags_so, project_tags, tags_of, by_value, TagsRise, AllRise}
 use Rattle.desk.specs.Steps.Plain.{Stands}
 use Rattle.tables.specs.declared.found_tags.FoundTag as program
 use Rattle.desk.specs.declared.project.Project.{Project}
-use Rattle.desk.proofs.EntryLists.{entry_found, found_entry, rises_cons, rises_nil, rises_head, rises_tail, rises_append}
-use Rattle.desk.proofs.Listing.{text_eq, rises_map}
-use Rattle.desk.proofs.Members.{contains_head, contains_tail, contains_cases, not_in_nil, and_both}
-use Rattle.desk.proofs.OneReplies.{line_total, name_total, then_equal}
+use Rattle.machine.proofs.EntryLists.{entry_found, found_entry, rises_cons, rises_nil, rises_head, rises_tail, rises_append}
+use Rattle.machine.proofs.Listing.{rises_map}
+use Rattle.machine.proofs.Members.{contains_head, contains_tail, contains_cases, not_in_nil, and_both}
+use Rattle.machine.proofs.OneReplies.{line_total, name_total, then_equal}
 
 -- ---- the tags of one project
 
@@ -239,20 +239,6 @@ is_name text name e = (bytes_eq-Decides name text).0 e
 
 pub name_is : (text name : List ℕ) → name ≡ text → bytes_eq name text ≡ true
 name_is text name e = (bytes_eq-Decides name text).1 e
-
-pub begins : (start name : List ℕ) → starts_with nat_eq name start ≡ true → BeginsWith name start
-begins start name e =
-    let same : start ≡ take (length start) name = text_eq start (take (length start) name) e in
-    (drop (length start) name, sym (take-append-drop (length start) name) ∙ ap (λ t. t ++ drop (length start) name) (sym same))
-
-take_front : (xs ys : List ℕ) → take (length xs) (xs ++ ys) ≡ xs
-take_front [] ys = refl
-take_front (x ∷ xs) ys = ap (λ l. x ∷ l) (take_front xs ys)
-
-pub begun : (start name : List ℕ) → BeginsWith name start → starts_with nat_eq name start ≡ true
-begun start name (rest, e) =
-    let front : take (length start) name ≡ start = ap (take (length start)) e ∙ take_front start rest in
-    ap (pointwise nat_eq start) front ∙ (bytes_eq-Decides start start).1 refl
 
 -- ---- by names
 

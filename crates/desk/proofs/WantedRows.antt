@@ -18,12 +18,12 @@ use Rattle.dump.specs.Progress.{DumpValue}
 use Rattle.flatten.specs.Flat.{RangeRowValue, ItemRowValue, MarkRowValue, HoverRowValue, BearerRowValue, IsRangeRow, IsItemRow, IsMarkRow, IsHoverRow, IsBearerRow, by_line, item_cmp, mark_cmp, by_result, bearer_cmp, role_index, kind_index}
 use Rattle.tables.specs.Selections.{MarkText, mark_text_cmp, BearerFound, bearer_row}
 use Rattle.tables.specs.Steps.Climbs.{IsCoverRow}
-use Rattle.desk.specs.Steps.Places.{same_role}
+use Rattle.machine.specs.Steps.Places.{same_role}
 use Rattle.desk.specs.Steps.Selected.{item_row, item_wanted, IsItemOf, mark_row, mark_wanted, IsMarkOf, hover_row, hover_wanted, IsHoverOf, bearer_wanted, bearer_in_cmp, IsBearerOf, range_wanted}
-use Rattle.desk.proofs.Covers.{covers_of, covers_from}
-use Rattle.desk.proofs.Gathers.{role_eq, role_self}
-use Rattle.desk.proofs.Listing.{eq_of, text_eq}
-use Rattle.desk.proofs.Members.{contains_head, contains_tail, contains_cases, not_in_nil, and_both, and_of}
+use Rattle.machine.proofs.Covers.{covers_of, covers_from}
+use Rattle.machine.proofs.Gathers.{role_eq, role_self}
+use Rattle.machine.proofs.Listing.{eq_of, text_eq}
+use Rattle.machine.proofs.Members.{contains_head, contains_tail, contains_cases, not_in_nil, and_both, and_of}
 
 -- what is wanted of a row gives the row back, and what is so is wanted of its row
 module _ {R V : Type 0} (wanted : R → Option V) (row : V → R) (IsSo : V → Type 0) (back : (r : R) (v : V) → wanted r ≡ Some v → (r ≡ row v) × IsSo v) (gives : (v : V) → IsSo v → wanted (row v) ≡ Some v) where

@@ -2,7 +2,7 @@
 use Rattle.std.specs.Prelude.{◌≡◌, ◌++◌, [], ◌∷◌, ℕ, List, map, Option, Some, Result, Ok, OnOk, OnErr, option_map}
 use Rattle.dump.specs.Fault.{IsFaultless}
 use Rattle.dump.specs.Progress.{DumpValue}
-use Rattle.tables.specs.State.{State, accepted_text}
+use Rattle.machine.specs.State.{State, accepted_text}
 
 -- the text of the reply that is kept for the project under the key
 abbrev pub kept_text : State → List ℕ → List ℕ → Option (List ℕ)

@@ -1,16 +1,3 @@
-pub mod Answers
-pub mod Bodies
-pub mod Found
 pub mod Indexes
-pub mod Joins
-pub mod Judging
-pub mod Machine
-pub mod Moments
-pub mod Names
-pub mod Reply
-pub mod Requests
-pub mod Retries
-pub mod Runs
 pub mod Steps
 pub mod TableStates
-pub mod Uploads

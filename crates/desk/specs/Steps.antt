@@ -1,11 +1,8 @@
 -- What only private contracts and proofs name: steps of loops, and values of the program's own types.
 pub mod Indexes
 pub mod Listed
-pub mod Names
-pub mod Places
 pub mod Plain
 pub mod RowHovers
 pub mod RowPlaces
 pub mod Rows
 pub mod Selected
-pub mod Uploads

@@ -4,7 +4,7 @@ use Rattle.std.proofs.lemmas.List.Elements.{Contains-append_left}
 use Rattle.sqlite_trees.specs.Tree.{Trees}
 use Rattle.sqlite.specs.State as sqlite
 use Rattle.tables.specs.Stands.{Rests, StandsFor}
-use Rattle.tables.specs.State.{State}
+use Rattle.machine.specs.State.{State}
 
 -- The tables are those of the state. A store that a fault has shut serves for every state: it answers nothing any more.
 abbrev pub ServesFor : sqlite.State → State → Type 0

@@ -4,10 +4,10 @@ ghost use Rattle.std.specs.Prelude.{◌≡◌};
 ghost use Rattle.desk.specs.Steps.Indexes.{fault_of};
 ghost use Rattle.desk.specs.declared.index.IndexFault.TheVariants.{Memory};
 
-use crate::tags_part::TagsPart;
 use dump::{CheckedDump, Role};
 use flatten::FlattenFault;
 use lsif::Profile;
+use machine::TagsPart;
 use positions::Position;
 use std::alloc::{AllocError, Global};
 use tables::{Covering, FoundBearer, FoundItem, FoundMark, FoundTag, ProjectRow, TablesFault};
@@ -56,7 +56,7 @@ pub trait Index {
     ghost use Rattle.std.specs.Prelude.{◌≡◌, Bool, true, ◌||◌, ◌∷◌, [], ◌++◌, List, None, IfOk, IfErr, OnOk, is_some, map, option_map, string_bytes};
     ghost use Rattle.tables.specs.Names.{FindsNamed, FindsPrefixed, tag_found};
     ghost use Rattle.tables.specs.Stands.{IsNew};
-    ghost use Rattle.tables.specs.State.{State, changed, clear, set_dump, set_tags};
+    ghost use Rattle.machine.specs.State.{State, changed, clear, set_dump, set_tags};
     ghost use Rattle.tables.specs.Selections.{FindsBearers, FindsCovering, FindsHover, FindsItems, FindsMarks, FindsProjects, bearer_found, item_found, mark_found, project_found};
     ghost use Rattle.desk.specs.Indexes.{AreFaultless, Changes, ReadsOnly, kept_text};
     ghost use Rattle.desk.specs.declared.index.IndexFault.TheVariants.{Refused};

@@ -1,23 +1,20 @@
 //! A desk over an index: commands, each served by the reply that is kept under its key or else by one change of the index, and queries. What the index
 //! is and where it keeps its rows isn't known here; the answers to queries are made in `rows`, the machine that is served stands in `specs/Machine`.
 ghost use Rattle.std.specs.Prelude.{◌≡◌, ℕ, true, List, None, Err, IfErr};
-ghost use Rattle.tables.specs.State.{State};
-ghost use Rattle.desk.specs.Reply.{removed};
-ghost use Rattle.desk.specs.Requests.{CommandValue, command_value};
+ghost use Rattle.machine.specs.State.{State};
+ghost use Rattle.machine.specs.Reply.{removed};
+ghost use Rattle.machine.specs.Requests.{CommandValue, command_value};
 ghost use Rattle.desk.specs.Steps.Indexes.{IsAccepted, IsServed, refused_by};
-ghost use Rattle.desk.specs.Steps.Plain.{Concludes, change_value};
-ghost use Rattle.desk.specs.Uploads.{StandsFor, command_of};
+ghost use Rattle.machine.specs.Steps.Changes.{change_value};
+ghost use Rattle.desk.specs.Steps.Plain.{Concludes};
+ghost use Rattle.machine.specs.Uploads.{StandsFor, command_of};
 ghost use Rattle.desk.specs.declared.index.IndexFault.TheVariants.{Refused, Memory};
 
-use crate::bodies::{dump_accepted, removed, tags_accepted};
-use crate::code::Code;
-use crate::desk::Desk;
 use crate::index::{Index, IndexFault};
-use crate::project::{Change, judge};
-use crate::reply::Reply;
-use crate::request::{Command, Query};
 use crate::rows::queries::answer;
-use crate::upload::Upload;
+use machine::{
+    Change, Code, Command, Desk, Query, Reply, Upload, dump_accepted, judge, removed, tags_accepted,
+};
 use std::alloc::Global;
 
 /// The reply where an index refuses: S01 where its store refused, and S02 where memory was. It takes no memory.

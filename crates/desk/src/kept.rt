@@ -1,11 +1,12 @@
 //! What is kept of all projects by an index in memory: what is found of one, and how a change is made.
-ghost use Rattle.std.specs.Prelude.{◌≡◌, ◌&&◌, ℕ, List, OnOk, OnErr, Some, option_map, bytes_eq, string_bytes, if◌then◌else◌};
-ghost use Rattle.tables.specs.State.{accepted, dump_after, tags_after};
-ghost use Rattle.desk.specs.Steps.Plain.{accepted_value, change_value, dump_in, tags_in, kept_in};
+ghost use Rattle.std.specs.Prelude.{◌≡◌, ◌&&◌, ◌||◌, ℕ, List, OnOk, OnErr, Some, is_some, option_map, bytes_eq, string_bytes, if◌then◌else◌};
+ghost use Rattle.machine.specs.State.{dump_after, tags_after};
+ghost use Rattle.machine.specs.Steps.Changes.{change_value};
+ghost use Rattle.desk.specs.Steps.Plain.{dump_in, tags_in, kept_in};
 
-use crate::project::{Accepted, Change, Project};
-use crate::tags_part::TagsPart;
+use crate::project::Project;
 use dump::CheckedDump;
+use machine::{Change, TagsPart};
 use std::alloc::{AllocError, Global};
 use std::collections::BTreeMap;
 
@@ -32,38 +33,29 @@ fn tags_in<'a>(projects: &'a BTreeMap<String, Project>, project: &str) -> Option
     }
 }
 
-/// What the reply says that is kept under a key of a project.
-pub(crate) fn kept_in(
-    projects: &BTreeMap<String, Project>,
+/// The text of the reply that is kept under a key of a project.
+pub(crate) fn kept_in<'a>(
+    projects: &'a BTreeMap<String, Project>,
     project: &str,
     key: &str,
-) -> Option<Accepted>
-    ensures { option_map accepted_value result ≡ kept_in projects.now project.now key.now }
+) -> Option<&'a str>
+    ensures { option_map (λ t. t.now) result ≡ kept_in projects.now project.now key.now }
 {
-    match projects.get(project) {
-        Some(found) => found.kept.get(key).copied(),
+    let found = projects.get(project)?;
+    match found.kept.get(key) {
+        Some(text) => Some(text.as_str()),
         None => None,
     }
 }
 
-/// What the reply to a change of the project says.
-pub(crate) fn accepted(
-    projects: &BTreeMap<String, Project>,
-    project: &str,
-    change: &Change,
-) -> Accepted
-    ensures { accepted_value result ≡ accepted (change_value change.now) (dump_in projects.now project.now) (tags_in projects.now project.now) }
+/// Whether a project has a dump or tags.
+pub(crate) fn has_part(projects: &BTreeMap<String, Project>, project: &str) -> bool
+    ensures { result ≡ (is_some (dump_in projects.now project.now) || is_some (tags_in projects.now project.now)) }
 {
-    match change {
-        Change::SetDump(dump) => Accepted::DumpPut(dump.elements().len()),
-        Change::SetTags(tags) => Accepted::TagsPut(tags.tags().len()),
-        Change::Clear => Accepted::Removed(
-            dump_in(projects, project).is_some() || tags_in(projects, project).is_some(),
-        ),
-    }
+    dump_in(projects, project).is_some() || tags_in(projects, project).is_some()
 }
 
-/// Makes a change of the project of this name, and keeps under a key what its reply says. Nothing changes where memory is
+/// Makes a change of the project of this name, and keeps the text of its reply under a key. Nothing changes where memory is
 /// refused.
 pub(crate) fn change(
     projects: &mut BTreeMap<String, Project>,
@@ -71,7 +63,7 @@ pub(crate) fn change(
     project: String,
     key: String,
     change: Change,
-    accepted: Accepted,
+    reply: String,
 ) -> Result<(), AllocError>
     ensures dumps { OnOk result ((p : List ℕ)
         → dump_in projects.new p ≡ (if bytes_eq (string_bytes project) p then dump_after (change_value change) (dump_in projects.old p)
@@ -80,12 +72,12 @@ pub(crate) fn change(
         → tags_in projects.new p ≡ (if bytes_eq (string_bytes project) p then tags_after (change_value change) (tags_in projects.old p)
         else tags_in projects.old p)) }
     ensures kept { OnOk result ((p k : List ℕ)
-        → kept_in projects.new p k ≡ (if bytes_eq (string_bytes project) p && bytes_eq (string_bytes key) k then Some (accepted_value accepted)
+        → kept_in projects.new p k ≡ (if bytes_eq (string_bytes project) p && bytes_eq (string_bytes key) k then Some (string_bytes reply)
         else kept_in projects.old p k)) }
     ensures same_dumps { OnErr result ((p : List ℕ) → dump_in projects.new p ≡ dump_in projects.old p) }
     ensures same_tags { OnErr result ((p : List ℕ) → tags_in projects.new p ≡ tags_in projects.old p) }
     ensures same_kept { OnErr result ((p k : List ℕ) → kept_in projects.new p k ≡ kept_in projects.old p k) }
 {
     let found = projects.entry(project)?.or_insert(Project::new(alloc));
-    found.change(key, change, accepted)
+    found.change(key, change, reply)
 }

@@ -4,7 +4,8 @@ ghost use Rattle.std.specs.BTreeMap.{IsOrdered};
 ghost use Rattle.std.specs.String.{string_cmp};
 ghost use Rattle.std.specs.List.Sorted.{IsPermutation, IsSorted};
 ghost use Rattle.tags.specs.Views.{field_value, tag_value};
-ghost use Rattle.tables.specs.Names.{name_cmp, tag_found};
+ghost use Rattle.machine.specs.FoundTags.{name_cmp};
+ghost use Rattle.tables.specs.Names.{tag_found};
 ghost use Rattle.tables.specs.Selections.{project_found};
 ghost use Rattle.desk.specs.Steps.Listed.{is_asked, is_wanted, by_value, project_tags, projects_of, tags_of, tags_so, AllRise, TagsRise};
 

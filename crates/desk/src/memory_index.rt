@@ -1,36 +1,29 @@
 //! An index in memory, for tests and for reading: the plainest body of each selection. It keeps no row of a dump: a selection makes the dump flat and
 //! looks at each row (`selected`, `listed`). A dump with more rows than `flatten` makes is kept here, and each query of it answers that memory ran out.
-ghost use Rattle.std.specs.Prelude.{◌≡◌, IfOk, OnOk, OnErr, string_bytes};
-ghost use Rattle.tables.specs.State.{State, accepted, accepted_text, changed, nothing};
-ghost use Rattle.desk.specs.Steps.Plain.{Stands, accepted_value, change_value};
+ghost use Rattle.std.specs.Prelude.{◌≡◌, OnOk, OnErr};
+ghost use Rattle.machine.specs.State.{State, changed, nothing, text_after};
+ghost use Rattle.machine.specs.Steps.Changes.{change_value};
+ghost use Rattle.desk.specs.Steps.Plain.{Stands};
 
 use crate::index::{Index, IndexFault};
-use crate::kept::{accepted, change, dump_in, kept_in};
+use crate::kept::{change, dump_in, has_part, kept_in};
 use crate::listed::{Wanted, list_by_name, list_projects, list_tags};
-use crate::project::{Accepted, Change, Project, reply_of};
+use crate::project::Project;
 use crate::selected::{bearers_in, covering_of, hover_of, items_of, marks_of};
-use crate::tags_part::TagsPart;
 use dump::{CheckedDump, Role};
 use lsif::Profile;
+use machine::{Change, TagsPart, removal_text};
 use positions::Position;
 use std::alloc::{AllocError, Global};
 use std::collections::BTreeMap;
 use tables::{Covering, FoundBearer, FoundItem, FoundMark, FoundTag, ProjectRow};
 
-/// Keeps in memory the dump and the tags that each project has, and the keys of accepted commands with what their replies say. What another dump or other
+/// Keeps in memory the dump and the tags that each project has, and the replies of accepted commands under their keys. What another dump or other
 /// tags are put in the place of is given up.
 #[derive(Drop)]
 pub struct MemoryIndex {
     alloc: Global,
     projects: BTreeMap<String, Project>,
-}
-
-/// The text of the reply that says this.
-fn text_of(alloc: Global, accepted: Accepted) -> Result<String, AllocError>
-    ensures { IfOk result (λ text. string_bytes text ≡ accepted_text (accepted_value accepted)) }
-{
-    let reply = reply_of(alloc, accepted)?;
-    String::from_str(alloc, reply.body())
 }
 
 impl MemoryIndex {
@@ -44,19 +37,22 @@ impl MemoryIndex {
         }
     }
 
-    /// Makes a change, and keeps under the key what its reply says. Nothing changes where memory is refused.
-    fn make(&mut self, project: &str, key: &str, made: Change) -> Result<Accepted, AllocError>
-        ensures said { (m : State) → Stands self.old.projects m
-            → IfOk result (λ said. accepted_value said ≡ accepted (change_value made) (m.dump project.now) (m.tags project.now)) }
-        ensures ok { (m : State) → Stands self.old.projects m
+    /// Makes a change, and keeps the text of its reply under the key. Nothing changes where memory is refused.
+    fn make(
+        &mut self,
+        project: &str,
+        key: &str,
+        reply: &str,
+        made: Change,
+    ) -> Result<(), AllocError>
+        ensures ok { (m : State) → Stands self.old.projects m → reply.now ≡ text_after m project.now (change_value made)
             → OnOk result (Stands self.new.projects (changed m project.now key.now (change_value made))) }
         ensures err { (m : State) → Stands self.old.projects m → OnErr result (Stands self.new.projects m) }
     {
-        let said = accepted(&self.projects, project, &made);
         let name = String::from_str(self.alloc, project)?;
         let key = String::from_str(self.alloc, key)?;
-        change(&mut self.projects, self.alloc, name, key, made, said)?;
-        Ok(said)
+        let reply = String::from_str(self.alloc, reply)?;
+        change(&mut self.projects, self.alloc, name, key, made, reply)
     }
 }
 
@@ -74,7 +70,7 @@ impl Index for MemoryIndex {
 
     fn kept_reply(&mut self, project: &str, key: &str) -> Result<Option<String>, IndexFault> {
         match kept_in(&self.projects, project, key) {
-            Some(kept) => Ok(Some(text_of(self.alloc, kept)?)),
+            Some(text) => Ok(Some(String::from_str(self.alloc, text)?)),
             None => Ok(None),
         }
     }
@@ -168,11 +164,11 @@ impl Index for MemoryIndex {
         _alloc: Global,
         project: &str,
         key: &str,
-        _reply: &str,
+        reply: &str,
         dump: CheckedDump,
     ) -> Result<(), IndexFault> {
         let _faultless = dump.elements();
-        self.make(project, key, Change::SetDump(dump))?;
+        self.make(project, key, reply, Change::SetDump(dump))?;
         Ok(())
     }
 
@@ -181,16 +177,17 @@ impl Index for MemoryIndex {
         _alloc: Global,
         project: &str,
         key: &str,
-        _reply: &str,
+        reply: &str,
         part: TagsPart,
     ) -> Result<(), IndexFault> {
-        self.make(project, key, Change::SetTags(part))?;
+        self.make(project, key, reply, Change::SetTags(part))?;
         Ok(())
     }
 
     fn remove(&mut self, project: &str, key: &str) -> Result<bool, IndexFault> {
-        let said = self.make(project, key, Change::Clear)?;
-        Ok(matches!(said, Accepted::Removed(true)))
+        let was_there = has_part(&self.projects, project);
+        self.make(project, key, removal_text(was_there), Change::Clear)?;
+        Ok(was_there)
     }
 
     ghost weaker = { λ index states n leaves. tt };

@@ -1,9 +1,9 @@
 //! A desk in memory, for tests and for reading: it keeps what it accepted, and makes of a dump what a query asks for when it is asked.
-ghost use Rattle.tables.specs.State.{nothing};
+ghost use Rattle.machine.specs.State.{nothing};
 
-use crate::desk::Desk;
 use crate::index_desk::IndexDesk;
 use crate::memory_index::MemoryIndex;
+use machine::Desk;
 use std::alloc::Global;
 
 /// A desk over an index in memory.

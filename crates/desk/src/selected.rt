@@ -7,8 +7,9 @@ ghost use Rattle.std.specs.List.Sorted.{IsStrictlySortedBy};
 ghost use Rattle.dump.specs.Places.{IsListing, place_cmp};
 ghost use Rattle.flatten.specs.Rows.{range_value};
 ghost use Rattle.tables.specs.Selections.{FindsCover, bearer_found, bearer_found_cmp, item_found, mark_found, mark_text_cmp, range_found};
-ghost use Rattle.desk.specs.Steps.Selected.{AddsBearers, IsBearerAmong, IsBearerOf, IsItemOf, IsMarkOf, IsHoverOf, bearer_in_cmp, by_span, inner_order, range_found_of, range_wanted};
-ghost use Rattle.desk.specs.Steps.Places.{same_role};
+ghost use Rattle.machine.specs.Steps.Covers.{inner_order};
+ghost use Rattle.desk.specs.Steps.Selected.{AddsBearers, IsBearerAmong, IsBearerOf, IsItemOf, IsMarkOf, IsHoverOf, bearer_in_cmp, by_span, range_found_of, range_wanted};
+ghost use Rattle.machine.specs.Steps.Places.{same_role};
 
 use crate::project::Project;
 use dump::{CheckedDump, Role, nesting_law, uri_law};

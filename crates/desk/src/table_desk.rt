@@ -4,11 +4,11 @@ ghost use Rattle.std.specs.Prelude.{◌↔◌, ◌∷◌, [], List, IsTrue};
 ghost use Rattle.sqlite.specs.Held.{state};
 ghost use Rattle.sqlite.specs.State.{HasCleanDisk};
 ghost use Rattle.tables.specs.Stands.{Rests};
-ghost use Rattle.tables.specs.State.{State};
+ghost use Rattle.machine.specs.State.{State};
 ghost use Rattle.desk.specs.TableStates.{LeavesOneOf, ServesFor};
 
-use crate::desk::Desk;
 use crate::index_desk::IndexDesk;
+use machine::Desk;
 use sqlite::Alter;
 use std::alloc::Global;
 use tables::Tables;

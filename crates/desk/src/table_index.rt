@@ -6,10 +6,10 @@ ghost use Rattle.tables.specs.Columns.{dump_rows};
 ghost use Rattle.tables.specs.Stands.{IsDump};
 
 use crate::index::{Index, IndexFault};
-use crate::tags_part::TagsPart;
 use dump::{CheckedDump, Role};
 use flatten::{FlattenFault, Rows, flatten};
 use lsif::Profile;
+use machine::TagsPart;
 use positions::Position;
 use sqlite::Alter;
 use std::alloc::Global;

@@ -6,14 +6,14 @@ ghost use Rattle.dump.specs.Steps.Ids.{value_at, entered};
 
 use lsif::Id;
 use std::alloc::{AllocError, Global};
-use std::collections::HashMap;
+use std::collections::BTreeMap;
 
 /// A table from ids to values.
 #[derive(Drop)]
 pub(crate) struct IdMap<V> {
     alloc: Global,
-    pub(crate) numbers: HashMap<u64, V>,
-    pub(crate) texts: HashMap<String, V>,
+    pub(crate) numbers: BTreeMap<u64, V>,
+    pub(crate) texts: BTreeMap<String, V>,
 }
 
 impl<V> IdMap<V> {
@@ -23,8 +23,8 @@ impl<V> IdMap<V> {
     {
         IdMap {
             alloc,
-            numbers: HashMap::new(alloc),
-            texts: HashMap::new(alloc),
+            numbers: BTreeMap::new(alloc),
+            texts: BTreeMap::new(alloc),
         }
     }
 

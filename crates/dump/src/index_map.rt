@@ -8,7 +8,7 @@ use lsif::Id;
 use std::alloc::{AllocError, Global};
 
 /// A table from ids to indices in a list, counted from 0. Numbers below a bound have a slot each, and all other ids are
-/// hashed: in most dumps the elements are numbered in their order, so that those of one line and the next stand together.
+/// kept in order: in most dumps the elements are numbered in their order, so that those of one line and the next stand together.
 #[derive(Drop)]
 pub(crate) struct IndexMap {
     bound: u32,

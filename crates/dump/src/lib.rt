@@ -31,6 +31,3 @@ pub use laws::{
 pub use reading::{DumpFault, read_dump};
 pub use request::Request;
 pub use role::{Role, role_of};
-
-#[cfg(test)]
-mod tests;

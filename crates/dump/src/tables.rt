@@ -1,6 +1,6 @@
 //! Tables that lead from ids to the elements of a dump.
 ghost use Rattle.std.specs.Prelude.{◌≡◌, ◌++◌, ◌∷◌, ◌||◌, [], ℕ, List, Some, None, bytes_eq, IfOk, OnOk, OnErr, find, map, option_and_then, option_map, slice_get, if◌then◌else◌};
-ghost use Rattle.std.specs.HashMap.{get_by_text};
+ghost use Rattle.std.specs.BTreeMap.{get_by_text};
 ghost use Rattle.std.specs.List.{list_any};
 ghost use Rattle.lsif.specs.Element.{IdValue, id_value, id_values, element_value, element_id, same_id};
 ghost use Rattle.dump.specs.Steps.Chains.{index_in, JoinsIndices};
@@ -21,7 +21,7 @@ use crate::sorted_spans::{SortedSpans, add, conflict_after};
 use lsif::{Edge, Element, Event, Id, Vertex};
 use positions::Span;
 use std::alloc::{AllocError, Global};
-use std::collections::HashMap;
+use std::collections::BTreeMap;
 use std::slice::from_ref;
 
 /// Ids below it have a slot each: more than a dump has elements, so that dumps whose elements are numbered in turn need
@@ -40,7 +40,7 @@ pub(crate) struct Tables {
     /// The spans of a document's ranges, in lists of which each is in order.
     spans: IdMap<Vec<SortedSpans>>,
     /// The index of the document of a serialized URL.
-    documents: HashMap<String, usize>,
+    documents: BTreeMap<String, usize>,
 }
 
 /// The spans that are kept of a document, in lists.
@@ -79,7 +79,7 @@ fn fill(
 /// Enters a document by its serialized URL.
 fn enter_document(
     alloc: Global,
-    documents: &mut HashMap<String, usize>,
+    documents: &mut BTreeMap<String, usize>,
     uri: &str,
     index: usize,
 ) -> Result<(), AllocError>
@@ -97,7 +97,7 @@ fn enter_document(
 fn keep(
     alloc: Global,
     spans: &mut IdMap<Vec<SortedSpans>>,
-    documents: &mut HashMap<String, usize>,
+    documents: &mut BTreeMap<String, usize>,
     element: &Element,
     targets: Vec<Span>,
     index: usize,
@@ -148,7 +148,7 @@ impl Tables {
             indices: IndexMap::new(alloc, SLOTS),
             rows: Vec::new(alloc),
             spans: IdMap::new(alloc),
-            documents: HashMap::new(alloc),
+            documents: BTreeMap::new(alloc),
         }
     }
 

@@ -19,7 +19,7 @@ use std::alloc::Global;
 const MOST_ROWS: usize = 4000000;
 
 /// The rows of the dump, where no more than so many of a kind come, and the walks for them go over no more than so many pairs.
-pub(crate) fn flatten_within<'a>(
+pub fn flatten_within<'a>(
     alloc: Global,
     dump: &'a CheckedDump,
     limit: usize,

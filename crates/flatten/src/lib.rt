@@ -22,9 +22,6 @@ mod rows;
 
 pub use closure::reach;
 pub use fault::FlattenFault;
-pub use flattening::flatten;
+pub use flattening::{flatten, flatten_within};
 pub use keys::{key_law, key_text};
 pub use rows::{BearerRow, DocRow, HoverRow, ItemRow, MarkRow, RangeRow, Rows};
-
-#[cfg(test)]
-mod tests;

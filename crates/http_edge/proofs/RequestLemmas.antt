@@ -5,9 +5,9 @@ use Rattle.std.proofs.lemmas.Bool.{false_from_ne_true}
 use Rattle.std.proofs.lemmas.Str.{IsUtf8-from_is_utf8, is_utf8-from_IsUtf8}
 use Rattle.std.specs.declared.alloc.AllocError.{AllocError}
 use Rattle.std.specs.Prelude.{Result, Ok, Err, IfOk, option_map}
-use Rattle.desk.specs.declared.request.Query.{Query}
-use Rattle.desk.specs.Requests.{QueryValue, RequestValue, query_value}
-use Rattle.desk.specs.Requests as requests
+use Rattle.machine.specs.declared.request.Query.{Query}
+use Rattle.machine.specs.Requests.{QueryValue, RequestValue, query_value}
+use Rattle.machine.specs.Requests as requests
 use Rattle.http_edge.specs.Requests.{refused, path_in, query_in, with_form, with_method, with_route, route_in, request_of, message_of}
 use Rattle.http_edge.specs.Messages.{ends}
 use Rattle.http_edge.specs.Parameters.{parameters}

@@ -1,9 +1,9 @@
 -- Runs that go on by one message, and what surely comes first.
 use Rattle.std.proofs.Common.{◌≡◌, ℕ, ◌-◌, ◌<◌, inl, inr, Bool, List, [], ◌∷◌, ◌++◌, length, Option, None, refl, sym, ◌∙◌, ap, arith, append_assoc, append-nil, subst, suc}
-use Rattle.desk.specs.Machine.{after}
-use Rattle.tables.specs.State.{State}
-use Rattle.desk.specs.Reply.{out_of_memory}
-use Rattle.desk.specs.Requests.{command, query}
+use Rattle.machine.specs.Machine.{after}
+use Rattle.machine.specs.State.{State}
+use Rattle.machine.specs.Reply.{out_of_memory}
+use Rattle.machine.specs.Requests.{command, query}
 use Rattle.http_edge.specs.Messages.{Settles, BeginsEach}
 use Rattle.http_edge.specs.Steps.Messages.{SettlesAll}
 use Rattle.http_edge.specs.Replies.{AnswerValue, replied, answer_text}

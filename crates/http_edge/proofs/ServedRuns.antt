@@ -1,8 +1,8 @@
 -- The requests of a served run, with the replies to them, are a run of the machine.
 use Rattle.std.proofs.Common.{◌≡◌, Bool, List, [], ◌∷◌, refl}
-use Rattle.tables.specs.State.{State}
-use Rattle.desk.specs.Runs as machine
-use Rattle.desk.specs.Runs.{moved, left}
+use Rattle.machine.specs.State.{State}
+use Rattle.machine.specs.Runs as machine
+use Rattle.machine.specs.Runs.{moved, left}
 use Rattle.http_edge.specs.Replies.{AnswerValue, replied, turned_away}
 use Rattle.http_edge.specs.Requests.{MessageValue, request, refused}
 use Rattle.http_edge.specs.Serving.{Run, left_by, replies_in, requests_in}

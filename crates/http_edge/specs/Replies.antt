@@ -2,7 +2,7 @@
 use Rattle.std.specs.Prelude.{ℕ, List, [], ◌++◌, ◌&&◌, length, codes, Option, Some, None, unwrap_or, if◌then◌else◌, nat_le, nat_lt}
 use Rattle.std.specs.Fmt.{decimal}
 use Rattle.http.specs.StatusCode.{reason_phrase}
-use Rattle.desk.specs.Reply.{ReplyValue}
+use Rattle.machine.specs.Reply.{ReplyValue}
 use Rattle.http_edge.specs.Refusals.{status_of, allow_of, body_of}
 use Rattle.http_edge.specs.Routes.{method_of}
 use Rattle.http_edge.specs.declared.route.Route.{Route}

@@ -6,9 +6,9 @@ use Rattle.positions.specs.Position.{PositionValue}
 use Rattle.lsif.specs.Vertices.{serialized}
 use Rattle.lsif.specs.declared.element.Profile as profiles
 use Rattle.lsif.specs.declared.element.Profile.TheVariants.{One, Two}
-use Rattle.desk.specs.Names.{is_project_name, is_key, is_without_nul, where_so, number_in}
-use Rattle.desk.specs.Requests.{ActionValue, put_dump, put_tags, remove, CommandValue, DocumentPositionValue, at_value, QueryValue, definition, references, hover, declaration, implementation, names, prefix, projects, profile, RequestValue}
-use Rattle.desk.specs.Requests as requests
+use Rattle.machine.specs.Names.{is_project_name, is_key, is_without_nul, where_so, number_in}
+use Rattle.machine.specs.Requests.{ActionValue, put_dump, put_tags, remove, CommandValue, DocumentPositionValue, at_value, QueryValue, definition, references, hover, declaration, implementation, names, prefix, projects, profile, RequestValue}
+use Rattle.machine.specs.Requests as requests
 use Rattle.http_edge.specs.Values.{Values, absent, single, several}
 use Rattle.http_edge.specs.Parameters.{parameter, parameters}
 use Rattle.http_edge.specs.Routes.{route_of, method_of}

@@ -2,10 +2,10 @@
 use Rattle.std.specs.Prelude.{◌≡◌, ◌≢◌, ℕ, ◌+◌, ◌⊎◌, Bool, List, [], ◌∷◌, ◌++◌, length, Option, Some, None, Result, Ok, Err, ⊤}
 use Rattle.lsif.specs.Streams.{Output, Moves, AtEnd, SameCounts, OneFailure, OneZeroWrite}
 use Rattle.http_edge.specs.Requests.{MessageValue, request, refused}
-use Rattle.tables.specs.State.{State}
-use Rattle.desk.specs.Reply.{ReplyValue, out_of_memory}
-use Rattle.desk.specs.Requests.{RequestValue}
-use Rattle.desk.specs.Runs.{MayReply, moved, left}
+use Rattle.machine.specs.State.{State}
+use Rattle.machine.specs.Reply.{ReplyValue, out_of_memory}
+use Rattle.machine.specs.Requests.{RequestValue}
+use Rattle.machine.specs.Runs.{MayReply, moved, left}
 use Rattle.lsif.specs.Sending.{Writes, WritesTo}
 use Rattle.std.specs.List.{flat_map}
 use Rattle.http_edge.specs.Messages.{Requests, Sure, IsEnded, IsPrefix, BeginsEach}

@@ -1,14 +1,14 @@
 //! The commands of routes. None stands for one with a parameter that is missing, there twice, or not of its form.
 ghost use Rattle.std.specs.Prelude.{◌≡◌, ℕ, List, [], IfOk, IfSome, option_map};
-ghost use Rattle.desk.specs.Requests.{command, command_value, put_tags, remove};
-ghost use Rattle.desk.specs.Uploads.{StandsFor, empty, no_dump_line, no_tags_line};
+ghost use Rattle.machine.specs.Requests.{command, command_value, put_tags, remove};
+ghost use Rattle.machine.specs.Uploads.{StandsFor, empty, no_dump_line, no_tags_line};
 ghost use Rattle.http_edge.specs.Requests.{both, command_of, dump_put, key_in, profile_in, project_name};
 ghost use Rattle.http_edge.specs.Steps.Requests.{upload_request};
 
 use crate::forms::{read_key, read_profile};
 use crate::parameters::Parameters;
-use desk::{Command, Key, ProjectName, Upload, UploadFault};
 use lsif::Profile;
+use machine::{Command, Key, ProjectName, Upload, UploadFault};
 use std::alloc::{AllocError, Global};
 
 /// A dump that is put. Its body comes later.

@@ -1,13 +1,13 @@
 //! The parameters of requests, each of its form. None stands for one that is missing, there twice, or not of its form.
 ghost use Rattle.std.specs.Prelude.{◌≡◌, ◌<◌, IfOk, IfSome, option_map, string_bytes};
 ghost use Rattle.positions.specs.Position.{number_limit};
-ghost use Rattle.desk.specs.Names.{is_without_nul, where_so, number_in};
+ghost use Rattle.machine.specs.Names.{is_without_nul, where_so, number_in};
 ghost use Rattle.http_edge.specs.Parameters.{parameter};
 ghost use Rattle.http_edge.specs.Requests.{declaration_in, is_tag_text, key_in, position_in, profile_in, required, searched_in, uri_in, yes_or_no};
 
 use crate::parameters::{ParameterValue, Parameters};
-use desk::{DocUri, Key, ProjectName, read_number};
 use lsif::Profile;
+use machine::{DocUri, Key, ProjectName, read_number};
 use positions::Position;
 use std::alloc::{AllocError, Global};
 

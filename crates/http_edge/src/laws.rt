@@ -1,14 +1,14 @@
 //! What is true of the definitions of a stream.
 ghost use Rattle.std.specs.Prelude.{◌≡◌, ℕ, Bool, List};
-ghost use Rattle.tables.specs.State.{State};
-ghost use Rattle.desk.specs.Retries.{Event, Life, Moment, states_left, with_run};
-ghost use Rattle.desk.specs.Runs as machine;
+ghost use Rattle.machine.specs.State.{State};
+ghost use Rattle.machine.specs.Retries.{Event, Life, Moment, states_left, with_run};
+ghost use Rattle.machine.specs.Runs as machine;
 ghost use Rattle.http_edge.specs.Messages.{Requests, Sure};
 ghost use Rattle.http_edge.specs.Replies.{AnswerValue};
 ghost use Rattle.http_edge.specs.Requests.{MessageValue};
 ghost use Rattle.http_edge.specs.Serving.{Run, left_by, replies_in, requests_in};
 
-use desk::retry_law;
+use machine::retry_law;
 
 /// A stream is cut into one list of requests at most, and one list of them is sure.
 pub fn requests_law()

@@ -14,8 +14,6 @@ mod reply;
 mod request;
 mod route;
 mod serve;
-#[cfg(test)]
-mod tests;
 
 pub use laws::{requests_law, run_law};
 pub use reply::phrase_law;

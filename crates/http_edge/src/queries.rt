@@ -1,14 +1,14 @@
 //! The queries of routes. None stands for one with a parameter that is missing, there twice, or not of its form.
 ghost use Rattle.std.specs.Prelude.{◌≡◌, ℕ, List, Option, IfOk, codes, option_map};
-ghost use Rattle.desk.specs.Requests.{profile, query_value};
+ghost use Rattle.machine.specs.Requests.{profile, query_value};
 ghost use Rattle.http_edge.specs.Parameters.{parameter};
 ghost use Rattle.http_edge.specs.Requests.{both, declaration_in, names_of, place_in, prefix_of, project_name, references_of, searched_in, tags_of, is_tag_text};
-ghost use Rattle.desk.specs.Names.{where_so};
+ghost use Rattle.machine.specs.Names.{where_so};
 ghost use Rattle.http_edge.specs.Steps.Requests.{place_value, query_at};
 
 use crate::forms::{read_declaration, read_position, read_searched, read_tag_text, read_uri};
 use crate::parameters::{ParameterValue, Parameters};
-use desk::{DocUri, ProjectName, Query};
+use machine::{DocUri, ProjectName, Query};
 use positions::Position;
 use std::alloc::{AllocError, Global};
 

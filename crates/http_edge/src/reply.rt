@@ -9,10 +9,10 @@ ghost use Rattle.http_edge.specs.Steps.Replies.{answer_value};
 use crate::refusal::Refusal;
 use crate::route::Route;
 use arrayvec::ArrayString;
-use desk::Reply;
 use http::StatusCode;
 use itoa::Buffer;
 use lsif::{Failed, Sink, push_all};
+use machine::Reply;
 
 /// What a request is answered.
 #[derive(Drop)]

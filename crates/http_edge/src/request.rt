@@ -1,8 +1,8 @@
 //! What a request asks of the desk, by its method and its target.
 ghost use Rattle.std.specs.Prelude.{◌≡◌, ℕ, List, [], Some, IfOk, IfSome, option_map};
 ghost use Rattle.std.specs.Str.{bytes_eq};
-ghost use Rattle.desk.specs.Requests.{command, command_value, query, query_value};
-ghost use Rattle.desk.specs.Uploads.{StandsFor};
+ghost use Rattle.machine.specs.Requests.{command, command_value, query, query_value};
+ghost use Rattle.machine.specs.Uploads.{StandsFor};
 ghost use Rattle.http_edge.specs.Requests.{path_in, query_in, request_of, route_in};
 ghost use Rattle.http_edge.specs.Steps.Requests.{Asks, AsksFor, upload_request};
 ghost use Rattle.http_edge.specs.Routes.{method_of};
@@ -15,7 +15,7 @@ use crate::queries::{
 };
 use crate::refusal::Refusal;
 use crate::route::{Route, find_route};
-use desk::{Command, Query, Request, Upload};
+use machine::{Command, Query, Request, Upload};
 use matchit::Router;
 use std::alloc::{AllocError, Global};
 use std::str;

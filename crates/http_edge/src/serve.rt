@@ -1,6 +1,6 @@
 //! Serves a stream.
 ghost use Rattle.std.specs.Prelude.{◌≡◌, ◌≢◌, ℕ, ◌-◌, ◌^◌, ◌<◌, ◌≤◌, List, [], Err, length};
-ghost use Rattle.tables.specs.State.{State};
+ghost use Rattle.machine.specs.State.{State};
 ghost use Rattle.lsif.specs.Sending.{CountsSending, Sends};
 ghost use Rattle.lsif.specs.Streams.{CanCount};
 ghost use Rattle.http_edge.specs.Messages.{ends};
@@ -14,8 +14,8 @@ ghost use Rattle.http_edge.specs.declared.serve.ServeFault.TheVariants.{Memory};
 use crate::reading::{Message, MessageReader};
 use crate::reply::Answer;
 use crate::request::Asked;
-use desk::{Desk, Reply, Request};
 use lsif::{Failed, Sink, Source};
+use machine::{Desk, Reply, Request};
 use matchit::InsertError;
 use std::alloc::{AllocError, Global};
 

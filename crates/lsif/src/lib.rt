@@ -30,6 +30,3 @@ pub use lines::{LineBuffer, Lines, LinesFault, lines_law};
 pub use reading::{LONGEST_LINE, profile_law, read_element};
 pub use sending::push_all;
 pub use streams::{Counted, Failed, Sink, Source, counted_law};
-
-#[cfg(test)]
-mod tests;

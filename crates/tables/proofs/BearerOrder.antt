@@ -21,7 +21,8 @@ use Rattle.flatten.proofs.Listing.{under, sorted_listing, rises_unmap, eq_of}
 use Rattle.flatten.proofs.Members.{contains_map, map_source}
 use Rattle.flatten.proofs.RowOrders.{text_eq}
 use Rattle.tables.specs.Columns.{number}
-use Rattle.tables.specs.Selections.{BearerFound, bearer_found, bearer_found_cmp, text_cmp}
+use Rattle.machine.specs.Projects.{text_cmp}
+use Rattle.tables.specs.Selections.{BearerFound, bearer_found, bearer_found_cmp}
 use Rattle.tables.specs.declared.bearers.FoundBearer.{FoundBearer}
 use Rattle.tables.specs.contracts.bearers.FoundBearerPartialEq.TheImpl as bearer_eq
 use Rattle.tables.proofs.Cascade.{equal_is}

@@ -18,7 +18,7 @@ use Rattle.flatten.specs.Flat.{RowsValue, IsFlat}
 use Rattle.tables.specs.Databases.{Holds}
 use Rattle.tables.specs.Columns.{dump_rows, tag_rows}
 use Rattle.tables.specs.Contents.{IsOwned, owned, slot_row}
-use Rattle.tables.specs.State.{State}
+use Rattle.machine.specs.State.{State}
 use Rattle.tables.specs.Stands.{StandsFor, IsDump, AreTags, Each}
 use Rattle.tables.specs.Steps.Selected.{AreTyped, Selects, ShowsOne}
 use Rattle.tables.specs.Steps.DumpEntries.{Entries, entry_values, SelectsOf, ShowsOneOf}

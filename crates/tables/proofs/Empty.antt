@@ -14,7 +14,7 @@ use Rattle.tables.specs.Schema.{schema_two, format, slot, keyed}
 use Rattle.tables.specs.Databases.{version_row, IsMade, WasMade, IsFormatTwo, IsOrdered}
 use Rattle.tables.specs.Contents.{Keeps, IsReply, IsOwned}
 use Rattle.tables.specs.Stands.{StandsFor, Rests, replies_of}
-use Rattle.tables.specs.State.{State, nothing}
+use Rattle.machine.specs.State.{State, nothing}
 use Rattle.tables.proofs.Cascade.{same_or_not}
 use Rattle.tables.proofs.Keeping.{none_is_some, table_of, is_owned}
 

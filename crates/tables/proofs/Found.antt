@@ -7,7 +7,7 @@ use Rattle.sqlite.specs.State as sqlite
 use Rattle.tables.specs.Schema.{schema_one, schema_two}
 use Rattle.tables.specs.Databases.{IsFormatOne, IsListed}
 use Rattle.tables.specs.Stands.{Finds, FindsOne, Rests, RestsOne}
-use Rattle.tables.specs.State.{State}
+use Rattle.machine.specs.State.{State}
 use Rattle.tables.proofs.Upgrades.{rests_one}
 
 schema_found : (s : sqlite.State) (schema : Schema) → sqlite.Opens s → sqlite.IsLive s → IsListed schema s.now.trees → s.now.schema ≡ schema

@@ -20,7 +20,7 @@ use Rattle.flatten.specs.Flat.{RowsValue, IsFlat, BearerRowValue, IsBearerRow, k
 use Rattle.tables.specs.Schema.{schema_two}
 use Rattle.tables.specs.Columns.{number, optional, dump_rows, bearer_columns}
 use Rattle.tables.specs.Contents.{owned, slot_row}
-use Rattle.tables.specs.State.{State}
+use Rattle.machine.specs.State.{State}
 use Rattle.tables.specs.Stands.{StandsFor}
 use Rattle.tables.specs.Selections.{BearerFound, Bears, FindsBearers, bearer_row, bearer_found_cmp}
 use Rattle.tables.specs.declared.bearers.SlotBearer.{SlotBearer}

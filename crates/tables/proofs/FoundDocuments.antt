@@ -16,7 +16,7 @@ use Rattle.flatten.specs.Flat.{RowsValue, IsFlat}
 use Rattle.tables.specs.Schema.{schema_two}
 use Rattle.tables.specs.Columns.{dump_rows, document_columns}
 use Rattle.tables.specs.Contents.{owned, slot_row}
-use Rattle.tables.specs.State.{State}
+use Rattle.machine.specs.State.{State}
 use Rattle.tables.specs.Stands.{StandsFor}
 use Rattle.tables.specs.Steps.SelectionTexts.{select_document}
 use Rattle.tables.specs.Steps.Selected.{IsFirstRead, ShowsOne, equals}

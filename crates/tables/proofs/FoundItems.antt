@@ -31,7 +31,7 @@ use Rattle.flatten.proofs.RowOrders.{same_span, place_ties, place_same}
 use Rattle.tables.specs.Schema.{schema_two}
 use Rattle.tables.specs.Columns.{number, dump_rows, position, item_columns}
 use Rattle.tables.specs.Contents.{owned, slot_row}
-use Rattle.tables.specs.State.{State}
+use Rattle.machine.specs.State.{State}
 use Rattle.tables.specs.Stands.{StandsFor}
 use Rattle.tables.specs.Selections.{HasItem, FindsItems, item_found}
 use Rattle.tables.specs.declared.items.FoundItem.{FoundItem}

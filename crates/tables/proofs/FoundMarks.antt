@@ -26,7 +26,7 @@ use Rattle.flatten.proofs.RowOrders.{mark_ties, mark_same}
 use Rattle.tables.specs.Schema.{schema_two}
 use Rattle.tables.specs.Columns.{number, dump_rows, mark_columns}
 use Rattle.tables.specs.Contents.{owned, slot_row}
-use Rattle.tables.specs.State.{State}
+use Rattle.machine.specs.State.{State}
 use Rattle.tables.specs.Stands.{StandsFor}
 use Rattle.tables.specs.Selections.{MarkText, HasMark, FindsMarks, mark_text_cmp, mark_found}
 use Rattle.tables.specs.declared.marks.FoundMark.{FoundMark}

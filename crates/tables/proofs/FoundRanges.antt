@@ -19,7 +19,7 @@ use Rattle.flatten.specs.Flat.{RowsValue, IsFlat, RangeRowValue, IsRangeRow}
 use Rattle.tables.specs.Schema.{schema_two}
 use Rattle.tables.specs.Columns.{number, optional, position, dump_rows, range_columns}
 use Rattle.tables.specs.Contents.{owned, slot_row}
-use Rattle.tables.specs.State.{State}
+use Rattle.machine.specs.State.{State}
 use Rattle.tables.specs.Stands.{StandsFor}
 use Rattle.tables.specs.declared.range_rows.SlotRange.{SlotRange}
 use Rattle.tables.specs.Steps.Climbs.{IsNamed, TellsRange}

@@ -16,9 +16,9 @@ use Rattle.tables.specs.Columns.{tag_columns}
 use Rattle.tables.specs.Contents.{IsOwned, owned, slot_row}
 use Rattle.tables.specs.Databases.{Holds}
 use Rattle.tables.specs.Schema.{schema_two}
-use Rattle.tables.specs.State.{State}
+use Rattle.machine.specs.State.{State}
 use Rattle.tables.specs.Stands.{StandsFor}
-use Rattle.tables.specs.Names.{FoundTag}
+use Rattle.machine.specs.FoundTags.{FoundTag}
 use Rattle.tables.specs.declared.found_tags.TagRow.{TagRow}
 use Rattle.tables.specs.Steps.SelectionTexts.{select_named}
 use Rattle.tables.specs.Steps.Selected.{AreRead, AreTyped, Selects, equals}

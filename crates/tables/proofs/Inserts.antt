@@ -19,7 +19,8 @@ use Rattle.positions.specs.Position.{packed_of}
 use Rattle.lsif.specs.declared.element.Profile.{Profile}
 use Rattle.tags.specs.Values.{TagValue}
 use Rattle.flatten.specs.Flat.{RangeRowValue, ItemRowValue, HoverRowValue, MarkRowValue, BearerRowValue, role_index, kind_index}
-use Rattle.tables.specs.Columns.{number, optional, document_columns, range_columns, item_columns, hover_columns, mark_columns, bearer_columns, optional_text, tag_columns, profile_number, profile_columns}
+use Rattle.machine.specs.Reply.{profile_number}
+use Rattle.tables.specs.Columns.{number, optional, document_columns, range_columns, item_columns, hover_columns, mark_columns, bearer_columns, optional_text, tag_columns, profile_columns}
 use Rattle.tables.specs.Steps.Texts.{insert_slot, insert_keyed, insert_document, insert_range_row, insert_item, insert_hover, insert_mark, insert_bearer, insert_tag, insert_part_profile, insert_more}
 use Rattle.tables.specs.Schema.{schema_two, slot, keyed, document, range_row, item, hover, mark, bearer, tag, part_profile, more}
 use Rattle.tables.specs.Steps.Puts.{Steps, Puts, PutsAll}

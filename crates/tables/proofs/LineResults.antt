@@ -21,7 +21,7 @@ use Rattle.flatten.proofs.RangeRows.{results_one}
 use Rattle.tables.specs.Schema.{schema_two}
 use Rattle.tables.specs.Columns.{number, optional, dump_rows, more_columns, range_more, bearer_more}
 use Rattle.tables.specs.Contents.{owned, slot_row}
-use Rattle.tables.specs.State.{State}
+use Rattle.machine.specs.State.{State}
 use Rattle.tables.specs.Stands.{StandsFor}
 use Rattle.tables.specs.declared.bearers.LineMore.{LineMore}
 use Rattle.tables.specs.Steps.SelectionTexts.{select_more}

@@ -4,7 +4,7 @@ use Rattle.std.proofs.lemmas.Bool.Decides.{nat_tests}
 use Rattle.std.specs.Ordering.{is_le, is_ge, ordering_then}
 use Rattle.std.specs.Cmp.Lexicographic.{slice_cmp}
 use Rattle.std.specs.List.{starts_with}
-use Rattle.tables.specs.Names.{BeginsWith}
+use Rattle.machine.specs.FoundTags.{BeginsWith}
 
 less_is : (x y : ℕ) → Less ≡ nat_cmp x y → x < y
 less_is x y h = grind (arith, nat_tests)

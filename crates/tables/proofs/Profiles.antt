@@ -17,7 +17,7 @@ use Rattle.flatten.specs.Flat.{RowsValue, IsFlat}
 use Rattle.tables.specs.Schema.{schema_two}
 use Rattle.tables.specs.Columns.{dump_rows, profile_columns}
 use Rattle.tables.specs.Contents.{owned, slot_row}
-use Rattle.tables.specs.State.{State}
+use Rattle.machine.specs.State.{State}
 use Rattle.tables.specs.Stands.{StandsFor}
 use Rattle.tables.specs.Steps.SelectionTexts.{select_profile}
 use Rattle.tables.specs.Steps.Selected.{IsFirstRead, equals}

@@ -25,9 +25,10 @@ use Rattle.flatten.proofs.Listing.{under, same_listing, rises_unmap}
 use Rattle.flatten.proofs.RowOrders.{text_eq}
 use Rattle.tables.specs.Schema.{schema_two}
 use Rattle.tables.specs.Contents.{Contents, Replies, Keeps}
-use Rattle.tables.specs.State.{State}
+use Rattle.machine.specs.State.{State}
 use Rattle.tables.specs.Stands.{StandsFor}
-use Rattle.tables.specs.Selections.{ProjectValue, FindsProjects, project_found, text_cmp}
+use Rattle.machine.specs.Projects.{ProjectValue, text_cmp}
+use Rattle.tables.specs.Selections.{FindsProjects, project_found}
 use Rattle.tables.specs.declared.projects.ProjectRow.{ProjectRow}
 use Rattle.tables.specs.Steps.SelectionTexts.{select_projects}
 use Rattle.tables.specs.Steps.Selected.{AreRead, Selects, equals}

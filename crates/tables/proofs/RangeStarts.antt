@@ -33,7 +33,7 @@ use Rattle.flatten.proofs.Intervals.{before_packed, packed_before}
 use Rattle.tables.specs.Columns.{number, position, range_columns}
 use Rattle.tables.specs.Contents.{slot_row}
 use Rattle.tables.specs.Schema.{schema_two}
-use Rattle.tables.specs.State.{State}
+use Rattle.machine.specs.State.{State}
 use Rattle.tables.specs.Stands.{StandsFor}
 use Rattle.tables.specs.declared.range_rows.SlotRange.{SlotRange}
 use Rattle.tables.specs.Steps.Climbs.{IsStart, IsStarted, ComesBefore}

@@ -12,7 +12,7 @@ use Rattle.tables.specs.Contents.{Contents, Replies, Keeps, IsReply, same_text, 
 use Rattle.tables.specs.Databases.{IsListed}
 use Rattle.tables.specs.Schema.{schema_two}
 use Rattle.tables.specs.Stands.{Each, IsDump, AreTags, StandsFor, replies_of}
-use Rattle.tables.specs.State.{State, Accepted, Change, set_dump, set_tags, clear, accepted_text, changed, text_after}
+use Rattle.machine.specs.State.{State, Accepted, Change, set_dump, set_tags, clear, accepted_text, changed, text_after}
 use Rattle.tables.proofs.Keeping.{same_text_is, same_text_itself, same_int_is}
 
 -- ---- equality of texts

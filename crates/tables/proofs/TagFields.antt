@@ -16,7 +16,8 @@ use Rattle.serde_json.proofs.Texts.{print-outline}
 use Rattle.tags.specs.Values.{FieldValue, TagValue}
 use Rattle.tags.specs.Views.{field_value}
 use Rattle.tags.specs.declared.tag.Field.{Field}
-use Rattle.tables.specs.Columns.{field_data, fields_text, optional_text, tag_columns}
+use Rattle.machine.specs.Reply.{field_data}
+use Rattle.tables.specs.Columns.{fields_text, optional_text, tag_columns}
 
 abbrev items : List FieldValue → Items
 items fields = items_of (map field_data fields)

@@ -9,7 +9,7 @@ use Rattle.std.proofs.lemmas.List.{get_or-map, length-map}
 use Rattle.std.proofs.lemmas.List.Sorted.{Contains-permutation, IsPermutation-sym, IsPermutation-map}
 use Rattle.std.proofs.lemmas.Map.Keys.{sorted_from_all_adjacent}
 use Rattle.dump.specs.Places.{IsListing}
-use Rattle.tables.specs.Names.{FoundTag, line_cmp, name_cmp}
+use Rattle.machine.specs.FoundTags.{FoundTag, line_cmp, name_cmp}
 
 pub line_total : IsTotalOrder line_cmp
 line_total = then_total (on_texts (λ (f : FoundTag). f.project)) (on_total (λ (f : FoundTag). f.tag.line) nat_cmp_total)

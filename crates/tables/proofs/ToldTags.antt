@@ -5,9 +5,10 @@ use Rattle.std.proofs.lemmas.List.{map-append}
 use Rattle.sqlite_trees.specs.Tree.{Trees}
 use Rattle.sqlite_rules.specs.Lists.{Has}
 use Rattle.sqlite_rules.proofs.ListLemmas.{has_contained, contains_had}
-use Rattle.tables.specs.State.{State}
+use Rattle.machine.specs.State.{State}
 use Rattle.tables.specs.Stands.{StandsFor}
-use Rattle.tables.specs.Names.{FoundTag, IsTag, IsAsked, tag_found}
+use Rattle.machine.specs.FoundTags.{FoundTag, IsTag, IsAsked}
+use Rattle.tables.specs.Names.{tag_found}
 use Rattle.tables.specs.declared.found_tags.FoundTag as declared
 use Rattle.tables.specs.declared.found_tags.TagRow.{TagRow}
 use Rattle.tables.specs.Steps.TagRows.{TellsTag, AllTell, IsTold, TellNamed, FindsTags, IsFoundIf, Grows}

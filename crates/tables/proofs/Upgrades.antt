@@ -20,7 +20,7 @@ use Rattle.tables.specs.Schema.{schema_one, schema_two, format, slot, keyed, doc
 use Rattle.tables.specs.Databases.{IsOrdered, AllOrdered, AreNumbered, Holds, WasUpgraded, IsUpgraded, IsFormatOne, chosen, dump_tests, profile_shown}
 use Rattle.tables.specs.Contents.{Contents, Replies, Keeps, KeepsOne, IsOwned, IsReply, slot_row, owned, owned_one}
 use Rattle.tables.specs.Stands.{Each, IsDump, IsDumpOne, AreTags, StandsFor, StandsForOne, Rests, RestsOne, replies_of}
-use Rattle.tables.specs.State.{State}
+use Rattle.machine.specs.State.{State}
 use Rattle.tables.proofs.Empty.{one_row, version_ordered, version_is}
 use Rattle.tables.proofs.Keeping.{from_map, to_map, none_is_some, same_int_is, same_int_itself}
 use Rattle.tables.proofs.PartRemoved.{truly}

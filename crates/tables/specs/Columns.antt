@@ -7,11 +7,11 @@ use Rattle.sqlite_value.specs.Order.{Row}
 use Rattle.sqlite.specs.Values.{or_null}
 use Rattle.positions.specs.Position.{PositionValue, packed_of}
 use Rattle.lsif.specs.declared.element.Profile.{Profile}
-use Rattle.lsif.specs.declared.element.Profile.TheVariants.{One, Two}
-use Rattle.serde_json.specs.Data.{Data, string, array, item, no_items}
+use Rattle.serde_json.specs.Data.{array}
 use Rattle.serde_json.specs.View.{items_of}
 use Rattle.serde_json.specs.Written.{compact_text}
 use Rattle.tags.specs.Values.{FieldValue, TagValue}
+use Rattle.machine.specs.Reply.{field_data, profile_number}
 use Rattle.flatten.specs.Flat.{RangeRowValue, ItemRowValue, HoverRowValue, MarkRowValue, BearerRowValue, RowsValue, role_index, kind_index}
 
 abbrev pub number : ℕ → Value
@@ -44,10 +44,6 @@ mark_columns m = number m.range ∷ number (kind_index m.kind) ∷ Text m.key �
 abbrev pub bearer_columns : BearerRowValue → Row
 bearer_columns b =
     number b.line ∷ Text b.key ∷ number (kind_index b.kind) ∷ optional b.results.definition ∷ optional b.results.references ∷ optional b.results.hover ∷ []
-
-abbrev pub profile_number : Profile → ℕ
-profile_number One = 1
-profile_number Two = 2
 
 abbrev pub profile_columns : Profile → Row
 profile_columns profile = number (profile_number profile) ∷ []
@@ -89,9 +85,6 @@ dump_rows profile flat =
 
 abbrev pub optional_text : Option (List ℕ) → Value
 optional_text = or_null Text
-
-abbrev pub field_data : FieldValue → Data
-field_data f = array (item (string f.name) (item (string f.value) no_items))
 
 -- the fields as compact JSON (RFC 8259): an array with a pair of the name and the value of each
 abbrev pub fields_text : List FieldValue → List ℕ

@@ -9,5 +9,4 @@ pub mod Parts
 pub mod Schema
 pub mod Selections
 pub mod Stands
-pub mod State
 pub mod Steps

@@ -6,7 +6,7 @@ use Rattle.tables.specs.declared.fault.TablesFault.{TablesFault}
 use Rattle.tables.specs.declared.fault.TablesFault.TheVariants.{Foreign}
 use Rattle.tables.specs.Fault.{IsStoreFault}
 use Rattle.tables.specs.Stands.{Rests}
-use Rattle.tables.specs.State.{State}
+use Rattle.machine.specs.State.{State}
 
 -- what is said of the state that is shown afterwards, with the tables or with a fault
 abbrev pub AfterOpening : {C : Type 0} → (C → sqlite.State) → Result C (TablesFault × C) → (sqlite.State → Type 0) → Type 0

@@ -1,8 +1,7 @@
 -- What selections find, and what they leave.
-use Rattle.std.specs.Prelude.{◌≡◌, ◌||◌, ℕ, Bool, true, List, map, Option, Some, None, is_some, string_bytes}
+use Rattle.std.specs.Prelude.{◌≡◌, ℕ, List, map, Option, Some, None, string_bytes}
 use Rattle.std.specs.declared.cmp.Ordering.{Ordering}
 use Rattle.std.specs.Ordering.{nat_cmp, ordering_then}
-use Rattle.std.specs.Cmp.Lexicographic.{slice_cmp}
 use Rattle.std.specs.List.{AllZip}
 use Rattle.std.specs.Rc.{rc_str_bytes}
 use Rattle.lsif.specs.declared.element.MonikerKind.{MonikerKind}
@@ -14,7 +13,8 @@ use Rattle.dump.specs.Places.{PlaceValue, HasDocument, IsListing, place_cmp}
 use Rattle.dump.specs.Progress.{DumpValue}
 use Rattle.dump.specs.Requests.{Cover, RangeValue}
 use Rattle.flatten.specs.Flat.{ResultsValue, AreResults, BearerRowValue, IsBearerRow, IsHoverRow, IsItemRow, IsMarkRow, kind_index, number_of}
-use Rattle.tables.specs.State.{State}
+use Rattle.machine.specs.Projects.{IsProject, ProjectValue, project_cmp, text_cmp}
+use Rattle.machine.specs.State.{State}
 use Rattle.tables.specs.declared.bearers.FoundBearer.{FoundBearer}
 use Rattle.tables.specs.declared.covering.Covering.{Covering}
 use Rattle.tables.specs.declared.covering.Covering.TheVariants.{NoDump, NoDocument, Ranges}
@@ -23,27 +23,10 @@ use Rattle.tables.specs.declared.items.FoundItem.{FoundItem}
 use Rattle.tables.specs.declared.marks.FoundMark.{FoundMark}
 use Rattle.tables.specs.declared.projects.ProjectRow.{ProjectRow}
 
--- by their bytes
-abbrev pub text_cmp : List ℕ → List ℕ → Ordering
-text_cmp = slice_cmp nat_cmp
-
 -- ---- projects
-
--- a project's name, and whether it has a dump and tags
-pub record ProjectValue : Type 0 where
-  pub name : List ℕ
-  pub dump : Bool
-  pub tags : Bool
 
 abbrev pub project_found : ProjectRow → ProjectValue
 project_found project = record { name = string_bytes project.name; dump = project.dump; tags = project.tags }
-
--- a project with a part, and which of both it has
-abbrev pub IsProject : State → ProjectValue → Type 0
-IsProject m p = (p.dump ≡ is_some (m.dump p.name)) × (p.tags ≡ is_some (m.tags p.name)) × ((p.dump || p.tags) ≡ true)
-
-abbrev pub project_cmp : ProjectValue → ProjectValue → Ordering
-project_cmp a b = text_cmp a.name b.name
 
 -- the projects with a part, each once
 abbrev pub FindsProjects : State → List ProjectValue → Type 0

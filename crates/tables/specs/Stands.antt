@@ -17,7 +17,7 @@ use Rattle.tables.specs.Columns.{dump_rows, tag_rows}
 use Rattle.tables.specs.Contents.{Contents, Replies, Keeps, KeepsOne}
 use Rattle.tables.specs.Databases.{IsListed}
 use Rattle.tables.specs.Schema.{schema_one, schema_two}
-use Rattle.tables.specs.State.{State, Change, accepted_text, text_after}
+use Rattle.machine.specs.State.{State, Change, accepted_text, text_after}
 
 -- the dump has no fault, its ranges have positions within their bounds, and these are the rows that its walks lead to
 pub record IsDump (dump : DumpValue) (rows : ℕ → List Row) : Type 0 where

@@ -12,7 +12,7 @@ ghost use Rattle.flatten.specs.Flat.{ResultsValue, kind_index};
 ghost use Rattle.tables.specs.Schema.{schema_two};
 ghost use Rattle.tables.specs.Columns.{number, optional};
 ghost use Rattle.tables.specs.Contents.{Contents, Replies, Keeps, slot_row};
-ghost use Rattle.tables.specs.State.{State};
+ghost use Rattle.machine.specs.State.{State};
 ghost use Rattle.tables.specs.Fault.{IsStoreFault};
 ghost use Rattle.tables.specs.Stands.{IsAsBefore, StandsFor, Rests};
 ghost use Rattle.tables.specs.Selections.{BearerFound, Bears, FindsBearers, bearer_found, bearer_found_cmp};

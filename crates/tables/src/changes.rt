@@ -11,7 +11,7 @@ ghost use Rattle.tables.specs.Contents.{Contents, Replies, Keeps, changed as rep
 ghost use Rattle.tables.specs.Databases.{IsListed};
 ghost use Rattle.tables.specs.Fault.{IsStoreFault};
 ghost use Rattle.tables.specs.Stands.{IsAsBefore, IsDump, IsNew, Rests, StandsFor, replies_of};
-ghost use Rattle.tables.specs.State.{State, parts_removed, accepted_text, set_dump, set_tags, clear, changed};
+ghost use Rattle.machine.specs.State.{State, parts_removed, accepted_text, set_dump, set_tags, clear, changed};
 ghost use Rattle.tables.specs.Steps.Puts.{GoesOn};
 
 use crate::dump_part::insert_dump;
@@ -20,6 +20,7 @@ use crate::slots::{Part, insert_reply, remove_slot};
 use crate::tables::Tables;
 use crate::tags_part::insert_tags;
 use flatten::Rows;
+use machine::removal_text;
 use sqlite::{Alter, Connection, Error, Transaction};
 use std::alloc::Global;
 use tags::Tag;
@@ -136,17 +137,6 @@ fn commit_tags<S: Alter>(
 
 // ---- a removal
 
-/// The text of the reply to a removal.
-pub fn removal_text(was_there: bool) -> &'static str
-    ensures { result.now ≡ accepted_text (parts_removed was_there) }
-{
-    if was_there {
-        "{\"removed\":true}"
-    } else {
-        "{\"removed\":false}"
-    }
-}
-
 /// Whether there was a slot of a dump, or one of tags.
 fn is_any(dumps: usize, tags: usize) -> bool
     ensures { result ≡ (nat_lt 0 dumps || nat_lt 0 tags) }
@@ -230,7 +220,7 @@ impl<S: Alter> Tables<S> {
     ghost use Rattle.tags.specs.Views.{tag_values};
     ghost use Rattle.tables.specs.Columns.{dump_rows};
     ghost use Rattle.tables.specs.Stands.{IsAsBefore, IsDump, IsNew, Rests, StandsFor};
-    ghost use Rattle.tables.specs.State.{State, set_dump, set_tags, clear, changed};
+    ghost use Rattle.machine.specs.State.{State, set_dump, set_tags, clear, changed};
 
     /// Puts the rows of a dump in the place of those of the dump that the project has, where it has one, and keeps the text of
     /// the reply under the key, all in one transaction: the key must not be kept yet, and the rows be those of a dump without

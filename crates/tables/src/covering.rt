@@ -7,7 +7,7 @@ ghost use Rattle.dump.specs.Progress.{DumpValue};
 ghost use Rattle.flatten.specs.Flat.{RangeRowValue, IsRangeRow};
 ghost use Rattle.tables.specs.Schema.{schema_two};
 ghost use Rattle.tables.specs.Contents.{slot_row};
-ghost use Rattle.tables.specs.State.{State};
+ghost use Rattle.machine.specs.State.{State};
 ghost use Rattle.tables.specs.Fault.{IsStoreFault};
 ghost use Rattle.tables.specs.Stands.{IsAsBefore, StandsFor, Rests};
 ghost use Rattle.tables.specs.Selections.{FindsCover, FindsCovering, range_found};

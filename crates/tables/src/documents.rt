@@ -7,7 +7,7 @@ ghost use Rattle.dump.specs.Places.{HasDocument};
 ghost use Rattle.dump.specs.Progress.{DumpValue};
 ghost use Rattle.tables.specs.Schema.{schema_two};
 ghost use Rattle.tables.specs.Contents.{slot_row};
-ghost use Rattle.tables.specs.State.{State};
+ghost use Rattle.machine.specs.State.{State};
 ghost use Rattle.tables.specs.Stands.{IsAsBefore, StandsFor};
 ghost use Rattle.tables.specs.Steps.Selected.{Looks};
 

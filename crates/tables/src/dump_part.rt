@@ -5,7 +5,8 @@ ghost use Rattle.sqlite.specs.State.{HasCleanDisk, Survives, KeepsCommit};
 ghost use Rattle.sqlite.specs.Held.{state};
 ghost use Rattle.flatten.specs.Rows.{rows_value};
 ghost use Rattle.tables.specs.Schema.{schema_two};
-ghost use Rattle.tables.specs.Columns.{document_columns, range_columns, item_columns, hover_columns, mark_columns, bearer_columns, profile_number, profile_columns, more_rows, dump_rows};
+ghost use Rattle.machine.specs.Reply.{profile_number};
+ghost use Rattle.tables.specs.Columns.{document_columns, range_columns, item_columns, hover_columns, mark_columns, bearer_columns, profile_columns, more_rows, dump_rows};
 ghost use Rattle.tables.specs.Contents.{Contents, Replies, Keeps, changed, kept};
 ghost use Rattle.tables.specs.Steps.Puts.{PutsAll, Steps, Then, GoesOn};
 

@@ -8,10 +8,12 @@ ghost use Rattle.serde_json.specs.View.{view};
 ghost use Rattle.tags.specs.Values.{FieldValue, TagValue};
 ghost use Rattle.tags.specs.Views.{field_value, tag_value};
 ghost use Rattle.tables.specs.Schema.{schema_two};
-ghost use Rattle.tables.specs.Columns.{field_data, fields_text, tag_columns};
-ghost use Rattle.tables.specs.State.{State};
+ghost use Rattle.machine.specs.Reply.{field_data};
+ghost use Rattle.tables.specs.Columns.{fields_text, tag_columns};
+ghost use Rattle.machine.specs.State.{State};
 ghost use Rattle.tables.specs.Stands.{IsAsBefore, StandsFor};
-ghost use Rattle.tables.specs.Names.{FoundTag as FoundTagValue, IsAsked, tag_found};
+ghost use Rattle.machine.specs.FoundTags.{FoundTag as FoundTagValue, IsAsked};
+ghost use Rattle.tables.specs.Names.{tag_found};
 ghost use Rattle.tables.specs.Steps.Selected.{Looks};
 ghost use Rattle.tables.specs.Steps.TagRows.{AllTell, Grows, IsFoundIf, IsTold, TellsTag, columns_of, tag_row_columns};
 

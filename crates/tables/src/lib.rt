@@ -30,7 +30,6 @@ mod tables;
 mod tags_part;
 
 pub use bearers::FoundBearer;
-pub use changes::removal_text;
 pub use covering::{Covering, FoundRange};
 pub use fault::TablesFault;
 pub use found_tags::FoundTag;

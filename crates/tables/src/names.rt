@@ -4,10 +4,11 @@ ghost use Rattle.sqlite.specs.State.{HasCleanDisk, Survives};
 ghost use Rattle.sqlite.specs.Held.{state};
 ghost use Rattle.dump.specs.Places.{IsListing};
 ghost use Rattle.tables.specs.Schema.{schema_two};
-ghost use Rattle.tables.specs.State.{State};
+ghost use Rattle.machine.specs.State.{State};
 ghost use Rattle.tables.specs.Fault.{IsStoreFault};
 ghost use Rattle.tables.specs.Stands.{IsAsBefore, StandsFor, Rests};
-ghost use Rattle.tables.specs.Names.{BeginsWith, FindsNamed, FindsPrefixed, line_cmp, name_cmp, tag_found};
+ghost use Rattle.machine.specs.FoundTags.{BeginsWith, line_cmp, name_cmp};
+ghost use Rattle.tables.specs.Names.{FindsNamed, FindsPrefixed, tag_found};
 ghost use Rattle.tables.specs.Steps.Selected.{Looks};
 ghost use Rattle.tables.specs.Steps.TagRows.{TellNamed, with_prefix};
 

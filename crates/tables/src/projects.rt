@@ -6,10 +6,11 @@ ghost use Rattle.dump.specs.Places.{IsListing};
 ghost use Rattle.tables.specs.Schema.{schema_two};
 ghost use Rattle.tables.specs.Contents.{Contents, Replies, Keeps};
 ghost use Rattle.tables.specs.Parts.{part_number};
-ghost use Rattle.tables.specs.State.{State};
+ghost use Rattle.machine.specs.State.{State};
 ghost use Rattle.tables.specs.Fault.{IsStoreFault};
 ghost use Rattle.tables.specs.Stands.{IsAsBefore, StandsFor, Rests};
-ghost use Rattle.tables.specs.Selections.{FindsProjects, project_found, text_cmp};
+ghost use Rattle.machine.specs.Projects.{text_cmp};
+ghost use Rattle.tables.specs.Selections.{FindsProjects, project_found};
 ghost use Rattle.tables.specs.Steps.Selected.{Looks};
 ghost use Rattle.tables.specs.Steps.Slots.{HasPart, IsTold};
 

@@ -7,7 +7,7 @@ ghost use Rattle.tables.specs.Databases.{IsMade, WasMade, IsFormatOne, IsFormatT
 ghost use Rattle.tables.specs.Fault.{IsStoreFault};
 ghost use Rattle.tables.specs.Opening.{AfterOpening, Gives, RefusesOld, StaysCommitted, IsRolledBack};
 ghost use Rattle.tables.specs.Stands.{Finds, FindsOne, IsAsBefore, Rests, StandsFor};
-ghost use Rattle.tables.specs.State.{State, nothing};
+ghost use Rattle.machine.specs.State.{State, nothing};
 
 use crate::fault::{TablesFault, fault_of};
 use crate::format::{Format, find_format};

@@ -3,42 +3,17 @@ ghost use Rattle.std.specs.Prelude.{◌≡◌, ◌∷◌, [], ◌++◌, ℕ, pos
 ghost use Rattle.sqlite_value.specs.declared.value.Value.TheVariants.{Int};
 ghost use Rattle.sqlite.specs.State.{HasCleanDisk, Survives, KeepsCommit};
 ghost use Rattle.sqlite.specs.Held.{state};
-ghost use Rattle.serde_json.specs.Data.{array};
-ghost use Rattle.serde_json.specs.View.{view, items_of};
 ghost use Rattle.tags.specs.Views.{field_value, tag_value, tag_values};
 ghost use Rattle.tables.specs.Schema.{schema_two};
-ghost use Rattle.tables.specs.Columns.{field_data, fields_text, tag_columns, tag_rows};
+ghost use Rattle.tables.specs.Columns.{fields_text, tag_columns, tag_rows};
 ghost use Rattle.tables.specs.Contents.{Contents, Replies, Keeps, changed};
 ghost use Rattle.tables.specs.Steps.Puts.{PutsAll, Steps, GoesOn};
 
 use crate::slots::{Part, insert_slot};
-use serde_json::{Value, json};
+use machine::fields_value;
 use sqlite::{Alter, Error, Transaction, params};
 use std::alloc::{AllocError, Global};
 use tags::{Field, Tag};
-
-fn field_value(alloc: Global, field: &Field) -> Result<Value, AllocError>
-    ensures { IfOk result (λ v. view v ≡ field_data (field_value field.now)) }
-{
-    json!(in alloc; [&field.name, &field.value])
-}
-
-fn add_field(alloc: Global, field: &Field, list: &mut Vec<Value>) -> Result<(), AllocError>
-    ensures { OnOk result (map view list.new.items ≡ map view list.old.items ++ field_data (field_value field.now) ∷ []) }
-{
-    let value = field_value(alloc, field)?;
-    serde_json::push(list, value)
-}
-
-fn fields_value(alloc: Global, fields: &[Field]) -> Result<Value, AllocError>
-    ensures { IfOk result (λ v. view v ≡ array (items_of (map field_data (map field_value fields.now)))) }
-{
-    let mut list = Vec::new(alloc);
-    for field in fields {
-        add_field(alloc, field, &mut list)?;
-    }
-    Ok(Value::Array(list))
-}
 
 /// The text of the fields of a tag.
 fn fields_text(alloc: Global, fields: &[Field]) -> Result<String, AllocError>

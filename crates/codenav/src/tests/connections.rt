@@ -1,10 +1,10 @@
 //! Connections on loopback and clients that take their time, and what they're replied.
 use super::samples::{BASE, reply, text_of};
-use crate::database::{close_file, open_file};
+use crate::database::connect_file;
 use crate::serve::{CountedListener, ServerFault, serve_connection, serve_in_memory};
 use crate::timed::Limits;
 use desk::{Desk, PlainDesk, TableDesk};
-use sqlite::Unknown;
+use sqlite::{Alter, Connection, Unknown};
 use std::alloc::Global;
 use std::cell::Cell;
 use std::io;
@@ -15,6 +15,7 @@ use std::net::{
 use std::process::Abort;
 use std::test::Fail;
 use std::time::{Clock, Duration};
+use tables::Tables;
 
 /// Requests without a body, each with the end of its reply's status line, the length of the reply's body and the body.
 /// They are asked of an index that has the base dump, in the project `app`.
@@ -116,15 +117,26 @@ fn first_other<D: Desk>(rt: &HostRuntime, desk: &mut D) -> Result<Option<String>
     Ok(None)
 }
 
+/// The same over the tables of a new database of this connection.
+fn first_other_over<S: Alter + Drop>(
+    rt: &HostRuntime,
+    conn: Connection<S>,
+) -> Result<Option<String>, Fail> {
+    if !conn.is_autocommit() {
+        return Err("within a transaction")?;
+    }
+    match Tables::open(conn) {
+        Ok(tables) => first_other(rt, &mut TableDesk::new(rt.alloc(), tables)),
+        Err((fault, _)) => Err(fault.text())?,
+    }
+}
+
 /// The same over a desk that keeps dumps in memory, and over a database in a file.
 #[test]
 fn served(rt: HostRuntime) -> Result<(), Fail> {
     assert_eq!(rt; first_other(&rt, &mut PlainDesk::new(rt.alloc()))?, None);
-    match open_file(&rt, "served.db", Unknown) {
-        Ok(mut desk) => {
-            assert_eq!(rt; first_other(&rt, &mut desk)?, None);
-            close_file(desk);
-        }
+    match connect_file(&rt, "served.db", Unknown) {
+        Ok(conn) => assert_eq!(rt; first_other_over(&rt, conn)?, None),
         Err(fault) => return Err(fault.text())?,
     }
     Ok(())

@@ -1,7 +1,7 @@
 //! Databases in files: what a second start answers, and what a migration keeps.
 use super::replay::exchange;
 use super::samples::{Slow, in_pieces, slow_writer};
-use crate::database::{close_connection, close_file, migrate_file};
+use crate::database::{close_connection, migrate_file};
 use crate::replay::replay_file;
 use lsif::Counted;
 use sqlite::{Connection, Unknown};
@@ -54,7 +54,7 @@ fn replayed(
     let mut r = Counted::new(in_pieces(requests.as_bytes(), 100));
     let mut w = Counted::new(slow_writer(rt.alloc(), 1_000_000, 0));
     match replay_file(rt, path, Unknown, &mut r, &mut w) {
-        Ok((_, desk)) => close_file(desk),
+        Ok((_, conn)) => close_connection(conn),
         Err(fault) => return Ok(Err(fault)),
     }
     let Slow { taken, .. } = w.into_inner();

@@ -2,7 +2,7 @@
 use super::replay::exchange;
 use super::samples::{Slow, in_pieces, slow_writer};
 use crate::replay::replay;
-use desk::{Desk, TableDesk};
+use desk::TableDesk;
 use lsif::Counted;
 use sqlite::{Alter, Connection, FileStore, Files, Options};
 use sqlite_disk::{Crash, Fuse, Memory};
@@ -36,9 +36,9 @@ enum Reached {
 }
 
 /// What is written for the requests of these rows, and what is to be.
-fn written<D: Desk>(
+fn written<S: Alter>(
     alloc: Global,
-    desk: &mut D,
+    desk: &mut TableDesk<S>,
     rows: &'static str,
 ) -> Result<(Vec<u8>, String), Fail> {
     let (requests, replies) = exchange(alloc, rows, usize::MAX)?;
@@ -52,13 +52,21 @@ fn written<D: Desk>(
 }
 
 /// Whether the replies to these rows are theirs.
-fn is_answered<D: Desk>(alloc: Global, desk: &mut D, rows: &'static str) -> Result<bool, Fail> {
+fn is_answered<S: Alter>(
+    alloc: Global,
+    desk: &mut TableDesk<S>,
+    rows: &'static str,
+) -> Result<bool, Fail> {
     let (found, wanted) = written(alloc, desk, rows)?;
     Ok(found.as_slice() == wanted.as_bytes())
 }
 
 /// Whether an upload is accepted; else the store or memory was refused.
-fn is_accepted<D: Desk>(alloc: Global, desk: &mut D, row: &'static str) -> Result<bool, Fail> {
+fn is_accepted<S: Alter>(
+    alloc: Global,
+    desk: &mut TableDesk<S>,
+    row: &'static str,
+) -> Result<bool, Fail> {
     let (found, wanted) = written(alloc, desk, row)?;
     if found.as_slice() == wanted.as_bytes() {
         return Ok(true);
@@ -70,7 +78,7 @@ fn is_accepted<D: Desk>(alloc: Global, desk: &mut D, row: &'static str) -> Resul
 }
 
 /// Sends both uploads, the second where the first is accepted.
-fn uploaded<D: Desk>(alloc: Global, desk: &mut D) -> Result<Reached, Fail> {
+fn uploaded<S: Alter>(alloc: Global, desk: &mut TableDesk<S>) -> Result<Reached, Fail> {
     if !is_accepted(alloc, desk, FIRST)? {
         return Ok(Reached::Nothing);
     }
@@ -100,7 +108,11 @@ fn uploaded_over<S: Alter + Drop>(
 }
 
 /// Whether what is found is what a life leaves that came so far: the state before the upload that was refused, or the one after it.
-fn is_left<D: Desk>(alloc: Global, desk: &mut D, reached: Reached) -> Result<bool, Fail> {
+fn is_left<S: Alter>(
+    alloc: Global,
+    desk: &mut TableDesk<S>,
+    reached: Reached,
+) -> Result<bool, Fail> {
     let (before, after) = match reached {
         Reached::Nothing => (NONE, AT_FOUR),
         Reached::First => (AT_FOUR, AT_FIVE),
@@ -110,7 +122,11 @@ fn is_left<D: Desk>(alloc: Global, desk: &mut D, reached: Reached) -> Result<boo
 }
 
 /// Whether the uploads that weren't accepted are accepted when they are sent again, and the first one, which comes late, changes nothing.
-fn is_mended<D: Desk>(alloc: Global, desk: &mut D, reached: Reached) -> Result<bool, Fail> {
+fn is_mended<S: Alter>(
+    alloc: Global,
+    desk: &mut TableDesk<S>,
+    reached: Reached,
+) -> Result<bool, Fail> {
     if reached == Reached::Nothing && !is_answered(alloc, desk, FIRST)? {
         return Ok(false);
     }

@@ -2,11 +2,11 @@
 use Rattle.std.specs.Prelude.{◌≡◌, [], ◌∷◌, ℕ, List, Result, IfOk, OnOk, OnErr, if◌then◌else◌}
 use Rattle.tables.specs.declared.fault.TablesFault.{TablesFault}
 use Rattle.tables.specs.declared.fault.TablesFault.TheVariants as faults
-use Rattle.tables.specs.State.{Change, State, accepted, changed}
+use Rattle.machine.specs.State.{Change, State, accepted, changed}
 use Rattle.desk.specs.Indexes.{Changes, Refuses}
-use Rattle.desk.specs.Machine.{after, is_new, reply_of, reply_to}
-use Rattle.desk.specs.Reply.{ReplyValue, out_of_memory, store_refused}
-use Rattle.desk.specs.Requests.{CommandValue}
+use Rattle.machine.specs.Machine.{after, is_new, reply_of, reply_to}
+use Rattle.machine.specs.Reply.{ReplyValue, out_of_memory, store_refused}
+use Rattle.machine.specs.Requests.{CommandValue}
 use Rattle.desk.specs.declared.index.IndexFault.{IndexFault}
 use Rattle.desk.specs.declared.index.IndexFault.TheVariants.{Refused, Memory}
 

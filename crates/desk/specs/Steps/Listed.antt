@@ -4,8 +4,9 @@ use Rattle.std.specs.List.{starts_with}
 use Rattle.std.specs.declared.cmp.Ordering.{Ordering}
 use Rattle.tags.specs.Judging.{lines_rise}
 use Rattle.tags.specs.Values.{TagValue}
-use Rattle.tables.specs.Names.{FoundTag, tag_found}
-use Rattle.tables.specs.Selections.{ProjectValue}
+use Rattle.machine.specs.FoundTags.{FoundTag}
+use Rattle.tables.specs.Names.{tag_found}
+use Rattle.machine.specs.Projects.{ProjectValue}
 use Rattle.tables.specs.declared.found_tags.FoundTag as program
 use Rattle.desk.specs.declared.listed.Wanted.{Wanted}
 use Rattle.desk.specs.declared.listed.Wanted.TheVariants.{Name, Prefix}

@@ -4,8 +4,9 @@ use Rattle.std.specs.declared.cmp.Ordering.{Ordering}
 use Rattle.std.specs.declared.cmp.Ordering.TheVariants.{Greater}
 use Rattle.std.specs.Ordering.{nat_cmp, ordering_then}
 use Rattle.dump.specs.declared.request.Request.TheVariants.{Hover}
-use Rattle.tables.specs.State.{State}
-use Rattle.tables.specs.Selections.{FindsHover, RangeFound, text_cmp}
+use Rattle.machine.specs.State.{State}
+use Rattle.machine.specs.Projects.{text_cmp}
+use Rattle.tables.specs.Selections.{FindsHover, RangeFound}
 use Rattle.desk.specs.Steps.Rows.{IsRowJoined, JoinedValue}
 
 -- by project, then by line, then by number

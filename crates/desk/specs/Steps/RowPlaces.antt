@@ -1,6 +1,6 @@
 -- Places that are made of items, as the program has them.
 use Rattle.std.specs.Rc.{rc_str_bytes}
-use Rattle.desk.specs.Reply.{FoundPlace}
+use Rattle.machine.specs.Reply.{FoundPlace}
 use Rattle.desk.specs.declared.rows.places.ItemPlace.{ItemPlace}
 
 abbrev pub item_place : ItemPlace → FoundPlace

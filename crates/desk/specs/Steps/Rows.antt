@@ -11,9 +11,10 @@ use Rattle.dump.specs.Progress.{DumpValue}
 use Rattle.dump.specs.Requests.{Pick, RangeValue, follows, finds}
 use Rattle.positions.specs.Position.{PositionValue}
 use Rattle.flatten.specs.Flat.{result_for}
-use Rattle.tables.specs.State.{State}
-use Rattle.tables.specs.Selections.{BearerFound, Bears, HasItem, HasMark, IsRangeFound, MarkText, RangeFound, range_found, text_cmp}
-use Rattle.desk.specs.Reply.{FoundPlace}
+use Rattle.machine.specs.State.{State}
+use Rattle.machine.specs.Projects.{text_cmp}
+use Rattle.tables.specs.Selections.{BearerFound, Bears, HasItem, HasMark, IsRangeFound, MarkText, RangeFound, range_found}
+use Rattle.machine.specs.Reply.{FoundPlace}
 use Rattle.desk.specs.declared.rows.ranges.Picked.{Picked}
 use Rattle.desk.specs.declared.rows.ranges.Picked.TheVariants as picks
 use Rattle.desk.specs.declared.rows.bearers.JoinedBearer.{JoinedBearer}

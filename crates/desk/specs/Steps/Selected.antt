@@ -6,10 +6,10 @@ use Rattle.std.specs.String.{string_cmp}
 use Rattle.std.specs.declared.cmp.Ordering.{Ordering}
 use Rattle.std.specs.Ordering.{nat_cmp, ordering_then}
 use Rattle.positions.specs.Position.{PositionValue}
-use Rattle.positions.specs.Span.{SpanValue, covers}
+use Rattle.positions.specs.Span.{covers}
 use Rattle.lsif.specs.Element.{ElementValue}
 use Rattle.dump.specs.declared.role.Role.{Role}
-use Rattle.dump.specs.Places.{IsListing, PlaceValue, position_cmp}
+use Rattle.dump.specs.Places.{IsListing, PlaceValue}
 use Rattle.dump.specs.Progress.{DumpValue}
 use Rattle.flatten.specs.Flat.{RangeRowValue, ItemRowValue, HoverRowValue, MarkRowValue, BearerRowValue, kind_index, IsItemRow, IsHoverRow, IsMarkRow, IsBearerRow}
 use Rattle.flatten.specs.Rows.{range_value}
@@ -17,7 +17,8 @@ use Rattle.flatten.specs.declared.rows.RangeRow.{RangeRow}
 use Rattle.tables.specs.Selections.{MarkText, RangeFound, BearerFound, bearer_found_cmp, bearer_row}
 use Rattle.tables.specs.Steps.Climbs.{row_found}
 use Rattle.desk.specs.declared.project.Project.{Project}
-use Rattle.desk.specs.Steps.Places.{same_role}
+use Rattle.machine.specs.Steps.Covers.{inner_order}
+use Rattle.machine.specs.Steps.Places.{same_role}
 
 -- ---- items
 
@@ -74,10 +75,6 @@ IsBearerOf elements project key b = (b.project ≡ project) × IsBearerRow eleme
 
 abbrev pub range_wanted : List ℕ → PositionValue → RangeRowValue → Option RangeRowValue
 range_wanted uri at row = if bytes_eq row.place.uri uri && covers row.place.span at then Some row else None
-
--- the later start first, and of one start the lesser end
-abbrev pub inner_order : SpanValue → SpanValue → Ordering
-inner_order s t = ordering_then (position_cmp t.start s.start) (position_cmp s.«end» t.«end»)
 
 abbrev pub by_span : RangeRow → RangeRow → Ordering
 by_span a b = inner_order a.span.now b.span.now

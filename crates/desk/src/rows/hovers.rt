@@ -4,22 +4,19 @@ ghost use Rattle.std.specs.Prelude.{◌≡◌, Contains, IfOk, IfErr, map, optio
 ghost use Rattle.dump.specs.declared.request.Request.TheVariants as requests;
 ghost use Rattle.dump.specs.Places.{IsListing};
 ghost use Rattle.tables.specs.Selections.{range_found};
-ghost use Rattle.tables.specs.State.{State};
+ghost use Rattle.machine.specs.State.{State};
 ghost use Rattle.desk.specs.Indexes.{ReadsOnly};
-ghost use Rattle.desk.specs.Answers.{AnswersAt, AnswersHover};
-ghost use Rattle.desk.specs.Requests.{at_value};
+ghost use Rattle.machine.specs.Answers.{AnswersAt, AnswersHover};
+ghost use Rattle.machine.specs.Requests.{at_value};
 ghost use Rattle.desk.specs.Steps.RowHovers.{RowHovers, joined_cmp};
 ghost use Rattle.desk.specs.Steps.Rows.{AreKeys, joined_value};
 ghost use Rattle.desk.specs.declared.index.IndexFault.TheVariants.{Refused};
 
-use crate::bodies::hover_found;
-use crate::code::Code;
 use crate::index::{Index, IndexFault};
-use crate::names::{DocUri, ProjectName};
-use crate::reply::Reply;
 use crate::rows::bearers::{JoinedBearer, joined_bearers};
 use crate::rows::ranges::{Picked, pick};
 use dump::Request;
+use machine::{Code, DocUri, ProjectName, Reply, hover_found};
 use positions::Position;
 use std::alloc::Global;
 use tables::FoundRange;

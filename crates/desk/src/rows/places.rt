@@ -2,21 +2,19 @@
 ghost use Rattle.std.specs.Prelude.{◌≡◌, Contains, IfOk, IfErr, OnOk, map, string_bytes, true};
 ghost use Rattle.dump.specs.Places.{IsListing, PlaceValue};
 ghost use Rattle.tables.specs.Selections.{item_found};
-ghost use Rattle.tables.specs.State.{State};
+ghost use Rattle.machine.specs.State.{State};
 ghost use Rattle.desk.specs.Indexes.{ReadsOnly};
-ghost use Rattle.desk.specs.Answers.{found_cmp};
-ghost use Rattle.desk.specs.Reply.{places_found};
-ghost use Rattle.desk.specs.Steps.Places.{found_in};
+ghost use Rattle.machine.specs.Answers.{found_cmp};
+ghost use Rattle.machine.specs.Reply.{places_found};
+ghost use Rattle.machine.specs.Steps.Places.{found_in};
 ghost use Rattle.desk.specs.Steps.Rows.{Adds, IsPlaceOf, IsPlaceOfOne, IsRolePlace, project_result_value};
 ghost use Rattle.desk.specs.Steps.RowPlaces.{item_place};
 ghost use Rattle.desk.specs.declared.index.IndexFault.TheVariants.{Refused};
 
-use crate::bodies::{END, PLACES, add_place};
-use crate::found::FoundPlace;
 use crate::index::{Index, IndexFault};
-use crate::reply::Reply;
 use crate::rows::results::ProjectResult;
 use dump::Role;
+use machine::{END, FoundPlace, PLACES, Reply, add_place};
 use positions::Span;
 use std::alloc::{AllocError, Global};
 use std::rc::RcStr;

@@ -3,26 +3,24 @@ ghost use Rattle.std.specs.Prelude.{◌≡◌, ◌≢◌, IfOk, List, map, optio
 ghost use Rattle.dump.specs.declared.request.Request.TheVariants as requests;
 ghost use Rattle.tables.specs.Names.{tag_found as row_found};
 ghost use Rattle.tables.specs.Selections as selections;
-ghost use Rattle.tables.specs.State.{State};
+ghost use Rattle.machine.specs.State.{State};
 ghost use Rattle.desk.specs.Indexes.{ReadsOnly};
-ghost use Rattle.desk.specs.Answers.{Answers, AnswersAt, AnswersPlaces, reference_roles};
-ghost use Rattle.desk.specs.Found.{project_found, tag_found};
-ghost use Rattle.desk.specs.Requests.{at_value, query_value};
-ghost use Rattle.desk.specs.Requests as queries;
+ghost use Rattle.machine.specs.Answers.{Answers, AnswersAt, AnswersPlaces, reference_roles};
+ghost use Rattle.machine.specs.Found.{project_found, tag_found};
+ghost use Rattle.machine.specs.Requests.{at_value, query_value};
+ghost use Rattle.machine.specs.Requests as queries;
 ghost use Rattle.desk.specs.declared.index.IndexFault.TheVariants.{Refused};
 
-use crate::bodies::{places_found, profile_found, projects_found, tags_found};
-use crate::code::Code;
-use crate::found::{FoundProject, FoundTag};
 use crate::index::{Index, IndexFault};
-use crate::names::{DocUri, ProjectName};
-use crate::reply::Reply;
-use crate::request::Query;
 use crate::rows::hovers::hover;
 use crate::rows::places::{places_of, places_reply};
 use crate::rows::ranges::{Picked, pick};
 use crate::rows::results::answering_results;
 use dump::{Request, Role};
+use machine::{
+    Code, DocUri, FoundProject, FoundTag, ProjectName, Query, Reply, places_found, profile_found,
+    projects_found, tags_found,
+};
 use positions::Position;
 use std::alloc::{AllocError, Global};
 use tables::ProjectRow;

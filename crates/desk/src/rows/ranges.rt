@@ -4,7 +4,7 @@ ghost use Rattle.std.specs.Prelude.{◌≡◌, IfOk, IfErr, IfSome, OnOk, map, o
 ghost use Rattle.dump.specs.Requests.{IsFirst, follows};
 ghost use Rattle.flatten.specs.Flat.{result_for};
 ghost use Rattle.tables.specs.Selections.{mark_found, range_found};
-ghost use Rattle.tables.specs.State.{State};
+ghost use Rattle.machine.specs.State.{State};
 ghost use Rattle.desk.specs.Indexes.{AreFaultless, ReadsOnly};
 ghost use Rattle.desk.specs.Steps.Rows.{AreFollowed, AreKeys, Picks, RowSpeaks};
 ghost use Rattle.desk.specs.declared.index.IndexFault.TheVariants.{Refused};

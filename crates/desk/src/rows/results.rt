@@ -3,7 +3,7 @@
 ghost use Rattle.std.specs.Prelude.{◌≡◌, Contains, IfOk, IfErr, OnOk, map, string_bytes, true};
 ghost use Rattle.dump.specs.Places.{IsListing};
 ghost use Rattle.tables.specs.Selections.{range_found};
-ghost use Rattle.tables.specs.State.{State};
+ghost use Rattle.machine.specs.State.{State};
 ghost use Rattle.desk.specs.Indexes.{ReadsOnly};
 ghost use Rattle.desk.specs.Steps.Rows.{Adds, AreKeys, AreThose, IsAnsweringResult, IsOwnResult, JoinedValue, joined_value, project_result_cmp, project_result_value, result_of_joined};
 ghost use Rattle.desk.specs.declared.index.IndexFault.TheVariants.{Refused};

@@ -1,14 +1,15 @@
 -- Tables from ids to values.
-use Rattle.std.specs.Prelude.{◌≡◌, ◌<◌, ℕ, Bool, List, Option, Some, None, nat_eq, nat_lt, get_or, if◌then◌else◌}
+use Rattle.std.specs.Prelude.{◌≡◌, ◌<◌, ℕ, Bool, List, Option, Some, None, nat_lt, get_or, if◌then◌else◌}
 use Rattle.std.specs.List.{position}
-use Rattle.std.specs.HashMap.{get, get_by_text}
+use Rattle.std.specs.BTreeMap.{get, get_by_text}
+use Rattle.std.specs.Ordering.{nat_cmp}
 use Rattle.lsif.specs.Element.{IdValue, number, text}
 use Rattle.dump.specs.declared.ids.IdMap.{IdMap}
 use Rattle.dump.specs.declared.index_map.IndexMap.{IndexMap}
 
 -- what the table has at an id
 abbrev pub value_at : {V : Type 0} → IdMap V → IdValue → Option V
-value_at table (number n) = get nat_eq table.numbers n
+value_at table (number n) = get nat_cmp table.numbers n
 value_at table (text s) = get_by_text table.texts s
 
 -- the index that the table has at an id: numbers below the bound have a slot each

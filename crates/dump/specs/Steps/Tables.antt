@@ -1,7 +1,7 @@
 -- What is kept beside the elements of a dump, so that they are looked up without a search.
 use Rattle.std.specs.Prelude.{◌≡◌, ℕ, Bool, true, false, List, [], ◌++◌, Vec, IsPermutation, length, Option, Some, None, option_map, find}
 use Rattle.std.specs.List.{position}
-use Rattle.std.specs.HashMap.{get_by_text}
+use Rattle.std.specs.BTreeMap.{get_by_text}
 use Rattle.positions.specs.Span.{SpanValue}
 use Rattle.lsif.specs.Element.{IdValue, same_id, ElementValue, element_id}
 use Rattle.std.specs.declared.alloc.Global.{Global}

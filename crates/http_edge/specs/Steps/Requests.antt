@@ -1,8 +1,8 @@
 -- What is asked as the program has it.
 use Rattle.std.specs.Prelude.{◌≡◌, ℕ, List, [], Option, Some, None, Result, Ok, Err, ⊤}
 use Rattle.std.specs.declared.alloc.AllocError.{AllocError}
-use Rattle.desk.specs.Requests.{DocumentPositionValue, QueryValue, RequestValue, command, definition, hover, declaration, implementation, at_value, request_value}
-use Rattle.desk.specs.Uploads.{StandsFor, UploadValue, command_of}
+use Rattle.machine.specs.Requests.{DocumentPositionValue, QueryValue, RequestValue, command, definition, hover, declaration, implementation, at_value, request_value}
+use Rattle.machine.specs.Uploads.{StandsFor, UploadValue, command_of}
 use Rattle.http_edge.specs.declared.queries.DocumentPosition.{DocumentPosition}
 use Rattle.http_edge.specs.declared.queries.PositionQuery.{PositionQuery}
 use Rattle.http_edge.specs.declared.queries.PositionQuery.TheVariants as at_position

@@ -1,9 +1,9 @@
 -- What the program's calls read and give while a stream is served.
 use Rattle.std.specs.Prelude.{◌≡◌, ◌≢◌, ℕ, ◌<◌, ◌≤◌, ◌⊎◌, Bool, true, false, List, [], ◌++◌, length, drop, Option, Some, None, Result, Ok, Err}
 use Rattle.std.specs.declared.alloc.AllocError.{AllocError}
-use Rattle.tables.specs.State.{State}
-use Rattle.desk.specs.Requests.{command, request_value}
-use Rattle.desk.specs.Uploads.{StandsFor, command_of}
+use Rattle.machine.specs.State.{State}
+use Rattle.machine.specs.Requests.{command, request_value}
+use Rattle.machine.specs.Uploads.{StandsFor, command_of}
 use Rattle.lsif.specs.Streams.{Moves, AtEnd}
 use Rattle.http_edge.specs.Heads.{HeadValue, rejected, SettlesHead, IsHeadUnended}
 use Rattle.http_edge.specs.Messages.{Settles, IsUnended, ends}

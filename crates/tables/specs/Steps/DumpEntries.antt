@@ -8,7 +8,7 @@ use Rattle.sqlite_trees.specs.Tree.{Trees}
 use Rattle.sqlite_rules.specs.Lists.{Has}
 use Rattle.dump.specs.Progress.{DumpValue}
 use Rattle.tables.specs.Contents.{slot_row}
-use Rattle.tables.specs.State.{State}
+use Rattle.machine.specs.State.{State}
 
 -- an entry under the slot of its dump
 pub record DumpEntry (E : Type 0) : Type 0 where

@@ -8,7 +8,7 @@ use Rattle.dump.specs.Progress.{DumpValue}
 use Rattle.flatten.specs.Flat.{ResultsValue, RangeRowValue, BearerRowValue, IsRangeRow, IsBearerRow}
 use Rattle.tables.specs.Columns.{number, optional}
 use Rattle.tables.specs.Contents.{slot_row}
-use Rattle.tables.specs.State.{State}
+use Rattle.machine.specs.State.{State}
 use Rattle.tables.specs.Selections.{BearerFound, Bears, bearer_row}
 use Rattle.tables.specs.declared.bearers.SlotBearer.{SlotBearer}
 

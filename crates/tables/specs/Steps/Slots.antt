@@ -4,8 +4,8 @@ use Rattle.sqlite_value.specs.Order.{Row}
 use Rattle.sqlite_trees.specs.Tree.{Trees}
 use Rattle.sqlite_rules.specs.Lists.{Has}
 use Rattle.tables.specs.Contents.{Contents, slot_row}
-use Rattle.tables.specs.State.{State}
-use Rattle.tables.specs.Selections.{ProjectValue}
+use Rattle.machine.specs.State.{State}
+use Rattle.machine.specs.Projects.{ProjectValue}
 
 -- the slot of a part that is there, or none of one that isn't
 abbrev pub IsSlotOf : Trees → Contents → List ℕ → ℤ → Option ℤ → Type 0

@@ -10,8 +10,9 @@ use Rattle.sqlite.specs.Values.{or_null}
 use Rattle.tags.specs.Values.{TagValue}
 use Rattle.tables.specs.Columns.{number, tag_columns}
 use Rattle.tables.specs.Contents.{slot_row}
-use Rattle.tables.specs.Names.{FoundTag, IsTag, IsAsked, tag_found}
-use Rattle.tables.specs.State.{State}
+use Rattle.machine.specs.FoundTags.{FoundTag, IsTag, IsAsked}
+use Rattle.tables.specs.Names.{tag_found}
+use Rattle.machine.specs.State.{State}
 use Rattle.tables.specs.declared.found_tags.FoundTag as declared
 use Rattle.tables.specs.declared.found_tags.TagRow.{TagRow}
 

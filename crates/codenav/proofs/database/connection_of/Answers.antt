@@ -1,6 +1,6 @@
 use Rattle.std.proofs.Common.{List, sym, subst}
 use Rattle.sqlite.specs.Held.{state}
-use Rattle.tables.specs.State.{State}
+use Rattle.machine.specs.State.{State}
 use Rattle.desk.specs.TableStates.{LeavesOneOf, ServesFor}
 use Rattle.codenav.proofs.database.connection_of.Goals as goal
 

@@ -1,4 +1,4 @@
-use Rattle.tables.specs.State.{nothing}
+use Rattle.machine.specs.State.{nothing}
 use Rattle.codenav.proofs.replay.replay_in_memory.Goals as goal
 
 pub returns-clause-replays : goal.returns-clause-replays

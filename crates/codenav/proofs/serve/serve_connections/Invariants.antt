@@ -1,5 +1,5 @@
 use Rattle.std.proofs.Common.{◌≡◌, ◌+◌, ◌-◌, ◌≤◌, List, length}
-use Rattle.tables.specs.State.{State}
+use Rattle.machine.specs.State.{State}
 use Rattle.codenav.specs.Serve.{ConnectionValue, ServesEach}
 use Rattle.codenav.proofs.serve.serve_connections.Given as goal
 

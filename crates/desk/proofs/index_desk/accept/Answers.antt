@@ -1,8 +1,8 @@
 use Rattle.std.proofs.Common.{◌∙◌, ap, rules}
 use Rattle.lsif.specs.Element.{element_value}
-use Rattle.tables.specs.State.{changed, set_dump, set_tags}
+use Rattle.machine.specs.State.{changed, set_dump, set_tags}
 use Rattle.tags.specs.Views.{tag_value}
-use Rattle.desk.specs.Reply.{dump_accepted, tags_accepted}
+use Rattle.machine.specs.Reply.{dump_accepted, tags_accepted}
 use Rattle.desk.proofs.NewReplies.{new_dump, new_tags, same_count}
 use Rattle.desk.proofs.Serving.{refused_unasked}
 use Rattle.desk.proofs.index_desk.accept.Goals as goal

@@ -1,5 +1,5 @@
 use Rattle.std.proofs.Common.{rules}
-use Rattle.desk.specs.Machine.{after}
+use Rattle.machine.specs.Machine.{after}
 use Rattle.desk.proofs.Serving.{refused_reading}
 use Rattle.desk.proofs.index_desk.conclude.Goals as goal
 

@@ -1,10 +1,9 @@
-use Rattle.std.proofs.Common.{arith, ◌≡◌, ◌∙◌, ap, cond, Option, Some, None}
+use Rattle.std.proofs.Common.{arith, ℕ, List, ◌≡◌, ◌∙◌, ap, cond, Option, Some, None}
 use Rattle.std.specs.Prelude.{option_and_then, option_map, bytes_eq, string_bytes}
 use Rattle.std.specs.BTreeMap.{get_by_text}
-use Rattle.std.specs.HashMap as hash
 use Rattle.std.proofs.lemmas.Map.Text.{text_keys}
-use Rattle.tables.specs.State.{Accepted, dump_after, tags_after}
-use Rattle.desk.specs.Steps.Plain.{accepted_value, change_value}
+use Rattle.machine.specs.State.{dump_after, tags_after}
+use Rattle.machine.specs.Steps.Changes.{change_value}
 use Rattle.desk.specs.declared.project.Project.{Project}
 use Rattle.desk.proofs.Changing.{on_ok, on_err, IsChanged, fields, same, both, chosen}
 use Rattle.desk.proofs.kept.change.Goals as goal
@@ -27,13 +26,13 @@ returns-clause-kept c =
     record { found = grind (arith, text_keys); before = grind (arith, text_keys) } in
     on_ok c.change.result _ _
     (λ h p k.
-    let field : Project → Option Accepted = λ q. option_map accepted_value (hash.get_by_text q.kept k) in
-    let made : Option Accepted → Option Accepted = λ o. cond (bytes_eq (string_bytes c.args.key) k) (Some (accepted_value c.args.accepted)) o in
-    let none : field c.new.result ≡ None = ap (option_map accepted_value) (c.new.ensures.kept k) in
+    let field : Project → Option (List ℕ) = λ q. option_map string_bytes (get_by_text q.kept k) in
+    let made : Option (List ℕ) → Option (List ℕ) = λ o. cond (bytes_eq (string_bytes c.args.key) k) (Some (string_bytes c.args.reply)) o in
+    let none : field c.new.result ≡ None = ap (option_map string_bytes) (c.new.ensures.kept k) in
     let now : field c.change.new.self ≡ made (field c.or_insert-found.result.now) =
-    ap (option_map accepted_value) (h k) ∙ chosen accepted_value (bytes_eq (string_bytes c.args.key) k) c.args.accepted (hash.get_by_text c.or_insert-found.result.now.kept k) in
+    ap (option_map string_bytes) (h k) ∙ chosen string_bytes (bytes_eq (string_bytes c.args.key) k) c.args.reply (get_by_text c.or_insert-found.result.now.kept k) in
     fields _ _ _ _ _ _ is field none made now p
-    ∙ both (bytes_eq (string_bytes c.args.project) p) (bytes_eq (string_bytes c.args.key) k) (Some (accepted_value c.args.accepted)) (option_and_then field (get_by_text c.args.projects.now p)))
+    ∙ both (bytes_eq (string_bytes c.args.project) p) (bytes_eq (string_bytes c.args.key) k) (Some (string_bytes c.args.reply)) (option_and_then field (get_by_text c.args.projects.now p)))
     c.change.ensures.kept
 
 pub returns-clause-same_dumps : goal.returns-clause-same_dumps
@@ -54,6 +53,6 @@ returns-clause-same_kept c =
     record { found = grind (arith, text_keys); before = grind (arith, text_keys) } in
     on_err c.change.result _ _
     (λ h p k.
-    let field : Project → Option Accepted = λ q. option_map accepted_value (hash.get_by_text q.kept k) in
-    same _ _ _ _ _ _ is field (ap (option_map accepted_value) (c.new.ensures.kept k)) (ap (option_map accepted_value) (h k)) p)
+    let field : Project → Option (List ℕ) = λ q. option_map string_bytes (get_by_text q.kept k) in
+    same _ _ _ _ _ _ is field (ap (option_map string_bytes) (c.new.ensures.kept k)) (ap (option_map string_bytes) (h k)) p)
     c.change.ensures.same_kept

@@ -1,5 +1,5 @@
 use Rattle.std.proofs.Common.{◌∙◌, sym}
-use Rattle.desk.specs.Retries.{states_left}
+use Rattle.machine.specs.Retries.{states_left}
 use Rattle.http_edge.specs.Serving.{replies_in, requests_in}
 use Rattle.http_edge.proofs.ServedRuns.{run_of, left_of}
 use Rattle.http_edge.proofs.laws.run_law.Goals as goal

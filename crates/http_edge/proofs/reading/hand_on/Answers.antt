@@ -1,5 +1,5 @@
 use Rattle.std.proofs.Common.{sym, ap, ◌∙◌}
-use Rattle.desk.specs.Requests.{command}
+use Rattle.machine.specs.Requests.{command}
 use Rattle.http_edge.specs.Requests.{request}
 use Rattle.http_edge.proofs.reading.hand_on.Goals as goal
 

@@ -3,7 +3,7 @@ use Rattle.lsif.specs.Streams.{Moves, SameCounts}
 use Rattle.lsif.specs.Sending.{Writes}
 use Rattle.http_edge.specs.Steps.Messages.{SettlesAll}
 use Rattle.http_edge.specs.Requests.{MessageValue}
-use Rattle.tables.specs.State.{State}
+use Rattle.machine.specs.State.{State}
 use Rattle.http_edge.specs.Replies.{AnswerValue}
 use Rattle.http_edge.specs.Serving.{Run, left_by, texts}
 use Rattle.http_edge.proofs.serve.serve.Given as goal

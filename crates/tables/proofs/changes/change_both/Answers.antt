@@ -2,7 +2,7 @@ use Rattle.std.proofs.Common.{arith, subst, [], ◌∷◌}
 use Rattle.sqlite.specs.State.{HasCleanDisk}
 use Rattle.sqlite.specs.Held.{state}
 use Rattle.sqlite_value.specs.declared.value.Value.TheVariants.{Text}
-use Rattle.tables.specs.State.{parts_removed, accepted_text}
+use Rattle.machine.specs.State.{parts_removed, accepted_text}
 use Rattle.tables.specs.Steps.Puts.{Steps, PutsAll}
 use Rattle.tables.proofs.Filling.{goes_then}
 use Rattle.tables.proofs.Keeping.{keeps_reply}

@@ -6,7 +6,7 @@ use Rattle.sqlite.specs.Held.{state}
 use Rattle.flatten.specs.Rows.{rows_value}
 use Rattle.tables.specs.Columns.{dump_rows}
 use Rattle.tables.specs.Stands.{IsAsBefore, Rests, StandsFor, replies_of}
-use Rattle.tables.specs.State.{changed, set_dump}
+use Rattle.machine.specs.State.{changed, set_dump}
 use Rattle.tables.proofs.Standing.{dump_changes, unkept}
 use Rattle.tables.proofs.Transactions.{whole, undone}
 use Rattle.tables.proofs.changes.commit_dump.Goals as goal

@@ -3,7 +3,7 @@ use Rattle.sqlite.specs.State.{HasCleanDisk, Survives}
 use Rattle.sqlite.specs.Effect.{Database}
 use Rattle.sqlite.specs.Held.{state}
 use Rattle.tables.specs.Stands.{IsAsBefore, Rests, StandsFor, replies_of}
-use Rattle.tables.specs.State.{changed, clear, parts_removed, accepted_text}
+use Rattle.machine.specs.State.{changed, clear, parts_removed, accepted_text}
 use Rattle.tables.proofs.Standing.{both_go, are_there, unkept}
 use Rattle.tables.proofs.Transactions.{whole, undone}
 use Rattle.tables.proofs.changes.commit_removal.Goals as goal

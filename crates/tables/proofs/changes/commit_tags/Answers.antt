@@ -5,7 +5,7 @@ use Rattle.sqlite.specs.Effect.{Database}
 use Rattle.sqlite.specs.Held.{state}
 use Rattle.tags.specs.Views.{tag_values}
 use Rattle.tables.specs.Stands.{IsAsBefore, Rests, StandsFor, replies_of}
-use Rattle.tables.specs.State.{changed, set_tags}
+use Rattle.machine.specs.State.{changed, set_tags}
 use Rattle.tables.proofs.Standing.{tags_change, unkept}
 use Rattle.tables.proofs.Transactions.{whole, undone}
 use Rattle.tables.proofs.changes.commit_tags.Goals as goal

@@ -5,7 +5,7 @@ use Rattle.sqlite_rules.specs.Lists.{Has}
 use Rattle.dump.specs.Progress.{DumpValue}
 use Rattle.tables.specs.Schema.{schema_two}
 use Rattle.tables.specs.Contents.{slot_row}
-use Rattle.tables.specs.State.{State}
+use Rattle.machine.specs.State.{State}
 use Rattle.tables.specs.Stands.{IsAsBefore, StandsFor}
 use Rattle.tables.specs.Steps.Climbs.{weight}
 use Rattle.tables.specs.Steps.Selected.{Looks}

@@ -7,7 +7,7 @@ use Rattle.dump.specs.Progress.{DumpValue}
 use Rattle.flatten.specs.Flat.{RangeRowValue, IsRangeRow}
 use Rattle.tables.specs.Schema.{schema_two}
 use Rattle.tables.specs.Contents.{slot_row}
-use Rattle.tables.specs.State.{State}
+use Rattle.machine.specs.State.{State}
 use Rattle.tables.specs.Stands.{IsAsBefore, StandsFor}
 use Rattle.tables.specs.Selections.{range_found}
 use Rattle.tables.specs.Steps.Climbs.{TellsRange, row_found}

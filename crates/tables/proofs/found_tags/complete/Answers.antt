@@ -2,7 +2,7 @@ use Rattle.std.proofs.Common.{to_z-of_z, rules, ◌≡◌, ◌∙◌, pos, sym, 
 use mir.Val.{SFits}
 use mir.Syntax.{w64}
 use Rattle.tables.specs.Stands.{replies_of}
-use Rattle.tables.specs.Names.{IsAsked}
+use Rattle.machine.specs.FoundTags.{IsAsked}
 use Rattle.tables.proofs.found_tags.complete.Goals as goal
 
 pub returns-then-not-is_asked-clause-whole : goal.returns-then-not-is_asked-clause-whole

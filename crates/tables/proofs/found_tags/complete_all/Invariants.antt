@@ -2,7 +2,7 @@ use Rattle.std.proofs.Common.{◌≡◌, false, length, map, option_map}
 use Rattle.sqlite.specs.State.{HasCleanDisk}
 use Rattle.sqlite.specs.Held.{state}
 use Rattle.tables.specs.Schema.{schema_two}
-use Rattle.tables.specs.State.{State}
+use Rattle.machine.specs.State.{State}
 use Rattle.tables.specs.Stands.{IsAsBefore, StandsFor}
 use Rattle.tables.specs.Names.{tag_found}
 use Rattle.tables.specs.Steps.Selected.{Looks}

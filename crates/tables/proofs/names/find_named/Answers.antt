@@ -2,7 +2,8 @@ use Rattle.std.proofs.Common.{◌≡◌, List, ℕ, map, option_map, ◌↔◌, 
 use Rattle.sqlite.specs.Held.{state}
 use Rattle.flatten.proofs.Listing.{same_listing}
 use Rattle.tables.specs.Stands.{StandsFor}
-use Rattle.tables.specs.Names.{FoundTag, IsAsked, line_cmp, tag_found}
+use Rattle.machine.specs.FoundTags.{FoundTag, IsAsked, line_cmp}
+use Rattle.tables.specs.Names.{tag_found}
 use Rattle.tables.specs.Steps.TagRows.{AllTell, IsTold}
 use Rattle.tables.proofs.Looking.{looks_then, still, survives_clean}
 use Rattle.tables.proofs.ToldTags.{all_tell, named_are, one_told}

@@ -5,7 +5,8 @@ use Rattle.sqlite.specs.Held.{state}
 use Rattle.dump.specs.Places.{IsListing}
 use Rattle.flatten.proofs.Members.{nil_of}
 use Rattle.tables.specs.Stands.{StandsFor}
-use Rattle.tables.specs.Selections.{project_found, text_cmp}
+use Rattle.machine.specs.Projects.{text_cmp}
+use Rattle.tables.specs.Selections.{project_found}
 use Rattle.tables.specs.declared.projects.ProjectRow.{ProjectRow}
 use Rattle.tables.specs.Steps.Slots.{HasPart, IsTold}
 use Rattle.tables.proofs.Looking.{looks_then, kept_on, still, survives_clean}

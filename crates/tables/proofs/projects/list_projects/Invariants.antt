@@ -5,9 +5,10 @@ use Rattle.sqlite.specs.Held.{state}
 use Rattle.dump.specs.Places.{IsListing}
 use Rattle.tables.specs.Schema.{schema_two}
 use Rattle.tables.specs.Contents.{Contents, Replies, Keeps}
-use Rattle.tables.specs.State.{State}
+use Rattle.machine.specs.State.{State}
 use Rattle.tables.specs.Stands.{IsAsBefore, StandsFor}
-use Rattle.tables.specs.Selections.{project_found, text_cmp}
+use Rattle.machine.specs.Projects.{text_cmp}
+use Rattle.tables.specs.Selections.{project_found}
 use Rattle.tables.specs.Steps.Selected.{Looks}
 use Rattle.tables.specs.Steps.Slots.{HasPart, IsTold}
 use Rattle.tables.proofs.ProjectNames.{names_of}

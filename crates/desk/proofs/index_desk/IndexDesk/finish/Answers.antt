@@ -1,6 +1,6 @@
 use Rattle.std.proofs.Common.{◌∙◌, ap, sym, subst}
-use Rattle.desk.specs.Judging.{judged}
-use Rattle.desk.specs.Uploads.{BodyValue, UploadValue, StandsFor, action_of, command_of}
+use Rattle.machine.specs.Judging.{judged}
+use Rattle.machine.specs.Uploads.{BodyValue, UploadValue, StandsFor, action_of, command_of}
 use Rattle.desk.proofs.index_desk.IndexDesk.finish.Goals as goal
 
 pub returns-clause-served : goal.returns-clause-served

@@ -1,5 +1,5 @@
 use Rattle.std.proofs.Common.{◌∙◌, sym}
-use Rattle.desk.specs.Requests.{command_value}
+use Rattle.machine.specs.Requests.{command_value}
 use Rattle.desk.proofs.index_desk.IndexDesk.serve.Goals as goal
 
 pub returns-clause-served : goal.returns-clause-served

@@ -1,4 +1,4 @@
-use Rattle.desk.specs.Uploads.{command_of}
+use Rattle.machine.specs.Uploads.{command_of}
 use Rattle.desk.proofs.RefusalStates.{leaves, stays}
 use Rattle.desk.proofs.index_desk.IndexDeskDesk.finish_upload.Goals as goal
 

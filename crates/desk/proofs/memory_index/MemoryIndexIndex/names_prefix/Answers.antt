@@ -2,9 +2,11 @@ use Rattle.std.proofs.Common.{◌≡◌, ℕ, List, map, sym, subst}
 use Rattle.std.specs.Prelude.{nat_eq, option_map, Contains, ◌↔◌}
 use Rattle.std.specs.List.{starts_with}
 use Rattle.std.specs.List.Sorted.{IsStrictlySortedBy}
-use Rattle.tables.specs.Names.{IsTag, BeginsWith, line_cmp, FoundTag, tag_found}
+use Rattle.machine.specs.FoundTags.{IsTag, BeginsWith, line_cmp, FoundTag}
+use Rattle.tables.specs.Names.{tag_found}
 use Rattle.desk.specs.Steps.Listed.{tags_of}
-use Rattle.desk.proofs.TagLists.{each_tag, by_line, begins, begun, by_name, unmapped}
+use Rattle.machine.proofs.Prefixes.{begins, begun}
+use Rattle.desk.proofs.TagLists.{each_tag, by_line, by_name, unmapped}
 use Rattle.desk.proofs.memory_index.MemoryIndexIndex.names_prefix.Goals as goal
 
 pub returns-clause-found : goal.returns-clause-found

@@ -1,5 +1,5 @@
 use Rattle.std.proofs.Common.{rules}
-use Rattle.tables.specs.State.{changed, set_dump}
+use Rattle.machine.specs.State.{changed, set_dump}
 use Rattle.desk.specs.Indexes.{Refuses}
 use Rattle.desk.specs.Steps.Plain.{StandsFaultless}
 use Rattle.desk.specs.declared.memory_index.MemoryIndex.{MemoryIndex}

@@ -1,6 +1,6 @@
 use Rattle.std.proofs.Common.{◌⊎◌, drop, map, string_bytes}
 use Rattle.std.specs.Prelude.{◌↔◌, Contains}
-use Rattle.tables.specs.State.{State}
+use Rattle.machine.specs.State.{State}
 use Rattle.desk.specs.Steps.Rows.{AreJoined, JoinedValue, joined_value}
 use Rattle.desk.specs.Indexes.{ReadsOnly}
 use Rattle.desk.proofs.rows.bearers.joined_bearers.Given as goal

@@ -8,7 +8,7 @@ use Rattle.tables.specs.Selections.{FindsHover, range_found}
 use Rattle.desk.specs.Steps.RowHovers.{joined_cmp}
 use Rattle.desk.specs.Steps.Rows.{IsRowJoined, joined_value}
 use Rattle.desk.proofs.LeastRows.{least_of, none_of, row_joined}
-use Rattle.desk.proofs.Listing.{relisted}
+use Rattle.machine.proofs.Listing.{relisted}
 use Rattle.desk.proofs.rows.hovers.contents_at.Goals as goal
 
 pub returns-in-Some-first-clause-found : goal.returns-in-Some-first-clause-found

@@ -2,9 +2,9 @@ use Rattle.std.proofs.Common.{Global, ◌≡◌, map, sym, subst, string_bytes, 
 use Rattle.std.specs.Prelude.{String, option_map}
 use Rattle.dump.specs.declared.request.Request.TheVariants as requests
 use Rattle.tables.specs.Selections.{range_found}
-use Rattle.desk.specs.Answers.{AnswersAt, AnswersHover, no_dump, no_such_document}
-use Rattle.desk.specs.Reply.{hover_found}
-use Rattle.desk.specs.Requests.{at_value}
+use Rattle.machine.specs.Answers.{AnswersAt, AnswersHover, no_dump, no_such_document}
+use Rattle.machine.specs.Reply.{hover_found}
+use Rattle.machine.specs.Requests.{at_value}
 use Rattle.desk.specs.Steps.Rows.{AreKeys, Picks}
 use Rattle.desk.proofs.RowAnswers.{no_range_hovers, renamed, row_hovers}
 use Rattle.desk.proofs.rows.hovers.hover.Goals as goal

@@ -2,7 +2,7 @@ use Rattle.std.proofs.lemmas.List.Filters.{dedup_is}
 use Rattle.desk.specs.Steps.RowHovers.{joined_cmp}
 use Rattle.desk.specs.Steps.Rows.{joined_value}
 use Rattle.desk.proofs.ListedRows.{joined_total, joined_ties, joined_same}
-use Rattle.desk.proofs.Listing.{listed}
+use Rattle.machine.proofs.Listing.{listed}
 use Rattle.desk.proofs.rows.hovers.list_bearers.Goals as goal
 
 pub returns : goal.returns

@@ -2,8 +2,8 @@ use Rattle.std.proofs.Common.{◌≡◌, ◌++◌, [], ◌∷◌, ℕ, List, rul
 use Rattle.dump.specs.Places.{PlaceValue}
 use Rattle.flatten.proofs.Members.{nil_of}
 use Rattle.tables.specs.Selections.{item_found}
-use Rattle.desk.specs.Reply.{FoundPlace}
-use Rattle.desk.specs.Steps.Places.{found_in}
+use Rattle.machine.specs.Reply.{FoundPlace}
+use Rattle.machine.specs.Steps.Places.{found_in}
 use Rattle.desk.specs.Steps.RowPlaces.{item_place}
 use Rattle.desk.specs.declared.rows.places.ItemPlace.{ItemPlace}
 use Rattle.desk.proofs.Finding.{iff_refl, iff_sym, iff_trans, or_none}

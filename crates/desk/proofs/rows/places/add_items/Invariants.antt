@@ -2,8 +2,8 @@ use Rattle.std.proofs.Common.{◌≡◌, ◌⊎◌, length, map}
 use Rattle.std.specs.Prelude.{◌↔◌, Contains}
 use Rattle.dump.specs.Places.{PlaceValue}
 use Rattle.tables.specs.Selections.{item_found}
-use Rattle.desk.specs.Reply.{FoundPlace}
-use Rattle.desk.specs.Steps.Places.{found_in}
+use Rattle.machine.specs.Reply.{FoundPlace}
+use Rattle.machine.specs.Steps.Places.{found_in}
 use Rattle.desk.specs.Steps.RowPlaces.{item_place}
 use Rattle.desk.proofs.Popped.{IsLeft}
 use Rattle.desk.proofs.rows.places.add_items.Given as goal

@@ -1,7 +1,7 @@
 use Rattle.std.proofs.Common.{◌⊎◌, drop, map}
 use Rattle.std.specs.Prelude.{◌↔◌, Contains}
-use Rattle.tables.specs.State.{State}
-use Rattle.desk.specs.Reply.{FoundPlace}
+use Rattle.machine.specs.State.{State}
+use Rattle.machine.specs.Reply.{FoundPlace}
 use Rattle.desk.specs.Steps.RowPlaces.{item_place}
 use Rattle.desk.specs.Steps.Rows.{IsPlaceOf, project_result_value}
 use Rattle.desk.specs.Indexes.{ReadsOnly}

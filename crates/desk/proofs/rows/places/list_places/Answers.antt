@@ -1,8 +1,8 @@
 use Rattle.std.proofs.lemmas.List.Filters.{dedup_is}
-use Rattle.desk.specs.Answers.{found_cmp}
+use Rattle.machine.specs.Answers.{found_cmp}
 use Rattle.desk.specs.Steps.RowPlaces.{item_place}
 use Rattle.desk.proofs.ListedRows.{item_total, item_ties, item_same}
-use Rattle.desk.proofs.Listing.{listed}
+use Rattle.machine.proofs.Listing.{listed}
 use Rattle.desk.proofs.rows.places.list_places.Goals as goal
 
 pub returns : goal.returns

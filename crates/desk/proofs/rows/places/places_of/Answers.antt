@@ -1,9 +1,9 @@
 use Rattle.std.proofs.Common.{map, sym, subst}
 use Rattle.std.specs.Prelude.{Contains}
-use Rattle.desk.specs.Answers.{found_cmp}
+use Rattle.machine.specs.Answers.{found_cmp}
 use Rattle.desk.specs.Steps.RowPlaces.{item_place}
-use Rattle.desk.proofs.Listing.{relisted}
-use Rattle.desk.proofs.Members.{not_in_nil}
+use Rattle.machine.proofs.Listing.{relisted}
+use Rattle.machine.proofs.Members.{not_in_nil}
 use Rattle.desk.proofs.RowLists.{without}
 use Rattle.desk.proofs.rows.places.places_of.Goals as goal
 

@@ -2,10 +2,10 @@ use Rattle.std.proofs.Common.{◌≡◌, ◌∙◌, ◌++◌, false, codes, map,
 use Rattle.std.proofs.Math.ListN.{drop_of_length-le}
 use Rattle.serde_json.specs.View.{items_of}
 use Rattle.serde_json.specs.Written.{comma_if, compact_text, items_text}
-use Rattle.desk.specs.Reply.{place_data, places_data}
+use Rattle.machine.specs.Reply.{place_data, places_data}
 use Rattle.desk.specs.Steps.RowPlaces.{item_place}
-use Rattle.desk.proofs.ListTexts.{list_step, places_text}
-use Rattle.desk.proofs.Members.{drop_next}
+use Rattle.machine.proofs.ListTexts.{list_step, places_text}
+use Rattle.machine.proofs.Members.{drop_next}
 use Rattle.desk.proofs.rows.places.places_reply.Goals as goal
 
 pub loop-place-preserved : goal.loop-place-preserved

@@ -1,7 +1,7 @@
 use Rattle.std.proofs.Common.{◌≡◌, ◌++◌, false, map, drop, codes, string_bytes}
 use Rattle.serde_json.specs.View.{items_of}
 use Rattle.serde_json.specs.Written.{items_text}
-use Rattle.desk.specs.Reply.{place_data}
+use Rattle.machine.specs.Reply.{place_data}
 use Rattle.desk.specs.Steps.RowPlaces.{item_place}
 use Rattle.desk.proofs.rows.places.places_reply.Given as goal
 

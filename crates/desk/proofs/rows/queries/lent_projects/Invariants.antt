@@ -1,5 +1,5 @@
 use Rattle.std.proofs.Common.{◌≡◌, ◌++◌, map, drop}
-use Rattle.desk.specs.Found.{project_found}
+use Rattle.machine.specs.Found.{project_found}
 use Rattle.tables.specs.Selections.{project_found as row_found}
 use Rattle.desk.proofs.rows.queries.lent_projects.Given as goal
 

@@ -1,5 +1,5 @@
 use Rattle.std.proofs.Common.{◌≡◌, ◌++◌, map, drop}
-use Rattle.desk.specs.Found.{tag_found}
+use Rattle.machine.specs.Found.{tag_found}
 use Rattle.tables.specs.Names.{tag_found as row_found}
 use Rattle.desk.proofs.rows.queries.lent_tags.Given as goal
 

@@ -2,12 +2,12 @@ use Rattle.std.proofs.Common.{◌∙◌, map, sym, ap, subst, string_bytes}
 use Rattle.std.specs.Prelude.{Contains}
 use Rattle.dump.specs.Places.{IsListing}
 use Rattle.tables.specs.Selections.{range_found}
-use Rattle.desk.specs.Answers.{AnswersAt, AnswersPlaces, found_cmp, no_dump, no_such_document}
-use Rattle.desk.specs.Reply.{places_found}
-use Rattle.desk.specs.Requests.{at_value}
+use Rattle.machine.specs.Answers.{AnswersAt, AnswersPlaces, found_cmp, no_dump, no_such_document}
+use Rattle.machine.specs.Reply.{places_found}
+use Rattle.machine.specs.Requests.{at_value}
 use Rattle.desk.specs.Steps.RowPlaces.{item_place}
 use Rattle.desk.specs.Steps.Rows.{AreKeys, IsAnsweringResult, IsPlaceOfOne, Picks, ProjectResultValue, project_result_value}
-use Rattle.desk.proofs.Listing.{relisted}
+use Rattle.machine.proofs.Listing.{relisted}
 use Rattle.desk.proofs.RowAnswers.{no_range_places, renamed, row_places}
 use Rattle.desk.proofs.RowLists.{places_same}
 use Rattle.desk.proofs.rows.queries.places.Goals as goal

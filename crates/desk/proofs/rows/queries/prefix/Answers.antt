@@ -1,8 +1,9 @@
 use Rattle.std.proofs.Common.{◌∙◌, map, ap, subst}
 use Rattle.dump.specs.Places.{IsListing}
-use Rattle.tables.specs.Names.{BeginsWith, FoundTag, IsTag, name_cmp, tag_found as row_found}
-use Rattle.desk.specs.Found.{tag_found}
-use Rattle.desk.specs.Reply.{tags_found}
+use Rattle.machine.specs.FoundTags.{BeginsWith, FoundTag, IsTag, name_cmp}
+use Rattle.tables.specs.Names.{tag_found as row_found}
+use Rattle.machine.specs.Found.{tag_found}
+use Rattle.machine.specs.Reply.{tags_found}
 use Rattle.desk.proofs.rows.queries.prefix.Goals as goal
 
 pub returns-clause-found : goal.returns-clause-found

@@ -5,7 +5,7 @@ use Rattle.flatten.specs.Flat.{result_for}
 use Rattle.flatten.proofs.Members.{nil_of}
 use Rattle.tables.specs.Selections.{range_found}
 use Rattle.desk.specs.Steps.Rows.{IsRowKey, RowSpeaks}
-use Rattle.desk.proofs.Members.{contains_head, drop_next, not_in_nil}
+use Rattle.machine.proofs.Members.{contains_head, drop_next, not_in_nil}
 use Rattle.desk.proofs.RowLists.{drop_end}
 use Rattle.desk.proofs.rows.ranges.first_speaking.Goals.{then-is_some-via-then-is_some, then-is_some-via-else-is_some+then-not-is_empty}
 use Rattle.desk.proofs.ReadingOnly.{reads_then}

@@ -1,7 +1,7 @@
 use Rattle.std.proofs.Common.{Option, map, drop}
 use Rattle.dump.specs.Requests.{IsFirst}
 use Rattle.tables.specs.Selections.{RangeFound, range_found}
-use Rattle.tables.specs.State.{State}
+use Rattle.machine.specs.State.{State}
 use Rattle.desk.specs.Steps.Rows.{RowSpeaks}
 use Rattle.desk.specs.Indexes.{ReadsOnly}
 use Rattle.desk.proofs.rows.ranges.first_speaking.Given as goal

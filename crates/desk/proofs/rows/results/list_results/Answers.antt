@@ -1,7 +1,7 @@
 use Rattle.std.proofs.lemmas.List.Filters.{dedup_is}
 use Rattle.desk.specs.Steps.Rows.{project_result_cmp, project_result_value}
 use Rattle.desk.proofs.ListedRows.{project_result_total, project_result_ties, project_result_same}
-use Rattle.desk.proofs.Listing.{listed}
+use Rattle.machine.proofs.Listing.{listed}
 use Rattle.desk.proofs.rows.results.list_results.Goals as goal
 
 pub returns : goal.returns

@@ -1,6 +1,6 @@
 use Rattle.std.proofs.Common.{rules}
 use Rattle.sqlite.specs.Held.{state}
-use Rattle.tables.specs.State.{changed, clear}
+use Rattle.machine.specs.State.{changed, clear}
 use Rattle.desk.proofs.TableStates.{made_change, refused_change, refused_when_asked, rests_when_asked}
 use Rattle.desk.proofs.table_index.TablesIndex.remove.Goals as goal
 

@@ -1,6 +1,6 @@
 use Rattle.std.proofs.Common.{rules}
 use Rattle.sqlite.specs.Held.{state}
-use Rattle.tables.specs.State.{changed, set_dump}
+use Rattle.machine.specs.State.{changed, set_dump}
 use Rattle.desk.specs.Indexes.{Refuses}
 use Rattle.desk.specs.TableStates.{LeavesOneOf, ServesFor, leaves_more}
 use Rattle.desk.proofs.TableStates.{made_change, refused_change, refused_when_asked, rests_when_asked}

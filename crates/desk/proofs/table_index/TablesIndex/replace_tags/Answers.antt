@@ -2,7 +2,7 @@ use Rattle.std.proofs.Common.{rules, ◌≡◌, sym, subst}
 use Rattle.sqlite.specs.Held.{state}
 use Rattle.tags.specs.Views.{tag_values}
 use Rattle.tables.specs.Stands.{IsNew}
-use Rattle.tables.specs.State.{changed, set_tags}
+use Rattle.machine.specs.State.{changed, set_tags}
 use Rattle.desk.specs.Indexes.{Commits, Refuses}
 use Rattle.desk.specs.TableStates.{LeavesOneOf, ServesFor}
 use Rattle.desk.proofs.TableStates.{made_change, refused_change, refused_when_asked, rests_when_asked}

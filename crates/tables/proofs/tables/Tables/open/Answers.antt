@@ -4,7 +4,7 @@ use Rattle.sqlite.specs.Held.{state}
 use Rattle.tables.specs.Schema.{empty_schema}
 use Rattle.tables.specs.Databases.{WasMade}
 use Rattle.tables.specs.Stands.{StandsFor}
-use Rattle.tables.specs.State.{nothing}
+use Rattle.machine.specs.State.{nothing}
 use Rattle.tables.proofs.Crashes.{implied}
 use Rattle.tables.proofs.Empty.{made_rests, stands_empty, rests_format, unchanged_rests}
 use Rattle.tables.proofs.Found.{is_format_one, resting}

@@ -1,0 +1,457 @@
+//! The rows of a dump by a plain walk: whatever is looked up, all elements are gone over.
+use dump::{CheckedDump, Request, Role, role_of};
+use flatten::{BearerRow, DocRow, HoverRow, ItemRow, MarkRow, RangeRow, Rows, key_text};
+use lsif::{Edge, Element, Id, MonikerKind, Package, Property, Vertex};
+use positions::Span;
+use std::alloc::{AllocError, Global};
+use std::test::Fail;
+
+/// The line of the element of this id, counted from 1.
+fn line_of(elements: &[Element], id: &Id) -> Option<u32> {
+    let mut line = 0u32;
+    for element in elements {
+        line = line.saturating_add(1);
+        if element.id().is(id) {
+            return Some(line);
+        }
+    }
+    None
+}
+
+fn vertex_of<'a>(elements: &'a [Element], id: &Id) -> Option<&'a Vertex> {
+    for element in elements {
+        if let Element::Vertex(own, vertex) = element {
+            if own.is(id) {
+                return Some(vertex);
+            }
+        }
+    }
+    None
+}
+
+/// The labels of edges that leave a vertex once at most.
+#[derive(Clone, Copy, PartialEq, Eq)]
+enum Label {
+    Next,
+    Package,
+    Result(Request),
+}
+
+/// The label of the edge, where it's one of these, and what it joins.
+fn joined(edge: &Edge) -> Option<(Label, &Id, &Id)> {
+    match edge {
+        Edge::Next(from, to) => Some((Label::Next, from, to)),
+        Edge::Package(from, to) => Some((Label::Package, from, to)),
+        Edge::Definition(from, to) => Some((Label::Result(Request::Definition), from, to)),
+        Edge::References(from, to) => Some((Label::Result(Request::References), from, to)),
+        Edge::Hover(from, to) => Some((Label::Result(Request::Hover), from, to)),
+        Edge::Declaration(from, to) => Some((Label::Result(Request::Declaration), from, to)),
+        Edge::Implementation(from, to) => Some((Label::Result(Request::Implementation), from, to)),
+        _ => None,
+    }
+}
+
+/// What the edge of this label leads to from the vertex.
+fn target<'a>(elements: &'a [Element], label: Label, vertex: &Id) -> Option<&'a Id> {
+    for element in elements {
+        if let Element::Edge(_, edge) = element {
+            if let Some((found, from, to)) = joined(edge) {
+                if found == label && from.is(vertex) {
+                    return Some(to);
+                }
+            }
+        }
+    }
+    None
+}
+
+/// The vertex, and those that `next` edges lead to from it, one after the other.
+fn chain<'a>(
+    alloc: Global,
+    elements: &'a [Element],
+    vertex: &'a Id,
+) -> Result<Vec<&'a Id>, AllocError> {
+    let mut members = Vec::new(alloc);
+    let mut member = Some(vertex);
+    for _ in elements {
+        if let Some(id) = member {
+            members.push(id)?;
+            member = target(elements, Label::Next, id);
+        }
+    }
+    Ok(members)
+}
+
+/// The number of the first result that the request has along the chain.
+fn first(elements: &[Element], members: &[&Id], request: Request) -> Option<u32> {
+    for member in members {
+        if let Some(result) = target(elements, Label::Result(request), member) {
+            return line_of(elements, result);
+        }
+    }
+    None
+}
+
+/// A range that a document contains.
+#[derive(Clone, Copy)]
+struct Range<'a> {
+    line: u32,
+    id: &'a Id,
+    uri: &'a str,
+    span: &'a Span,
+}
+
+/// The URL of the document that contains the range.
+fn document_of<'a>(elements: &'a [Element], range: &Id) -> Option<&'a str> {
+    for element in elements {
+        if let Element::Edge(_, Edge::Contains(from, ranges)) = element {
+            if let (true, Some(Vertex::Document(uri))) = (
+                ranges.contains(range),
+                vertex_of(elements, from),
+            ) {
+                return Some(uri.as_str());
+            }
+        }
+    }
+    None
+}
+
+/// The ranges that documents contain.
+fn ranges_of<'a>(alloc: Global, elements: &'a [Element]) -> Result<Vec<Range<'a>>, AllocError> {
+    let mut ranges = Vec::new(alloc);
+    let mut line = 0u32;
+    for element in elements {
+        line = line.saturating_add(1);
+        if let Element::Vertex(id, Vertex::Range(span)) = element {
+            if let Some(uri) = document_of(elements, id) {
+                ranges.push(Range {
+                    line,
+                    id,
+                    uri,
+                    span,
+                })?;
+            }
+        }
+    }
+    Ok(ranges)
+}
+
+/// Whether the inner range nests in the outer, another of its document, and neither is empty.
+fn lies_in(inner: &Range<'_>, outer: &Range<'_>) -> bool {
+    inner.line != outer.line
+        && inner.uri == outer.uri
+        && inner.span.start() < inner.span.end()
+        && outer.span.start() < outer.span.end()
+        && inner.span.nests(*outer.span)
+}
+
+/// The line of the smallest range that this one lies in.
+fn parent(ranges: &[Range<'_>], range: &Range<'_>) -> Option<u32> {
+    let mut smallest: Option<&Range<'_>> = None;
+    for outer in ranges {
+        let is_smaller = match smallest {
+            Some(found) => lies_in(outer, found),
+            None => true,
+        };
+        if lies_in(range, outer) && is_smaller {
+            smallest = Some(outer);
+        }
+    }
+    Some(smallest?.line)
+}
+
+fn range_rows<'a>(
+    alloc: Global,
+    elements: &'a [Element],
+    ranges: &[Range<'a>],
+) -> Result<Vec<RangeRow<'a>>, AllocError> {
+    let mut rows = Vec::new(alloc);
+    for range in ranges {
+        let members = chain(alloc, elements, range.id)?;
+        rows.push(RangeRow {
+            line: range.line,
+            uri: range.uri,
+            span: range.span,
+            parent: parent(ranges, range),
+            def: first(elements, &members, Request::Definition),
+            refs: first(elements, &members, Request::References),
+            hover: first(elements, &members, Request::Hover),
+            decl: first(elements, &members, Request::Declaration),
+            imp: first(elements, &members, Request::Implementation),
+        })?;
+    }
+    Ok(rows)
+}
+
+fn is_among(ids: &[&Id], id: &Id) -> bool {
+    for other in ids {
+        if other.is(id) {
+            return true;
+        }
+    }
+    false
+}
+
+/// Adds the id, where it isn't there yet.
+fn add<'a>(found: &mut Vec<&'a Id>, id: &'a Id) -> Result<(), AllocError> {
+    if !is_among(found, id) {
+        found.push(id)?;
+    }
+    Ok(())
+}
+
+/// Adds what an edge joins to the vertex: an `item` edge with "referenceResults", or an `attach` edge, which is read both ways.
+fn add_joined<'a>(found: &mut Vec<&'a Id>, edge: &'a Edge, vertex: &Id) -> Result<(), AllocError> {
+    match edge {
+        Edge::Item(item)
+            if item.property == Some(Property::ReferenceResults) && item.source.is(vertex) => {
+            for target in &item.targets {
+                add(found, target)?;
+            }
+            Ok(())
+        }
+        Edge::Attach(from, to) if from.is(vertex) => add(found, to),
+        Edge::Attach(from, to) if to.is(vertex) => add(found, from),
+        _ => Ok(()),
+    }
+}
+
+/// Adds what all such edges join to the vertex.
+fn add_all<'a>(
+    found: &mut Vec<&'a Id>,
+    elements: &'a [Element],
+    vertex: &Id,
+) -> Result<(), AllocError> {
+    for element in elements {
+        if let Element::Edge(_, edge) = element {
+            add_joined(found, edge, vertex)?;
+        }
+    }
+    Ok(())
+}
+
+/// These vertices, and all that such edges lead to from them.
+fn closed<'a>(elements: &'a [Element], starts: Vec<&'a Id>) -> Result<Vec<&'a Id>, AllocError> {
+    let mut found = starts;
+    for k in 0..elements.len() {
+        if let Some(vertex) = found.get(k).copied() {
+            add_all(&mut found, elements, vertex)?;
+        }
+    }
+    Ok(found)
+}
+
+/// Adds the places of those of the ranges that are among the targets.
+fn add_places<'a>(
+    places: &mut Vec<(&'a str, &'a Span)>,
+    ranges: &[Range<'a>],
+    targets: &[Id],
+) -> Result<(), AllocError> {
+    for range in ranges {
+        if targets.contains(range.id) {
+            places.push((range.uri, range.span))?;
+        }
+    }
+    Ok(())
+}
+
+/// The places of the items of these results in the role: in order, each once.
+fn places<'a>(
+    alloc: Global,
+    elements: &'a [Element],
+    ranges: &[Range<'a>],
+    results: &[&Id],
+    role: Role,
+) -> Result<Vec<(&'a str, &'a Span)>, AllocError> {
+    let mut places = Vec::new(alloc);
+    for element in elements {
+        if let Element::Edge(_, Edge::Item(item)) = element {
+            if is_among(results, &item.source) && role_of(item.property) == Some(role) {
+                add_places(&mut places, ranges, &item.targets)?;
+            }
+        }
+    }
+    places.sort()?;
+    places.dedup();
+    Ok(places)
+}
+
+/// Adds the rows of the result of this number.
+fn add_items<'a>(
+    alloc: Global,
+    rows: &mut Vec<ItemRow<'a>>,
+    elements: &'a [Element],
+    ranges: &[Range<'a>],
+    (number, id): (u32, &'a Id),
+) -> Result<(), AllocError> {
+    let results = closed(elements, vec![in alloc; id]?)?;
+    for role in [Role::Definitions, Role::References] {
+        for (uri, span) in places(alloc, elements, ranges, &results, role)? {
+            rows.push(ItemRow {
+                result: number,
+                role,
+                uri,
+                span,
+            })?;
+        }
+    }
+    Ok(())
+}
+
+/// The package that an edge names for the moniker.
+fn package_of<'a>(elements: &'a [Element], moniker: &Id) -> Option<&'a Package> {
+    match vertex_of(elements, target(elements, Label::Package, moniker)?) {
+        Some(Vertex::Package(package)) => Some(package),
+        _ => None,
+    }
+}
+
+/// The monikers that the vertex bears: those of its `moniker` edges, and those that are attached to them.
+fn monikers<'a>(
+    alloc: Global,
+    elements: &'a [Element],
+    vertex: &Id,
+) -> Result<Vec<&'a Id>, AllocError> {
+    let mut found = Vec::new(alloc);
+    for element in elements {
+        if let Element::Edge(_, Edge::Moniker(from, to)) = element {
+            if from.is(vertex) {
+                add(&mut found, to)?;
+            }
+        }
+    }
+    closed(elements, found)
+}
+
+/// Adds the texts of the keys of those of the monikers that are of this kind.
+fn add_keys(
+    alloc: Global,
+    keys: &mut Vec<String>,
+    elements: &[Element],
+    monikers: &[&Id],
+    kind: MonikerKind,
+) -> Result<(), Fail> {
+    for id in monikers {
+        if let Some(Vertex::Moniker(moniker)) = vertex_of(elements, id) {
+            if moniker.kind == kind {
+                keys.push(key_text(alloc, moniker, package_of(elements, id))?)?;
+            }
+        }
+    }
+    Ok(())
+}
+
+/// The texts of the keys of this kind that the vertices bear: in order, each once.
+fn keys_of(
+    alloc: Global,
+    elements: &[Element],
+    vertices: &[&Id],
+    kind: MonikerKind,
+) -> Result<Vec<String>, Fail> {
+    let mut keys = Vec::new(alloc);
+    for vertex in vertices {
+        let monikers = monikers(alloc, elements, vertex)?;
+        add_keys(alloc, &mut keys, elements, &monikers, kind)?;
+    }
+    keys.sort()?;
+    keys.dedup();
+    Ok(keys)
+}
+
+/// The kinds in the order of the rows.
+const KINDS: [MonikerKind; 3] = [MonikerKind::Import, MonikerKind::Export, MonikerKind::Local];
+
+fn mark_rows(
+    alloc: Global,
+    elements: &[Element],
+    ranges: &[Range<'_>],
+) -> Result<Vec<MarkRow>, Fail> {
+    let mut rows = Vec::new(alloc);
+    for range in ranges {
+        let members = chain(alloc, elements, range.id)?;
+        for kind in KINDS {
+            for key in keys_of(alloc, elements, &members, kind)? {
+                rows.push(MarkRow {
+                    range: range.line,
+                    kind,
+                    key,
+                })?;
+            }
+        }
+    }
+    Ok(rows)
+}
+
+/// Adds the rows of the vertex of this line.
+fn add_bearers(
+    alloc: Global,
+    rows: &mut Vec<BearerRow>,
+    elements: &[Element],
+    (line, id): (u32, &Id),
+) -> Result<(), Fail> {
+    let members = chain(alloc, elements, id)?;
+    for kind in KINDS {
+        for key in keys_of(alloc, elements, &[id], kind)? {
+            rows.push(BearerRow {
+                line,
+                key,
+                kind,
+                def: first(elements, &members, Request::Definition),
+                refs: first(elements, &members, Request::References),
+                hover: first(elements, &members, Request::Hover),
+                decl: first(elements, &members, Request::Declaration),
+                imp: first(elements, &members, Request::Implementation),
+            })?;
+        }
+    }
+    Ok(())
+}
+
+/// Adds the rows that the vertex of this line has besides those of ranges and marks.
+fn add_rows<'a>(
+    alloc: Global,
+    rows: &mut Rows<'a>,
+    elements: &'a [Element],
+    ranges: &[Range<'a>],
+    (line, id, vertex): (u32, &'a Id, &'a Vertex),
+) -> Result<(), Fail> {
+    match vertex {
+        Vertex::Document(uri) => rows.documents.push(DocRow { uri: uri.as_str() })?,
+        Vertex::HoverResult(contents) => rows.hovers.push(HoverRow {
+            result: line,
+            contents: contents.as_str(),
+        })?,
+        Vertex::DefinitionResult
+        | Vertex::ReferenceResult
+        | Vertex::DeclarationResult
+        | Vertex::ImplementationResult => {
+            add_items(alloc, &mut rows.items, elements, ranges, (line, id))?;
+        }
+        _ => {}
+    }
+    add_bearers(alloc, &mut rows.bearers, elements, (line, id))
+}
+
+/// The rows of the dump.
+pub(super) fn plain_rows<'a>(alloc: Global, dump: &'a CheckedDump) -> Result<Rows<'a>, Fail> {
+    let elements = dump.elements();
+    let ranges = ranges_of(alloc, elements)?;
+    let mut rows = Rows {
+        profile: dump.profile(),
+        documents: Vec::new(alloc),
+        ranges: range_rows(alloc, elements, &ranges)?,
+        items: Vec::new(alloc),
+        hovers: Vec::new(alloc),
+        marks: mark_rows(alloc, elements, &ranges)?,
+        bearers: Vec::new(alloc),
+    };
+    let mut line = 0u32;
+    for element in elements {
+        line = line.saturating_add(1);
+        if let Element::Vertex(id, vertex) = element {
+            add_rows(alloc, &mut rows, elements, &ranges, (line, id, vertex))?;
+        }
+    }
+    rows.documents.sort()?;
+    Ok(rows)
+}

@@ -1,0 +1,17 @@
+pub mod Answers
+pub mod Bodies
+pub mod Found
+pub mod FoundTags
+pub mod Joins
+pub mod Judging
+pub mod Machine
+pub mod Moments
+pub mod Names
+pub mod Projects
+pub mod Reply
+pub mod Requests
+pub mod Retries
+pub mod Runs
+pub mod State
+pub mod Steps
+pub mod Uploads

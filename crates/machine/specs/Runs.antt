@@ -1,0 +1,42 @@
+-- Runs of the machine, with refusals in between, because memory ran out or the store refused; and what a stop may leave.
+use Rattle.std.specs.Prelude.{◌≡◌, ◌⊎◌, Bool, true, List, [], ◌∷◌, ◌++◌, if◌then◌else◌}
+use Rattle.machine.specs.Answers.{Answers}
+use Rattle.machine.specs.Machine.{reply_to, after, is_new}
+use Rattle.machine.specs.State.{State}
+use Rattle.machine.specs.Reply.{ReplyValue, out_of_memory, store_refused, is_refusal}
+use Rattle.machine.specs.Requests.{RequestValue, command, query}
+
+-- the reply to a command, or to a query, from this state
+abbrev pub Replies : State → RequestValue → ReplyValue → Type 0
+Replies m (command c) r = r ≡ reply_to m c
+Replies m (query q) r = Answers m q r
+
+-- the machine may give this reply: its own, or that memory was refused, or, where the store may refuse, that it did
+abbrev pub MayReply : Bool → State → RequestValue → ReplyValue → Type 0
+MayReply store_may_refuse m q r = ((store_may_refuse ≡ true) × (r ≡ store_refused)) ⊎ (r ≡ out_of_memory) ⊎ Replies m q r
+
+-- the state after this reply: a refusal leaves it
+abbrev pub moved : State → RequestValue → ReplyValue → State
+moved m (command c) r = if is_refusal r then m else after m c
+moved m (query q) r = m
+
+-- the machine may give these replies to these requests, one after another, and is then in this state
+abbrev pub Run : Bool → State → List RequestValue → List ReplyValue → State → Type 0
+Run store_may_refuse m [] [] n = n ≡ m
+Run store_may_refuse m (q ∷ qs) (r ∷ rs) n = MayReply store_may_refuse m q r × Run store_may_refuse (moved m q r) qs rs n
+Run store_may_refuse m [] (r ∷ rs) n = ⊥
+Run store_may_refuse m (q ∷ qs) [] n = ⊥
+
+-- ---- stops
+
+-- the states of which a stop leaves one, after this reply: where a command was refused, its own state may have been reached;
+-- where it made its change, that is there; else nothing new
+abbrev pub left : State → List State → RequestValue → ReplyValue → List State
+left m states (command c) r = if is_refusal r then states ++ after m c ∷ [] else if is_new m c then after m c ∷ [] else states
+left m states (query q) r = states
+
+-- the same after a run
+abbrev pub left_by : State → List State → List RequestValue → List ReplyValue → List State
+left_by m states (q ∷ qs) (r ∷ rs) = left_by (moved m q r) (left m states q r) qs rs
+left_by m states [] rs = states
+left_by m states (q ∷ qs) [] = states

@@ -1,0 +1,59 @@
+//! What serves requests.
+use crate::reply::Reply;
+use crate::request::{Command, Query};
+use crate::upload::Upload;
+
+/// What serves requests. It stands for states of the abstract machine: a reply is the machine's, and it then stands for
+/// the machine's next state; or it is a refusal, S01 or S02, and nothing changed.
+pub trait Desk {
+    ghost use Rattle.std.specs.Prelude.{◌≡◌, ℕ, Bool, true, List, [], ◌∷◌, ◌++◌};
+    ghost use Rattle.machine.specs.State.{State};
+    ghost use Rattle.machine.specs.Reply.{out_of_memory};
+    ghost use Rattle.machine.specs.Requests as requests;
+    ghost use Rattle.machine.specs.Runs.{MayReply, moved, left};
+    ghost use Rattle.machine.specs.Uploads.{StandsFor, command_of};
+
+    /// The states that it stands for.
+    ghost stands: { Self → State → Type 0 };
+
+    /// The lists of states of which a stop now leaves one.
+    ghost may_leave: { Self → List State → Type 0 };
+
+    /// Whether it keeps its state in a store, which may refuse.
+    ghost store_may_refuse: { Bool };
+
+    /// So far its store returned what was written to it. Of a desk of which this isn't true nothing is said.
+    ghost is_reliable: { Self → Type 0 };
+
+    /// Serves a command. The reply is made before the command has its effect.
+    fn apply(&mut self, command: &Command<'_>) -> Reply
+        ensures reliable { is_reliable self.new → is_reliable self.old }
+        ensures reply { is_reliable self.new → (m : State) → stands self.old m
+            → MayReply store_may_refuse m (requests.command (requests.command_value command.now)) result }
+        ensures state { is_reliable self.new → (m : State) → stands self.old m
+            → stands self.new (moved m (requests.command (requests.command_value command.now)) result) }
+        ensures left { is_reliable self.new → (m : State) (states : List State) → stands self.old m → may_leave self.old states
+            → may_leave self.new (left m states (requests.command (requests.command_value command.now)) result) };
+
+    /// Serves the command that an upload is, with each body that it stands for. Where it met want of memory, that is the reply.
+    fn finish_upload(&mut self, upload: Upload) -> Reply
+        ensures reliable { is_reliable self.new → is_reliable self.old }
+        ensures reply { is_reliable self.new → (m : State) (body : List ℕ) → stands self.old m → StandsFor upload.body body
+            → MayReply store_may_refuse m (requests.command (command_of upload body)) result }
+        ensures state { is_reliable self.new → (m : State) (body : List ℕ) → stands self.old m → StandsFor upload.body body
+            → stands self.new (moved m (requests.command (command_of upload body)) result) }
+        ensures left { is_reliable self.new → (m : State) (states : List State) (body : List ℕ) → stands self.old m → may_leave self.old states
+            → StandsFor upload.body body → may_leave self.new (left m states (requests.command (command_of upload body)) result) }
+        ensures memory { upload.body.is_out_of_memory ≡ true → result ≡ out_of_memory };
+
+    /// Answers a query.
+    fn ask(&mut self, query: &Query) -> Reply
+        ensures reliable { is_reliable self.new → is_reliable self.old }
+        ensures reply { is_reliable self.new → (m : State) → stands self.old m
+            → MayReply store_may_refuse m (requests.query (requests.query_value query.now)) result }
+        ensures state { is_reliable self.new → (m : State) → stands self.old m → stands self.new m }
+        ensures left { is_reliable self.new → (m : State) (states : List State) → stands self.old m → may_leave self.old states → may_leave self.new states };
+
+    /// A stop leaves one of these states, so it leaves one of these and another.
+    ghost weaker: { (desk : Self) (states : List State) (n : State) → may_leave desk states → may_leave desk (states ++ n ∷ []) };
+}

@@ -1,0 +1,28 @@
+//! What queries find.
+use positions::Span;
+use tags::Tag;
+
+/// A place in a project.
+#[derive(Clone, Copy, Debug, PartialEq, Eq, PartialOrd, Ord)]
+pub struct FoundPlace<'a> {
+    pub project: &'a str,
+    /// The document's serialized URL.
+    pub uri: &'a str,
+    /// In UTF-16 code units.
+    pub span: &'a Span,
+}
+
+/// A tag of a project.
+#[derive(Clone, Copy)]
+pub struct FoundTag<'a> {
+    pub project: &'a str,
+    pub tag: &'a Tag,
+}
+
+/// A project that has a dump or tags.
+#[derive(Clone, Copy)]
+pub struct FoundProject<'a> {
+    pub name: &'a str,
+    pub dump: bool,
+    pub tags: bool,
+}
