@@ -12,7 +12,8 @@ use Rattle.dump.proofs.Lists.{drop_next, drop_end}
 use Rattle.positions.specs.Position.{PositionValue, is_before}
 use Rattle.positions.specs.Span.{SpanValue, nests, overlaps}
 use Rattle.dump.specs.Contained.{conflicts, any_conflicts, has_conflict}
-use Rattle.dump.specs.Steps.Spans.{span_order, IsOrdered, HasLinks, goes_by, conflicts_before, joined}
+use Rattle.dump.specs.declared.sorted_spans.Link.{Link}
+use Rattle.dump.specs.Steps.Spans.{span_order, GoesOn, IsOrdered, HasLinks, JumpsTo, TwoJumps, goes_by, conflicts_before, joined}
 use Rattle.dump.proofs.Conflicts.{has_conflict-append, has_conflict-permutation}
 use Rattle.dump.proofs.Merges.{not_both}
 use Rattle.dump.proofs.Bools.{and_both, or_none, not_false, absurd_true, or_left}
@@ -21,40 +22,132 @@ use Rattle.dump.proofs.Passes.{not_true, at_most, less_at_most, one_way, NotAfte
 
 -- ---- links
 
--- the span at the end of so many ends no later than the position: neither do those from its link on
-pub over_more : (spans : List SpanValue) (links : List ℕ) (count at : ℕ) (p : PositionValue) (s : SpanValue) → HasLinks spans links → count ≤ length links → count ≤ length spans → 0 < at → at ≤ count
-    → s ≡ get_or spans (at - 1) s → is_before p s.«end» ≡ false
+-- what is said of links, of one that was read
+module _ (spans : List SpanValue) (links : List Link) (h : HasLinks spans links) (i : ℕ) (link : Link) (less : i < length links) (is : link ≡ get_or links i link) where
+  pub is_below : (link.next ≤ i) × (link.jump ≤ i)
+  is_below = subst (λ (l : Link). (l.next ≤ i) × (l.jump ≤ i)) (sym is) (h.below i link less)
+
+  over_at : (k : ℕ) (d : SpanValue) → link.next ≤ k → k < i → is_before (get_or spans i d).«end» (get_or spans k d).«end» ≡ false
+  over_at k d = subst (λ (l : Link). l.next ≤ k → k < i → is_before (get_or spans i d).«end» (get_or spans k d).«end» ≡ false) (sym is) (h.over i k link d less)
+
+  far_at : (k : ℕ) (d : SpanValue) → 0 < link.jump → link.jump ≤ k → k ≤ i → is_before (get_or spans (link.jump - 1) d).«end» (get_or spans k d).«end» ≡ false
+  far_at k d = subst (λ (l : Link). 0 < l.jump → l.jump ≤ k → k ≤ i → is_before (get_or spans (l.jump - 1) d).«end» (get_or spans k d).«end» ≡ false) (sym is) (h.far i k link d less)
+
+-- the span at the end of so many ends no later than the position: neither do those from where a climb goes on
+pub over_more : (spans : List SpanValue) (links : List Link) (count at further : ℕ) (p : PositionValue) (s : SpanValue) (link : Link) → HasLinks spans links → count ≤ length links → count ≤ length spans
+    → 0 < at → at ≤ count → s ≡ get_or spans (at - 1) s → is_before p s.«end» ≡ false → link ≡ get_or links (at - 1) link → GoesOn spans link p further
     → ((k : ℕ) (d : SpanValue) → at ≤ k → k < count → is_before p (get_or spans k d).«end» ≡ false)
-    → (k : ℕ) (d : SpanValue) → get_or links (at - 1) 0 ≤ k → k < count → is_before p (get_or spans k d).«end» ≡ false
-over_more spans links count at p s h known bound some below is here above k d le lt =
-    let same : (e : SpanValue) → get_or spans (at - 1) e ≡ s = λ e. get_or_default spans (at - 1) e s (omega arith) ∙ sym is in
-    elim (cases_lt k (at - 1)) [
-      | inl less ↦ at_most (get_or spans k d).«end» s.«end» p (subst (λ (u : SpanValue). is_before u.«end» (get_or spans k d).«end» ≡ false) (same d) (h.over (at - 1) k d (omega arith) le less)) here
-      | inr more ↦ elim (cases_eq k (at - 1)) [
-        | inl equal ↦ subst (λ (i : ℕ). is_before p (get_or spans i d).«end» ≡ false) (sym equal) (subst (λ (u : SpanValue). is_before p u.«end» ≡ false) (sym (same d)) here)
-        | inr other ↦ above k d (omega arith) lt
-      ]
+    → (k : ℕ) (d : SpanValue) → further ≤ k → k < count → is_before p (get_or spans k d).«end» ≡ false
+over_more spans links count at further p s link h known bound some below is here there goes above k d le lt = elim (cases_lt k at) [
+  | inl less ↦ elim goes [
+    | inl next ↦ by_next (omega (arith, next, le)) (omega arith)
+    | inr jump ↦ at_most (get_or spans k d).«end» (get_or spans (further - 1) d).«end» p
+        (subst (λ (f : ℕ). is_before (get_or spans (f - 1) d).«end» (get_or spans k d).«end» ≡ false) (sym jump.0)
+        (far_at spans links h (at - 1) link (omega arith) there k d (subst (λ (f : ℕ). 0 < f) jump.0 jump.1.0) (omega (arith, jump.0, le)) (omega arith)))
+        (jump.1.1 d)
+  ]
+  | inr more ↦ above k d more lt
+]
+  where
+    same : (e : SpanValue) → get_or spans (at - 1) e ≡ s
+    same e = get_or_default spans (at - 1) e s (omega arith) ∙ sym is
+
+    by_next : link.next ≤ k → k ≤ at - 1 → is_before p (get_or spans k d).«end» ≡ false
+    by_next from within = elim (cases_lt k (at - 1)) [
+      | inl less ↦ at_most (get_or spans k d).«end» s.«end» p (subst (λ (u : SpanValue). is_before u.«end» (get_or spans k d).«end» ≡ false) (same d) (over_at spans links h (at - 1) link (omega arith) there k d from less)) here
+      | inr more ↦ let equal : k ≡ at - 1 = omega (arith, more, within) in
+          subst (λ (i : ℕ). is_before p (get_or spans i d).«end» ≡ false) (sym equal) (subst (λ (u : SpanValue). is_before p u.«end» ≡ false) (sym (same d)) here)
+    ]
+
+-- a climb goes back
+pub goes_back : (spans : List SpanValue) (links : List Link) (count at further : ℕ) (p : PositionValue) (link : Link) → HasLinks spans links → count ≤ length links → 0 < at → at ≤ count → link ≡ get_or links (at - 1) link
+    → GoesOn spans link p further → further < at
+goes_back spans links count at further p link h known some below there goes =
+    let back = is_below spans links h (at - 1) link (omega arith) there in
+    elim goes [
+      | inl next ↦ omega (arith, back, next)
+      | inr jump ↦ omega (arith, back, jump.0)
     ]
 
 -- one link more
-pub links_more : (spans : List SpanValue) (links after : List ℕ) (link : ℕ) (s : SpanValue) → HasLinks spans links → length links < length spans → s ≡ get_or spans (length links) s
-    → link ≤ length links → ((k : ℕ) (d : SpanValue) → link ≤ k → k < length links → is_before s.«end» (get_or spans k d).«end» ≡ false)
-    → after ≡ links ++ link ∷ [] → HasLinks spans after
-links_more spans links after link s h lt is le over pushed =
-    let long = length_push links link in
-    subst (HasLinks spans) (sym pushed) (record {
-      below = λ i less. elim (cases_eq i (length links)) [
-        | inl same ↦ let here = get_or_push links link 0 i (sym same) in omega (arith, here, same)
-        | inr other ↦ let here = get_or_append_left links (link ∷ []) 0 i (omega arith) in let old = h.below i (omega arith) in omega (arith, here, old)
-      ];
-      over = λ i k d less low high. elim (cases_eq i (length links)) [
-        | inl same ↦
-            let here = get_or_push links link 0 i (sym same) in
-            let there : get_or spans i d ≡ s = ap (λ (j : ℕ). get_or spans j d) same ∙ get_or_default spans (length links) d s lt ∙ sym is in
-            subst (λ (u : SpanValue). is_before u.«end» (get_or spans k d).«end» ≡ false) (sym there) (over k d (omega (arith, here, low)) (omega (arith, high, same)))
-        | inr other ↦ let here = get_or_append_left links (link ∷ []) 0 i (omega arith) in h.over i k d (omega arith) (omega (arith, here, low)) high
-      ];
-    })
+module _ (spans : List SpanValue) (links : List Link) (link : Link) (s : SpanValue) (h : HasLinks spans links) (room : length links < length spans) (is : s ≡ get_or spans (length links) s)
+    (within : link.next ≤ length links)
+    (over : (k : ℕ) (d : SpanValue) → link.next ≤ k → k < length links → is_before s.«end» (get_or spans k d).«end» ≡ false)
+    (reaches_on : (k : ℕ) (d : SpanValue) → k + 1 ≡ link.next → is_before s.«end» (get_or spans k d).«end» ≡ true)
+    (jumps : JumpsTo links link.next link.jump) where
+  last_is : (d : SpanValue) → get_or spans (length links) d ≡ s
+  last_is d = get_or_default spans (length links) d s room ∙ sym is
+
+  -- from the next on all end no later than the next
+  next_far : (k : ℕ) (d : SpanValue) → 0 < link.next → link.next ≤ k → k ≤ length links → is_before (get_or spans (link.next - 1) d).«end» (get_or spans k d).«end» ≡ false
+  next_far k d some low high =
+      let later : is_before (get_or spans (link.next - 1) d).«end» s.«end» ≡ false = one_way s.«end» (get_or spans (link.next - 1) d).«end» (reaches_on (link.next - 1) d (omega arith)) in
+      elim (cases_lt k (length links)) [
+        | inl less ↦ at_most (get_or spans k d).«end» s.«end» (get_or spans (link.next - 1) d).«end» (over k d low less) later
+        | inr more ↦ let equal : k ≡ length links = omega (arith, more, high) in
+            subst (λ (i : ℕ). is_before (get_or spans (link.next - 1) d).«end» (get_or spans i d).«end» ≡ false) (sym equal)
+            (subst (λ (u : SpanValue). is_before (get_or spans (link.next - 1) d).«end» u.«end» ≡ false) (sym (last_is d)) later)
+      ]
+
+  -- from behind two jumps on all end no later than the span that these lead to
+  two_far : (t : TwoJumps links link.next link.jump) (k : ℕ) (d : SpanValue) → 0 < t.second.jump → t.second.jump ≤ k → k ≤ length links
+      → is_before (get_or spans (t.second.jump - 1) d).«end» (get_or spans k d).«end» ≡ false
+  two_far t k d some low high =
+      let i = link.next - 1 in
+      let j = t.first.jump - 1 in
+      let at_first = is_below spans links h i t.first (omega (arith, t.some)) t.is_first in
+      let at_second = is_below spans links h j t.second (omega (arith, t.some, t.goes, at_first)) t.is_second in
+      let by_second = λ (m : ℕ) (lo : t.second.jump ≤ m) (hi : m ≤ j). far_at spans links h j t.second (omega (arith, t.some, t.goes, at_first)) t.is_second m d some lo hi in
+      let by_first = λ (m : ℕ) (lo : t.first.jump ≤ m) (hi : m ≤ i). at_most (get_or spans m d).«end» (get_or spans j d).«end» (get_or spans (t.second.jump - 1) d).«end»
+      (far_at spans links h i t.first (omega (arith, t.some)) t.is_first m d t.goes lo hi) (by_second j (omega (arith, at_second)) (omega arith)) in
+      elim (cases_lt k t.first.jump) [
+        | inl less ↦ by_second k low (omega (arith, less))
+        | inr more ↦ elim (cases_lt k link.next) [
+          | inl before ↦ by_first k more (omega (arith, before))
+          | inr after ↦ at_most (get_or spans k d).«end» (get_or spans i d).«end» (get_or spans (t.second.jump - 1) d).«end» (next_far k d t.some after high) (by_first i (omega (arith, at_first, t.some)) (omega arith))
+        ]
+      ]
+
+  new_far : (k : ℕ) (d : SpanValue) → 0 < link.jump → link.jump ≤ k → k ≤ length links → is_before (get_or spans (link.jump - 1) d).«end» (get_or spans k d).«end» ≡ false
+  new_far k d some low high = elim jumps [
+    | inl next ↦ subst (λ (f : ℕ). is_before (get_or spans (f - 1) d).«end» (get_or spans k d).«end» ≡ false) (sym next) (next_far k d (subst (λ (f : ℕ). 0 < f) next some) (subst (λ (f : ℕ). f ≤ k) next low) high)
+    | inr two ↦ subst (λ (f : ℕ). is_before (get_or spans (f - 1) d).«end» (get_or spans k d).«end» ≡ false) (sym two.ends)
+        (two_far two k d (subst (λ (f : ℕ). 0 < f) two.ends some) (subst (λ (f : ℕ). f ≤ k) two.ends low) high)
+  ]
+
+  jump_below : link.jump ≤ length links
+  jump_below = elim jumps [
+    | inl next ↦ omega (arith, next, within)
+    | inr two ↦
+        let at_first = is_below spans links h (link.next - 1) two.first (omega (arith, two.some)) two.is_first in
+        let at_second = is_below spans links h (two.first.jump - 1) two.second (omega (arith, two.some, two.goes, at_first)) two.is_second in
+        omega (arith, two.some, two.goes, at_first, at_second, two.ends)
+  ]
+
+  pub links_more : (after : List Link) → after ≡ links ++ link ∷ [] → HasLinks spans after
+  links_more after pushed =
+      let long = length_push links link in
+      let here = λ (i : ℕ) (l : Link) (same : i ≡ length links). get_or_push links link l i (sym same) in
+      let there = λ (i : ℕ) (l : Link) (lt : i < length links). get_or_append_left links (link ∷ []) l i lt in
+      subst (HasLinks spans) (sym pushed) (record {
+        below = λ i l less. elim (cases_eq i (length links)) [
+          | inl same ↦ subst (λ (m : Link). (m.next ≤ i) × (m.jump ≤ i)) (sym (here i l same)) (omega (arith, same, within), omega (arith, same, jump_below))
+          | inr other ↦ subst (λ (m : Link). (m.next ≤ i) × (m.jump ≤ i)) (sym (there i l (omega arith))) (h.below i l (omega arith))
+        ];
+        over = λ i k l d less. elim (cases_eq i (length links)) [
+          | inl same ↦
+              let there_is : get_or spans i d ≡ s = ap (λ (j : ℕ). get_or spans j d) same ∙ last_is d in
+              subst (λ (m : Link). m.next ≤ k → k < i → is_before (get_or spans i d).«end» (get_or spans k d).«end» ≡ false) (sym (here i l same))
+              (λ low high. subst (λ (u : SpanValue). is_before u.«end» (get_or spans k d).«end» ≡ false) (sym there_is) (over k d low (omega (arith, high, same))))
+          | inr other ↦ subst (λ (m : Link). m.next ≤ k → k < i → is_before (get_or spans i d).«end» (get_or spans k d).«end» ≡ false) (sym (there i l (omega arith))) (h.over i k l d (omega arith))
+        ];
+        far = λ i k l d less. elim (cases_eq i (length links)) [
+          | inl same ↦ subst (λ (m : Link). 0 < m.jump → m.jump ≤ k → k ≤ i → is_before (get_or spans (m.jump - 1) d).«end» (get_or spans k d).«end» ≡ false) (sym (here i l same))
+              (λ some low high. new_far k d some low (omega (arith, high, same)))
+          | inr other ↦ subst (λ (m : Link). 0 < m.jump → m.jump ≤ k → k ≤ i → is_before (get_or spans (m.jump - 1) d).«end» (get_or spans k d).«end» ≡ false) (sym (there i l (omega arith)))
+              (h.far i k l d (omega arith))
+        ];
+      })
 
 -- ---- when two spans conflict
 

@@ -4,20 +4,30 @@ ghost use Rattle.std.specs.List.{list_any, slice_index_or};
 ghost use Rattle.positions.specs.Position.{is_before};
 ghost use Rattle.positions.specs.Span.{SpanValue};
 ghost use Rattle.dump.specs.Contained.{conflicts, any_conflicts, has_conflict};
-ghost use Rattle.dump.specs.Steps.Spans.{IsOrdered, HasLinks, goes_by, conflicts_before, joined};
+ghost use Rattle.dump.specs.Steps.Spans.{AreBelow, GoesOn, HasLinks, IsOrdered, JumpsTo, goes_by, conflicts_before, joined};
 
 use crate::spans::{conflicts, merge, order, sort};
 use positions::{Position, Span};
 use std::alloc::{AllocError, Global};
 use std::marker::Model;
 
+/// Where a climb from a span goes on. Both count the spans of the list up to and with the one that is meant.
+#[derive(Clone, Copy)]
+pub(crate) struct Link {
+    /// The last span before it that ends after it.
+    next: usize,
+    /// One that links lead to from it, further on or the same.
+    jump: usize,
+    /// How many links the jump passes.
+    steps: usize,
+}
+
 /// Spans in order, with a link from each to one before it, so that those that enclose a position are found without a
 /// look at each span.
 #[derive(Drop)]
 pub(crate) struct SortedSpans {
     spans: Vec<Span>,
-    /// Of each span how many there are up to the last one before it that ends after it.
-    links: Vec<usize>,
+    links: Vec<Link>,
 }
 
 impl Model for SortedSpans {
@@ -73,8 +83,20 @@ fn count_started(spans: &[Span], position: Position) -> usize
     spans.partition_point(|span| starts_before(*span, position))
 }
 
+/// Where a climb goes on from a span that doesn't end after the position: by its jump, where that leads to one that doesn't, either.
+fn further(spans: &[Span], link: Link, position: Position) -> usize
+    requires { link.jump ≤ length spans.now }
+    ensures { GoesOn spans.now link position result }
+{
+    if link.jump > 0 && !ends_after(spans[link.jump - 1], position) {
+        link.jump
+    } else {
+        link.next
+    }
+}
+
 /// How many of the first so many spans there are up to the last that ends after the position.
-fn reaching(spans: &[Span], links: &[usize], count: usize, position: Position) -> usize
+fn reaching(spans: &[Span], links: &[Link], count: usize, position: Position) -> usize
     requires links { HasLinks spans.now links.now }
     requires known { count ≤ length links.now }
     requires bound { count ≤ length spans.now }
@@ -84,20 +106,47 @@ fn reaching(spans: &[Span], links: &[usize], count: usize, position: Position) -
 {
     let mut at = count;
     while at > 0 && !ends_after(spans[at - 1], position) {
-        at = links[at - 1];
+        let link = links[at - 1];
+        at = further(spans, link, position);
     }
     at
 }
 
+/// The link to the last of the first so many spans. Its jump goes as far as two jumps from there, where both pass as many links, and else no further; so jumps
+/// double, and a climb along n links takes some log n of them.
+fn link_to(links: &[Link], next: usize) -> Link
+    requires next { next ≤ length links.now }
+    requires below { AreBelow links.now }
+    ensures next { result.next ≡ next }
+    ensures jump { JumpsTo links.now next result.jump }
+{
+    if next > 0 {
+        let first = links[next - 1];
+        if first.jump > 0 {
+            let second = links[first.jump - 1];
+            if first.steps == second.steps {
+                let steps = first.steps.saturating_mul(2).saturating_add(1);
+                let jump = second.jump;
+                return Link { next, jump, steps };
+            }
+        }
+    }
+    Link {
+        next,
+        jump: next,
+        steps: 1,
+    }
+}
+
 /// The link of each span.
-fn links_of(alloc: Global, spans: &[Span]) -> Result<Vec<usize>, AllocError>
+fn links_of(alloc: Global, spans: &[Span]) -> Result<Vec<Link>, AllocError>
     ensures len { IfOk result (λ links. length links.items ≡ length spans.now) }
     ensures links { IfOk result (λ links. HasLinks spans.now links.items) }
 {
     let mut links = Vec::new(alloc);
     for span in spans {
-        let link = reaching(spans, &links, links.len(), span.end());
-        links.push(link)?;
+        let next = reaching(spans, &links, links.len(), span.end());
+        links.push(link_to(&links, next))?;
     }
     Ok(links)
 }

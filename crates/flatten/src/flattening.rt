@@ -18,7 +18,8 @@ use std::alloc::Global;
 /// How many rows of a kind there may be, and how many pairs the walks for them may go over.
 const MOST_ROWS: usize = 4000000;
 
-/// The rows of the dump, where no more than so many of a kind come, and the walks for them go over no more than so many pairs.
+/// The rows of the dump, where no more than so many of a kind come, and the walks for them go over no more than so many pairs. `flatten` calls it with the
+/// limit of the product; tests call it with small ones.
 pub fn flatten_within<'a>(
     alloc: Global,
     dump: &'a CheckedDump,
