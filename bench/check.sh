@@ -48,14 +48,14 @@ measure_dump() {
     done
     memory=$(memory_of "$program" check-lsif "$file")
     awk -v name="$1" -v count="$count" -v bytes="$(wc -c <"$file")" -v check="$check" -v read="$read" -v memory="$memory" 'BEGIN {
-        printf "%-20s %8d %9d %11.1f ms %11.1f ms %7.2f %7.2f  ok %d elements\n", name, count, bytes, check / 1000,
+        printf "%-26s %8d %9d %11.1f ms %11.1f ms %7.2f %7.2f  ok %d elements\n", name, count, bytes, check / 1000,
             read / 1000, check / read, memory / bytes, count
     }'
 }
 
 measure_dumps() {
     local file count edges order
-    printf '%-20s %8s %9s %14s %14s %7s %7s  %s\n' dump elements bytes check-lsif 'jq -c .' ratio memory report
+    printf '%-26s %8s %9s %14s %14s %7s %7s  %s\n' dump elements bytes check-lsif 'jq -c .' ratio memory report
     for file in "$@"; do
         measure_dump "$(basename "$file")" "$file"
     done
@@ -67,6 +67,16 @@ measure_dumps() {
         make_ranges 40000 "$edges" rising >"$folder/ranges.lsif"
         measure_dump "contains edges: $edges" "$folder/ranges.lsif"
     done
+    for order in rising falling mixed; do
+        make_nested 98000 1 "$order" >"$folder/nested.lsif"
+        measure_dump "half nest, 1 edge, $order" "$folder/nested.lsif"
+        make_nested 49000 49000 "$order" >"$folder/nested.lsif"
+        measure_dump "half nest, $order" "$folder/nested.lsif"
+        make_nested 49000 49000 "$order" all >"$folder/nested.lsif"
+        measure_dump "all nest, $order" "$folder/nested.lsif"
+    done
+    make_texts 100000 >"$folder/texts.lsif"
+    measure_dump "ids of 48 bytes" "$folder/texts.lsif"
     for order in rising falling; do
         make_ranges 49000 49000 "$order" >"$folder/ranges.lsif"
         measure_dump "ranges, $order" "$folder/ranges.lsif"

@@ -90,6 +90,33 @@ make_ranges() {
     }'
 }
 
+# A dump of one document with so many ranges, of which the first half lie in each other and the others beside them, behind; or of which all lie in each other, where a
+# fourth word says `all`. So many edges contain them, each of them one range in so many; in rising order, in falling order, or in turn from both ends (mixed).
+make_nested() {
+    awk -v count="$1" -v edges="$2" -v order="$3" -v all="${4-half}" "$print_elements"'BEGIN {
+        meta_data()
+        file = document(0)
+        deep = all == "all" ? count : int(count / 2)
+        for (n = 0; n < count; n++) {
+            place = order == "rising" ? n : order == "falling" || n % 2 ? count - 1 - (order == "falling" ? n : int(n / 2)) : n / 2
+            id = place < deep ? range(place, 0, 2 * count - place, 0) : range(2 * count + place, 0, 2 * count + place, 8)
+            k = n % edges
+            targets[k] = targets[k] (n < edges ? "" : ",") id
+        }
+        for (k = 0; k < edges; k++)
+            contains(file, targets[k])
+    }'
+}
+
+# A dump of so many result sets whose ids are texts of 48 bytes, which differ in the last few alone.
+make_texts() {
+    awk -v count="$1" 'BEGIN {
+        printf "{\"id\":\"%048d\",\"type\":\"vertex\",\"label\":\"metaData\",\"version\":\"0.6.0\",\"positionEncoding\":\"utf-16\"}\n", 0
+        for (n = 1; n < count; n++)
+            printf "{\"id\":\"%048d\",\"type\":\"vertex\",\"label\":\"resultSet\"}\n", n * 7919 % 1000003
+    }'
+}
+
 # A dump of so many result sets in one chain of `next` edges, which begins to be joined at its end where the order falls.
 make_chain() {
     awk -v count="$1" -v order="$2" "$print_elements"'BEGIN {

@@ -43,7 +43,7 @@ build_program() {
     local name=$1 crates=$2 home=$folder/crates/$1 crate
     mkdir -p "$home/src" "$home/data"
     { cat; echo "${3-}"; echo "$program_end"; } >"$home/src/main.rt"
-    for crate in positions lsif dump flatten tags tables desk; do
+    for crate in positions lsif dump flatten tags machine tables desk; do
         cp -r "$top/crates/$crate" "$folder/crates/"
         grep "^$crate:" "$top/crates.txt" >>"$folder/crates.txt"
     done

@@ -3,6 +3,9 @@ ghost use Rattle.std.specs.Prelude.{◌≡◌, ◌+◌, OnOk};
 
 use crate::fault::FlattenFault;
 
+/// How many bytes of the texts of rows count as a row.
+const TEXT_BYTES: usize = 128;
+
 /// How many rows of a kind, or pairs that a walk goes over, there may still be.
 #[derive(Drop)]
 pub(crate) struct Budget {
@@ -27,6 +30,11 @@ impl Budget {
             }
             None => Err(FlattenFault::Memory),
         }
+    }
+
+    /// Takes a text of a row, of so many bytes, beside the row: it counts as a row for each 128 bytes.
+    pub(crate) fn take_text(&mut self, len: usize) -> Result<(), FlattenFault> {
+        self.take(len / TEXT_BYTES)
     }
 }
 

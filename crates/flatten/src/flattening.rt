@@ -4,6 +4,7 @@ ghost use Rattle.flatten.specs.Flat.{HasPositions, IsFlat};
 ghost use Rattle.flatten.specs.Rows.{rows_value};
 
 use crate::borne::borne;
+use crate::budget::Budget;
 use crate::chains::Chains;
 use crate::documents::document_rows;
 use crate::fault::FlattenFault;
@@ -11,12 +12,22 @@ use crate::items::item_rows;
 use crate::kinds::{Gathered, gather};
 use crate::marks::{bearer_rows, mark_rows};
 use crate::ranges::range_rows;
-use crate::rows::Rows;
+use crate::rows::{RangeRow, Rows};
 use dump::CheckedDump;
 use std::alloc::Global;
 
-/// How many rows of a kind there may be, and how many pairs the walks for them may go over.
+/// How many rows of a kind there may be, and how many pairs the walks for them may go over. Each 128 bytes of the texts of rows, which the tables keep row by row, count as
+/// a row more: so the texts of a kind have some 512 MB at most.
 const MOST_ROWS: usize = 4000000;
+
+/// Takes the documents' URLs of these rows from a budget of so many.
+fn take_uris(ranges: &[RangeRow<'_>], limit: usize) -> Result<(), FlattenFault> {
+    let mut budget = Budget::new(limit);
+    for range in ranges {
+        budget.take_text(range.uri.len())?;
+    }
+    Ok(())
+}
 
 /// The rows of the dump, where no more than so many of a kind come, and the walks for them go over no more than so many pairs. `flatten` calls it with the
 /// limit of the product; tests call it with small ones.
@@ -37,6 +48,7 @@ pub fn flatten_within<'a>(
     } = gather(alloc, dump)?;
     let documents = document_rows(alloc, &kinds)?;
     let ranges = range_rows(alloc, dump, ranges, intervals)?;
+    take_uris(&ranges, limit)?;
     let mut chains = Chains::new(alloc, dump, borne(alloc, &kinds, limit)?)?;
     let marks = mark_rows(alloc, &mut chains, &kinds.ranges, limit)?;
     let bearers = bearer_rows(alloc, &mut chains, limit)?;
@@ -53,8 +65,8 @@ pub fn flatten_within<'a>(
 }
 
 /// The rows of the dump: what its walks lead to. Where more than 4,000,000 rows of one kind come, counted before those that are
-/// there twice are left out, or the walks over "referenceResults" or `attach` go over more than 4,000,000 pairs, that counts as
-/// want of memory.
+/// there twice are left out, and for each 128 bytes of their texts as one more, or the walks over "referenceResults" or `attach` go over more than 4,000,000
+/// pairs, that counts as want of memory.
 pub fn flatten<'a>(alloc: Global, dump: &'a CheckedDump) -> Result<Rows<'a>, FlattenFault>
     ensures profile { IfOk result (λ rows. rows.profile ≡ dump.now.profile) }
     ensures rows { IfOk result (λ rows. IsFlat dump.now.elements (rows_value rows)) }

@@ -188,7 +188,15 @@ fn add_rows<'a>(
     Ok(())
 }
 
-/// Adds the rows of the result of this number for the items in this role of the other. Each is taken from the budget.
+/// Takes the documents' URLs of these places from the budget.
+fn take_uris(items: &[(u32, Place<'_>)], budget: &mut Budget) -> Result<(), FlattenFault> {
+    for item in items {
+        budget.take_text(item.1.uri.len())?;
+    }
+    Ok(())
+}
+
+/// Adds the rows of the result of this number for the items in this role of the other. Each is taken from the budget, with its text.
 fn add_role<'a>(
     rows: &mut Vec<FoundItem<'a>>,
     items: &Items<'_, 'a>,
@@ -208,6 +216,7 @@ fn add_role<'a>(
         Role::References => pairs_from(items.references, other),
     };
     budget.take(found.len())?;
+    take_uris(found, budget)?;
     add_rows(rows, number, role, found)?;
     Ok(())
 }

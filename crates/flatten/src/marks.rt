@@ -24,11 +24,17 @@ use lsif::{Element, Id, MonikerKind, Vertex};
 use std::alloc::{AllocError, Global};
 use std::cmp::Ordering;
 
-/// Adds the row of the mark, where there is one.
-fn add_mark(rows: &mut Vec<MarkRow>, number: u32, mark: Option<Mark>) -> Result<(), AllocError>
+/// Adds the row of the mark, where there is one. The text of its key is taken from the budget.
+fn add_mark(
+    rows: &mut Vec<MarkRow>,
+    number: u32,
+    mark: Option<Mark>,
+    budget: &mut Budget,
+) -> Result<(), FlattenFault>
     ensures { OnOk result (map mark_row_value rows.new.items ≡ map mark_row_value rows.old.items ++ mark_of number (option_map mark_value mark)) }
 {
     if let Some(Mark { kind, key }) = mark {
+        budget.take_text(key.len())?;
         rows.push(MarkRow {
             range: number,
             kind,
@@ -45,16 +51,17 @@ fn add_targets(
     dump: &CheckedDump,
     number: u32,
     pairs: &[(u32, u32)],
+    budget: &mut Budget,
 ) -> Result<(), FlattenFault>
     ensures { OnOk result (map mark_row_value rows.new.items ≡ map mark_row_value rows.old.items ++ marks_of number (marks_in dump.now.elements) pairs.now) }
 {
     for pair in pairs {
-        add_mark(rows, number, mark_at(alloc, dump, pair.1)?)?;
+        add_mark(rows, number, mark_at(alloc, dump, pair.1)?, budget)?;
     }
     Ok(())
 }
 
-/// Adds the rows of the number for the marks that the vertex bears itself. Each is taken from the budget.
+/// Adds the rows of the number for the marks that the vertex bears itself. Each is taken from the budget, with its text.
 fn add_member(
     alloc: Global,
     rows: &mut Vec<MarkRow>,
@@ -71,7 +78,7 @@ fn add_member(
     if let Some(vertex) = number_of(chains.dump, member) {
         let pairs = pairs_from(&chains.borne, vertex);
         budget.take(pairs.len())?;
-        add_targets(alloc, rows, chains.dump, number, pairs)?;
+        add_targets(alloc, rows, chains.dump, number, pairs, budget)?;
     }
     Ok(())
 }
@@ -219,10 +226,12 @@ fn borne_marks(
 ) -> Result<Vec<MarkRow>, FlattenFault>
     ensures { IfOk result (λ rows. IsListing mark_cmp (IsBorneMark pairs.now (marks_in dump.now.elements)) (map mark_row_value rows.items)) }
 {
-    Budget::new(limit).take(pairs.len())?;
+    let mut budget = Budget::new(limit);
+    budget.take(pairs.len())?;
     let mut rows = Vec::new(alloc);
     for pair in pairs {
-        add_mark(&mut rows, pair.0, mark_at(alloc, dump, pair.1)?)?;
+        let mark = mark_at(alloc, dump, pair.1)?;
+        add_mark(&mut rows, pair.0, mark, &mut budget)?;
     }
     list_rows(&mut rows);
     Ok(rows)

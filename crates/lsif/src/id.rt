@@ -65,7 +65,7 @@ pub(crate) fn member_id(alloc: Global, value: &Value, name: &str) -> Result<Opti
 pub(crate) fn ids(alloc: Global, values: &[Value]) -> Result<Option<Vec<Id>>, AllocError>
     ensures { IfOk result (λ o. option_map (λ found. id_values found.items) o ≡ ids_in (items_view values.now)) }
 {
-    let mut found = Vec::new(alloc);
+    let mut found = Vec::with_capacity(alloc, values.len())?;
     for value in values {
         let Some(id) = id_of(alloc, value)? else {
             return Ok(None);

@@ -320,12 +320,49 @@ fn is_enough(alloc: Global, lines: &[&str], limit: usize) -> Result<bool, Fail> 
     }
 }
 
+/// The same where a text of 300 bytes stands behind another: the text of a row counts as two rows more then. Of the first dump it's that of the ranges that is too much, of the second that of
+/// items, and of the others those of marks and of bearers.
+const LONG: [(&[&str], &str, usize); 4] = [
+    (&NESTED, "file:///", 4),
+    (&RING, "file:///", 18),
+    (&MARKED, "\"identifier\":\"", 6),
+    (&BEARING, "\"identifier\":\"", 6),
+];
+
+/// The lines with a text of 300 bytes behind each text like this.
+fn longer(alloc: Global, lines: &[&str], before: &str) -> Result<Vec<String>, Fail> {
+    let mut long = String::from_str(alloc, before)?;
+    for _ in 0..300 {
+        long.push('u')?;
+    }
+    let mut longer = Vec::new(alloc);
+    for line in lines {
+        longer.push(line.replace(alloc, before, &long)?)?;
+    }
+    Ok(longer)
+}
+
+/// Whether the dump of the longer lines is made flat within a limit.
+fn is_enough_for(alloc: Global, lines: &[&str], before: &str, limit: usize) -> Result<bool, Fail> {
+    let longer = longer(alloc, lines, before)?;
+    let mut texts = Vec::new(alloc);
+    for line in &longer {
+        texts.push(line.as_str())?;
+    }
+    is_enough(alloc, &texts, limit)
+}
+
 #[test]
 fn limits(rt: HostRuntime) -> Result<(), Fail> {
     assert!(rt; is_enough(rt.alloc(), &[], 0)?);
     for (lines, enough) in LIMITS {
         let less = is_enough(rt.alloc(), lines, enough.saturating_sub(1))?;
         let found = is_enough(rt.alloc(), lines, enough)?;
+        assert_eq!(rt; (lines, less, found), (lines, false, true));
+    }
+    for (lines, before, enough) in LONG {
+        let less = is_enough_for(rt.alloc(), lines, before, enough.saturating_sub(1))?;
+        let found = is_enough_for(rt.alloc(), lines, before, enough)?;
         assert_eq!(rt; (lines, less, found), (lines, false, true));
     }
     Ok(())
