@@ -15,6 +15,8 @@ from contextlib import contextmanager
 from dataclasses import dataclass, field
 from typing import Any, BinaryIO, Iterator, Optional, Union
 
+from navtools import rows
+
 Id = Union[int, str]
 Span = tuple[int, int, int, int]
 Element = dict[str, Any]
@@ -208,8 +210,8 @@ def line_of(element: Element, before: bytes) -> bytes:
     return text + end
 
 
-def write_dump(source: BinaryIO, out: BinaryIO, name: str, survey: Survey, strip: bool) -> int:
-    """Reads the dump again and writes it prepared; answers how many elements were written."""
+def write_dump(source: BinaryIO, out: BinaryIO, name: str, survey: Survey, strip: bool, counter: Optional[rows.RowCounter]) -> int:
+    """Reads the dump again and writes it prepared; answers how many elements were written. The counter takes each of them."""
     count = 0
     for line, element in elements(source, name, False):
         after = rewritten(element, survey, strip)
@@ -217,6 +219,8 @@ def write_dump(source: BinaryIO, out: BinaryIO, name: str, survey: Survey, strip
             continue
         line = line if after is element else line_of(after, line)
         out.write(line)
+        if counter is not None:
+            counter.take(after)
         count += 1
         survey.body_bytes += len(line)
         survey.longest_line = max(survey.longest_line, len(line.removesuffix(b"\n")))
@@ -256,10 +260,16 @@ def prepare(source: BinaryIO, name: str, call: argparse.Namespace) -> int:
     big = os.fstat(source.fileno()).st_size > PROGRESS_BYTES and sys.stderr.isatty()
     survey = survey_dump(source, name, call.strip, big)
     source.seek(0)
+    counter = rows.RowCounter(call.profile) if call.report else None
     with whole_file(call.output) as out:
-        written = write_dump(source, out, name, survey, call.strip)
+        written = write_dump(source, out, name, survey, call.strip, counter)
     over = excesses(written, survey.body_bytes, survey.longest_line)
-    for line in [summary(survey, written), *over, *(report(survey, call.profile) if call.report else [])]:
+    reported = []
+    if counter is not None:
+        tallies = counter.tallies()
+        over += rows.excesses(tallies)
+        reported = [*rows.lines(tallies), *report(survey, call.profile)]
+    for line in [summary(survey, written), *over, *reported]:
         print(f"prepare-lsif: {line}", file=sys.stderr)
     return 1 if over else 0
 
@@ -291,7 +301,7 @@ def main(words: Optional[list[str]] = None) -> int:
     """Reads the command line; answers 0, 1 where the prepared dump is over a limit of the server, and 2 where there is none."""
     parser = argparse.ArgumentParser(prog="prepare-lsif", description=__doc__, formatter_class=argparse.RawDescriptionHelpFormatter)
     parser.add_argument("--strip", action="store_true", help="drop folding ranges, document symbols, links and diagnostics")
-    parser.add_argument("--report", action="store_true", help="say which ranges were merged and which labels have no effect")
+    parser.add_argument("--report", action="store_true", help="say how many rows the server makes of the dump, which ranges were merged and which labels have no effect")
     parser.add_argument("--profile", choices=["1", "2"], default="1", help="of which profile the report speaks, 1 without it")
     parser.add_argument("input", metavar="IN", help="the indexer's dump, or - for the standard input")
     parser.add_argument("output", metavar="OUT", help="the prepared dump, or - for the standard output")

@@ -11,7 +11,7 @@ from typing import Any
 from unittest import mock
 from urllib.parse import quote
 
-from navtools import ask, curl, places, prepare, tags, upload
+from navtools import ask, curl, places, prepare, rows, tags, upload
 
 TOP = os.path.dirname(os.path.dirname(os.path.dirname(os.path.abspath(__file__))))
 RAW = os.path.join(TOP, "demo", "crate.raw.lsif")
@@ -104,7 +104,32 @@ class Prepare(unittest.TestCase):
         other = "prepare-lsif: no effect: vertex textDocument/declaration, 1"
         one = ["prepare-lsif: no effect: edge textDocument/implementation, 1", "prepare-lsif: no effect: vertex declarationResult, 1", other]
         for words, labels in ([], one), (["--profile", "1"], one), (["--profile", "2"], [other]):
-            self.assertEqual(self.prepared("\n".join(rows).encode(), "--report", *words)[2].splitlines()[1:], labels)
+            said = self.prepared("\n".join(rows).encode(), "--report", *words)[2].splitlines()
+            self.assertEqual(said[1:], ["prepare-lsif: rows: 0 documents, 0 ranges, 0 items, 0 hovers, 0 marks, 0 bearers", *labels])
+
+    def test_rows(self) -> None:
+        """Rows of results that lead to each other, of ranges on one result set, and of a moniker to which another is attached twice."""
+        file, span = '{"type":"vertex","label":"document","uri":"file:///%s"}', '{"type":"vertex","label":"range"}'
+        edge, moniker = '{"type":"edge","label":"%s","outV":%d,"inVs":%s}', '{"type":"vertex","label":"moniker","scheme":"s","identifier":"%s"}'
+        item, result = '{"type":"edge","label":"item","property":"%s","outV":%d,"inVs":%s}', '{"type":"vertex","label":"referenceResult"}'
+        ring = [file, span, span, result, result, item % ("referenceResults", 5, [6]), item % ("referenceResults", 6, [5]), item % ("definitions", 5, [3]),
+                item % ("references", 6, [4]), item % ("references", 5, [4]), edge % ("contains", 2, [3, 4])]
+        marked = [file, span, span, '{"type":"vertex","label":"resultSet"}', edge % ("next", 3, [5]), edge % ("next", 4, [5]), moniker, edge % ("moniker", 5, [8]),
+                  edge % ("contains", 2, [3, 4])]
+        attached = ['{"type":"vertex","label":"resultSet"}', moniker % "a", moniker, edge % ("moniker", 2, [3]), edge % ("attach", 4, [3]), edge % ("attach", 4, [3])]
+        for body, number, text, wanted in ((ring, 0, "c", (1, 2, 6, 0, 0, 0)), (marked, 6, "a", (1, 2, 0, 0, 2, 1)), (attached, 2, "b", (0, 0, 0, 0, 0, 2))):
+            for long in ("", "u" * 300):
+                counter = rows.RowCounter("1")
+                for own, line in enumerate(body, 2):
+                    counter.take({"id": own, **json.loads(line % (text + long) if own == number + 2 else line % "f" if "%s" in line else line)})
+                tallies = counter.tallies()
+                self.assertEqual(tuple(tally.rows for tally in tallies.values())[:6], wanted)
+                more = {"items": 12, "marks": 4, "bearers": 2} if long else {}
+                for kind, tally in list(tallies.items())[2:6]:
+                    self.assertEqual(tally.counted - tally.rows, more.get(kind, 0) if tally.rows else 0, kind)
+            self.assertEqual(tallies["pairs of attach"].counted, 4 if body is attached else 0)
+        over = {"marks": rows.Tally(1, rows.MOST_ROWS + 1), "items": rows.Tally(1, rows.MOST_ROWS)}
+        self.assertEqual(rows.excesses(over), ["over the limits: 4000001 rows of marks, the server takes 4000000 (S02)"])
 
     def test_a_broken_pipe(self) -> None:
         tool = os.path.join(TOP, "tools", "prepare-lsif")

@@ -1,4 +1,6 @@
 //! What request lines ask of a desk, and the routes of paths. In a table's row `=>` comes before what is asked.
+ghost use Rattle.std.specs.Prelude.{◌≡◌, is_err, true};
+
 use super::samples::{Slow, slow_writer};
 use http_edge::serve_stream;
 use lsif::Counted;
@@ -214,8 +216,10 @@ fn query_text(alloc: Global, query: &Query) -> Result<String, AllocError> {
     }
 }
 
-/// What is asked of a desk by an upload, as tables write it. An empty dump is refused.
-fn upload_text(alloc: Global, upload: Upload) -> Result<Reply, AllocError> {
+/// What is asked of a desk by an upload, as tables write it. An empty dump is refused. Where the upload met want of memory, so does this.
+fn upload_text(alloc: Global, upload: Upload) -> Result<Reply, AllocError>
+    ensures { upload.body.is_out_of_memory ≡ true → is_err result ≡ true }
+{
     let Upload { project, key, body } = upload;
     let kind = match body.finish()? {
         Ok(Change::SetDump(_)) => "lsif",
