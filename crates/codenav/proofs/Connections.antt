@@ -2,7 +2,7 @@
 use Rattle.std.proofs.Common.{ℕ, Bool, List, [], Option, None, Err, Result, refl}
 use Rattle.machine.specs.State.{State}
 use Rattle.lsif.specs.Streams.{Output}
-use Rattle.http_edge.specs.Serving.{Serves}
+use Rattle.http_edge.specs.Serving.{Serves, session}
 use Rattle.http_edge.specs.declared.serve.ServeFault.{ServeFault}
 use Rattle.http_edge.specs.declared.serve.ServeFault.TheVariants.{Memory}
 use Rattle.codenav.specs.Serve.{ConnectionValue, ServesConnection, most_requests}
@@ -18,5 +18,5 @@ pub stays : (store_may_refuse : Bool) (m : State) → ServesConnection store_may
 stays store_may_refuse m = (None, None, unknown, unknown, Err Memory, (refl, refl, refl, refl, refl))
 
 pub serves : (store_may_refuse : Bool) (m n : State) (c : ConnectionValue) (left left' : Option (List ℕ)) (output output' : Output) (result : Result ℕ ServeFault)
-    → Serves store_may_refuse most_requests m left left' output output' c.messages c.answers n result → ServesConnection store_may_refuse m c n
+    → Serves store_may_refuse most_requests (session left left' output output' c.messages c.answers) m n result → ServesConnection store_may_refuse m c n
 serves store_may_refuse m n c left left' output output' result h = (left, left', output, output', result, h)

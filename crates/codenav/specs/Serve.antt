@@ -4,7 +4,7 @@ use Rattle.machine.specs.State.{State}
 use Rattle.lsif.specs.Streams.{Output}
 use Rattle.http_edge.specs.Replies.{AnswerValue}
 use Rattle.http_edge.specs.Requests.{MessageValue}
-use Rattle.http_edge.specs.Serving.{Serves, left_by}
+use Rattle.http_edge.specs.Serving.{Serves, session, after_a_stop_of_answers}
 use Rattle.http_edge.specs.declared.serve.ServeFault.{ServeFault}
 use Rattle.codenav.specs.declared.serve.ServerFault.{ServerFault}
 use Rattle.codenav.specs.declared.serve.ServerFault.TheVariants.{Accept, Memory}
@@ -22,16 +22,16 @@ pub record ConnectionValue : Type 0 where
 -- written
 abbrev pub ServesConnection : Bool → State → ConnectionValue → State → Type 0
 ServesConnection store_may_refuse m c n =
-    (left : Option (List ℕ)) × (left' : Option (List ℕ)) × (output : Output) × (output' : Output) × (result : Result ℕ ServeFault)
-    × Serves store_may_refuse most_requests m left left' output output' c.messages c.answers n result
+    (unread : Option (List ℕ)) × (unread' : Option (List ℕ)) × (output : Output) × (output' : Output) × (result : Result ℕ ServeFault)
+    × Serves store_may_refuse most_requests (session unread unread' output output' c.messages c.answers) m n result
 
 -- connections, the newest first, take it from one state to another: each is served from the state in which the one before
 -- it ended; and where a stop left one of the states at first, it leaves one of the others then
 abbrev pub ServesEach : Bool → State → List State → List ConnectionValue → State → List State → Type 0
-ServesEach store_may_refuse m states [] n left = (n ≡ m) × (left ≡ states)
-ServesEach store_may_refuse m states (c ∷ before) n left =
+ServesEach store_may_refuse m states [] n later = (n ≡ m) × (later ≡ states)
+ServesEach store_may_refuse m states (c ∷ before) n later =
     (mid : State) × (held : List State) × ServesEach store_may_refuse m states before mid held × ServesConnection store_may_refuse mid c n
-    × (left ≡ left_by mid held c.messages c.answers)
+    × (later ≡ after_a_stop_of_answers mid held c.messages c.answers)
 
 -- a connection that was accepted is counted
 abbrev pub CountsAccept : {A : Type 0} → ℕ → Option A → ℕ → Type 0

@@ -9,7 +9,7 @@ ghost use Rattle.machine.specs.State.{State};
 ghost use Rattle.lsif.specs.Streams.{CanCount};
 ghost use Rattle.http_edge.specs.Replies.{AnswerValue};
 ghost use Rattle.http_edge.specs.Requests.{MessageValue};
-ghost use Rattle.http_edge.specs.Serving.{CountsRead, CountsWrite, Serves, left_by};
+ghost use Rattle.http_edge.specs.Serving.{CountsRead, CountsWrite, Serves, session, after_a_stop_of_answers};
 ghost use Rattle.http_edge.specs.declared.serve.ServeFault.TheVariants.{Memory};
 ghost use Rattle.codenav.specs.Databases.{HoldsIndex};
 ghost use Rattle.codenav.specs.Replay.{Replays, ReplaysFrom, most_requests};
@@ -39,10 +39,10 @@ pub fn replay<S: Alter, R: Source, W: Sink>(
     ensures reliable { ⟦<IndexDesk<Tables<S>> as Desk>⟧.is_reliable desk.new → ⟦<IndexDesk<Tables<S>> as Desk>⟧.is_reliable desk.old }
     ensures replays { (messages : List MessageValue) × (answers : List AnswerValue) × (⟦<IndexDesk<Tables<S>> as Desk>⟧.is_reliable desk.new → (m : State)
         → ⟦<IndexDesk<Tables<S>> as Desk>⟧.stands desk.old m → (n : State)
-        × Serves true most_requests m (R.left r.old) (R.left r.new) (W.output w.old) (W.output w.new) messages answers n result
+        × Serves true most_requests (session (R.left r.old) (R.left r.new) (W.output w.old) (W.output w.new) messages answers) m n result
         × ⟦<IndexDesk<Tables<S>> as Desk>⟧.stands desk.new n
         × ((states : List State) → ⟦<IndexDesk<Tables<S>> as Desk>⟧.may_leave desk.old states
-        → ⟦<IndexDesk<Tables<S>> as Desk>⟧.may_leave desk.new (left_by m states messages answers))) }
+        → ⟦<IndexDesk<Tables<S>> as Desk>⟧.may_leave desk.new (after_a_stop_of_answers m states messages answers))) }
     ensures memory { result ≡ Err Memory → (desk.new ≡ desk.old) × (r.new ≡ r.old) × (w.new ≡ w.old) }
     ensures read { CountsRead (R.failed r.old) (R.failed r.new) result }
     ensures write { CountsWrite (W.output w.old) result (W.output w.new) }

@@ -2,7 +2,7 @@
 ghost use Rattle.std.specs.Prelude.{◌≡◌, ◌+◌, ◌-◌, ◌^◌, ◌<◌, true, List, Err, IfErr, length};
 ghost use Rattle.machine.specs.State.{State};
 ghost use Rattle.lsif.specs.Streams.{CanCount};
-ghost use Rattle.http_edge.specs.Serving.{CountsRead, CountsWrite, Serves, left_by};
+ghost use Rattle.http_edge.specs.Serving.{CountsRead, CountsWrite, Serves, session, after_a_stop_of_answers};
 ghost use Rattle.http_edge.specs.declared.serve.ServeFault.TheVariants as serve_fault;
 ghost use Rattle.codenav.specs.Serve.{ConnectionValue, CountsAccept, CountsServed, ServesConnection, ServesEach, most_requests};
 
@@ -75,13 +75,13 @@ pub fn serve_request<D: Desk, R: Source, W: Sink>(
     requires writes { CanCount (W.output w.old) }
     ensures reliable { D.is_reliable desk.new → D.is_reliable desk.old }
     ensures served { (c : ConnectionValue) × (D.is_reliable desk.new → (m : State) → D.stands desk.old m → (n : State)
-        × Serves D.store_may_refuse most_requests m (R.left r.old) (R.left r.new) (W.output w.old) (W.output w.new) c.messages c.answers n result
+        × Serves D.store_may_refuse most_requests (session (R.left r.old) (R.left r.new) (W.output w.old) (W.output w.new) c.messages c.answers) m n result
         × D.stands desk.new n
-        × ((states : List State) → D.may_leave desk.old states → D.may_leave desk.new (left_by m states c.messages c.answers))) }
+        × ((states : List State) → D.may_leave desk.old states → D.may_leave desk.new (after_a_stop_of_answers m states c.messages c.answers))) }
     ensures connection { (c : ConnectionValue)
         × (D.is_reliable desk.new → (m : State) → D.stands desk.old m → (n : State) × ServesConnection D.store_may_refuse m c n
         × D.stands desk.new n
-        × ((states : List State) → D.may_leave desk.old states → D.may_leave desk.new (left_by m states c.messages c.answers))) }
+        × ((states : List State) → D.may_leave desk.old states → D.may_leave desk.new (after_a_stop_of_answers m states c.messages c.answers))) }
     ensures memory { result ≡ Err serve_fault.Memory → (desk.new ≡ desk.old) × (r.new ≡ r.old) × (w.new ≡ w.old) }
     ensures read { CountsRead (R.failed r.old) (R.failed r.new) result }
     ensures write { CountsWrite (W.output w.old) result (W.output w.new) }
@@ -112,7 +112,7 @@ fn serve_ends<D: Desk, S: OpenStream + Read + Write + Drop, C: Clock>(
     ensures served { (c : ConnectionValue)
         × (D.is_reliable desk.new → (m : State) → D.stands desk.old m → (n : State) × ServesConnection D.store_may_refuse m c n
         × D.stands desk.new n
-        × ((states : List State) → D.may_leave desk.old states → D.may_leave desk.new (left_by m states c.messages c.answers))) }
+        × ((states : List State) → D.may_leave desk.old states → D.may_leave desk.new (after_a_stop_of_answers m states c.messages c.answers))) }
     ensures memory { IfErr result (λ _. desk.new ≡ desk.old) }
 {
     let mut r = Counted::new(reader);
@@ -141,7 +141,7 @@ pub fn serve_connection<D: Desk, S: OpenStream + Read + Write + Drop, C: Clock>(
     ensures served { (c : ConnectionValue)
         × (D.is_reliable desk.new → (m : State) → D.stands desk.old m → (n : State) × ServesConnection D.store_may_refuse m c n
         × D.stands desk.new n
-        × ((states : List State) → D.may_leave desk.old states → D.may_leave desk.new (left_by m states c.messages c.answers))) }
+        × ((states : List State) → D.may_leave desk.old states → D.may_leave desk.new (after_a_stop_of_answers m states c.messages c.answers))) }
     ensures memory { IfErr result (λ _. desk.new ≡ desk.old) }
 {
     match ends(stream, clock, limits) {

@@ -5,13 +5,13 @@ use Rattle.lsif.specs.Element.{IdValue, VertexValue, contains, next, definition,
 use Rattle.dump.specs.Graph.{vertex_at, ends, line_of}
 use Rattle.dump.specs.Monikers.{moniker_pairs_of, MarkValue, Bears}
 use Rattle.dump.specs.Walks.{Pair, first_to, first_of_list, same_label, single_in, single_pairs}
-use Rattle.dump.specs.declared.request.Request.{Request}
+use Rattle.dump.specs.declared.request_kind.RequestKind.{RequestKind}
 use Rattle.dump.specs.Requests.{First, label_of}
 use Rattle.std.proofs.lemmas.List.Quantifiers.{position-Some}
 use Rattle.dump.specs.declared.single.SingleLabel.{SingleLabel}
 use Rattle.dump.specs.declared.single.SingleLabel.TheVariants.{Next, Definition, References, Hover, PackageInformation, Declaration, Implementation}
 use Rattle.std.proofs.lemmas.Option.{get_or_from_slice_get}
-use Rattle.dump.specs.declared.request.Request.TheVariants.{Hover}
+use Rattle.dump.specs.declared.request_kind.RequestKind.TheVariants.{Hover}
 use Rattle.machine.proofs.Members.{contains_head, contains_tail, contains_one, not_in_nil, flat_of, in_if, same_id_self}
 
 abbrev pub HasLine : List ElementValue → IdValue → Type 0
@@ -113,7 +113,7 @@ bound : (own : List Pair) (xs : List IdValue) (r : IdValue) → first_of_list ow
 bound own [] r e = cc
 bound own (x ∷ xs) r e = found_by own (first_to own x) x xs r refl (bound own xs r) e
 
-pub result_line : (request : Request) (elements : List ElementValue) → HasEnds elements → HasVertexLines elements → (x r : IdValue) → First request elements x (Some r) → HasLine elements r
+pub result_line : (request : RequestKind) (elements : List ElementValue) → HasEnds elements → HasVertexLines elements → (x r : IdValue) → First request elements x (Some r) → HasLine elements r
 result_line request elements has lined x r f =
     let b = bound (single_pairs (label_of request) elements) f.0 r (sym f.2) in
     target_line (label_of request) elements has lined b.0 r b.1

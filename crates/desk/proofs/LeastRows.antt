@@ -5,7 +5,7 @@ use Rattle.std.specs.Ordering.{ordering_reverse}
 use Rattle.std.specs.declared.cmp.Ordering.{Ordering}
 use Rattle.std.specs.declared.cmp.Ordering.TheVariants.{Less, Equal, Greater}
 use Rattle.dump.specs.Places.{IsListing}
-use Rattle.dump.specs.declared.request.Request.{Request}
+use Rattle.dump.specs.declared.request_kind.RequestKind.{RequestKind}
 use Rattle.machine.specs.State.{State}
 use Rattle.tables.specs.Selections.{RangeFound}
 use Rattle.desk.specs.Steps.RowHovers.{IsLeast, joined_cmp}
@@ -38,7 +38,7 @@ least_of P (y ∷ xs) x l e =
 pub none_of : (P : JoinedValue → Type 0) (xs : List JoinedBearer) → IsListing joined_cmp P (map joined_value xs) → xs ≡ [] → IsLeast P None
 none_of P xs l e = λ k p. not_in_nil k (subst (λ ys. Contains (map joined_value ys) k) e ((l.each k).1 p))
 
-pub row_joined : (m : State) (request : Request) (own : List ℕ) (row : RangeFound) (texts : List (List ℕ)) {C : JoinedValue → Type 0} → AreKeys m request own row.line texts → ((j : JoinedValue) → C j ↔ AreJoined m request own texts j)
+pub row_joined : (m : State) (request : RequestKind) (own : List ℕ) (row : RangeFound) (texts : List (List ℕ)) {C : JoinedValue → Type 0} → AreKeys m request own row.line texts → ((j : JoinedValue) → C j ↔ AreJoined m request own texts j)
     → (j : JoinedValue) → C j ↔ IsRowJoined m request own row j
 row_joined m request own row texts {C} keyed are j = (to, back)
   where

@@ -1,10 +1,10 @@
--- What a refusal of an index leaves of the machine's states.
-use Rattle.std.proofs.Common.{◌≡◌, ◌++◌, [], ◌∷◌, List, sym, subst}
+-- What a refusal of an index is answered, and what it leaves of the machine's states.
+use Rattle.std.proofs.Common.{◌≡◌, ◌++◌, [], ◌∷◌, Bool, true, List, refl, sym, subst}
 use Rattle.machine.specs.State.{State}
 use Rattle.machine.specs.Machine.{after}
 use Rattle.machine.specs.Reply.{ReplyValue}
-use Rattle.machine.specs.Requests.{CommandValue, command}
-use Rattle.machine.specs.Runs.{left, moved}
+use Rattle.machine.specs.Requests.{CommandValue, RequestValue, command}
+use Rattle.machine.specs.Runs.{MayReply, no_memory, no_store, after_a_stop, moved}
 use Rattle.desk.specs.Steps.Indexes.{refused_by}
 use Rattle.desk.specs.declared.index.IndexFault.{IndexFault}
 use Rattle.desk.specs.declared.index.IndexFault.TheVariants.{Refused, Memory}
@@ -14,6 +14,10 @@ module _ (m : State) (c : CommandValue) (r : ReplyValue) where
   stays P Refused is p = subst (λ (s : ReplyValue). P (moved m (command c) s)) (sym is) p
   stays P Memory is p = subst (λ (s : ReplyValue). P (moved m (command c) s)) (sym is) p
 
-  pub leaves : (P : List State → Type 0) (states : List State) (fault : IndexFault) → r ≡ refused_by fault → P (states ++ after m c ∷ []) → P (left m states (command c) r)
-  leaves P states Refused is p = subst (λ (s : ReplyValue). P (left m states (command c) s)) (sym is) p
-  leaves P states Memory is p = subst (λ (s : ReplyValue). P (left m states (command c) s)) (sym is) p
+  pub leaves : (P : List State → Type 0) (states : List State) (fault : IndexFault) → r ≡ refused_by fault → P (states ++ after m c ∷ []) → P (after_a_stop m states (command c) r)
+  leaves P states Refused is p = subst (λ (s : ReplyValue). P (after_a_stop m states (command c) s)) (sym is) p
+  leaves P states Memory is p = subst (λ (s : ReplyValue). P (after_a_stop m states (command c) s)) (sym is) p
+
+pub refused_reply : (s : Bool) (m : State) (q : RequestValue) (r : ReplyValue) (fault : IndexFault) → r ≡ refused_by fault → (fault ≡ Refused → s ≡ true) → MayReply s m q r
+refused_reply s m q r Refused is may = subst (MayReply s m q) (sym is) (no_store (may refl))
+refused_reply s m q r Memory is may = subst (MayReply s m q) (sym is) no_memory

@@ -1,7 +1,7 @@
 -- What answers a query at a position, from what rows say.
 use Rattle.std.proofs.Common.{◌≡◌, ◌≢◌, ℕ, List, [], Option, Some, None, subst}
-use Rattle.dump.specs.declared.request.Request.{Request}
-use Rattle.dump.specs.declared.request.Request.TheVariants as requests
+use Rattle.dump.specs.declared.request_kind.RequestKind.{RequestKind}
+use Rattle.dump.specs.declared.request_kind.RequestKind.TheVariants as requests
 use Rattle.dump.specs.declared.role.Role.{Role}
 use Rattle.dump.specs.Places.{IsListing}
 use Rattle.positions.specs.Position.{PositionValue}
@@ -21,7 +21,7 @@ pub renamed : (P : List ℕ → List ℕ → Type 0) (p q u v : List ℕ) → p 
 renamed P p q u v e f h = subst (λ x. P q x) f (subst (λ x. P x u) e h)
 
 module _ (m : State) (free : AreFaultless m) (own uri : List ℕ) (at : PositionValue) where
-  module _ (request : Request) (in_roles : List Role) where
+  module _ (request : RequestKind) (in_roles : List Role) where
     pub no_range_places : PicksIn m request own uri at None → AnswersAt m (at_value own uri at) (AnswersPlaces m request in_roles (at_value own uri at)) (places_found [])
     no_range_places (dump, there, document, pick) = answered dump there document (unpicked pick)
 

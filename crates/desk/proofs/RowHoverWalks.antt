@@ -6,7 +6,7 @@ use Rattle.std.specs.Ordering.{MatchOrdering, nat_cmp, ordering_then}
 use Rattle.std.specs.declared.cmp.Ordering.{Ordering}
 use Rattle.std.specs.declared.cmp.Ordering.TheVariants.{Less, Equal, Greater}
 use Rattle.lsif.specs.Element.{IdValue, VertexValue, hover_result, ElementValue}
-use Rattle.dump.specs.declared.request.Request.TheVariants.{Hover}
+use Rattle.dump.specs.declared.request_kind.RequestKind.TheVariants.{Hover}
 use Rattle.dump.specs.Fault.{IsFaultless}
 use Rattle.dump.specs.Graph.{line_of, vertex_at}
 use Rattle.dump.specs.Monikers.{MarkValue, Bears, moniker_pairs_of}
@@ -91,7 +91,7 @@ module _ (m : State) (free : AreFaultless m) (own_name : List ℕ) (dump : DumpV
       let second = h.0 in
       let y = h.1 in
       let sure = free j.project second h.2.is_there in
-      let v = bearer_vertex second.elements sure y h.2.borne h.2.bears in
+      let v = bearer_vertex second.elements sure y h.2.there h.2.there_marked in
       let l = vertex_line second.elements (sound_of second.elements sure) y v.0 v.1 in
       let n = number_line (line_of second.elements y) j.line h.3 in
       let same : l.0 ≡ n.0 = some_is l.0 n.0 (sym l.1 ∙ n.1) in

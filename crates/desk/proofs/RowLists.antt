@@ -1,7 +1,7 @@
 -- Keys, roles and results, one after another.
 use Rattle.std.proofs.Common.{◌≡◌, ◌⊎◌, inl, inr, ⊎_elim, ◌∙◌, ℕ, zero, suc, ◌+◌, ◌<◌, ◌≤◌, length, drop, drop-cons, add-one, get_or, arith, List, [], ◌∷◌, refl, sym, ap, subst}
 use Rattle.std.specs.Prelude.{◌↔◌, Contains, Option, Some}
-use Rattle.dump.specs.declared.request.Request.{Request}
+use Rattle.dump.specs.declared.request_kind.RequestKind.{RequestKind}
 use Rattle.dump.specs.declared.role.Role.{Role}
 use Rattle.dump.specs.Places.{PlaceValue}
 use Rattle.machine.specs.State.{State}
@@ -13,7 +13,7 @@ use Rattle.desk.specs.Steps.Rows.{AreJoined, AreKeys, IsAnsweringResult, IsKeyJo
 use Rattle.desk.proofs.Finding.{iff_trans, or_step}
 use Rattle.machine.proofs.Members.{contains_cases, contains_head, contains_tail, not_in_nil}
 
-module _ (m : State) (request : Request) (own : List ℕ) (j : JoinedValue) where
+module _ (m : State) (request : RequestKind) (own : List ℕ) (j : JoinedValue) where
   pub keys_more : (key : List ℕ) (rest : List (List ℕ)) → AreJoined m request own (key ∷ rest) j ↔ (IsKeyJoined m request own key j ⊎ AreJoined m request own rest j)
   keys_more key rest = (to, back)
     where
@@ -78,7 +78,7 @@ same_number : (o : Option ℕ) (a b : ℕ) → o ≡ Some a → o ≡ Some b →
 same_number o a b e f = let k : Some a ≡ Some b = sym e ∙ f in cc
 
 -- a bearer is one joined vertex
-pub one_of : (request : Request) (own : List ℕ) (b : BearerFound) (j w : JoinedValue) → OfBearer request own b j → OfBearer request own b w ↔ (j ≡ w)
+pub one_of : (request : RequestKind) (own : List ℕ) (b : BearerFound) (j w : JoinedValue) → OfBearer request own b j → OfBearer request own b w ↔ (j ≡ w)
 one_of request own b j w h = (to, λ e. subst (OfBearer request own b) e h)
   where
     to : OfBearer request own b w → j ≡ w
@@ -104,7 +104,7 @@ role_items m t p q is same role items listing place = (to, back)
         (place.place, (listing.each place.place).1 (subst (λ (x : List ℕ). HasItem m x t.number role place.place) (sym is) has), λ i. record { project = project i; place = place.place })
 
 -- the range's own result and those of joined vertices are the results that answer
-pub results_are : (m : State) (request : Request) (own : List ℕ) (row : RangeFound) (texts : List (List ℕ)) (joined : List JoinedValue) (t : ProjectResultValue) {A B C : Type 0} → AreKeys m request own row.line texts
+pub results_are : (m : State) (request : RequestKind) (own : List ℕ) (row : RangeFound) (texts : List (List ℕ)) (joined : List JoinedValue) (t : ProjectResultValue) {A B C : Type 0} → AreKeys m request own row.line texts
     → ((j : JoinedValue) → Contains joined j ↔ AreJoined m request own texts j) → (C ↔ A) → (A ↔ (B ⊎ ((j : JoinedValue) × Contains joined j × (result_of_joined j ≡ t)))) → (B ↔ IsOwnResult request own row t)
     → C ↔ IsAnsweringResult m request own row t
 results_are m request own row texts joined t {A} {B} {C} keyed are listed added mine = iff_trans listed (iff_trans added (to, back))

@@ -4,8 +4,8 @@ use Rattle.std.specs.Prelude.{◌↔◌, Contains, Option, Some, None, is_some, 
 use Rattle.std.specs.List.{AllZip}
 use Rattle.positions.specs.Position.{PositionValue}
 use Rattle.lsif.specs.Element.{IdValue, range, ElementValue}
-use Rattle.dump.specs.declared.request.Request.{Request}
-use Rattle.dump.specs.declared.request.Request.TheVariants as requests
+use Rattle.dump.specs.declared.request_kind.RequestKind.{RequestKind}
+use Rattle.dump.specs.declared.request_kind.RequestKind.TheVariants as requests
 use Rattle.dump.specs.declared.role.Role.{Role}
 use Rattle.dump.specs.Fault.{IsFaultless}
 use Rattle.dump.specs.Graph.{vertex_at}
@@ -52,12 +52,12 @@ module _ (elements : List ElementValue) (free : IsFaultless (map Ok elements)) w
   one_number = number_ones elements (one_line elements)
 
   -- what has a number for a request has a first result with this number
-  pub number_first : (request : Request) (x : IdValue) (n : ℕ) → IsResult elements request x (Some n) → (result : IdValue) × First request elements x (Some result) × (number_of elements result ≡ Some n)
+  pub number_first : (request : RequestKind) (x : IdValue) (n : ℕ) → IsResult elements request x (Some n) → (result : IdValue) × First request elements x (Some result) × (number_of elements result ≡ Some n)
   number_first request x n (Some result, first, e) = (result, first, sym e)
   number_first request x n (None, first, e) = cc
 
   -- the number of a first result
-  pub first_number : (request : Request) (x result : IdValue) (o : Option ℕ) → IsResult elements request x o → First request elements x (Some result) → (n : ℕ) × (o ≡ Some n) × (number_of elements result ≡ Some n)
+  pub first_number : (request : RequestKind) (x result : IdValue) (o : Option ℕ) → IsResult elements request x o → First request elements x (Some result) → (n : ℕ) × (o ≡ Some n) × (number_of elements result ≡ Some n)
   first_number request x result o (first, is, e) f =
       let same : first ≡ Some result = one_result request elements x first (Some result) is f in
       let l = result_line request elements ended lined x result f in
@@ -65,17 +65,17 @@ module _ (elements : List ElementValue) (free : IsFaultless (map Ok elements)) w
       (l.0 + 1, e ∙ ap (option_and_then (number_of elements)) same ∙ number, number)
 
   -- two results of a vertex are one
-  pub same_result : (request : Request) (x : IdValue) (o p : Option ℕ) → IsResult elements request x o → IsResult elements request x p → o ≡ p
+  pub same_result : (request : RequestKind) (x : IdValue) (o p : Option ℕ) → IsResult elements request x o → IsResult elements request x p → o ≡ p
   same_result request x o p (first, is, e) (second, has, f) = e ∙ ap (option_and_then (number_of elements)) (one_result request elements x first second is has) ∙ sym f
 
   -- each vertex has results
   chain_results : (x : IdValue) → HasChain (next_pairs elements) x → (results : ResultsValue) × AreResults elements x results
   chain_results x (xs, chain) = (results, are)
     where
-      first : Request → Option IdValue
+      first : RequestKind → Option IdValue
       first request = first_of_list (single_pairs (label_of request) elements) xs
 
-      result : Request → Option ℕ
+      result : RequestKind → Option ℕ
       result request = option_and_then (number_of elements) (first request)
 
       results : ResultsValue
@@ -87,7 +87,7 @@ module _ (elements : List ElementValue) (free : IsFaultless (map Ok elements)) w
         implementation = result requests.Implementation;
       }
 
-      is : (request : Request) → IsResult elements request x (result request)
+      is : (request : RequestKind) → IsResult elements request x (result request)
       is request = (first request, (xs, chain, refl), refl)
 
       are : AreResults elements x results
@@ -114,7 +114,7 @@ module _ (elements : List ElementValue) (free : IsFaultless (map Ok elements)) w
   abbrev item_row : ℕ → Role → PlaceValue → ItemRowValue
   item_row n role place = record { result = n; role = role; place = place }
 
-  pub place_item : (request : Request) → request ≢ requests.Hover → (x result : IdValue) (n : ℕ) (role : Role) (place : PlaceValue) → First request elements x (Some result) → number_of elements result ≡ Some n
+  pub place_item : (request : RequestKind) → request ≢ requests.Hover → (x result : IdValue) (n : ℕ) (role : Role) (place : PlaceValue) → First request elements x (Some result) → number_of elements result ≡ Some n
       → Places (role ∷ []) elements result place → IsItemRow elements (item_row n role place)
   place_item request other x result n role place first number is = record { result = result; at_line = number; is_result = first_result elements sound request other x result first; is_place = is }
 
@@ -125,7 +125,7 @@ module _ (elements : List ElementValue) (free : IsFaultless (map Ok elements)) w
 
 module _ (m : State) (free : AreFaultless m) where
   -- the places of a vertex's first result are those of the result's number
-  module _ (request : Request) (other : request ≢ requests.Hover) (in_roles : List Role) (project : List ℕ) (dump : DumpValue) (there : m.dump project ≡ Some dump) (x : IdValue) (n : ℕ) (is : IsResult dump.elements request x (Some n)) (place : PlaceValue) where
+  module _ (request : RequestKind) (other : request ≢ requests.Hover) (in_roles : List Role) (project : List ℕ) (dump : DumpValue) (there : m.dump project ≡ Some dump) (x : IdValue) (n : ℕ) (is : IsResult dump.elements request x (Some n)) (place : PlaceValue) where
     abbrev project_result : ProjectResultValue
     project_result = record { project = project; number = n }
 
@@ -146,7 +146,7 @@ module _ (m : State) (free : AreFaultless m) where
 
   -- ---- the range and what is joined to it
 
-  module _ (request : Request) (own : List ℕ) (dump : DumpValue) (there : m.dump own ≡ Some dump) (r : RangeValue) (row : RangeFound) (has : HasRow dump.elements r row) where
+  module _ (request : RequestKind) (own : List ℕ) (dump : DumpValue) (there : m.dump own ≡ Some dump) (r : RangeValue) (row : RangeFound) (has : HasRow dump.elements r row) where
     -- a mark of the row is one of the range
     mark_to : (mark : MarkText) → HasMark m own row.line mark → (known : MarkValue) × Marks dump.elements r.id known × (known.kind ≡ mark.kind) × (key_text known.key ≡ mark.key)
     mark_to mark (second, is, told) =
@@ -181,13 +181,12 @@ module _ (m : State) (free : AreFaultless m) where
           record {
             elsewhere = subst (λ (p : List ℕ). p ≢ own) fits.its_project fits.elsewhere;
             is_there = is;
-            mark = k.0;
-            borne = told.mark;
-            marks = k.1;
-            follows = ap (follows request) k.2 ∙ follow;
-            bears = told.bears;
-            finds = ap (finds request) told.is_kind ∙ fits.finds;
-            same_key = key_same k.0.key told.mark.key (k.3 ∙ key ∙ sym told.is_key);
+            here = k.0;
+            there = told.mark;
+            here_marked = k.1;
+            there_marked = told.bears;
+            kinds = (ap (follows request) k.2 ∙ follow, ap (finds request) told.is_kind ∙ fits.finds);
+            same_moniker = key_same k.0.key told.mark.key (k.3 ∙ key ∙ sym told.is_key);
           },
           told.at_line ∙ ap (λ k. Some k) fits.its_line,
           subst (IsResult second.elements request told.vertex) fits.its_result (told.are_results request),
@@ -198,22 +197,22 @@ module _ (m : State) (free : AreFaultless m) where
     joined_from project n second y j is =
         let sure = free project second j.is_there in
         let ended = end_vertex second.elements (sound_of second.elements sure) in
-        let l = bears_line second.elements ended (vertex_line second.elements (sound_of second.elements sure)) y j.borne j.bears in
+        let l = bears_line second.elements ended (vertex_line second.elements (sound_of second.elements sure)) y j.there j.there_marked in
         let number : number_of second.elements y ≡ Some (l.0 + 1) = ap (option_map (λ k. k + 1)) l.1 in
         let results = each_results second.elements sure y in
-        let text = key_text j.mark.key in
-        let bearer : BearerFound = record { project = project; line = l.0 + 1; kind = j.borne.kind; results = results.0 } in (
+        let text = key_text j.here.key in
+        let bearer : BearerFound = record { project = project; line = l.0 + 1; kind = j.there.kind; results = results.0 } in (
           l.0 + 1,
           number,
           (
             text,
-            (record { kind = j.mark.kind; key = text }, mark_from j.mark j.marks, j.follows, refl),
+            (record { kind = j.here.kind; key = text }, mark_from j.here j.here_marked, j.kinds.0, refl),
             (
               bearer,
-              (second, j.is_there, record { vertex = y; mark = j.borne; at_line = number; bears = j.bears; is_kind = refl; is_key = ap key_text (sym j.same_key); are_results = results.1 }),
+              (second, j.is_there, record { vertex = y; mark = j.there; at_line = number; bears = j.there_marked; is_kind = refl; is_key = ap key_text (sym j.same_moniker); are_results = results.1 }),
               record {
                 elsewhere = j.elsewhere;
-                finds = j.finds;
+                finds = j.kinds.1;
                 its_project = refl;
                 its_line = refl;
                 its_result = same_result second.elements sure request y (result_for request results.0) (Some n) (results.1 request) is;
@@ -254,7 +253,7 @@ module _ (m : State) (free : AreFaultless m) where
 
   -- ---- the range that is picked
 
-  module _ (request : Request) (own : List ℕ) (dump : DumpValue) (there : m.dump own ≡ Some dump) where
+  module _ (request : RequestKind) (own : List ℕ) (dump : DumpValue) (there : m.dump own ≡ Some dump) where
     -- the first row that speaks is that of the first range that does
     abbrev IsSame : Option RangeValue → Option RangeFound → Type 0
     IsSame (Some r) (Some row) = HasRow dump.elements r row

@@ -7,7 +7,7 @@ ghost use Rattle.machine.specs.Requests.{CommandValue, command_value};
 ghost use Rattle.desk.specs.Steps.Indexes.{IsAccepted, IsServed, refused_by};
 ghost use Rattle.machine.specs.Steps.Changes.{change_value};
 ghost use Rattle.desk.specs.Steps.Plain.{Concludes};
-ghost use Rattle.machine.specs.Uploads.{StandsFor, command_of};
+ghost use Rattle.machine.specs.Uploads.{HasRead, command_of};
 ghost use Rattle.desk.specs.declared.index.IndexFault.TheVariants.{Refused, Memory};
 
 use crate::index::{Index, IndexFault};
@@ -114,7 +114,7 @@ impl<I: Index> IndexDesk<I> {
     /// Serves the command that an upload is.
     fn finish(&mut self, upload: Upload) -> Result<Reply, IndexFault>
         ensures reliable { I.is_reliable self.new.index → I.is_reliable self.old.index }
-        ensures served { I.is_reliable self.new.index → (m : State) (body : List ℕ) → I.stands self.old.index m → StandsFor upload.body body
+        ensures served { I.is_reliable self.new.index → (m : State) (body : List ℕ) → I.stands self.old.index m → HasRead upload.body body
             → IsServed I.stands I.may_leave self.old.index self.new.index m (command_of upload body) result }
         ensures memory { upload.body.is_out_of_memory ≡ true → result ≡ Err Memory }
         ensures refused { IfErr result (λ fault. fault ≡ Refused → I.may_refuse ≡ true) }

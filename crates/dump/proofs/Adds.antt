@@ -10,7 +10,8 @@ use Rattle.dump.specs.declared.links.Link.{Link}
 use Rattle.dump.specs.declared.index_map.IndexMap.{IndexMap}
 use Rattle.dump.specs.Conditions.{are_vertices}
 use Rattle.dump.specs.Ended.{has_begun, has_ended}
-use Rattle.dump.specs.Graph.{element_at, vertex_of, vertex_at, is_document, ends}
+use Rattle.dump.specs.Graph.{element_at, vertex_of, vertex_at, ends}
+use Rattle.dump.specs.Kinds.{is_document}
 use Rattle.dump.specs.Steps.Ids.{index_at, IsTable, entered, HasRows}
 use Rattle.dump.specs.Steps.Tables.{has_id}
 use Rattle.dump.specs.Steps.Links.{link_index, cell, link_at, is_link, named_by, is_named}

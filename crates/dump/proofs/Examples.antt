@@ -6,10 +6,10 @@ use Rattle.lsif.specs.declared.element.MonikerKind.{MonikerKind}
 use Rattle.lsif.specs.declared.element.MonikerKind.TheVariants.{Import, Export}
 use Rattle.lsif.specs.declared.element.Property.TheVariants as properties
 use Rattle.lsif.specs.Element.{IdValue, number, meta_data, document, range, result_set, definition_result, reference_result, moniker, package_information, contains, next, definition, moniker_edge, package_edge, ItemValue, item, ElementValue, vertex, edge}
-use Rattle.dump.specs.declared.request.Request.TheVariants as requests
+use Rattle.dump.specs.declared.request_kind.RequestKind.TheVariants as requests
 use Rattle.dump.specs.declared.role.Role.TheVariants as roles
 use Rattle.dump.specs.Graph.{element_at}
-use Rattle.dump.specs.Monikers.{KeyValue, MarkValue, Bears}
+use Rattle.dump.specs.Monikers.{MonikerKey, MarkValue, Bears}
 use Rattle.dump.specs.Places.{Places, result_pairs}
 use Rattle.dump.specs.Requests.{First, Speaks}
 use Rattle.dump.specs.Walks.{Path, stays, goes, ends, links}
@@ -91,7 +91,7 @@ named kind version =
     ∷ edge (number 7) (package_edge (number 4) (number 5))
     ∷ []
 
-abbrev key_of : List ℕ → KeyValue
+abbrev key_of : List ℕ → MonikerKey
 key_of version = record { scheme = codes "npm"; identifier = codes "lib::f"; «package» = Some (record { manager = codes "npm"; name = codes "lib"; version = version }) }
 
 abbrev mark_of_kind : MonikerKind → List ℕ → MarkValue

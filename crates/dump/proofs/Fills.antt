@@ -1,13 +1,14 @@
 -- The spans that are kept of each document, and what a `contains` edge more makes of them.
-use Rattle.std.proofs.Common.{◌≡◌, ◌∙◌, ◌&&◌, ◌||◌, ◌++◌, ◌∷◌, [], Bool, true, false, List, refl, sym, ap, ap₂, subst, append_assoc, append-nil, Option, Some, None, is_some, if◌then◌else◌}
+use Rattle.std.proofs.Common.{◌≡◌, ⊎_elim, ◌∙◌, ◌&&◌, ◌||◌, ◌++◌, ◌∷◌, [], Bool, true, false, List, refl, sym, ap, ap₂, subst, append_assoc, append-nil, Option, Some, None, is_some, if◌then◌else◌}
 use Rattle.std.specs.Prelude.{Contains, Vec, IsPermutation}
-use Rattle.std.specs.List.{list_any, flat_map, cons_option}
+use Rattle.std.specs.List.{list_any, list_all, flat_map, cons_option}
 use Rattle.std.proofs.lemmas.List.Sorted.{IsPermutation-refl, IsPermutation-trans, IsPermutation-append_left, list_any-IsPermutation}
 use Rattle.std.specs.declared.alloc.Global.{Global}
 use Rattle.positions.specs.Span.{SpanValue}
 use Rattle.lsif.specs.Element.{IdValue, same_id, VertexValue, meta_data, project, document, range, result_set, definition_result, reference_result, declaration_result, implementation_result, hover_result, moniker, package_information, event, other_vertex, contains, next, definition, references, declaration, implementation, hover, moniker_edge, package_edge, attach, item, other_edge, ElementValue, vertex, edge}
-use Rattle.dump.specs.Graph.{vertex_at, is_document, span_of, is_among, ends}
-use Rattle.dump.specs.Conditions.{are_vertices, are_documents, may_contain}
+use Rattle.dump.specs.Graph.{vertex_at, span_of, is_among, ends}
+use Rattle.dump.specs.Kinds.{is_document}
+use Rattle.dump.specs.Conditions.{are_vertices, may_not_join}
 use Rattle.dump.specs.Contained.{contains_range, spans_of, spans_named, spans_in, conflicts, any_conflicts, has_conflict}
 use Rattle.dump.specs.Steps.Tables.{is_id, kept, IsFilled}
 use Rattle.dump.specs.Contained.{contains_source}
@@ -16,6 +17,7 @@ use Rattle.dump.proofs.Bools.{and_both, not_false}
 use Rattle.dump.proofs.Conflicts.{conflict_of_both, has_conflict-permutation}
 use Rattle.dump.proofs.Ends.{HasNoCode}
 use Rattle.dump.proofs.Known.{AreEndsKnown}
+use Rattle.dump.proofs.Rows.{contains_fits}
 use Rattle.dump.proofs.Members.{contains_head, contains_tail}
 use Rattle.dump.proofs.Nests.{kept_vertex, vertex_there}
 use Rattle.dump.proofs.SameIds.{same_id_eq}
@@ -94,10 +96,10 @@ spans_more d x known e v =
     ∙ ap₂ (λ a b. a ++ b) (each_named d x v d known) (named_stay d x x e v)
 
 -- documents have no span
-document_spans : (d : List ElementValue) (is : List IdValue) → are_documents d is ≡ true → spans_of d is ≡ []
+document_spans : (d : List ElementValue) (is : List IdValue) → list_all (λ i. is_document (vertex_at d i)) is ≡ true → spans_of d is ≡ []
 document_spans d [] e = refl
 document_spans d (i ∷ is) e =
-    let both = and_both (is_document (vertex_at d i)) (are_documents d is) e in
+    let both = and_both (is_document (vertex_at d i)) (list_all (λ j. is_document (vertex_at d j)) is) e in
     ap₂ cons_option (no_span (vertex_at d i) both.0) (document_spans d is both.1)
   where
     no_span : (o : Option VertexValue) → is_document o ≡ true → span_of o ≡ None
@@ -118,22 +120,16 @@ document_spans d (i ∷ is) e =
     no_span (Some other_vertex) h = refl
 
 -- the ranges of a document alone have spans
-target_spans : (d : List ElementValue) (o : Option VertexValue) (to : List IdValue) → may_contain d o to ≡ true → spans_of d to ≡ spans_of d (if is_document o then to else [])
-target_spans d None to e = cc
-target_spans d (Some (document s)) to e = refl
-target_spans d (Some project) to e = document_spans d to e
-target_spans d (Some (meta_data b)) to e = cc
-target_spans d (Some (range s)) to e = cc
-target_spans d (Some result_set) to e = cc
-target_spans d (Some definition_result) to e = cc
-target_spans d (Some reference_result) to e = cc
-target_spans d (Some declaration_result) to e = cc
-target_spans d (Some implementation_result) to e = cc
-target_spans d (Some (hover_result s)) to e = cc
-target_spans d (Some (moniker m)) to e = cc
-target_spans d (Some (package_information q)) to e = cc
-target_spans d (Some (event f)) to e = cc
-target_spans d (Some other_vertex) to e = cc
+target_spans : (d : List ElementValue) (i from : IdValue) (to : List IdValue) → may_not_join d (edge i (contains from to)) ≡ false
+    → spans_of d to ≡ spans_of d (if is_document (vertex_at d from) then to else [])
+target_spans d i from to free = ⊎_elim
+    (λ (leaves : is_document (vertex_at d from) ≡ true). ap (λ b. spans_of d (if b then to else [])) (sym leaves))
+    (λ (documents : list_all (λ j. is_document (vertex_at d j)) to ≡ true). by (is_document (vertex_at d from)) (document_spans d to documents))
+    (contains_fits d i from to free)
+  where
+    by : (b : Bool) → spans_of d to ≡ [] → spans_of d to ≡ spans_of d (if b then to else [])
+    by true none = refl
+    by false none = none
 
 no_conflict_by : (d : List ElementValue) (from : IdValue) (to : List IdValue) (b : Bool)
     → (b && (any_conflicts (spans_of d to) (spans_in d from) || has_conflict (spans_of d to))) ≡ false
@@ -148,7 +144,7 @@ module _ (d : List ElementValue) (i from : IdValue) (to : List IdValue) (free : 
       → IsPermutation (spans_in d v ++ (if b then spans_of d to else [])) (kept (new v)) × (has_conflict (kept (new v)) ≡ false)
   filled_at v true same h =
       let targets = spans_of d (ranges_in d (edge i (contains from to))) in
-      let all : spans_of d to ≡ targets = target_spans d (vertex_at d from) to (not_false (may_contain d (vertex_at d from) to) free.joins) in
+      let all : spans_of d to ≡ targets = target_spans d i from to free.joins in
       let before = had v in
       let joined : IsPermutation (spans_in d v ++ targets) (kept (new v)) = IsPermutation-trans _ _ _ (IsPermutation-append_left targets (spans_in d v) (kept (old v)) before.0) h in
       let apart : (any_conflicts targets (spans_in d from) || has_conflict targets) ≡ false = no_conflict_by d from to (is_document (vertex_at d from)) free.conflict in

@@ -6,7 +6,8 @@ use Rattle.std.specs.List.{list_any}
 use Rattle.std.proofs.lemmas.List.Elements.{Contains-push_cases}
 use Rattle.std.proofs.lemmas.List.Folds.{list_any-append}
 use Rattle.lsif.specs.Element.{IdValue, same_id, VertexValue, meta_data, project, document, range, result_set, definition_result, reference_result, declaration_result, implementation_result, hover_result, moniker, package_information, event, other_vertex, begin_event, end_event, other_event, contains, next, definition, references, declaration, implementation, hover, moniker_edge, package_edge, attach, item, other_edge, ElementValue, vertex, edge}
-use Rattle.dump.specs.Graph.{vertex_at, is_document, is_among, ends}
+use Rattle.dump.specs.Graph.{vertex_at, is_among, ends}
+use Rattle.dump.specs.Kinds.{is_document}
 use Rattle.dump.specs.Contained.{contains_range, is_contained, places_range, is_in}
 use Rattle.dump.specs.Conditions.{are_vertices}
 use Rattle.dump.specs.Ended.{finishes, has_begun, has_ended, closes_range, is_closed}

@@ -1,16 +1,18 @@
 -- In a sound dump two ranges of one document don't conflict.
-use Rattle.std.proofs.Common.{◌≡◌, ◌⊎◌, inl, inr, ◌∙◌, ◌&&◌, ◌||◌, ◌++◌, ◌∷◌, [], ℕ, Bool, true, false, not, if◌then◌else◌, List, refl, sym, ap, ap₂, subst, arith, find, Option, Some, None, option_and_then, is_some}
+use Rattle.std.proofs.Common.{◌≡◌, ◌⊎◌, inl, inr, ⊎_elim, ◌∙◌, ◌&&◌, ◌||◌, ◌++◌, ◌∷◌, [], ℕ, Bool, true, false, not, if◌then◌else◌, List, refl, sym, ap, ap₂, subst, arith, find, Option, Some, None, option_and_then, is_some}
 use Rattle.std.specs.List.{list_any, list_all, flat_map, cons_option}
 use Rattle.std.specs.Option.{option_or}
 use Rattle.std.proofs.lemmas.List.Folds.{find-append, list_any-append}
 use Rattle.positions.specs.Position.{PositionValue, is_before, later_of, earlier_of}
 use Rattle.positions.specs.Span.{SpanValue, nests, overlaps}
 use Rattle.lsif.specs.Element.{IdValue, same_id, VertexValue, meta_data, project, document, range, result_set, definition_result, reference_result, declaration_result, implementation_result, hover_result, moniker, package_information, event, other_vertex, contains, next, definition, references, declaration, implementation, hover, moniker_edge, package_edge, attach, item, other_edge, ElementValue, vertex, edge, element_id}
-use Rattle.dump.specs.Graph.{element_at, vertex_of, vertex_at, is_document, span_of, is_among}
+use Rattle.dump.specs.Graph.{element_at, vertex_of, vertex_at, span_of, is_among}
+use Rattle.dump.specs.Kinds.{is_document}
 use Rattle.dump.specs.Contained.{places_range, spans_of, spans_named, spans_in, conflicts, any_conflicts, has_conflict, IsNested}
-use Rattle.dump.specs.Conditions.{are_vertices, may_contain}
+use Rattle.dump.specs.Conditions.{are_vertices, may_not_join}
 use Rattle.dump.specs.Progress.{IsSound}
 use Rattle.dump.proofs.Bools.{or_none, or_some, and_both, and_rest, not_false}
+use Rattle.dump.proofs.Rows.{contains_fits}
 use Rattle.dump.proofs.SameIds.{same_id_eq}
 use Rattle.dump.proofs.Ends.{HasNoCode, holds}
 
@@ -216,22 +218,13 @@ range_is_no_document (Some (event w)) e h t = cc
 range_is_no_document (Some other_vertex) e h t = cc
 
 -- a `contains` edge to a range leaves a document
-leaves_document : (d : List ElementValue) (o : Option VertexValue) (to : List IdValue) (r : IdValue) (e : SpanValue) → may_contain d o to ≡ true → is_among r to ≡ true → span_of (vertex_at d r) ≡ Some e → is_document o ≡ true
-leaves_document d None to r e may at has = cc
-leaves_document d (Some (document s)) to r e may at has = refl
-leaves_document d (Some project) to r e may at has = absurd (range_is_no_document (vertex_at d r) e has (all_among (λ j. is_document (vertex_at d j)) to r may at))
-leaves_document d (Some (meta_data b)) to r e may at has = cc
-leaves_document d (Some (range s)) to r e may at has = cc
-leaves_document d (Some result_set) to r e may at has = cc
-leaves_document d (Some definition_result) to r e may at has = cc
-leaves_document d (Some reference_result) to r e may at has = cc
-leaves_document d (Some declaration_result) to r e may at has = cc
-leaves_document d (Some implementation_result) to r e may at has = cc
-leaves_document d (Some (hover_result w)) to r e may at has = cc
-leaves_document d (Some (moniker w)) to r e may at has = cc
-leaves_document d (Some (package_information w)) to r e may at has = cc
-leaves_document d (Some (event w)) to r e may at has = cc
-leaves_document d (Some other_vertex) to r e may at has = cc
+leaves_document : (d : List ElementValue) (i from : IdValue) (to : List IdValue) (r : IdValue) (e : SpanValue) → may_not_join d (edge i (contains from to)) ≡ false
+    → is_among r to ≡ true → span_of (vertex_at d r) ≡ Some e → is_document (vertex_at d from) ≡ true
+leaves_document d i from to r e free at has = ⊎_elim
+    (λ (leaves : is_document (vertex_at d from) ≡ true). leaves)
+    (λ (documents : list_all (λ j. is_document (vertex_at d j)) to ≡ true).
+    absurd (range_is_no_document (vertex_at d r) e has (all_among (λ j. is_document (vertex_at d j)) to r documents at)))
+    (contains_fits d i from to free)
 
 -- what the targets of a `contains` edge without a code are to each other and to those before them
 pub record ClearOf (d : List ElementValue) (from : IdValue) (to : List IdValue) : Type 0 where
@@ -240,7 +233,7 @@ pub record ClearOf (d : List ElementValue) (from : IdValue) (to : List IdValue) 
 
 clear_of : (d : List ElementValue) (i from : IdValue) (to : List IdValue) → HasNoCode d (edge i (contains from to)) → (r : IdValue) (e : SpanValue) → is_among r to ≡ true → span_of (vertex_at d r) ≡ Some e → ClearOf d from to
 clear_of d i from to free r e at has =
-    let is_doc = leaves_document d (vertex_at d from) to r e (not_false (may_contain d (vertex_at d from) to) free.joins) at has in
+    let is_doc = leaves_document d i from to r e free.joins at has in
     let none = and_rest (is_document (vertex_at d from)) (any_conflicts (spans_of d to) (spans_in d from) || has_conflict (spans_of d to)) is_doc free.conflict in
     let both = or_none (any_conflicts (spans_of d to) (spans_in d from)) (has_conflict (spans_of d to)) none in
     record { before = both.0; beside = both.1 }

@@ -11,7 +11,7 @@ use Rattle.std.specs.declared.cmp.Ordering.TheVariants.{Less, Greater}
 use Rattle.std.proofs.lemmas.List.Elements.{All-contains, All-from_recursion}
 use Rattle.positions.specs.Position.{PositionValue, IsAtOrBefore}
 use Rattle.lsif.specs.Element.{IdValue, ElementValue}
-use Rattle.dump.specs.declared.request.Request.{Request}
+use Rattle.dump.specs.declared.request_kind.RequestKind.{RequestKind}
 use Rattle.dump.specs.Places.{IsListing, IsCovering, PlaceValue, position_cmp, place_cmp}
 use Rattle.dump.specs.Requests.{RangeValue, IsWithin, Cover, First, IsFirst, nobody, here, later, label_of, Pick, Speaks}
 use Rattle.dump.specs.Walks.{first_of_list, single_pairs, next_pairs}
@@ -79,7 +79,7 @@ one_place_list places others a b same =
 
 -- ---- the first result
 
-pub one_result : (request : Request) (d : List ElementValue) (x : IdValue) (r s : Option IdValue) → First request d x r → First request d x s → r ≡ s
+pub one_result : (request : RequestKind) (d : List ElementValue) (x : IdValue) (r s : Option IdValue) → First request d x r → First request d x s → r ≡ s
 one_result request d x r s (xs, chain, is) (ys, other, says) =
     is ∙ ap (first_of_list (single_pairs (label_of request) d)) (unique (next_pairs d) x xs ys chain other) ∙ sym says
 
@@ -116,7 +116,7 @@ one_first P (x ∷ xs) o q (here h) (later n k) = absurd (n h)
 one_first P (x ∷ xs) o q (later n h) (here k) = absurd (n k)
 one_first P (x ∷ xs) o q (later n h) (later m k) = one_first P xs o q h k
 
-pub one_pick : (request : Request) (d : List ElementValue) (uri : List ℕ) (p : PositionValue) (o q : Option RangeValue) → Pick request d uri p o → Pick request d uri p q → o ≡ q
+pub one_pick : (request : RequestKind) (d : List ElementValue) (uri : List ℕ) (p : PositionValue) (o q : Option RangeValue) → Pick request d uri p o → Pick request d uri p q → o ≡ q
 one_pick request d uri p o q (ranges, cover, first) (others, other, second) =
     let same = one_cover d uri p ranges others cover other in
     one_first (λ (r : RangeValue). Speaks request d r.id) others o q (subst (λ rs. IsFirst (λ (r : RangeValue). Speaks request d r.id) rs o) same first) second

@@ -1,24 +1,28 @@
 -- In a sound dump a request's first result is of its kind, and one of another request than references leads to no other result.
-use Rattle.std.proofs.Common.{◌≡◌, ⊎_elim, ◌∙◌, ◌||◌, ◌++◌, ◌∷◌, [], ℕ, nat_eq, Bool, true, false, not, List, map, refl, sym, ap, subst, arith, Option, Some, None, is_some}
+use Rattle.std.proofs.Common.{◌≡◌, ⊎_elim, ◌∙◌, ◌||◌, ◌++◌, ◌∷◌, [], ℕ, nat_eq, Bool, true, false, List, map, refl, sym, ap, subst, arith, Option, Some, None, is_some}
 use Rattle.std.specs.Prelude.{Contains, ◌↔◌, if◌then◌else◌}
-use Rattle.std.specs.List.{flat_map}
+use Rattle.std.specs.List.{flat_map, list_any}
 use Rattle.std.proofs.lemmas.List.Elements.{Contains-push_cases, Contains-append_cases}
 use Rattle.lsif.specs.declared.element.Property.{Property}
 use Rattle.lsif.specs.declared.element.Property.TheVariants.{Definitions, References, ReferenceResults}
 use Rattle.lsif.specs.Element.{IdValue, VertexValue, meta_data, project, document, range, result_set, definition_result, reference_result, declaration_result, implementation_result, hover_result, moniker, package_information, event, other_vertex, contains, next, definition, references, declaration, implementation, hover, moniker_edge, package_edge, attach, ItemValue, item, other_edge, ElementValue, vertex, edge}
-use Rattle.dump.specs.Conditions.{may_ask, is_result_set, is_moniker, is_package, is_definition_result, is_declaration_result, is_implementation_result, is_hover_result, are_definitions, are_ranges, may_have_item, may_not_join}
-use Rattle.dump.specs.Graph.{vertex_at, is_reference_result}
+use Rattle.dump.specs.Conditions.{fits_row, may_not_join}
+use Rattle.dump.specs.Graph.{vertex_at}
+use Rattle.dump.specs.Kinds.{is_of_kind, item_rows}
+use Rattle.dump.specs.declared.vertices.Kind.{Kind}
+use Rattle.dump.specs.declared.vertices.Kind.TheVariants.{Any, ResultSet, DefinitionResult, ReferenceResult, DeclarationResult, ImplementationResult, HoverResult, Moniker, Package, Other, Asked}
 use Rattle.dump.specs.Progress.{IsSound}
 use Rattle.dump.specs.Walks.{Pair, label_index, same_label, single_of, single_in, single_pairs, first_to, first_of_list, Path, stays, goes}
 use Rattle.dump.specs.declared.single.SingleLabel.{SingleLabel}
 use Rattle.dump.specs.declared.single.SingleLabel.TheVariants as labels
 use Rattle.dump.specs.declared.single.SingleLabel.TheVariants.{Next, Definition, Hover, PackageInformation, Declaration, Implementation}
-use Rattle.dump.specs.declared.request.Request.{Request}
-use Rattle.dump.specs.declared.request.Request.TheVariants as requests
+use Rattle.dump.specs.declared.request_kind.RequestKind.{RequestKind}
+use Rattle.dump.specs.declared.request_kind.RequestKind.TheVariants as requests
 use Rattle.dump.specs.declared.role.Role.{Role}
 use Rattle.dump.specs.Requests.{label_of, First}
 use Rattle.dump.specs.Places.{PlaceValue, joined_results, result_pairs_of, result_pairs, IsItemPlace, Places}
-use Rattle.dump.proofs.Bools.{and_both, not_false, or_left, or_right}
+use Rattle.dump.proofs.Bools.{and_both, not_false, or_false, or_left, or_right, or_some}
+use Rattle.dump.proofs.Rows.{kind_known, target_fits}
 use Rattle.dump.proofs.Members.{contains_head, contains_tail, contains_cases, not_in_nil}
 use Rattle.dump.proofs.Nests.{kept_vertex, vertex_there}
 use Rattle.dump.proofs.Ends.{HasNoCode, holds, pair_of_first}
@@ -27,38 +31,27 @@ use Rattle.dump.proofs.Ends.{HasNoCode, holds, pair_of_first}
 
 -- a result of another request than references
 abbrev is_own_result : Option VertexValue → Bool
-is_own_result v = is_definition_result v || (is_declaration_result v || (is_implementation_result v || is_hover_result v))
+is_own_result v = is_of_kind DefinitionResult v || (is_of_kind DeclarationResult v || (is_of_kind ImplementationResult v || is_of_kind HoverResult v))
 
--- an edge of the label may lead to it
+-- the kind of what an edge of the label leads to
+abbrev target_kind : SingleLabel → Kind
+target_kind Next = ResultSet
+target_kind Definition = DefinitionResult
+target_kind labels.References = ReferenceResult
+target_kind Hover = HoverResult
+target_kind PackageInformation = Package
+target_kind Declaration = DeclarationResult
+target_kind Implementation = ImplementationResult
+
 abbrev pub is_target : SingleLabel → Option VertexValue → Bool
-is_target Next v = is_result_set v
-is_target Definition v = is_definition_result v
-is_target labels.References v = is_reference_result v
-is_target Hover v = is_hover_result v
-is_target PackageInformation v = is_package v
-is_target Declaration v = is_declaration_result v
-is_target Implementation v = is_implementation_result v
+is_target label = is_of_kind (target_kind label)
 
 -- an `item` edge may join it to results
 abbrev may_lead : Option VertexValue → Bool
-may_lead (Some reference_result) = true
-may_lead (Some other_vertex) = true
-may_lead (Some v) = false
-may_lead None = false
-
-target_known : (label : SingleLabel) (v : Option VertexValue) → is_target label v ≡ true → is_some v ≡ true
-target_known label (Some v) e = refl
-target_known Next None e = e
-target_known Definition None e = e
-target_known labels.References None e = e
-target_known Hover None e = e
-target_known PackageInformation None e = e
-target_known Declaration None e = e
-target_known Implementation None e = e
+may_lead v = is_of_kind ReferenceResult v || is_of_kind Other v
 
 lead_known : (v : Option VertexValue) → may_lead v ≡ true → is_some v ≡ true
-lead_known (Some v) e = refl
-lead_known None e = e
+lead_known v e = ⊎_elim (λ reference. kind_known ReferenceResult v reference) (λ other. kind_known Other v other) (or_some (is_of_kind ReferenceResult v) (is_of_kind Other v) e)
 
 apart : (v : Option VertexValue) → is_own_result v ≡ true → may_lead v ≡ true → ⊥
 apart None e f = cc
@@ -78,7 +71,7 @@ apart (Some (event v)) e f = cc
 apart (Some other_vertex) e f = cc
 
 still_target : (d : List ElementValue) (x : ElementValue) (label : SingleLabel) (i : IdValue) → is_target label (vertex_at d i) ≡ true → is_target label (vertex_at (d ++ x ∷ []) i) ≡ true
-still_target d x label i e = let w = vertex_there (vertex_at d i) (target_known label (vertex_at d i) e) in ap (is_target label) (kept_vertex d x i w.0 w.1) ∙ e
+still_target d x label i e = let w = vertex_there (vertex_at d i) (kind_known (target_kind label) (vertex_at d i) e) in ap (is_target label) (kept_vertex d x i w.0 w.1) ∙ e
 
 still_leads : (d : List ElementValue) (x : ElementValue) (i : IdValue) → may_lead (vertex_at d i) ≡ true → may_lead (vertex_at (d ++ x ∷ []) i) ≡ true
 still_leads d x i e = let w = vertex_there (vertex_at d i) (lead_known (vertex_at d i) e) in ap may_lead (kept_vertex d x i w.0 w.1) ∙ e
@@ -90,13 +83,13 @@ NamesTarget d (Some s) = is_target s.0 (vertex_at d s.1.1) ≡ true
 NamesTarget d None = Unit {0}
 
 names_target : (d : List ElementValue) (x : ElementValue) → may_not_join d x ≡ false → NamesTarget d (single_of x)
-names_target d (edge i (next a b)) free = (and_both (may_ask (vertex_at d a)) (is_result_set (vertex_at d b)) (not_false _ free)).1
-names_target d (edge i (definition a b)) free = (and_both (may_ask (vertex_at d a)) (is_definition_result (vertex_at d b)) (not_false _ free)).1
-names_target d (edge i (references a b)) free = (and_both (may_ask (vertex_at d a)) (is_reference_result (vertex_at d b)) (not_false _ free)).1
-names_target d (edge i (declaration a b)) free = (and_both (may_ask (vertex_at d a)) (is_declaration_result (vertex_at d b)) (not_false _ free)).1
-names_target d (edge i (implementation a b)) free = (and_both (may_ask (vertex_at d a)) (is_implementation_result (vertex_at d b)) (not_false _ free)).1
-names_target d (edge i (hover a b)) free = (and_both (may_ask (vertex_at d a)) (is_hover_result (vertex_at d b)) (not_false _ free)).1
-names_target d (edge i (package_edge a b)) free = (and_both (is_moniker (vertex_at d a)) (is_package (vertex_at d b)) (not_false _ free)).1
+names_target d (edge i (next a b)) free = target_fits d (next a b) (Asked, ResultSet) b refl free
+names_target d (edge i (definition a b)) free = target_fits d (definition a b) (Asked, DefinitionResult) b refl free
+names_target d (edge i (references a b)) free = target_fits d (references a b) (Asked, ReferenceResult) b refl free
+names_target d (edge i (declaration a b)) free = target_fits d (declaration a b) (Asked, DeclarationResult) b refl free
+names_target d (edge i (implementation a b)) free = target_fits d (implementation a b) (Asked, ImplementationResult) b refl free
+names_target d (edge i (hover a b)) free = target_fits d (hover a b) (Asked, HoverResult) b refl free
+names_target d (edge i (package_edge a b)) free = target_fits d (package_edge a b) (Moniker, Package) b refl free
 names_target d (edge i (moniker_edge a b)) free = tt
 names_target d (edge i (attach a b)) free = tt
 names_target d (edge i (contains a bs)) free = tt
@@ -122,22 +115,16 @@ all_name_targets = holds AllNameTargets (λ x at. absurd (not_in_nil x at)) name
 
 -- ---- the results that `item` edges join to others
 
-lead_fits : (d : List ElementValue) (v : Option VertexValue) (e : ItemValue) → e.property ≡ Some ReferenceResults → may_have_item d v e ≡ true → may_lead v ≡ true
-lead_fits d None e is h = h
-lead_fits d (Some definition_result) e is h = subst (λ o. are_definitions o ≡ true) is (and_both (are_definitions e.property) (are_ranges d e.targets) h).0
-lead_fits d (Some reference_result) e is h = refl
-lead_fits d (Some declaration_result) e is h = subst (λ (o : Option Property). not (is_some o) ≡ true) is (and_both (not (is_some e.property)) (are_ranges d e.targets) h).0
-lead_fits d (Some implementation_result) e is h = subst (λ (o : Option Property). not (is_some o) ≡ true) is (and_both (not (is_some e.property)) (are_ranges d e.targets) h).0
-lead_fits d (Some other_vertex) e is h = refl
-lead_fits d (Some (meta_data b)) e is h = h
-lead_fits d (Some project) e is h = h
-lead_fits d (Some (document s)) e is h = h
-lead_fits d (Some (range s)) e is h = h
-lead_fits d (Some result_set) e is h = h
-lead_fits d (Some (hover_result s)) e is h = h
-lead_fits d (Some (moniker m)) e is h = h
-lead_fits d (Some (package_information p)) e is h = h
-lead_fits d (Some (event v)) e is h = h
+lead_fits : (d : List ElementValue) (e : ItemValue) → e.property ≡ Some ReferenceResults → list_any (fits_row d (item e)) (item_rows e.property) ≡ true → may_lead (vertex_at d e.source) ≡ true
+lead_fits d e is fits =
+    let of_reference = fits_row d (item e) (ReferenceResult, ReferenceResult) in
+    let of_other = fits_row d (item e) (Other, Any) in
+    let rows : (of_reference || (of_other || false)) ≡ true = subst (λ o. list_any (fits_row d (item e)) (item_rows o) ≡ true) is fits in
+    let v = vertex_at d e.source in
+    ⊎_elim
+    (λ (reference : of_reference ≡ true). or_left (is_of_kind ReferenceResult v) (is_of_kind Other v) (and_both (is_of_kind ReferenceResult v) _ reference).0)
+    (λ (other : (of_other || false) ≡ true). or_right (is_of_kind ReferenceResult v) (is_of_kind Other v) (and_both (is_of_kind Other v) _ (sym (or_false of_other) ∙ other)).0)
+    (or_some of_reference (of_other || false) rows)
 
 abbrev AllMayLead : List ElementValue → Type 0
 AllMayLead d = (i : IdValue) (e : ItemValue) → Contains d (edge i (item e)) → e.property ≡ Some ReferenceResults → may_lead (vertex_at d e.source) ≡ true
@@ -145,7 +132,7 @@ AllMayLead d = (i : IdValue) (e : ItemValue) → Contains d (edge i (item e)) �
 may_lead_more : (d : List ElementValue) (x : ElementValue) → HasNoCode d x → AllMayLead d → AllMayLead (d ++ x ∷ [])
 may_lead_more d x free all i e at is = still_leads d x e.source (⊎_elim
     (λ (h : Contains d (edge i (item e))). all i e h is)
-    (λ (s : x ≡ edge i (item e)). lead_fits d (vertex_at d e.source) e is (not_false _ (subst (λ z. may_not_join d z ≡ false) s free.joins)))
+    (λ (s : x ≡ edge i (item e)). lead_fits d e is (not_false _ (subst (λ z. may_not_join d z ≡ false) s free.joins)))
     (Contains-push_cases d x (edge i (item e)) at))
 
 all_may_lead : (d : List ElementValue) → IsSound d → AllMayLead d
@@ -233,13 +220,13 @@ target_by d label (Some s) p h at = by (same_label s.0 label) refl at
         ⊎_elim (λ (q : s.1 ≡ p). subst (λ (r : Pair). is_target label (vertex_at d r.1) ≡ true) q named) (λ (n : Contains [] p). absurd (not_in_nil p n)) (contains_cases s.1 [] p at)
 
 -- a request's first result is one of its kind
-pub first_target : (d : List ElementValue) → IsSound d → (q : Request) (x result : IdValue) → First q d x (Some result) → is_target (label_of q) (vertex_at d result) ≡ true
+pub first_target : (d : List ElementValue) → IsSound d → (q : RequestKind) (x result : IdValue) → First q d x (Some result) → is_target (label_of q) (vertex_at d result) ≡ true
 first_target d h q x result first =
     let bound = bound_of (single_pairs (label_of q) d) first.0 result (sym first.2) in
     let at = member_of (single_in (label_of q)) d (bound.0, result) (pair_of_first (single_pairs (label_of q) d) bound.0 result bound.1) in
     target_by d (label_of q) (single_of at.0) (bound.0, result) (all_name_targets d h at.0 at.1) at.2
 
-contents_in : (v : Option VertexValue) → is_hover_result v ≡ true → (contents : List ℕ) × (v ≡ Some (hover_result contents))
+contents_in : (v : Option VertexValue) → is_of_kind HoverResult v ≡ true → (contents : List ℕ) × (v ≡ Some (hover_result contents))
 contents_in None e = cc
 contents_in (Some (meta_data b)) e = cc
 contents_in (Some project) e = cc
@@ -259,14 +246,14 @@ contents_in (Some other_vertex) e = cc
 pub first_contents : (d : List ElementValue) → IsSound d → (x result : IdValue) → First requests.Hover d x (Some result) → (contents : List ℕ) × (vertex_at d result ≡ Some (hover_result contents))
 first_contents d h x result first = contents_in (vertex_at d result) (first_target d h requests.Hover x result first)
 
-own_label : (q : Request) (v : Option VertexValue) → (q ≡ requests.References → ⊥) → is_target (label_of q) v ≡ true → is_own_result v ≡ true
-own_label requests.Definition v other e = or_left (is_definition_result v) _ e
+own_label : (q : RequestKind) (v : Option VertexValue) → (q ≡ requests.References → ⊥) → is_target (label_of q) v ≡ true → is_own_result v ≡ true
+own_label requests.Definition v other e = or_left (is_of_kind DefinitionResult v) _ e
 own_label requests.References v other e = absurd (other refl)
-own_label requests.Hover v other e = or_right (is_definition_result v) _ (or_right (is_declaration_result v) _ (or_right (is_implementation_result v) _ e))
-own_label requests.Declaration v other e = or_right (is_definition_result v) _ (or_left (is_declaration_result v) _ e)
-own_label requests.Implementation v other e = or_right (is_definition_result v) _ (or_right (is_declaration_result v) _ (or_left (is_implementation_result v) _ e))
+own_label requests.Hover v other e = or_right (is_of_kind DefinitionResult v) _ (or_right (is_of_kind DeclarationResult v) _ (or_right (is_of_kind ImplementationResult v) _ e))
+own_label requests.Declaration v other e = or_right (is_of_kind DefinitionResult v) _ (or_left (is_of_kind DeclarationResult v) _ e)
+own_label requests.Implementation v other e = or_right (is_of_kind DefinitionResult v) _ (or_right (is_of_kind DeclarationResult v) _ (or_left (is_of_kind ImplementationResult v) _ e))
 
-module _ (d : List ElementValue) (h : IsSound d) (q : Request) (other : q ≡ requests.References → ⊥) (x result : IdValue) (first : First q d x (Some result)) where
+module _ (d : List ElementValue) (h : IsSound d) (q : RequestKind) (other : q ≡ requests.References → ⊥) (x result : IdValue) (first : First q d x (Some result)) where
   is_own_here : is_own_result (vertex_at d result) ≡ true
   is_own_here = own_label q (vertex_at d result) other (first_target d h q x result first)
 

@@ -2,12 +2,14 @@
 -- (LSIF 0.6.0, "Emitting constraints", "metaData", "contains").
 use Rattle.std.specs.Prelude.{ℕ, ◌==◌, ◌&&◌, ◌||◌, Bool, true, false, nat_le, not, List, [], ◌∷◌, length, bytes_eq, Option, Some, None, is_some, find, if◌then◌else◌}
 use Rattle.std.specs.List.{list_any, list_all}
-use Rattle.lsif.specs.Element.{IdValue, VertexValue, meta_data, project, document, range, result_set, definition_result, reference_result, declaration_result, implementation_result, hover_result, moniker, package_information, other_vertex, ItemValue, contains, next, definition, references, declaration, implementation, hover, moniker_edge, package_edge, attach, item, ElementValue, vertex, edge, element_id}
+use Rattle.lsif.specs.Element.{IdValue, meta_data, document, range, EdgeValue, ends_of, contains, next, item, ElementValue, vertex, edge, element_id}
 use Rattle.lsif.specs.declared.code.Code.{Code}
 use Rattle.lsif.specs.declared.code.Code.TheVariants.{L04, L06, L09, L10, L11, L12, L13, L14, L16, L17, L18, L19, L20, E01, E02}
-use Rattle.dump.specs.Graph.{element_at, vertex_at, is_document, is_range, is_reference_result, ends, has_repeated}
+use Rattle.dump.specs.Graph.{element_at, vertex_at, ends, has_repeated}
+use Rattle.dump.specs.Kinds.{Row, is_of_kind, is_document, rows_of}
+use Rattle.dump.specs.declared.vertices.Kind.TheVariants.{Other, Shard}
 use Rattle.lsif.specs.declared.element.Property.{Property}
-use Rattle.lsif.specs.declared.element.Property.TheVariants.{Definitions, References, ReferenceResults}
+use Rattle.lsif.specs.declared.element.Property.TheVariants.{ReferenceResults}
 use Rattle.dump.specs.Walks.{first_to, reaches, single_of, single_pairs, next_pairs}
 use Rattle.dump.specs.Ended.{is_bad_event, is_late}
 use Rattle.dump.specs.Contained.{is_contained, is_in, spans_in, spans_of, any_conflicts, has_conflict}
@@ -37,106 +39,14 @@ are_vertices before is = list_all (λ i. is_some (vertex_at before i)) is
 abbrev pub joins_no_vertex : List ElementValue → ElementValue → Bool
 joins_no_vertex before x = not (are_vertices before (ends x))
 
-abbrev pub are_documents : List ElementValue → List IdValue → Bool
-are_documents before is = list_all (λ i. is_document (vertex_at before i)) is
+-- the ends of an edge have the kinds of a row of the edge table
+abbrev pub fits_row : List ElementValue → EdgeValue → Row → Bool
+fits_row before e row =
+    is_of_kind row.0 (vertex_at before (ends_of e).0) && list_all (λ i. is_of_kind row.1 (vertex_at before i)) (ends_of e).1
 
-abbrev pub are_ranges : List ElementValue → List IdValue → Bool
-are_ranges before is = list_all (λ i. is_range (vertex_at before i)) is
-
--- a project contains documents, a document contains ranges
-abbrev pub may_contain : List ElementValue → Option VertexValue → List IdValue → Bool
-may_contain before (Some project) to = are_documents before to
-may_contain before (Some (document s)) to = are_ranges before to
-may_contain before (Some v) to = false
-may_contain before None to = false
-
--- `next` and the edges of requests leave ranges and result sets
-abbrev pub may_ask : Option VertexValue → Bool
-may_ask (Some (range s)) = true
-may_ask (Some result_set) = true
-may_ask (Some v) = false
-may_ask None = false
-
-abbrev pub is_result_set : Option VertexValue → Bool
-is_result_set (Some result_set) = true
-is_result_set (Some v) = false
-is_result_set None = false
-
-abbrev pub is_definition_result : Option VertexValue → Bool
-is_definition_result (Some definition_result) = true
-is_definition_result (Some v) = false
-is_definition_result None = false
-
-abbrev pub are_reference_results : List ElementValue → List IdValue → Bool
-are_reference_results before is = list_all (λ i. is_reference_result (vertex_at before i)) is
-
-abbrev pub is_declaration_result : Option VertexValue → Bool
-is_declaration_result (Some declaration_result) = true
-is_declaration_result (Some v) = false
-is_declaration_result None = false
-
-abbrev pub is_implementation_result : Option VertexValue → Bool
-is_implementation_result (Some implementation_result) = true
-is_implementation_result (Some v) = false
-is_implementation_result None = false
-
-abbrev pub is_hover_result : Option VertexValue → Bool
-is_hover_result (Some (hover_result s)) = true
-is_hover_result (Some v) = false
-is_hover_result None = false
-
-abbrev pub is_moniker : Option VertexValue → Bool
-is_moniker (Some (moniker m)) = true
-is_moniker (Some v) = false
-is_moniker None = false
-
-abbrev pub is_package : Option VertexValue → Bool
-is_package (Some (package_information p)) = true
-is_package (Some v) = false
-is_package None = false
-
--- an `item` edge without a property has definitions
-abbrev pub are_definitions : Option Property → Bool
-are_definitions None = true
-are_definitions (Some Definitions) = true
-are_definitions (Some References) = false
-are_definitions (Some ReferenceResults) = false
-
--- a reference result has ranges as its definitions and its references, and other reference results
-abbrev pub may_be_of_references : List ElementValue → Option Property → List IdValue → Bool
-may_be_of_references before None to = false
-may_be_of_references before (Some Definitions) to = are_ranges before to
-may_be_of_references before (Some References) to = are_ranges before to
-may_be_of_references before (Some ReferenceResults) to = are_reference_results before to
-
--- a declaration result and an implementation result have ranges, by no property
-abbrev pub may_be_unnamed : List ElementValue → Option Property → List IdValue → Bool
-may_be_unnamed before property to = not (is_some property) && are_ranges before to
-
--- a definition result has ranges as its definitions; out of a vertex of another label any vertices may be items
-abbrev pub may_have_item : List ElementValue → Option VertexValue → ItemValue → Bool
-may_have_item before (Some definition_result) e = are_definitions e.property && are_ranges before e.targets
-may_have_item before (Some reference_result) e = may_be_of_references before e.property e.targets
-may_have_item before (Some declaration_result) e = may_be_unnamed before e.property e.targets
-may_have_item before (Some implementation_result) e = may_be_unnamed before e.property e.targets
-may_have_item before (Some other_vertex) e = true
-may_have_item before (Some v) e = false
-may_have_item before None e = false
-
--- L10: no row of the edge table has these kinds and this property
+-- L10: no row of the edge table has the kinds of its ends
 abbrev pub may_not_join : List ElementValue → ElementValue → Bool
-may_not_join before (edge i (contains from to)) = not (may_contain before (vertex_at before from) to)
-may_not_join before (edge i (next from to)) = not (may_ask (vertex_at before from) && is_result_set (vertex_at before to))
-may_not_join before (edge i (definition from to)) = not (may_ask (vertex_at before from) && is_definition_result (vertex_at before to))
-may_not_join before (edge i (references from to)) = not (may_ask (vertex_at before from) && is_reference_result (vertex_at before to))
-may_not_join before (edge i (declaration from to)) = not (may_ask (vertex_at before from) && is_declaration_result (vertex_at before to))
-may_not_join before (edge i (implementation from to)) = not (may_ask (vertex_at before from) && is_implementation_result (vertex_at before to))
-may_not_join before (edge i (hover from to)) = not (may_ask (vertex_at before from) && is_hover_result (vertex_at before to))
-may_not_join before (edge i (moniker_edge from to)) = not (may_ask (vertex_at before from) && is_moniker (vertex_at before to))
-may_not_join before (edge i (package_edge from to)) = not (is_moniker (vertex_at before from) && is_package (vertex_at before to))
-may_not_join before (edge i (attach from to)) = not (is_moniker (vertex_at before from) && is_moniker (vertex_at before to))
-may_not_join before (edge i (item e)) = not (may_have_item before (vertex_at before e.source) e)
-may_not_join before (edge i e) = false
+may_not_join before (edge i e) = not (list_any (fits_row before e) (rows_of e))
 may_not_join before (vertex i v) = false
 
 -- L11: a document contains a target already, or a target is named twice
@@ -164,21 +74,9 @@ closes_cycle before (edge i (next from to)) = reaches (next_pairs before) to fro
 closes_cycle before (edge i e) = false
 closes_cycle before (vertex i v) = false
 
--- an `item` edge out of a vertex of another label has no effect
-abbrev pub has_effect : Option VertexValue → Bool
-has_effect (Some other_vertex) = false
-has_effect (Some v) = true
-has_effect None = true
-
-abbrev pub may_be_shard : Option VertexValue → Bool
-may_be_shard (Some project) = true
-may_be_shard (Some (document s)) = true
-may_be_shard (Some v) = false
-may_be_shard None = false
-
--- L16: the shard isn't an earlier document or project
+-- L16: the shard isn't an earlier document or project. An `item` edge out of a vertex of another label has no effect
 abbrev pub has_no_shard : List ElementValue → ElementValue → Bool
-has_no_shard before (edge i (item e)) = has_effect (vertex_at before e.source) && not (may_be_shard (vertex_at before e.shard))
+has_no_shard before (edge i (item e)) = not (is_of_kind Other (vertex_at before e.source)) && not (is_of_kind Shard (vertex_at before e.shard))
 has_no_shard before (edge i e) = false
 has_no_shard before (vertex i v) = false
 
@@ -244,7 +142,7 @@ has_ranges None = true
 -- E02: the shard of an `item` edge is a document that doesn't contain a target range
 abbrev pub is_misplaced_item : List ElementValue → ElementValue → Bool
 is_misplaced_item elements (edge i (item e)) =
-    has_effect (vertex_at elements e.source) && has_ranges e.property
+    not (is_of_kind Other (vertex_at elements e.source)) && has_ranges e.property
     && is_document (vertex_at elements e.shard) && not (are_in elements e.shard e.targets)
 is_misplaced_item elements (edge i e) = false
 is_misplaced_item elements (vertex i v) = false

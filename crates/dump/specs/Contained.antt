@@ -3,7 +3,8 @@ use Rattle.std.specs.Prelude.{◌≡◌, ◌&&◌, ◌||◌, Bool, true, false, 
 use Rattle.std.specs.List.{list_any, filter_map, flat_map}
 use Rattle.positions.specs.Span.{SpanValue, nests, overlaps}
 use Rattle.lsif.specs.Element.{IdValue, same_id, range, contains, ElementValue, vertex, edge}
-use Rattle.dump.specs.Graph.{vertex_at, is_document, is_among, span_of}
+use Rattle.dump.specs.Graph.{vertex_at, is_among, span_of}
+use Rattle.dump.specs.Kinds.{is_document}
 
 -- the source and the targets of a `contains` edge
 abbrev pub contains_of : ElementValue → Option (IdValue × List IdValue)

@@ -3,7 +3,8 @@ use Rattle.std.specs.Prelude.{◌&&◌, ◌||◌, Bool, false, not, List, Some, 
 use Rattle.std.specs.List.{list_any}
 use Rattle.lsif.specs.Element.{IdValue, same_id, EventValue, begin_event, end_event, other_event, event, ElementValue, vertex, edge}
 use Rattle.dump.specs.Contained.{contains_of}
-use Rattle.dump.specs.Graph.{vertex_at, is_document, is_among, ends}
+use Rattle.dump.specs.Graph.{vertex_at, is_among, ends}
+use Rattle.dump.specs.Kinds.{is_document}
 
 -- the element is the event that this document begins
 abbrev pub begins : IdValue → ElementValue → Bool

@@ -1,8 +1,8 @@
--- Elements looked up by their ids, and what vertices and edges they are (LSIF 0.6.0, "Vertices", "Edges").
-use Rattle.std.specs.Prelude.{◌||◌, ℕ, Bool, true, false, List, [], ◌∷◌, Option, Some, None, option_and_then, find}
+-- Elements looked up by their ids, and what edges join (LSIF 0.6.0, "Vertices", "Edges").
+use Rattle.std.specs.Prelude.{◌||◌, ℕ, Bool, false, List, [], ◌∷◌, Option, Some, None, option_and_then, find}
 use Rattle.std.specs.List.{list_any, position}
 use Rattle.positions.specs.Span.{SpanValue}
-use Rattle.lsif.specs.Element.{IdValue, same_id, VertexValue, document, range, reference_result, contains, next, definition, references, declaration, implementation, hover, moniker_edge, package_edge, attach, item, other_edge, ElementValue, vertex, edge, element_id}
+use Rattle.lsif.specs.Element.{IdValue, same_id, VertexValue, range, ends_of, ElementValue, vertex, edge, element_id}
 
 -- the element of this id: where no id is used twice there is one at most
 unfoldable pub element_at : List ElementValue → IdValue → Option ElementValue
@@ -20,21 +20,6 @@ vertex_of (edge i e) = None
 abbrev pub vertex_at : List ElementValue → IdValue → Option VertexValue
 vertex_at elements i = option_and_then vertex_of (element_at elements i)
 
-abbrev pub is_document : Option VertexValue → Bool
-is_document (Some (document s)) = true
-is_document (Some v) = false
-is_document None = false
-
-abbrev pub is_range : Option VertexValue → Bool
-is_range (Some (range e)) = true
-is_range (Some v) = false
-is_range None = false
-
-abbrev pub is_reference_result : Option VertexValue → Bool
-is_reference_result (Some reference_result) = true
-is_reference_result (Some v) = false
-is_reference_result None = false
-
 abbrev pub span_of : Option VertexValue → Option SpanValue
 span_of (Some (range e)) = Some e
 span_of (Some v) = None
@@ -43,18 +28,7 @@ span_of None = None
 -- the ids that an edge joins: its source and its targets
 abbrev pub ends : ElementValue → List IdValue
 ends (vertex i v) = []
-ends (edge i (contains from to)) = from ∷ to
-ends (edge i (next from to)) = from ∷ to ∷ []
-ends (edge i (definition from to)) = from ∷ to ∷ []
-ends (edge i (references from to)) = from ∷ to ∷ []
-ends (edge i (declaration from to)) = from ∷ to ∷ []
-ends (edge i (implementation from to)) = from ∷ to ∷ []
-ends (edge i (hover from to)) = from ∷ to ∷ []
-ends (edge i (moniker_edge from to)) = from ∷ to ∷ []
-ends (edge i (package_edge from to)) = from ∷ to ∷ []
-ends (edge i (attach from to)) = from ∷ to ∷ []
-ends (edge i (item e)) = e.source ∷ e.targets
-ends (edge i (other_edge from to)) = from ∷ to
+ends (edge i e) = (ends_of e).0 ∷ (ends_of e).1
 
 abbrev pub is_among : IdValue → List IdValue → Bool
 is_among i is = list_any (λ j. same_id j i) is

@@ -4,6 +4,7 @@ pub mod Ended
 pub mod Fault
 pub mod Graph
 pub mod Judging
+pub mod Kinds
 pub mod Lines
 pub mod Monikers
 pub mod Places

@@ -8,7 +8,7 @@ use Rattle.dump.specs.Walks.{Pair, Path, IsChain, first_to, single_pairs, next_p
 use Rattle.dump.specs.declared.single.SingleLabel.TheVariants.{PackageInformation}
 
 -- what monikers are compared by: the scheme, the identifier and the package, where there is one. The kind isn't part of it
-pub record KeyValue : Type 0 where
+pub record MonikerKey : Type 0 where
   pub scheme : List ℕ
   pub identifier : List ℕ
   pub «package» : Option PackageValue
@@ -16,7 +16,7 @@ pub record KeyValue : Type 0 where
 -- the kind and the key of a moniker
 pub record MarkValue : Type 0 where
   pub kind : MonikerKind
-  pub key : KeyValue
+  pub key : MonikerKey
 
 -- ---- the mark of a moniker
 

@@ -7,8 +7,8 @@ use Rattle.positions.specs.Span.{SpanValue, Nests}
 use Rattle.lsif.specs.declared.element.MonikerKind.{MonikerKind}
 use Rattle.lsif.specs.declared.element.MonikerKind.TheVariants as kinds
 use Rattle.lsif.specs.Element.{IdValue, ElementValue}
-use Rattle.dump.specs.declared.request.Request.{Request}
-use Rattle.dump.specs.declared.request.Request.TheVariants as requests
+use Rattle.dump.specs.declared.request_kind.RequestKind.{RequestKind}
+use Rattle.dump.specs.declared.request_kind.RequestKind.TheVariants as requests
 use Rattle.dump.specs.declared.single.SingleLabel.{SingleLabel}
 use Rattle.dump.specs.declared.single.SingleLabel.TheVariants as labels
 use Rattle.dump.specs.Monikers.{MarkValue, Marks}
@@ -18,7 +18,7 @@ use Rattle.dump.specs.Walks.{IsChain, first_of_list, single_pairs, next_pairs}
 -- ---- at a vertex
 
 -- the label of the edges that name the results of a request
-abbrev pub label_of : Request → SingleLabel
+abbrev pub label_of : RequestKind → SingleLabel
 label_of requests.Definition = labels.Definition
 label_of requests.References = labels.References
 label_of requests.Hover = labels.Hover
@@ -26,7 +26,7 @@ label_of requests.Declaration = labels.Declaration
 label_of requests.Implementation = labels.Implementation
 
 -- the first result of the vertex: that of the first member of its chain that has one
-abbrev pub First : Request → List ElementValue → IdValue → Option IdValue → Type 0
+abbrev pub First : RequestKind → List ElementValue → IdValue → Option IdValue → Type 0
 First request elements x result =
     (xs : List IdValue) × IsChain (next_pairs elements) x xs × (result ≡ first_of_list (single_pairs (label_of request) elements) xs)
 
@@ -41,17 +41,17 @@ is_export kinds.Export = true
 is_export kinds.Local = false
 
 -- the kinds of marks by which a request goes on to other projects
-abbrev pub follows : Request → MonikerKind → Bool
+abbrev pub follows : RequestKind → MonikerKind → Bool
 follows requests.References kind = is_import kind || is_export kind
 follows request kind = is_import kind
 
 -- the kinds of marks that it looks for there
-abbrev pub finds : Request → MonikerKind → Bool
+abbrev pub finds : RequestKind → MonikerKind → Bool
 finds requests.References kind = is_import kind || is_export kind
 finds request kind = is_export kind
 
 -- the vertex has a result for the request, or a mark by which it goes on to other projects
-abbrev pub Speaks : Request → List ElementValue → IdValue → Type 0
+abbrev pub Speaks : RequestKind → List ElementValue → IdValue → Type 0
 Speaks request elements x =
     ((result : IdValue) × First request elements x (Some result))
     ⊎ ((mark : MarkValue) × Marks elements x mark × (follows request mark.kind ≡ true))
@@ -79,6 +79,6 @@ pub data IsFirst {X : Type 0} (P : X → Type 0) : List X → Option X → Type 
   later : {x : X} {xs : List X} {found : Option X} → (P x → ⊥) → IsFirst P xs found → IsFirst P (x ∷ xs) found
 
 -- the range that the request is asked of: the smallest of those that cover the position that speaks
-abbrev pub Pick : Request → List ElementValue → List ℕ → PositionValue → Option RangeValue → Type 0
+abbrev pub Pick : RequestKind → List ElementValue → List ℕ → PositionValue → Option RangeValue → Type 0
 Pick request elements uri position picked =
     (ranges : List RangeValue) × Cover elements uri position ranges × IsFirst (λ (r : RangeValue). Speaks request elements r.id) ranges picked

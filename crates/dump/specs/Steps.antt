@@ -2,7 +2,6 @@
 pub mod Chains
 pub mod Ids
 pub mod Judging
-pub mod Kinds
 pub mod Links
 pub mod Spans
 pub mod Tables

@@ -8,7 +8,7 @@ use crate::fault::{FeedFault, LineFault};
 use crate::graph::Graph;
 use crate::laws::chain_law;
 use crate::order::{end_fault, order_code};
-use crate::request::Request;
+use crate::request_kind::RequestKind;
 use crate::single::SingleLabel;
 use crate::vertices::vertex_at;
 use crate::walks::first_result;
@@ -167,7 +167,7 @@ impl CheckedDump {
 
     /// The result that a request at this vertex is answered by: that of the first vertex along the chain of `next` edges from
     /// it that has one.
-    pub fn first<'a>(&'a self, request: Request, vertex: &'a Id) -> Option<&'a Id>
+    pub fn first<'a>(&'a self, request: RequestKind, vertex: &'a Id) -> Option<&'a Id>
         ensures value { First request self.now.elements (id_value vertex.now) (option_map (λ i. id_value i.now) result) }
         ensures only { (other : Option IdValue) → First request self.now.elements (id_value vertex.now) other
             → other ≡ option_map (λ i. id_value i.now) result }
@@ -185,7 +185,7 @@ impl CheckedDump {
     }
 
     /// The result that the vertex itself has for a request.
-    pub fn result(&self, request: Request, vertex: &Id) -> Option<&Id>
+    pub fn result(&self, request: RequestKind, vertex: &Id) -> Option<&Id>
         ensures { option_map (λ i. id_value i.now) result ≡ first_to (single_pairs (label_of request) self.now.elements) (id_value vertex.now) }
     {
         self.graph.target_of(request.label(), vertex)

@@ -1,12 +1,13 @@
 //! The elements of a dump, and what is looked up among them.
-ghost use Rattle.std.specs.Prelude.{◌≡◌, ◌++◌, ◌||◌, ◌==◌, ◌<◌, ◌∷◌, [], None, IfSome, IfOk, OnOk, OnErr, length, map, option_map};
+ghost use Rattle.std.specs.Prelude.{◌≡◌, ◌++◌, ◌||◌, ◌==◌, ◌<◌, ◌∷◌, [], None, IfSome, IfOk, OnOk, OnErr, length, map, option_map, vec_capacity, vec_len};
 ghost use Rattle.std.specs.List.{list_any};
 ghost use Rattle.lsif.specs.Element.{id_value, id_values, element_value};
 ghost use Rattle.dump.specs.Conditions.{is_document_of, order_code};
 ghost use Rattle.dump.specs.Contained.{is_contained, is_in, spans_of, spans_in, any_conflicts, has_conflict};
 ghost use Rattle.dump.specs.Ended.{has_begun, has_ended, is_closed};
 ghost use Rattle.dump.specs.Graph.{element_at, line_of, has_repeated};
-ghost use Rattle.dump.specs.Steps.Tables.{document_id};
+ghost use Rattle.dump.specs.Steps.Chains.{HasShortcuts};
+ghost use Rattle.dump.specs.Steps.Tables.{AreTables, document_id};
 ghost use Rattle.dump.specs.Contained.{container};
 ghost use Rattle.dump.specs.Progress.{IsSound};
 ghost use Rattle.dump.specs.Walks.{Path, first_to, single_pairs, next_pairs};
@@ -42,6 +43,35 @@ impl Model for Graph {
 
     ghost invariant = { λ g. AreTables g.tables (map element_value g.elements.items)
         × HasShortcuts (next_pairs (map element_value g.elements.items)) (map element_value g.elements.items) g.shortcuts.items };
+}
+
+/// Makes room for an element more, and enters it in the tables and the shortcuts of those before it. Where memory is refused these stay
+/// as they are.
+fn enter(
+    elements: &mut Vec<Element>,
+    tables: &mut Tables,
+    shortcuts: &mut Vec<Option<usize>>,
+    element: &Element,
+) -> Result<(), AllocError>
+    requires tables { AreTables tables.old (map element_value elements.old.items) }
+    requires shortcuts { HasShortcuts (next_pairs (map element_value elements.old.items)) (map element_value elements.old.items) shortcuts.old.items }
+    requires sound { IsSound (map element_value elements.old.items) }
+    requires free { order_code (map element_value elements.old.items) (element_value element.now) ≡ None }
+    ensures same { elements.new.items ≡ elements.old.items }
+    ensures room { OnOk result (vec_len elements.new < vec_capacity elements.new) }
+    ensures tables { OnOk result (AreTables tables.new (map element_value elements.old.items ++ element_value element.now ∷ [])) }
+    ensures shortcuts { OnOk result (HasShortcuts (next_pairs (map element_value elements.old.items ++ element_value element.now ∷ []))
+        (map element_value elements.old.items ++ element_value element.now ∷ []) shortcuts.new.items) }
+    ensures err_tables { OnErr result (AreTables tables.new (map element_value elements.old.items)) }
+    ensures err_shortcuts { OnErr result (HasShortcuts (next_pairs (map element_value elements.old.items)) (map element_value elements.old.items)
+        shortcuts.new.items) }
+{
+    elements.reserve(1)?;
+    shortcuts.reserve(1)?;
+    let joined = tables.joined_indices(elements, element);
+    tables.add(elements, element)?;
+    follow(shortcuts, elements, element, joined);
+    Ok(())
 }
 
 impl Graph {
@@ -81,11 +111,12 @@ impl Graph {
         ensures ok { OnOk result (self.new ≡ self.old ++ element_value element ∷ []) }
         ensures err { OnErr result (self.new ≡ self.old) }
     {
-        self.elements.reserve(1)?;
-        self.shortcuts.reserve(1)?;
-        let joined = self.tables.joined_indices(&self.elements, &element);
-        self.tables.add(&self.elements, &element)?;
-        follow(&mut self.shortcuts, &self.elements, &element, joined);
+        enter(
+            &mut self.elements,
+            &mut self.tables,
+            &mut self.shortcuts,
+            &element,
+        )?;
         self.elements.push_reserved(element);
         Ok(())
     }

@@ -9,8 +9,8 @@ ghost use Rattle.dump.specs.Fault.{AreSoundLines, IsFault, IsFaultless, IsLineFa
 ghost use Rattle.dump.specs.Places.{PlaceValue, IsItemPlace, Places, place_cmp};
 ghost use Rattle.dump.specs.Requests.{Cover, First, Pick, RangeValue};
 ghost use Rattle.std.specs.List.Sorted.{IsStrictlySortedBy};
-ghost use Rattle.dump.specs.declared.request.Request.{Request};
-ghost use Rattle.dump.specs.declared.request.Request.TheVariants.{Hover, References};
+ghost use Rattle.dump.specs.declared.request_kind.RequestKind.{RequestKind};
+ghost use Rattle.dump.specs.declared.request_kind.RequestKind.TheVariants.{Hover, References};
 ghost use Rattle.dump.specs.declared.role.Role.{Role};
 ghost use Rattle.dump.specs.Progress.{progress, running, stopped, finished};
 ghost use Rattle.dump.specs.Graph.{vertex_at, ends, line_of};
@@ -80,7 +80,7 @@ pub fn uri_law()
 
 /// In a dump without fault a result of another request than references has the places of its own items alone.
 pub fn own_law()
-    ensures { (elements : List ElementValue) → IsFaultless (map Ok elements) → (request : Request) → (request ≢ References) → (x result : IdValue)
+    ensures { (elements : List ElementValue) → IsFaultless (map Ok elements) → (request : RequestKind) → (request ≢ References) → (x result : IdValue)
         → First request elements x (Some result) → (in_roles : List Role) (place : PlaceValue) → Places in_roles elements result place
         ↔ IsItemPlace in_roles elements result place }
 {}
@@ -100,10 +100,10 @@ pub fn listing_law()
 /// A request at a vertex is answered by one result at most; the ranges that cover a position have one list; and a request at
 /// the position is asked of one range at most.
 pub fn pick_law()
-    ensures first { (request : Request) (elements : List ElementValue) (x : IdValue) (found other : Option IdValue) → First request elements x found
+    ensures first { (request : RequestKind) (elements : List ElementValue) (x : IdValue) (found other : Option IdValue) → First request elements x found
         → First request elements x other → found ≡ other }
     ensures cover { (elements : List ElementValue) (uri : List ℕ) (position : PositionValue) (ranges others : List RangeValue)
         → Cover elements uri position ranges → Cover elements uri position others → ranges ≡ others }
-    ensures pick { (request : Request) (elements : List ElementValue) (uri : List ℕ) (position : PositionValue) (picked other : Option RangeValue)
+    ensures pick { (request : RequestKind) (elements : List ElementValue) (uri : List ℕ) (position : PositionValue) (picked other : Option RangeValue)
         → Pick request elements uri position picked → Pick request elements uri position other → picked ≡ other }
 {}

@@ -13,7 +13,7 @@ mod laws;
 mod links;
 mod order;
 mod reading;
-mod request;
+mod request_kind;
 mod role;
 mod single;
 mod sorted_spans;
@@ -29,5 +29,5 @@ pub use laws::{
     own_law, path_law, pick_law, uri_law, vertex_law,
 };
 pub use reading::{DumpFault, read_dump};
-pub use request::Request;
+pub use request_kind::RequestKind;
 pub use role::{Role, role_of};

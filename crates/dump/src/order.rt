@@ -1,10 +1,11 @@
 //! What an element may not be after the elements before it, and what a whole dump may not have.
-ghost use Rattle.std.specs.Prelude.{◌≡◌, false, ◌<◌, ◌≤◌, ◌&&◌, ◌∷◌, IfOk, IfNone, length, not};
+ghost use Rattle.std.specs.Prelude.{◌≡◌, false, ◌<◌, ◌≤◌, ◌&&◌, IfOk, IfNone, length, not};
 ghost use Rattle.std.specs.List.{list_any};
-ghost use Rattle.lsif.specs.Element.{id_value, id_values, item_value, element_value};
-ghost use Rattle.dump.specs.Conditions.{is_misplaced, are_vertices, joins_no_vertex, may_contain, are_definitions, may_be_of_references, may_be_unnamed, may_have_item, may_not_join, is_contained_again, is_conflicting, leaves_again, closes_cycle, has_effect, has_no_shard, is_misplaced_item, has_used_uri, order_code, is_uncontained, end_code, most_elements};
+ghost use Rattle.lsif.specs.Element.{edge_value, element_value};
+ghost use Rattle.dump.specs.Conditions.{is_misplaced, joins_no_vertex, fits_row, may_not_join, is_contained_again, is_conflicting, leaves_again, closes_cycle, has_no_shard, is_misplaced_item, has_used_uri, order_code, is_uncontained, end_code, most_elements};
 ghost use Rattle.dump.specs.Ended.{is_bad_event, is_closed, leaves_ended, is_late};
-ghost use Rattle.dump.specs.Graph.{vertex_at, ends};
+ghost use Rattle.dump.specs.Graph.{ends};
+ghost use Rattle.dump.specs.Kinds.{item_rows, rows_of};
 ghost use Rattle.dump.specs.Progress.{end_fault_from, IsSound};
 
 use crate::contained::{any_contained, are_in};
@@ -12,9 +13,9 @@ use crate::ended::{any_closed, is_bad_event};
 use crate::fault::LineFault;
 use crate::graph::Graph;
 use crate::single::single_of;
-use crate::vertices::{Kind, are_of_kind, is_of_kind, vertex_at};
+use crate::vertices::{Kind, are_of_kind, is_of_kind};
 use crate::walks::leads;
-use lsif::{Code, Edge, Element, Id, Item, Property, Vertex};
+use lsif::{Code, Edge, Element, Property, Vertex};
 use std::alloc::AllocError;
 
 /// The greatest number of elements of a dump.
@@ -37,130 +38,84 @@ fn joins_no_vertex(graph: &Graph, element: &Element) -> bool
 {
     match element {
         Element::Vertex(_, _) => false,
-        Element::Edge(_, Edge::Contains(from, to) | Edge::Other(from, to)) => {
-            !is_of_kind(graph, Kind::Any, from) || !are_of_kind(graph, Kind::Any, to)
-        }
-        Element::Edge(
-            _,
-            Edge::Next(from, to)
-            | Edge::Definition(from, to)
-            | Edge::References(from, to)
-            | Edge::Declaration(from, to)
-            | Edge::Implementation(from, to)
-            | Edge::Hover(from, to)
-            | Edge::Moniker(from, to)
-            | Edge::Package(from, to)
-            | Edge::Attach(from, to),
-        ) => { !is_of_kind(graph, Kind::Any, from) || !is_of_kind(graph, Kind::Any, to) }
-        Element::Edge(_, Edge::Item(item)) => {
-            !is_of_kind(graph, Kind::Any, &item.source)
-                || !are_of_kind(graph, Kind::Any, &item.targets)
+        Element::Edge(_, edge) => {
+            let (source, targets) = edge.ends();
+            !is_of_kind(graph, Kind::Any, source) || !are_of_kind(graph, Kind::Any, targets)
         }
     }
 }
 
-/// Whether a `contains` edge joins what it may: a project contains documents, a document contains ranges.
-fn contents_fit(graph: &Graph, from: &Id, to: &[Id]) -> bool
-    ensures { result ≡ (are_vertices graph.now (id_value from.now ∷ id_values to.now)
-        && may_contain graph.now (vertex_at graph.now (id_value from.now)) (id_values to.now)) }
+/// Whether the ends of an edge have the kinds of a row of the edge table.
+fn fits_row(graph: &Graph, edge: &Edge, source_kind: Kind, target_kind: Kind) -> bool
+    ensures { result ≡ fits_row graph.now (edge_value edge.now) (source_kind, target_kind) }
 {
-    match vertex_at(graph, from) {
-        Some(Vertex::Project) => are_of_kind(graph, Kind::Document, to),
-        Some(Vertex::Document(_)) => are_of_kind(graph, Kind::Range, to),
-        _ => false,
+    let (source, targets) = edge.ends();
+    is_of_kind(graph, source_kind, source) && are_of_kind(graph, target_kind, targets)
+}
+
+/// Whether an `item` edge with this property has the kinds of a row.
+fn fits_item_row(graph: &Graph, edge: &Edge, property: Option<Property>) -> bool
+    ensures { result ≡ list_any (fits_row graph.now (edge_value edge.now)) (item_rows property) }
+{
+    match property {
+        None => {
+            fits_row(graph, edge, Kind::DefinitionResult, Kind::Range)
+                || fits_row(graph, edge, Kind::DeclarationResult, Kind::Range)
+                || fits_row(graph, edge, Kind::ImplementationResult, Kind::Range)
+                || fits_row(graph, edge, Kind::Other, Kind::Any)
+        }
+        Some(Property::Definitions) => {
+            fits_row(graph, edge, Kind::ReferenceResult, Kind::Range)
+                || fits_row(graph, edge, Kind::DefinitionResult, Kind::Range)
+                || fits_row(graph, edge, Kind::Other, Kind::Any)
+        }
+        Some(Property::References) => {
+            fits_row(graph, edge, Kind::ReferenceResult, Kind::Range)
+                || fits_row(graph, edge, Kind::Other, Kind::Any)
+        }
+        Some(Property::ReferenceResults) => {
+            fits_row(graph, edge, Kind::ReferenceResult, Kind::ReferenceResult)
+                || fits_row(graph, edge, Kind::Other, Kind::Any)
+        }
     }
 }
 
-/// An `item` edge without a property has definitions.
-fn are_definitions(property: Option<Property>) -> bool
-    ensures { result ≡ are_definitions property }
+/// Whether an edge has the kinds of a row of the edge table.
+fn fits_any_row(graph: &Graph, edge: &Edge) -> bool
+    ensures { result ≡ list_any (fits_row graph.now (edge_value edge.now)) (rows_of (edge_value edge.now)) }
 {
-    matches!(property, None | Some(Property::Definitions))
-}
-
-/// A reference result has ranges as its definitions and its references, and other reference results.
-fn may_be_of_references(graph: &Graph, item: &Item) -> bool
-    ensures { result ≡ may_be_of_references graph.now item.now.property (id_values item.now.targets.items) }
-{
-    match item.property {
-        None => false,
-        Some(Property::Definitions | Property::References) => are_of_kind(
+    match edge {
+        Edge::Contains(_, _) => {
+            fits_row(graph, edge, Kind::Document, Kind::Range)
+                || fits_row(graph, edge, Kind::Project, Kind::Document)
+        }
+        Edge::Next(_, _) => fits_row(graph, edge, Kind::Asked, Kind::ResultSet),
+        Edge::Definition(_, _) => fits_row(graph, edge, Kind::Asked, Kind::DefinitionResult),
+        Edge::References(_, _) => fits_row(graph, edge, Kind::Asked, Kind::ReferenceResult),
+        Edge::Declaration(_, _) => fits_row(graph, edge, Kind::Asked, Kind::DeclarationResult),
+        Edge::Implementation(_, _) => fits_row(
             graph,
-            Kind::Range,
-            &item.targets,
+            edge,
+            Kind::Asked,
+            Kind::ImplementationResult,
         ),
-        Some(Property::ReferenceResults) => are_of_kind(
-            graph,
-            Kind::ReferenceResult,
-            &item.targets,
-        ),
+        Edge::Hover(_, _) => fits_row(graph, edge, Kind::Asked, Kind::HoverResult),
+        Edge::Moniker(_, _) => fits_row(graph, edge, Kind::Asked, Kind::Moniker),
+        Edge::Package(_, _) => fits_row(graph, edge, Kind::Moniker, Kind::Package),
+        Edge::Attach(_, _) => fits_row(graph, edge, Kind::Moniker, Kind::Moniker),
+        Edge::Item(item) => fits_item_row(graph, edge, item.property),
+        Edge::Other(_, _) => fits_row(graph, edge, Kind::Any, Kind::Any),
     }
 }
 
-/// A declaration result and an implementation result have ranges, by no property.
-fn may_be_unnamed(graph: &Graph, item: &Item) -> bool
-    ensures { result ≡ may_be_unnamed graph.now item.now.property (id_values item.now.targets.items) }
-{
-    item.property.is_none() && are_of_kind(graph, Kind::Range, &item.targets)
-}
-
-/// Whether an `item` edge joins what it may: a definition result has ranges as its definitions, a declaration result and an
-/// implementation result ranges by no property; a vertex of another label any vertices.
-fn item_fits(graph: &Graph, item: &Item) -> bool
-    ensures { result ≡ (are_vertices graph.now (id_value item.now.source ∷ id_values item.now.targets.items)
-        && may_have_item graph.now (vertex_at graph.now (id_value item.now.source)) (item_value item.now)) }
-{
-    match vertex_at(graph, &item.source) {
-        Some(Vertex::DefinitionResult) => {
-            are_definitions(item.property) && are_of_kind(graph, Kind::Range, &item.targets)
-        }
-        Some(Vertex::ReferenceResult) => may_be_of_references(graph, item),
-        Some(Vertex::DeclarationResult) => may_be_unnamed(graph, item),
-        Some(Vertex::ImplementationResult) => may_be_unnamed(graph, item),
-        Some(Vertex::Other) => are_of_kind(graph, Kind::Any, &item.targets),
-        _ => false,
-    }
-}
-
-/// Whether the ends are earlier vertices, and a row of the edge table has their kinds and this property.
+/// Whether the ends are earlier vertices, and a row of the edge table has their kinds.
+#[tactic(auto, using(crate::proofs::Rows::any_row_fits))]
 fn fits(graph: &Graph, element: &Element) -> bool
     ensures { result ≡ (not (joins_no_vertex graph.now (element_value element.now)) && not (may_not_join graph.now (element_value element.now))) }
 {
     match element {
         Element::Vertex(_, _) => true,
-        Element::Edge(_, Edge::Contains(from, to)) => contents_fit(graph, from, to),
-        Element::Edge(_, Edge::Next(from, to)) => {
-            is_of_kind(graph, Kind::Asked, from) && is_of_kind(graph, Kind::ResultSet, to)
-        }
-        Element::Edge(_, Edge::Definition(from, to)) => {
-            is_of_kind(graph, Kind::Asked, from) && is_of_kind(graph, Kind::DefinitionResult, to)
-        }
-        Element::Edge(_, Edge::References(from, to)) => {
-            is_of_kind(graph, Kind::Asked, from) && is_of_kind(graph, Kind::ReferenceResult, to)
-        }
-        Element::Edge(_, Edge::Declaration(from, to)) => {
-            is_of_kind(graph, Kind::Asked, from) && is_of_kind(graph, Kind::DeclarationResult, to)
-        }
-        Element::Edge(_, Edge::Implementation(from, to)) => {
-            is_of_kind(graph, Kind::Asked, from)
-                && is_of_kind(graph, Kind::ImplementationResult, to)
-        }
-        Element::Edge(_, Edge::Hover(from, to)) => {
-            is_of_kind(graph, Kind::Asked, from) && is_of_kind(graph, Kind::HoverResult, to)
-        }
-        Element::Edge(_, Edge::Moniker(from, to)) => {
-            is_of_kind(graph, Kind::Asked, from) && is_of_kind(graph, Kind::Moniker, to)
-        }
-        Element::Edge(_, Edge::Package(from, to)) => {
-            is_of_kind(graph, Kind::Moniker, from) && is_of_kind(graph, Kind::Package, to)
-        }
-        Element::Edge(_, Edge::Attach(from, to)) => {
-            is_of_kind(graph, Kind::Moniker, from) && is_of_kind(graph, Kind::Moniker, to)
-        }
-        Element::Edge(_, Edge::Item(item)) => item_fits(graph, item),
-        Element::Edge(_, Edge::Other(from, to)) => {
-            is_of_kind(graph, Kind::Any, from) && are_of_kind(graph, Kind::Any, to)
-        }
+        Element::Edge(_, edge) => fits_any_row(graph, edge),
     }
 }
 
@@ -210,20 +165,14 @@ fn closes_cycle(graph: &Graph, element: &Element) -> bool
     }
 }
 
-/// Whether an `item` edge out of this vertex has an effect.
-fn has_effect(graph: &Graph, source: &Id) -> bool
-    ensures { result ≡ has_effect (vertex_at graph.now (id_value source.now)) }
-{
-    !matches!(vertex_at(graph, source), Some(Vertex::Other))
-}
-
 /// The shard isn't an earlier document or project.
 fn has_no_shard(graph: &Graph, element: &Element) -> bool
     ensures { result ≡ has_no_shard graph.now (element_value element.now) }
 {
     match element {
         Element::Edge(_, Edge::Item(item)) => {
-            !is_of_kind(graph, Kind::Shard, &item.shard) && has_effect(graph, &item.source)
+            !is_of_kind(graph, Kind::Shard, &item.shard)
+                && !is_of_kind(graph, Kind::Other, &item.source)
         }
         _ => false,
     }
@@ -246,23 +195,9 @@ fn names_closed(graph: &Graph, element: &Element) -> bool
 {
     match element {
         Element::Vertex(_, _) => false,
-        Element::Edge(_, Edge::Contains(from, to) | Edge::Other(from, to)) => {
-            graph.is_closed(from) || any_closed(graph, to)
-        }
-        Element::Edge(
-            _,
-            Edge::Next(from, to)
-            | Edge::Definition(from, to)
-            | Edge::References(from, to)
-            | Edge::Declaration(from, to)
-            | Edge::Implementation(from, to)
-            | Edge::Hover(from, to)
-            | Edge::Moniker(from, to)
-            | Edge::Package(from, to)
-            | Edge::Attach(from, to),
-        ) => graph.is_closed(from) || graph.is_closed(to),
-        Element::Edge(_, Edge::Item(item)) => {
-            graph.is_closed(&item.source) || any_closed(graph, &item.targets)
+        Element::Edge(_, edge) => {
+            let (source, targets) = edge.ends();
+            graph.is_closed(source) || any_closed(graph, targets)
         }
     }
 }
@@ -346,7 +281,7 @@ fn is_misplaced_item(graph: &Graph, element: &Element) -> bool
             !matches!(item.property, Some(Property::ReferenceResults))
                 && is_of_kind(graph, Kind::Document, &item.shard)
                 && !are_in(graph, &item.shard, &item.targets)
-                && has_effect(graph, &item.source)
+                && !is_of_kind(graph, Kind::Other, &item.source)
         }
         _ => false,
     }

@@ -6,7 +6,8 @@ ghost use Rattle.lsif.specs.Element.{IdValue, id_value, id_values, element_value
 ghost use Rattle.dump.specs.Steps.Chains.{index_in, JoinsIndices};
 ghost use Rattle.dump.specs.Conditions.{is_document_of, order_code};
 ghost use Rattle.dump.specs.Contained.{spans_of, spans_in, any_conflicts, has_conflict};
-ghost use Rattle.dump.specs.Graph.{element_at, vertex_at, is_document};
+ghost use Rattle.dump.specs.Graph.{element_at, vertex_at};
+ghost use Rattle.dump.specs.Kinds.{is_document};
 ghost use Rattle.dump.specs.Steps.Ids.{value_at, index_at, entered};
 ghost use Rattle.dump.specs.Steps.Tables.{AreTables, IsFilled, lists, kept, is_id};
 ghost use Rattle.dump.specs.Contained.{contains_source};

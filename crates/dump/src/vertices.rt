@@ -3,7 +3,7 @@ ghost use Rattle.std.specs.Prelude.{◌≡◌, option_map};
 ghost use Rattle.lsif.specs.Element.{id_value, id_values, vertex_value};
 ghost use Rattle.std.specs.List.{list_all};
 ghost use Rattle.dump.specs.Graph.{vertex_at};
-ghost use Rattle.dump.specs.Steps.Kinds.{is_of_kind};
+ghost use Rattle.dump.specs.Kinds.{is_of_kind};
 
 use crate::graph::Graph;
 use lsif::{Element, Id, Vertex};
@@ -23,6 +23,7 @@ pub(crate) fn vertex_at<'a>(graph: &'a Graph, id: &Id) -> Option<&'a Vertex>
 pub(crate) enum Kind {
     /// A vertex of any label.
     Any,
+    Project,
     Document,
     Range,
     ResultSet,
@@ -33,6 +34,8 @@ pub(crate) enum Kind {
     HoverResult,
     Moniker,
     Package,
+    /// A vertex of a label that isn't read.
+    Other,
     /// A range or a result set: requests are asked of these.
     Asked,
     /// A document or a project: these may be the shard of an `item` edge.
@@ -46,6 +49,7 @@ pub(crate) fn is_of_kind(graph: &Graph, kind: Kind, id: &Id) -> bool
     let vertex = vertex_at(graph, id);
     match kind {
         Kind::Any => vertex.is_some(),
+        Kind::Project => matches!(vertex, Some(Vertex::Project)),
         Kind::Document => matches!(vertex, Some(Vertex::Document(_))),
         Kind::Range => matches!(vertex, Some(Vertex::Range(_))),
         Kind::ResultSet => matches!(vertex, Some(Vertex::ResultSet)),
@@ -56,6 +60,7 @@ pub(crate) fn is_of_kind(graph: &Graph, kind: Kind, id: &Id) -> bool
         Kind::HoverResult => matches!(vertex, Some(Vertex::HoverResult(_))),
         Kind::Moniker => matches!(vertex, Some(Vertex::Moniker(_))),
         Kind::Package => matches!(vertex, Some(Vertex::Package(_))),
+        Kind::Other => matches!(vertex, Some(Vertex::Other)),
         Kind::Asked => matches!(vertex, Some(Vertex::Range(_) | Vertex::ResultSet)),
         Kind::Shard => matches!(vertex, Some(Vertex::Project | Vertex::Document(_))),
     }

@@ -7,8 +7,8 @@ use Rattle.std.proofs.lemmas.List.{map-append, reverse-append}
 use Rattle.std.proofs.lemmas.List.Elements.{Contains-append_cases}
 use Rattle.lsif.specs.Element.{IdValue, ElementValue}
 use Rattle.dump.specs.Requests.{label_of}
-use Rattle.dump.specs.declared.request.Request.{Request}
-use Rattle.dump.specs.declared.request.Request.TheVariants.{Definition, References, Hover, Declaration, Implementation}
+use Rattle.dump.specs.declared.request_kind.RequestKind.{RequestKind}
+use Rattle.dump.specs.declared.request_kind.RequestKind.TheVariants.{Definition, References, Hover, Declaration, Implementation}
 use Rattle.dump.specs.Walks.{Pair, IsChain, ends, links, first_to, first_of_list, next_pairs, single_in, single_pairs}
 use Rattle.flatten.specs.Flat.{AreResults, IsResult, number_of, result_for}
 use Rattle.flatten.specs.Steps.Chains.{AlongValue, AreAlong, AreFound, IsAfter, IsWalkBack, Leads, VertexAlongValue, first_by, nothing, or_later, own_number, own_of, own_result, results_of}
@@ -144,11 +144,11 @@ first_by_list own (x ∷ xs) = by (first_by_list own xs) (first_to own x)
     by rest None = rest
 
 module _ (elements : List ElementValue) (has : HasEnds elements) (lined : HasVertexNumbers elements) where
-  result_number : (request : Request) (x y : IdValue) → own_result elements request x ≡ Some y → HasNumber elements y
+  result_number : (request : RequestKind) (x y : IdValue) → own_result elements request x ≡ Some y → HasNumber elements y
   result_number request x y e = (have_numbers (single_in (label_of request)) elements (single_ends (label_of request)) has lined x y (pair_of_first (single_pairs (label_of request) elements) x y e)).1
 
   -- the number of the first result is the first number of a result
-  first_number : (request : Request) (xs : List IdValue) → first_by (own_number elements request) xs ≡ option_and_then (number_of elements) (first_by (own_result elements request) xs)
+  first_number : (request : RequestKind) (xs : List IdValue) → first_by (own_number elements request) xs ≡ option_and_then (number_of elements) (first_by (own_result elements request) xs)
   first_number request [] = refl
   first_number request (x ∷ xs) = by (own_result elements request x) refl (first_number request xs)
     where
@@ -163,10 +163,10 @@ module _ (elements : List ElementValue) (has : HasEnds elements) (lined : HasVer
   pub results_along : (borne : List (ℕ × ℕ)) (x : IdValue) (along : AlongValue) → AreAlong elements borne x along → AreResults elements x (results_of along)
   results_along borne x along (xs, chain, is) = each
     where
-      first : (request : Request) (o : Option ℕ) → o ≡ first_by (own_number elements request) xs → IsResult elements request x o
+      first : (request : RequestKind) (o : Option ℕ) → o ≡ first_by (own_number elements request) xs → IsResult elements request x o
       first request o e = (first_by (own_result elements request) xs, (xs, chain, first_by_list (single_pairs (label_of request) elements) xs), e ∙ first_number request xs)
 
-      each : (request : Request) → IsResult elements request x (result_for request (results_of along))
+      each : (request : RequestKind) → IsResult elements request x (result_for request (results_of along))
       each Definition = first Definition along.def (ap (λ (a : AlongValue). a.def) is)
       each References = first References along.refs (ap (λ (a : AlongValue). a.refs) is)
       each Hover = first Hover along.hover (ap (λ (a : AlongValue). a.hover) is)

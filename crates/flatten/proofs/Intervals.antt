@@ -14,7 +14,8 @@ use Rattle.positions.specs.Position.{PositionValue, IsBefore, IsPosition, is_bef
 use Rattle.positions.specs.Span.{SpanValue, Covers, Nests, nests, overlaps}
 use Rattle.positions.proofs.Overlaps.{covered-overlaps}
 use Rattle.lsif.specs.Element.{IdValue, VertexValue, meta_data, project, document, range, result_set, definition_result, reference_result, declaration_result, implementation_result, hover_result, moniker, package_information, event, other_vertex, ElementValue, vertex, edge}
-use Rattle.dump.specs.Graph.{vertex_at, is_document}
+use Rattle.dump.specs.Graph.{vertex_at}
+use Rattle.dump.specs.Kinds.{is_document}
 use Rattle.dump.specs.Contained.{IsNested, conflicts, container, is_in}
 use Rattle.dump.specs.Places.{IsListing}
 use Rattle.flatten.specs.Flat.{IsParent, LiesIn, number_of}

@@ -5,7 +5,7 @@ use Rattle.std.specs.Int.Digits.{digits_of, number_from_digits}
 use Rattle.std.proofs.lemmas.Fmt.{decimal_digit, decimal-digits_of}
 use Rattle.std.proofs.lemmas.Int.Digits.{all_below_base_digits_of, number_digits_of}
 use Rattle.lsif.specs.Element.{PackageValue}
-use Rattle.dump.specs.Monikers.{KeyValue}
+use Rattle.dump.specs.Monikers.{MonikerKey}
 use Rattle.flatten.specs.KeyTexts.{decimal_of, counted, package_text, key_text}
 
 -- what the formatting of a number writes
@@ -80,7 +80,7 @@ package_same (Some p) (Some q) e =
     let v = counted_last p.version q.version n.1 in
     λ i. Some (record { manager = m.0 i; name = n.0 i; version = v i })
 
-pub key_same : (a b : KeyValue) → key_text a ≡ key_text b → a ≡ b
+pub key_same : (a b : MonikerKey) → key_text a ≡ key_text b → a ≡ b
 key_same a b e =
     let s = counted_split a.scheme b.scheme (counted a.identifier ++ package_text a.«package») (counted b.identifier ++ package_text b.«package») e in
     let n = counted_split a.identifier b.identifier (package_text a.«package») (package_text b.«package») s.1 in

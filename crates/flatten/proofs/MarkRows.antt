@@ -11,7 +11,7 @@ use Rattle.dump.specs.Monikers.{MarkValue, Bears, attach_pairs, attach_pairs_of,
 use Rattle.dump.specs.Places.{IsListing}
 use Rattle.dump.specs.Walks.{Pair, Path, IsChain, ends, links, next_pairs}
 use Rattle.flatten.specs.Flat.{BearerRowValue, IsBearerRow, IsMarkRow, MarkRowValue, AreResults, bearer_cmp, mark_cmp, number_of}
-use Rattle.flatten.specs.KeyTexts.{key_text, key_value}
+use Rattle.flatten.specs.KeyTexts.{key_text, moniker_key}
 use Rattle.flatten.specs.Steps.Borne.{IsBorne, IsBorneBy, MarkText, mark_text, text_of}
 use Rattle.flatten.specs.Steps.Chains.{first_by, is_bearing, is_source, own_bearer}
 use Rattle.std.specs.Option.{option_or}
@@ -137,7 +137,7 @@ mark_one number o row m e n k t =
 
 -- the mark of a moniker, and the text of it
 abbrev the_mark : Option PackageValue → MonikerValue → MarkValue
-the_mark p m = record { kind = m.kind; key = key_value m p }
+the_mark p m = record { kind = m.kind; key = moniker_key m p }
 
 marked : (p : Option PackageValue) (o : Option VertexValue) (mark : MarkValue) → mark_with p o ≡ Some mark → (m : MonikerValue) × (o ≡ Some (moniker m)) × (the_mark p m ≡ mark)
 marked p None mark e = cc

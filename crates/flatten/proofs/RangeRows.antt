@@ -5,8 +5,8 @@ use Rattle.std.specs.List.{All, flat_map}
 use Rattle.positions.specs.Position.{PositionValue, IsBefore, is_before}
 use Rattle.positions.specs.Span.{SpanValue, Nests, nests, overlaps}
 use Rattle.lsif.specs.Element.{IdValue, VertexValue, meta_data, project, document, range, result_set, definition_result, reference_result, declaration_result, implementation_result, hover_result, moniker, package_information, event, other_vertex, ElementValue, vertex, edge}
-use Rattle.dump.specs.declared.request.Request.{Request}
-use Rattle.dump.specs.declared.request.Request.TheVariants.{Definition, References, Hover, Declaration, Implementation}
+use Rattle.dump.specs.declared.request_kind.RequestKind.{RequestKind}
+use Rattle.dump.specs.declared.request_kind.RequestKind.TheVariants.{Definition, References, Hover, Declaration, Implementation}
 use Rattle.dump.specs.Fault.{IsFaultless}
 use Rattle.dump.specs.Graph.{line_of, vertex_at}
 use Rattle.dump.specs.Contained.{IsNested, container, is_in}
@@ -24,12 +24,12 @@ use Rattle.flatten.proofs.Rising.{SaysNumber, rises}
 
 -- a vertex has one first result for a request
 abbrev pub AreFirsts : List ElementValue → Type 0
-AreFirsts elements = (request : Request) (x : IdValue) (found other : Option IdValue) → First request elements x found → First request elements x other → found ≡ other
+AreFirsts elements = (request : RequestKind) (x : IdValue) (found other : Option IdValue) → First request elements x found → First request elements x other → found ≡ other
 
 pub results_one : (elements : List ElementValue) → AreFirsts elements → (x : IdValue) (r s : ResultsValue) → AreResults elements x r → AreResults elements x s → r ≡ s
 results_one elements firsts x r s f g = λ i. record { definition = one Definition i; references = one References i; hover = one Hover i; declaration = one Declaration i; implementation = one Implementation i }
   where
-    one : (request : Request) → result_for request r ≡ result_for request s
+    one : (request : RequestKind) → result_for request r ≡ result_for request s
     one request = (f request).2 ∙ ap (option_and_then (number_of elements)) (firsts request x (f request).0 (g request).0 (f request).1 (g request).1) ∙ sym (g request).2
 
 -- ---- one parent

@@ -14,8 +14,8 @@ use Rattle.dump.specs.Contained.{is_in}
 use Rattle.dump.specs.Monikers.{MarkValue, Bears, Marks}
 use Rattle.dump.specs.Places.{PlaceValue, HasDocument, IsAt, IsListing, Places, place_cmp}
 use Rattle.dump.specs.Requests.{First}
-use Rattle.dump.specs.declared.request.Request.{Request}
-use Rattle.dump.specs.declared.request.Request.TheVariants as requests
+use Rattle.dump.specs.declared.request_kind.RequestKind.{RequestKind}
+use Rattle.dump.specs.declared.request_kind.RequestKind.TheVariants as requests
 use Rattle.dump.specs.declared.role.Role.{Role}
 use Rattle.dump.specs.declared.role.Role.TheVariants as roles
 use Rattle.flatten.specs.KeyTexts.{key_text}
@@ -34,7 +34,7 @@ pub record ResultsValue : Type 0 where
   pub declaration : Option ℕ
   pub implementation : Option ℕ
 
-abbrev pub result_for : Request → ResultsValue → Option ℕ
+abbrev pub result_for : RequestKind → ResultsValue → Option ℕ
 result_for requests.Definition r = r.definition
 result_for requests.References r = r.references
 result_for requests.Hover r = r.hover
@@ -42,12 +42,12 @@ result_for requests.Declaration r = r.declaration
 result_for requests.Implementation r = r.implementation
 
 -- the number of the first result that the request finds along the vertex's chain, or none where it finds none
-abbrev pub IsResult : List ElementValue → Request → IdValue → Option ℕ → Type 0
+abbrev pub IsResult : List ElementValue → RequestKind → IdValue → Option ℕ → Type 0
 IsResult elements request x number = (first : Option IdValue) × First request elements x first × (number ≡ option_and_then (number_of elements) first)
 
 -- those of all requests
 abbrev pub AreResults : List ElementValue → IdValue → ResultsValue → Type 0
-AreResults elements x results = (request : Request) → IsResult elements request x (result_for request results)
+AreResults elements x results = (request : RequestKind) → IsResult elements request x (result_for request results)
 
 -- ---- the parent of a range
 

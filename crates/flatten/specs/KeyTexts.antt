@@ -2,11 +2,11 @@
 use Rattle.std.specs.Prelude.{ℕ, zero, suc, ◌+◌, List, ◌++◌, map, length, codes, Option, Some, None}
 use Rattle.std.specs.Int.Digits.{digits_of}
 use Rattle.lsif.specs.Element.{MonikerValue, PackageValue}
-use Rattle.dump.specs.Monikers.{KeyValue}
+use Rattle.dump.specs.Monikers.{MonikerKey}
 
 -- the key of a moniker that has this package, or has none
-abbrev pub key_value : MonikerValue → Option PackageValue → KeyValue
-key_value m p = record { scheme = m.scheme; identifier = m.identifier; «package» = p }
+abbrev pub moniker_key : MonikerValue → Option PackageValue → MonikerKey
+moniker_key m p = record { scheme = m.scheme; identifier = m.identifier; «package» = p }
 
 -- a number of any size in decimal digits, of which the first isn't 0 but in "0"
 abbrev pub decimal_of : ℕ → List ℕ
@@ -23,5 +23,5 @@ package_text None = codes "0"
 package_text (Some p) = codes "1" ++ (counted p.manager ++ (counted p.name ++ counted p.version))
 
 -- the scheme, the identifier and the package
-abbrev pub key_text : KeyValue → List ℕ
+abbrev pub key_text : MonikerKey → List ℕ
 key_text key = counted key.scheme ++ (counted key.identifier ++ package_text key.«package»)

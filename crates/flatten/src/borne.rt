@@ -3,7 +3,7 @@ ghost use Rattle.std.specs.Prelude.{◌≡◌, ◌↔◌, ◌++◌, ℕ, IfOk, O
 ghost use Rattle.std.specs.List.Sorted.{IsNonDecreasingBy};
 ghost use Rattle.lsif.specs.Element.{id_value, element_value, moniker_value, package_value};
 ghost use Rattle.dump.specs.Monikers.{attach_pairs_of, package_of};
-ghost use Rattle.flatten.specs.KeyTexts.{key_text, key_value};
+ghost use Rattle.flatten.specs.KeyTexts.{key_text, moniker_key};
 ghost use Rattle.flatten.specs.Steps.Borne.{IsBorne, IsBorneBy, mark_text, mark_value, text_of};
 ghost use Rattle.flatten.specs.Steps.Kinds.{AreKinds};
 ghost use Rattle.flatten.specs.Steps.Numbers.{pairs_in, pairs_of};

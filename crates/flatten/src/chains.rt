@@ -6,7 +6,7 @@ ghost use Rattle.flatten.specs.Steps.Chains.{AreAlong, AreChains, IsWalk, is_bea
 
 use crate::closure::target_of;
 use crate::numbers::number_of;
-use dump::{CheckedDump, Request, chain_law, line_law};
+use dump::{CheckedDump, RequestKind, chain_law, line_law};
 use lsif::Id;
 use std::alloc::{AllocError, Global};
 
@@ -87,7 +87,7 @@ fn is_bearing(dump: &CheckedDump, borne: &[(u32, u32)], vertex: &Id) -> bool
 }
 
 /// The number of the request's result of the vertex itself.
-fn own_number(dump: &CheckedDump, request: Request, vertex: &Id) -> Option<u32>
+fn own_number(dump: &CheckedDump, request: RequestKind, vertex: &Id) -> Option<u32>
     ensures { result ≡ own_number dump.now.elements request (id_value vertex.now) }
 {
     number_of(dump, dump.result(request, vertex)?)
@@ -99,11 +99,11 @@ fn own_of<'a>(dump: &'a CheckedDump, borne: &[(u32, u32)], vertex: &'a Id) -> Al
     ensures { along_value result ≡ own_of dump.now.elements borne.now (id_value vertex.now) }
 {
     Along {
-        def: own_number(dump, Request::Definition, vertex),
-        refs: own_number(dump, Request::References, vertex),
-        hover: own_number(dump, Request::Hover, vertex),
-        decl: own_number(dump, Request::Declaration, vertex),
-        imp: own_number(dump, Request::Implementation, vertex),
+        def: own_number(dump, RequestKind::Definition, vertex),
+        refs: own_number(dump, RequestKind::References, vertex),
+        hover: own_number(dump, RequestKind::Hover, vertex),
+        decl: own_number(dump, RequestKind::Declaration, vertex),
+        imp: own_number(dump, RequestKind::Implementation, vertex),
         bearer: is_bearing(dump, borne, vertex).then_some(vertex),
     }
 }

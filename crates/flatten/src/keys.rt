@@ -1,8 +1,8 @@
 //! The texts of keys.
 ghost use Rattle.std.specs.Prelude.{◌≡◌, ◌++◌, IfOk, OnOk, string_bytes, option_map};
 ghost use Rattle.lsif.specs.Element.{moniker_value, package_value};
-ghost use Rattle.dump.specs.Monikers.{KeyValue};
-ghost use Rattle.flatten.specs.KeyTexts.{counted, package_text, key_text, key_value};
+ghost use Rattle.dump.specs.Monikers.{MonikerKey};
+ghost use Rattle.flatten.specs.KeyTexts.{counted, package_text, key_text, moniker_key};
 
 use crate::fault::FlattenFault;
 use lsif::{Moniker, Package};
@@ -38,7 +38,7 @@ pub fn key_text(
     moniker: &Moniker,
     package: Option<&Package>,
 ) -> Result<String, FlattenFault>
-    ensures { IfOk result (λ text. string_bytes text ≡ key_text (key_value (moniker_value moniker.now)
+    ensures { IfOk result (λ text. string_bytes text ≡ key_text (moniker_key (moniker_value moniker.now)
         (option_map (λ p. package_value p.now) «package».entry))) }
 {
     let mut text = String::new(alloc);
@@ -50,5 +50,5 @@ pub fn key_text(
 
 /// Keys of one text are one.
 pub fn key_law()
-    ensures { (a b : KeyValue) → key_text a ≡ key_text b → a ≡ b }
+    ensures { (a b : MonikerKey) → key_text a ≡ key_text b → a ≡ b }
 {}

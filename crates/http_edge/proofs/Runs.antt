@@ -1,6 +1,7 @@
 -- Runs that go on by one message, and what surely comes first.
 use Rattle.std.proofs.Common.{◌≡◌, ℕ, ◌-◌, ◌<◌, inl, inr, Bool, List, [], ◌∷◌, ◌++◌, length, Option, None, refl, sym, ◌∙◌, ap, arith, append_assoc, append-nil, subst, suc}
 use Rattle.machine.specs.Machine.{after}
+use Rattle.machine.specs.Runs.{no_memory}
 use Rattle.machine.specs.State.{State}
 use Rattle.machine.specs.Reply.{out_of_memory}
 use Rattle.machine.specs.Requests.{command, query}
@@ -8,22 +9,22 @@ use Rattle.http_edge.specs.Messages.{Settles, BeginsEach}
 use Rattle.http_edge.specs.Steps.Messages.{SettlesAll}
 use Rattle.http_edge.specs.Replies.{AnswerValue, replied, answer_text}
 use Rattle.http_edge.specs.Requests.{MessageValue, request, refused}
-use Rattle.http_edge.specs.Serving.{MayAnswer, answered, left_after, Run, left_by, texts, IsBegun}
+use Rattle.http_edge.specs.Serving.{MayAnswer, answered, after_a_stop_of_answer, MayAnswerAll, after_a_stop_of_answers, texts, IsBegun}
 use Rattle.http_edge.specs.Steps.Serving.{Gives}
 use Rattle.http_edge.proofs.MessageLemmas.{settles-append}
 use Rattle.http_edge.proofs.Sures.{requests-split, gives_first, served_first}
 
 pub run-snoc : (s : Bool) (m : State) (messages : List MessageValue) (answers : List AnswerValue) (n : State) (message : MessageValue) (answer : AnswerValue)
-    → Run s m messages answers n → MayAnswer s n message answer → Run s m (messages ++ message ∷ []) (answers ++ answer ∷ []) (answered n message answer)
+    → MayAnswerAll s m messages answers n → MayAnswer s n message answer → MayAnswerAll s m (messages ++ message ∷ []) (answers ++ answer ∷ []) (answered n message answer)
 run-snoc s m [] [] n message answer r a = (subst (λ (x : State). MayAnswer s x message answer) r a, ap (λ (x : State). answered x message answer) r)
 run-snoc s m (i ∷ messages) (b ∷ answers) n message answer r a = (r.0, run-snoc s (answered m i b) messages answers n message answer r.1 a)
 run-snoc s m [] (b ∷ answers) n message answer r a = absurd r
 run-snoc s m (i ∷ messages) [] n message answer r a = absurd r
 
 pub left-snoc : (s : Bool) (m : State) (states : List State) (messages : List MessageValue) (answers : List AnswerValue) (n : State) (message : MessageValue) (answer : AnswerValue)
-    → Run s m messages answers n → left_by m states (messages ++ message ∷ []) (answers ++ answer ∷ []) ≡ left_after n (left_by m states messages answers) message answer
-left-snoc s m states [] [] n message answer r = ap (λ (x : State). left_after x states message answer) (sym r)
-left-snoc s m states (i ∷ messages) (b ∷ answers) n message answer r = left-snoc s (answered m i b) (left_after m states i b) messages answers n message answer r.1
+    → MayAnswerAll s m messages answers n → after_a_stop_of_answers m states (messages ++ message ∷ []) (answers ++ answer ∷ []) ≡ after_a_stop_of_answer n (after_a_stop_of_answers m states messages answers) message answer
+left-snoc s m states [] [] n message answer r = ap (λ (x : State). after_a_stop_of_answer x states message answer) (sym r)
+left-snoc s m states (i ∷ messages) (b ∷ answers) n message answer r = left-snoc s (answered m i b) (after_a_stop_of_answer m states i b) messages answers n message answer r.1
 left-snoc s m states [] (b ∷ answers) n message answer r = absurd r
 left-snoc s m states (i ∷ messages) [] n message answer r = absurd r
 
@@ -34,7 +35,7 @@ texts-snoc (b ∷ answers) answer = ap (λ l. answer_text b ++ l) (texts-snoc an
 -- ---- where the request couldn't be read for want of memory
 
 pub out_of_memory_may : (s : Bool) (m : State) (message : MessageValue) → MayAnswer s m message (replied out_of_memory)
-out_of_memory_may s m (request q) = inr (inl refl)
+out_of_memory_may s m (request q) = no_memory
 out_of_memory_may s m (refused refusal) = refl
 
 pub out_of_memory_stays : (m : State) (message : MessageValue) → answered m message (replied out_of_memory) ≡ m
@@ -43,7 +44,7 @@ out_of_memory_stays m (request (query q)) = refl
 out_of_memory_stays m (refused refusal) = refl
 
 pub out_of_memory_leaves : (leaves : List State → Type 0) → ((states : List State) (n : State) → leaves states → leaves (states ++ n ∷ []))
-    → (m : State) (states : List State) (message : MessageValue) → leaves states → leaves (left_after m states message (replied out_of_memory))
+    → (m : State) (states : List State) (message : MessageValue) → leaves states → leaves (after_a_stop_of_answer m states message (replied out_of_memory))
 out_of_memory_leaves leaves weaker m states (request (command c)) h = weaker states (after m c) h
 out_of_memory_leaves leaves weaker m states (request (query q)) h = h
 out_of_memory_leaves leaves weaker m states (refused refusal) h = h

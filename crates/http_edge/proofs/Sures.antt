@@ -5,7 +5,7 @@ use Rattle.std.specs.Prelude.{◌&&◌, if◌then◌else◌}
 use Rattle.http_edge.specs.Heads.{is_end, find_head, head_limit, rejected, request_head, SettlesHead}
 use Rattle.http_edge.specs.Messages.{Settles, IsUnended, First, ends, Unless, Requests, IsPrefix, BeginsEach, Sure}
 use Rattle.http_edge.specs.Steps.Messages.{SettlesAll}
-use Rattle.http_edge.specs.Refusals.{ends_stream}
+use Rattle.http_edge.specs.Refusals.{row_of}
 use Rattle.http_edge.specs.Requests.{MessageValue, refused, message_of}
 use Rattle.http_edge.specs.Steps.Serving.{Gives}
 use Rattle.http_edge.specs.Serving.{StopsWell}
@@ -134,10 +134,10 @@ sure-last limit bytes messages rest message next c lt s e =
       longest limit bytes (messages ++ message ∷ []) (requests-last limit bytes messages rest message next c lt (inl s) e),
     )
 
-unended_ends : (bytes : List ℕ) (refusal : Refusal) → IsUnended bytes refusal → ends_stream refusal ≡ true
+unended_ends : (bytes : List ℕ) (refusal : Refusal) → IsUnended bytes refusal → (row_of refusal).ends_stream ≡ true
 unended_ends bytes refusal u = elim u [
-  | inl h ↦ ap ends_stream h.1
-  | inr h ↦ ap ends_stream h.1
+  | inl h ↦ ap (λ r. (row_of r).ends_stream) h.1
+  | inr h ↦ ap (λ r. (row_of r).ends_stream) h.1
 ]
 
 pub gives_settles : (bytes : List ℕ) (message : MessageValue) (rest : List ℕ) (left : Option (List ℕ)) → Gives bytes message rest left → ends message ≡ false → Settles bytes message rest

@@ -1,7 +1,7 @@
 -- The messages of a stream of bytes: its requests, one after the other.
 use Rattle.std.specs.Prelude.{◌≡◌, ◌≢◌, ℕ, ◌<◌, ◌≤◌, ◌⊎◌, Bool, true, false, List, [], ◌∷◌, ◌++◌, length, take, drop, zero, suc}
 use Rattle.http_edge.specs.Heads.{HeadValue, rejected, request_head, SettlesHead, IsHeadUnended}
-use Rattle.http_edge.specs.Refusals.{ends_stream}
+use Rattle.http_edge.specs.Refusals.{row_of}
 use Rattle.http_edge.specs.Requests.{MessageValue, request, refused, message_of}
 use Rattle.http_edge.specs.declared.refusal.Refusal.{Refusal}
 use Rattle.http_edge.specs.declared.refusal.Refusal.TheVariants.{BadHead, BodyCut}
@@ -36,7 +36,7 @@ First bytes message rest =
 -- nothing after these is served
 abbrev pub ends : MessageValue → Bool
 ends (request asked) = false
-ends (refused refusal) = ends_stream refusal
+ends (refused refusal) = (row_of refusal).ends_stream
 
 -- what holds of the messages after one
 abbrev pub Unless : Bool → List MessageValue → Type 0 → Type 0

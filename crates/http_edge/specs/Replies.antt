@@ -2,8 +2,8 @@
 use Rattle.std.specs.Prelude.{ℕ, List, [], ◌++◌, ◌&&◌, length, codes, Option, Some, None, unwrap_or, if◌then◌else◌, nat_le, nat_lt}
 use Rattle.std.specs.Fmt.{decimal}
 use Rattle.http.specs.StatusCode.{reason_phrase}
-use Rattle.machine.specs.Reply.{ReplyValue}
-use Rattle.http_edge.specs.Refusals.{status_of, allow_of, body_of}
+use Rattle.machine.specs.Reply.{ReplyValue, reply_body, reply_status}
+use Rattle.http_edge.specs.Refusals.{row_of, allow_of, body_of}
 use Rattle.http_edge.specs.Routes.{method_of}
 use Rattle.http_edge.specs.declared.route.Route.{Route}
 use Rattle.http_edge.specs.declared.refusal.Refusal.{Refusal}
@@ -32,10 +32,10 @@ abbrev pub response_text : ℕ → Option Route → List ℕ → List ℕ
 response_text status allow body = head_text status allow (length body) ++ body
 
 abbrev pub reply_text : ReplyValue → List ℕ
-reply_text reply = response_text reply.status None reply.body
+reply_text reply = response_text (reply_status reply) None (reply_body reply)
 
 abbrev pub refusal_text : Refusal → List ℕ
-refusal_text refusal = response_text (status_of refusal) (allow_of refusal) (body_of refusal)
+refusal_text refusal = response_text (row_of refusal).status (allow_of refusal) (body_of refusal)
 
 -- what a message is answered: a reply of the machine, or a refusal
 pub data AnswerValue : Type 0 where

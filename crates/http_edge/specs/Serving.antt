@@ -5,7 +5,7 @@ use Rattle.http_edge.specs.Requests.{MessageValue, request, refused}
 use Rattle.machine.specs.State.{State}
 use Rattle.machine.specs.Reply.{ReplyValue, out_of_memory}
 use Rattle.machine.specs.Requests.{RequestValue}
-use Rattle.machine.specs.Runs.{MayReply, moved, left}
+use Rattle.machine.specs.Runs.{MayReply, moved, after_a_stop}
 use Rattle.lsif.specs.Sending.{Writes, WritesTo}
 use Rattle.std.specs.List.{flat_map}
 use Rattle.http_edge.specs.Messages.{Requests, Sure, IsEnded, IsPrefix, BeginsEach}
@@ -40,24 +40,24 @@ answered m (request q) (turned_away refusal) = m
 answered m (refused refusal) answer = m
 
 -- the states of which a stop leaves one after it
-abbrev pub left_after : State → List State → MessageValue → AnswerValue → List State
-left_after m states (request q) (replied r) = left m states q r
-left_after m states (request q) (turned_away refusal) = states
-left_after m states (refused refusal) answer = states
+abbrev pub after_a_stop_of_answer : State → List State → MessageValue → AnswerValue → List State
+after_a_stop_of_answer m states (request q) (replied r) = after_a_stop m states q r
+after_a_stop_of_answer m states (request q) (turned_away refusal) = states
+after_a_stop_of_answer m states (refused refusal) answer = states
 
 -- the messages may have these answers, one after the other, and then the machine is in that state
-abbrev pub Run : Bool → State → List MessageValue → List AnswerValue → State → Type 0
-Run store_may_refuse m [] [] n = n ≡ m
-Run store_may_refuse m (message ∷ messages) (answer ∷ answers) n =
-    MayAnswer store_may_refuse m message answer × Run store_may_refuse (answered m message answer) messages answers n
-Run store_may_refuse m [] (answer ∷ answers) n = ⊥
-Run store_may_refuse m (message ∷ messages) [] n = ⊥
+abbrev pub MayAnswerAll : Bool → State → List MessageValue → List AnswerValue → State → Type 0
+MayAnswerAll store_may_refuse m [] [] n = n ≡ m
+MayAnswerAll store_may_refuse m (message ∷ messages) (answer ∷ answers) n =
+    MayAnswer store_may_refuse m message answer × MayAnswerAll store_may_refuse (answered m message answer) messages answers n
+MayAnswerAll store_may_refuse m [] (answer ∷ answers) n = ⊥
+MayAnswerAll store_may_refuse m (message ∷ messages) [] n = ⊥
 
 -- the states of which a stop leaves one after all of them
-abbrev pub left_by : State → List State → List MessageValue → List AnswerValue → List State
-left_by m states (message ∷ messages) (answer ∷ answers) = left_by (answered m message answer) (left_after m states message answer) messages answers
-left_by m states [] answers = states
-left_by m states (message ∷ messages) [] = states
+abbrev pub after_a_stop_of_answers : State → List State → List MessageValue → List AnswerValue → List State
+after_a_stop_of_answers m states (message ∷ messages) (answer ∷ answers) = after_a_stop_of_answers (answered m message answer) (after_a_stop_of_answer m states message answer) messages answers
+after_a_stop_of_answers m states [] answers = states
+after_a_stop_of_answers m states (message ∷ messages) [] = states
 
 -- the requests among the messages, and the replies to them among the answers
 abbrev pub requests_in : List MessageValue → List RequestValue
@@ -83,22 +83,36 @@ abbrev pub IsBegun : ℕ → List ℕ → List MessageValue → Option (List ℕ
 IsBegun limit bytes messages left =
     BeginsEach limit bytes messages ⊎ (AtEnd left × ((all : List MessageValue) → Requests limit bytes all → IsPrefix messages all))
 
--- what a call that serves at most so many requests reads, answers and writes, from one state of the machine to another: the
--- messages that it reads, and their answers; where the writer failed, the last answer was cut
-abbrev pub Serves :
-    Bool → ℕ → State → Option (List ℕ) → Option (List ℕ) → Output → Output → List MessageValue → List AnswerValue → State → Result ℕ ServeFault → Type 0
-Serves store_may_refuse limit m left left' output output' messages answers n (Ok count) =
-    (bytes : List ℕ) × Moves left left' bytes × StopsWell limit bytes messages left' × (count ≡ length messages)
-    × Run store_may_refuse m messages answers n × Writes output (texts answers) output'
-Serves store_may_refuse limit m left left' output output' messages answers n (Err Memory) =
-    (messages ≡ []) × (answers ≡ []) × (n ≡ m) × (left' ≡ left) × (output' ≡ output)
-Serves store_may_refuse limit m left left' output output' messages answers n (Err Read) =
-    (bytes : List ℕ) × MovesOrHides left left' bytes × Sure limit bytes messages
-    × Run store_may_refuse m messages answers n × Writes output (texts answers) output'
-Serves store_may_refuse limit m left left' output output' messages answers n (Err Write) =
+-- what a call reads and writes: the bytes that its reader had and has, what is known of its writer before and after, and the messages that it
+-- read with their answers
+pub record Session : Type 0 where
+  pub unread_before : Option (List ℕ)
+  pub unread_after : Option (List ℕ)
+  pub output_before : Output
+  pub output_after : Output
+  pub messages : List MessageValue
+  pub answers : List AnswerValue
+
+abbrev pub session : Option (List ℕ) → Option (List ℕ) → Output → Output → List MessageValue → List AnswerValue → Session
+session unread unread' output output' messages answers =
+    record { unread_before = unread; unread_after = unread'; output_before = output; output_after = output'; messages = messages; answers = answers }
+
+-- a call that serves at most so many requests goes so, from one state of the machine to another; where the writer failed, the last answer
+-- was cut
+abbrev pub Serves : Bool → ℕ → Session → State → State → Result ℕ ServeFault → Type 0
+Serves store_may_refuse limit s m n (Ok count) =
+    (bytes : List ℕ) × Moves s.unread_before s.unread_after bytes × StopsWell limit bytes s.messages s.unread_after × (count ≡ length s.messages)
+    × MayAnswerAll store_may_refuse m s.messages s.answers n × Writes s.output_before (texts s.answers) s.output_after
+Serves store_may_refuse limit s m n (Err Memory) =
+    (s.messages ≡ []) × (s.answers ≡ []) × (n ≡ m) × (s.unread_after ≡ s.unread_before) × (s.output_after ≡ s.output_before)
+Serves store_may_refuse limit s m n (Err Read) =
+    (bytes : List ℕ) × MovesOrHides s.unread_before s.unread_after bytes × Sure limit bytes s.messages
+    × MayAnswerAll store_may_refuse m s.messages s.answers n × Writes s.output_before (texts s.answers) s.output_after
+Serves store_may_refuse limit s m n (Err Write) =
     (bytes : List ℕ) × (whole : List AnswerValue) × (last : AnswerValue) × (front : List ℕ) × (back : List ℕ)
-    × Moves left left' bytes × IsBegun limit bytes messages left' × (answers ≡ whole ++ last ∷ []) × (answer_text last ≡ front ++ back) × (back ≢ [])
-    × Run store_may_refuse m messages answers n × WritesTo output (texts whole ++ front) output'
+    × Moves s.unread_before s.unread_after bytes × IsBegun limit bytes s.messages s.unread_after
+    × (s.answers ≡ whole ++ last ∷ []) × (answer_text last ≡ front ++ back) × (back ≢ [])
+    × MayAnswerAll store_may_refuse m s.messages s.answers n × WritesTo s.output_before (texts whole ++ front) s.output_after
 
 -- a reader's failures are counted by one where reading failed, and else not at all
 abbrev pub CountsRead : {A : Type 0} → ℕ → ℕ → Result A ServeFault → Type 0

@@ -1,7 +1,7 @@
 //! The commands of routes. None stands for one with a parameter that is missing, there twice, or not of its form.
 ghost use Rattle.std.specs.Prelude.{◌≡◌, ℕ, List, [], IfOk, IfSome, option_map};
 ghost use Rattle.machine.specs.Requests.{command, command_value, put_tags, remove};
-ghost use Rattle.machine.specs.Uploads.{StandsFor, empty, no_dump_line, no_tags_line};
+ghost use Rattle.machine.specs.Uploads.{HasRead, empty, no_dump_line, no_tags_line};
 ghost use Rattle.http_edge.specs.Requests.{both, command_of, dump_put, key_in, profile_in, project_name};
 ghost use Rattle.http_edge.specs.Steps.Requests.{upload_request};
 
@@ -20,7 +20,7 @@ pub(crate) fn read_dump(
     ensures asks { IfOk result (λ o. (body : List ℕ)
         → option_map (upload_request body) o ≡ option_map (dump_put body)
         (both (project_name project.now) (both (key_in parameters.now) (profile_in parameters.now)))) }
-    ensures stands { IfOk result (λ o. IfSome o (λ u. StandsFor u.body [])) }
+    ensures stands { IfOk result (λ o. IfSome o (λ u. HasRead u.body [])) }
 {
     let project = ProjectName::read(alloc, project)?;
     let key = read_key(alloc, parameters)?;
@@ -44,7 +44,7 @@ pub(crate) fn read_tags(
 ) -> Result<Option<Upload>, AllocError>
     ensures asks { IfOk result (λ o. (body : List ℕ)
         → option_map (upload_request body) o ≡ option_map (command_of (put_tags body)) (both (project_name project.now) (key_in parameters.now))) }
-    ensures stands { IfOk result (λ o. IfSome o (λ u. StandsFor u.body [])) }
+    ensures stands { IfOk result (λ o. IfSome o (λ u. HasRead u.body [])) }
 {
     let project = ProjectName::read(alloc, project)?;
     let key = read_key(alloc, parameters)?;

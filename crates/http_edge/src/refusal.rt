@@ -1,6 +1,6 @@
 //! Why requests are refused before the desk.
 ghost use Rattle.std.specs.Prelude.{◌≡◌};
-ghost use Rattle.http_edge.specs.Refusals.{status_of, allow_of, body_of, ends_stream};
+ghost use Rattle.http_edge.specs.Refusals.{row_of, allow_of, body_of};
 
 use crate::route::Route;
 
@@ -27,20 +27,51 @@ pub(crate) enum Refusal {
     BadParameter,
 }
 
+/// What is replied to a request that is refused, and whether nothing that follows it in the stream is served.
+#[derive(Clone, Copy)]
+struct Row {
+    status: u16,
+    body: &'static str,
+    ends_stream: bool,
+}
+
 impl Refusal {
+    fn row(self) -> Row
+        ensures status { result.status ≡ (row_of self).status }
+        ensures body { result.body.now ≡ body_of self }
+        ensures ends_stream { result.ends_stream ≡ (row_of self).ends_stream }
+    {
+        let (status, body, ends_stream) = match self {
+            Refusal::BadHead => (400, r#"{"fault":"H01","text":"bad head"}"#, true),
+            Refusal::HeadTooLarge => (431, r#"{"fault":"H02","text":"head too large"}"#, true),
+            Refusal::LengthRequired => (411, r#"{"fault":"H03","text":"length required"}"#, true),
+            Refusal::BodyTooLarge => (413, r#"{"fault":"H04","text":"body too large"}"#, true),
+            Refusal::BodyCut => (400, r#"{"fault":"H05","text":"body cut"}"#, true),
+            Refusal::NoSuchRoute => (404, r#"{"fault":"H06","text":"no such route"}"#, false),
+            Refusal::MethodNotAllowed(_) => (
+                405,
+                r#"{"fault":"H07","text":"method not allowed"}"#,
+                false,
+            ),
+            Refusal::TransferCoding => (
+                501,
+                r#"{"fault":"H08","text":"transfer coding not supported"}"#,
+                true,
+            ),
+            Refusal::BadParameter => (400, r#"{"fault":"D03","text":"bad parameter"}"#, false),
+        };
+        Row {
+            status,
+            body,
+            ends_stream,
+        }
+    }
+
     /// The status of the reply (RFC 9110, section 15).
     pub(crate) fn status(self) -> u16
-        ensures { result ≡ status_of self }
+        ensures { result ≡ (row_of self).status }
     {
-        match self {
-            Refusal::BadHead | Refusal::BodyCut | Refusal::BadParameter => 400,
-            Refusal::NoSuchRoute => 404,
-            Refusal::MethodNotAllowed(_) => 405,
-            Refusal::LengthRequired => 411,
-            Refusal::BodyTooLarge => 413,
-            Refusal::HeadTooLarge => 431,
-            Refusal::TransferCoding => 501,
-        }
+        self.row().status
     }
 
     /// The route whose method the reply names as allowed (RFC 9110, section 10.2.1).
@@ -57,26 +88,13 @@ impl Refusal {
     pub(crate) fn body(self) -> &'static str
         ensures { result.now ≡ body_of self }
     {
-        match self {
-            Refusal::BadHead => r#"{"fault":"H01","text":"bad head"}"#,
-            Refusal::HeadTooLarge => r#"{"fault":"H02","text":"head too large"}"#,
-            Refusal::LengthRequired => r#"{"fault":"H03","text":"length required"}"#,
-            Refusal::BodyTooLarge => r#"{"fault":"H04","text":"body too large"}"#,
-            Refusal::BodyCut => r#"{"fault":"H05","text":"body cut"}"#,
-            Refusal::NoSuchRoute => r#"{"fault":"H06","text":"no such route"}"#,
-            Refusal::MethodNotAllowed(_) => r#"{"fault":"H07","text":"method not allowed"}"#,
-            Refusal::TransferCoding => r#"{"fault":"H08","text":"transfer coding not supported"}"#,
-            Refusal::BadParameter => r#"{"fault":"D03","text":"bad parameter"}"#,
-        }
+        self.row().body
     }
 
     /// Whether nothing that follows it in the stream is served.
     pub(crate) fn ends_stream(self) -> bool
-        ensures { result ≡ ends_stream self }
+        ensures { result ≡ (row_of self).ends_stream }
     {
-        match self {
-            Refusal::NoSuchRoute | Refusal::MethodNotAllowed(_) | Refusal::BadParameter => false,
-            _ => true,
-        }
+        self.row().ends_stream
     }
 }

@@ -2,7 +2,7 @@
 ghost use Rattle.std.specs.Prelude.{◌≡◌, ℕ, List, [], Some, IfOk, IfSome, option_map};
 ghost use Rattle.std.specs.Str.{bytes_eq};
 ghost use Rattle.machine.specs.Requests.{command, command_value, query, query_value};
-ghost use Rattle.machine.specs.Uploads.{StandsFor};
+ghost use Rattle.machine.specs.Uploads.{HasRead};
 ghost use Rattle.http_edge.specs.Requests.{path_in, query_in, request_of, route_in};
 ghost use Rattle.http_edge.specs.Steps.Requests.{Asks, AsksFor, upload_request};
 ghost use Rattle.http_edge.specs.Routes.{method_of};
@@ -61,7 +61,7 @@ fn is_method(method: &[u8], route: Route) -> bool
 
 /// The upload, or the refusal of its parameters.
 fn asked_upload<'b>(upload: Option<Upload>) -> Asked<'b>
-    requires { IfSome upload (λ u. StandsFor u.body []) }
+    requires { IfSome upload (λ u. HasRead u.body []) }
     ensures { AsksFor result (λ body. option_map (upload_request body) upload) }
 {
     match upload {

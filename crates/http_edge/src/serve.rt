@@ -7,7 +7,7 @@ ghost use Rattle.http_edge.specs.Messages.{ends};
 ghost use Rattle.http_edge.specs.Replies.{AnswerValue, answer_text};
 ghost use Rattle.http_edge.specs.Steps.Replies.{answer_value};
 ghost use Rattle.http_edge.specs.Requests.{MessageValue};
-ghost use Rattle.http_edge.specs.Serving.{MayAnswer, answered, left_after, left_by, CountsRead, CountsWrite, Serves};
+ghost use Rattle.http_edge.specs.Serving.{MayAnswer, answered, after_a_stop_of_answer, after_a_stop_of_answers, CountsRead, CountsWrite, Serves, session};
 ghost use Rattle.http_edge.specs.Steps.Serving.{Responds, Says};
 ghost use Rattle.http_edge.specs.declared.serve.ServeFault.TheVariants.{Memory};
 
@@ -58,7 +58,7 @@ fn answer<D: Desk>(desk: &mut D, message: Message<'_>) -> Answer
     ensures state { D.is_reliable desk.new → (m : State) (asked : MessageValue) → D.stands desk.old m → Says message.entry asked
         → D.stands desk.new (answered m asked (answer_value result)) }
     ensures left { D.is_reliable desk.new → (m : State) (states : List State) (asked : MessageValue) → D.stands desk.old m → D.may_leave desk.old states
-        → Says message.entry asked → D.may_leave desk.new (left_after m states asked (answer_value result)) }
+        → Says message.entry asked → D.may_leave desk.new (after_a_stop_of_answer m states asked (answer_value result)) }
 {
     match message {
         Ok(Asked::Upload(upload)) => Answer::Reply(desk.finish_upload(upload)),
@@ -103,8 +103,9 @@ fn serve<D: Desk, R: Source, W: Sink>(
     requires empty { reader.old ≡ [] }
     ensures reliable { D.is_reliable desk.new → D.is_reliable desk.old }
     ensures served { (messages : List MessageValue) × (answers : List AnswerValue) × (D.is_reliable desk.new → (m : State) → D.stands desk.old m → (n : State)
-        × Serves D.store_may_refuse limit m (R.left r.old) (R.left r.new) (W.output w.old) (W.output w.new) messages answers n result × D.stands desk.new n
-        × ((states : List State) → D.may_leave desk.old states → D.may_leave desk.new (left_by m states messages answers))) }
+        × Serves D.store_may_refuse limit (session (R.left r.old) (R.left r.new) (W.output w.old) (W.output w.new) messages answers) m n result
+        × D.stands desk.new n
+        × ((states : List State) → D.may_leave desk.old states → D.may_leave desk.new (after_a_stop_of_answers m states messages answers))) }
     ensures read { CountsRead (R.failed r.old) (R.failed r.new) result }
     ensures write { CountsWrite (W.output w.old) result (W.output w.new) }
     ensures made { result ≢ Err Memory }
@@ -146,8 +147,9 @@ pub fn serve_stream<D: Desk, R: Source, W: Sink>(
     requires writes { CanCount (W.output w.old) }
     ensures reliable { D.is_reliable desk.new → D.is_reliable desk.old }
     ensures served { (messages : List MessageValue) × (answers : List AnswerValue) × (D.is_reliable desk.new → (m : State) → D.stands desk.old m → (n : State)
-        × Serves D.store_may_refuse limit m (R.left r.old) (R.left r.new) (W.output w.old) (W.output w.new) messages answers n result × D.stands desk.new n
-        × ((states : List State) → D.may_leave desk.old states → D.may_leave desk.new (left_by m states messages answers))) }
+        × Serves D.store_may_refuse limit (session (R.left r.old) (R.left r.new) (W.output w.old) (W.output w.new) messages answers) m n result
+        × D.stands desk.new n
+        × ((states : List State) → D.may_leave desk.old states → D.may_leave desk.new (after_a_stop_of_answers m states messages answers))) }
     ensures memory { result ≡ Err Memory → (desk.new ≡ desk.old) × (r.new ≡ r.old) × (w.new ≡ w.old) }
     ensures read { CountsRead (R.failed r.old) (R.failed r.new) result }
     ensures write { CountsWrite (W.output w.old) result (W.output w.new) }

@@ -1,5 +1,5 @@
 -- Vertices, edges and elements without where they lie in memory (LSIF 0.6.0, "Vertices", "Edges").
-use Rattle.std.specs.Prelude.{◌==◌, ℕ, List, Bool, false, map, bytes_eq, string_bytes, Option, Result, Ok, Err}
+use Rattle.std.specs.Prelude.{◌==◌, ℕ, List, [], ◌∷◌, Bool, false, map, bytes_eq, string_bytes, Option, Result, Ok, Err}
 use Rattle.lsif.specs.declared.code.Code.{Code}
 use Rattle.positions.specs.Span.{SpanValue}
 use Rattle.lsif.specs.declared.id.Id.{Id}
@@ -100,6 +100,21 @@ same_id (text s) (number n) = false
 abbrev pub element_id : ElementValue → IdValue
 element_id (vertex i v) = i
 element_id (edge i e) = i
+
+-- the source of an edge and its targets
+abbrev pub ends_of : EdgeValue → IdValue × List IdValue
+ends_of (contains from to) = (from, to)
+ends_of (next from to) = (from, to ∷ [])
+ends_of (definition from to) = (from, to ∷ [])
+ends_of (references from to) = (from, to ∷ [])
+ends_of (declaration from to) = (from, to ∷ [])
+ends_of (implementation from to) = (from, to ∷ [])
+ends_of (hover from to) = (from, to ∷ [])
+ends_of (moniker_edge from to) = (from, to ∷ [])
+ends_of (package_edge from to) = (from, to ∷ [])
+ends_of (attach from to) = (from, to ∷ [])
+ends_of (item e) = (e.source, e.targets)
+ends_of (other_edge from to) = (from, to)
 
 -- ---- the same of the program's values
 

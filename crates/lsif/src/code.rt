@@ -31,63 +31,48 @@ pub enum Code {
 }
 
 impl Code {
+    /// The code and what it says, as they are printed.
+    fn printed(self) -> (&'static str, &'static str)
+        ensures name { result.0.now ≡ name_of self }
+        ensures text { result.1.now ≡ text_of self }
+    {
+        match self {
+            Code::L01 => ("L01", "line too long"),
+            Code::L02 => ("L02", "not JSON"),
+            Code::L03 => ("L03", "no valid id"),
+            Code::L04 => ("L04", "id used before"),
+            Code::L05 => ("L05", "bad type or label"),
+            Code::L06 => ("L06", "metaData missing, wrong or repeated"),
+            Code::L07 => ("L07", "bad vertex member"),
+            Code::L08 => ("L08", "bad edge ends"),
+            Code::L09 => ("L09", "vertex not emitted before"),
+            Code::L10 => ("L10", "edge may not join these"),
+            Code::L11 => ("L11", "range contained before"),
+            Code::L12 => ("L12", "range equal to or overlapping another"),
+            Code::L13 => ("L13", "second edge of a single kind"),
+            Code::L14 => ("L14", "next closes a cycle"),
+            Code::L15 => ("L15", "bad item property or shard"),
+            Code::L16 => ("L16", "shard names no document or project"),
+            Code::L17 => ("L17", "bad document event"),
+            Code::L18 => ("L18", "named after its document ended"),
+            Code::L19 => ("L19", "document uri used before"),
+            Code::L20 => ("L20", "too many elements"),
+            Code::E01 => ("E01", "range in no document"),
+            Code::E02 => ("E02", "shard is not the document of a target"),
+        }
+    }
+
     /// The code as it is printed.
     pub fn name(self) -> &'static str
         ensures { result.now ≡ name_of self }
     {
-        match self {
-            Code::L01 => "L01",
-            Code::L02 => "L02",
-            Code::L03 => "L03",
-            Code::L04 => "L04",
-            Code::L05 => "L05",
-            Code::L06 => "L06",
-            Code::L07 => "L07",
-            Code::L08 => "L08",
-            Code::L09 => "L09",
-            Code::L10 => "L10",
-            Code::L11 => "L11",
-            Code::L12 => "L12",
-            Code::L13 => "L13",
-            Code::L14 => "L14",
-            Code::L15 => "L15",
-            Code::L16 => "L16",
-            Code::L17 => "L17",
-            Code::L18 => "L18",
-            Code::L19 => "L19",
-            Code::L20 => "L20",
-            Code::E01 => "E01",
-            Code::E02 => "E02",
-        }
+        self.printed().0
     }
 
     /// What the code says, as it is printed behind its name.
     pub fn text(self) -> &'static str
         ensures { result.now ≡ text_of self }
     {
-        match self {
-            Code::L01 => "line too long",
-            Code::L02 => "not JSON",
-            Code::L03 => "no valid id",
-            Code::L04 => "id used before",
-            Code::L05 => "bad type or label",
-            Code::L06 => "metaData missing, wrong or repeated",
-            Code::L07 => "bad vertex member",
-            Code::L08 => "bad edge ends",
-            Code::L09 => "vertex not emitted before",
-            Code::L10 => "edge may not join these",
-            Code::L11 => "range contained before",
-            Code::L12 => "range equal to or overlapping another",
-            Code::L13 => "second edge of a single kind",
-            Code::L14 => "next closes a cycle",
-            Code::L15 => "bad item property or shard",
-            Code::L16 => "shard names no document or project",
-            Code::L17 => "bad document event",
-            Code::L18 => "named after its document ended",
-            Code::L19 => "document uri used before",
-            Code::L20 => "too many elements",
-            Code::E01 => "range in no document",
-            Code::E02 => "shard is not the document of a target",
-        }
+        self.printed().1
     }
 }

@@ -1,9 +1,10 @@
 //! Elements: vertices and edges.
 ghost use Rattle.std.specs.Prelude.{◌≡◌};
-ghost use Rattle.lsif.specs.Element.{id_value, element_value, element_id};
+ghost use Rattle.lsif.specs.Element.{id_value, id_values, edge_value, element_value, element_id, ends_of};
 
 use crate::id::Id;
 use positions::Span;
+use std::slice::from_ref;
 
 /// The part of LSIF that a dump is read by: which labels are read, and not as other labels.
 #[derive(Clone, Copy, Debug, PartialEq, Eq)]
@@ -134,6 +135,28 @@ pub enum Edge {
     Item(Item),
     /// An edge of another label.
     Other(Id, Vec<Id>),
+}
+
+impl Edge {
+    /// The source, and the target or the targets.
+    pub fn ends(&self) -> (&Id, &[Id])
+        ensures source { id_value result.0.now ≡ (ends_of (edge_value self.now)).0 }
+        ensures targets { id_values result.1.now ≡ (ends_of (edge_value self.now)).1 }
+    {
+        match self {
+            Edge::Contains(source, targets) | Edge::Other(source, targets) => (source, targets),
+            Edge::Next(source, target)
+            | Edge::Definition(source, target)
+            | Edge::References(source, target)
+            | Edge::Declaration(source, target)
+            | Edge::Implementation(source, target)
+            | Edge::Hover(source, target)
+            | Edge::Moniker(source, target)
+            | Edge::Package(source, target)
+            | Edge::Attach(source, target) => (source, from_ref(target)),
+            Edge::Item(item) => (&item.source, &item.targets),
+        }
+    }
 }
 
 /// One line of a dump: a vertex or an edge, and its id.

@@ -10,7 +10,7 @@ use Rattle.std.proofs.lemmas.List.Kept.{AllPairs-cons}
 use Rattle.positions.specs.Position.{PositionValue}
 use Rattle.positions.specs.Span.{covers}
 use Rattle.lsif.specs.Element.{IdValue, VertexValue, meta_data, project, document, range, result_set, definition_result, reference_result, declaration_result, implementation_result, hover_result, moniker, package_information, event, other_vertex, ElementValue, vertex, edge}
-use Rattle.dump.specs.declared.request.Request.{Request}
+use Rattle.dump.specs.declared.request_kind.RequestKind.{RequestKind}
 use Rattle.dump.specs.Contained.{is_in, IsNested}
 use Rattle.dump.specs.Fault.{IsFaultless}
 use Rattle.dump.specs.Graph.{vertex_at}
@@ -120,7 +120,7 @@ module _ (d : List ElementValue) (free : IsFaultless (map Ok d)) (doc : IdValue)
     },
   )
 
-  pub has_pick : (request : Request) → (picked : Option RangeValue) × Pick request d uri p picked
+  pub has_pick : (request : RequestKind) → (picked : Option RangeValue) × Pick request d uri p picked
   has_pick request =
       let first = first_that (λ (r : RangeValue). Speaks request d r.id) (λ r. speaks d free request r.id) cover.0 in
       (first.0, (cover.0, cover.1, first.1))

@@ -3,8 +3,8 @@ use Rattle.std.proofs.Common.{◌≡◌, ◌⊎◌, inl, inr, ⊎_elim, ℕ, tru
 use Rattle.std.specs.Prelude.{Contains, Option, Some, None, Ok, bytes_eq}
 use Rattle.std.proofs.lemmas.Slice.Eq.{bytes_eq-Decides}
 use Rattle.lsif.specs.Element.{IdValue, same_id, VertexValue, meta_data, project, document, range, result_set, definition_result, reference_result, declaration_result, implementation_result, hover_result, moniker, package_information, event, other_vertex, ElementValue, vertex, edge}
-use Rattle.dump.specs.declared.request.Request.{Request}
-use Rattle.dump.specs.declared.request.Request.TheVariants as requests
+use Rattle.dump.specs.declared.request_kind.RequestKind.{RequestKind}
+use Rattle.dump.specs.declared.request_kind.RequestKind.TheVariants as requests
 use Rattle.dump.specs.Fault.{IsFaultless}
 use Rattle.dump.specs.Graph.{vertex_at}
 use Rattle.dump.specs.Monikers.{MarkValue, Bears, Marks, Near, attach_pairs, mark_of, moniker_pairs}
@@ -128,10 +128,10 @@ module _ (d : List ElementValue) (free : IsFaultless (map Ok d)) where
   chain_of x = each_ends d sound x
 
   -- each vertex has a first result or has none
-  pub has_first : (request : Request) (x : IdValue) → (result : Option IdValue) × First request d x result
+  pub has_first : (request : RequestKind) (x : IdValue) → (result : Option IdValue) × First request d x result
   has_first request x = (first_of_list (single_pairs (label_of request) d) (chain_of x).0, ((chain_of x).0, (chain_of x).1, refl))
 
-  pub first_results : (request : Request) (x : IdValue) → Finite (λ r. First request d x (Some r))
+  pub first_results : (request : RequestKind) (x : IdValue) → Finite (λ r. First request d x (Some r))
   first_results request x =
       let f = has_first request x in
       of_same (λ r. f.0 ≡ Some r) (λ r. First request d x (Some r)) (λ r. (λ e. subst (First request d x) e f.1, λ g. one_result request d x f.0 (Some r) f.1 g)) (of_option f.0)
@@ -148,7 +148,7 @@ module _ (d : List ElementValue) (free : IsFaultless (map Ok d)) where
       (of_union (λ y mark. Bears d y mark) (Contains c.0) (of_list c.0) (λ y at. borne d y))
 
   -- whether a vertex speaks
-  pub speaks : (request : Request) (x : IdValue) → Decision (Speaks request d x)
+  pub speaks : (request : RequestKind) (x : IdValue) → Decision (Speaks request d x)
   speaks request x = ⊎_elim
       (λ (r : (r : IdValue) × First request d x (Some r)). inl (inl r))
       (λ (none : ((r : IdValue) × First request d x (Some r)) → ⊥). ⊎_elim

@@ -1,8 +1,8 @@
 -- From each state whose dumps and tags were judged a query has a reply.
 use Rattle.std.proofs.Common.{◌≡◌, ⊎_elim, List, [], ◌∷◌, map, refl}
 use Rattle.std.specs.Prelude.{Option, Some, None, Ok}
-use Rattle.dump.specs.declared.request.Request.{Request}
-use Rattle.dump.specs.declared.request.Request.TheVariants as requests
+use Rattle.dump.specs.declared.request_kind.RequestKind.{RequestKind}
+use Rattle.dump.specs.declared.request_kind.RequestKind.TheVariants as requests
 use Rattle.dump.specs.declared.role.Role.{Role}
 use Rattle.dump.specs.declared.role.Role.TheVariants as roles
 use Rattle.dump.specs.Fault.{IsFaultless}
@@ -35,7 +35,7 @@ module _ (m : State) (index : IsIndex m) where
           (λ (other : HasDocument dump.elements target.uri → ⊥). (refused D02, no_such_document dump e other))
           (has_document dump.elements (index.dumps target.project dump e) target.uri)
 
-  places : (request : Request) (in_roles : List Role) (target : DocumentPositionValue) (dump : DumpValue) → IsFaultless (map Ok dump.elements) → HasDocument dump.elements target.uri
+  places : (request : RequestKind) (in_roles : List Role) (target : DocumentPositionValue) (dump : DumpValue) → IsFaultless (map Ok dump.elements) → HasDocument dump.elements target.uri
       → (r : ReplyValue) × AnswersPlaces m request in_roles target dump r
   places request in_roles target dump free has = by pick.0 pick.1
     where

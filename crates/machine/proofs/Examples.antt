@@ -7,7 +7,7 @@ use Rattle.lsif.specs.declared.element.MonikerKind.TheVariants.{Import, Export}
 use Rattle.lsif.specs.declared.element.Profile.TheVariants.{One}
 use Rattle.lsif.specs.Lines.{ended}
 use Rattle.lsif.specs.Element.{IdValue, Reading, number, result_set, moniker, moniker_edge, vertex, edge}
-use Rattle.dump.specs.declared.request.Request.TheVariants.{Definition}
+use Rattle.dump.specs.declared.request_kind.RequestKind.TheVariants.{Definition}
 use Rattle.dump.specs.Graph.{element_at}
 use Rattle.dump.specs.Monikers.{MarkValue}
 use Rattle.dump.specs.Progress.{DumpValue}
@@ -20,7 +20,7 @@ use Rattle.machine.specs.Machine.{effect_by, reply_of, reply_to, after}
 use Rattle.machine.specs.State.{Accepted, State, nothing}
 use Rattle.machine.specs.Reply.{ReplyValue, refused}
 use Rattle.machine.specs.Requests.{CommandValue, DocumentPositionValue, definition}
-use Rattle.machine.specs.Uploads.{BodyValue, StandsFor, no_dump_line}
+use Rattle.machine.specs.Uploads.{BodyValue, HasRead, no_dump_line}
 
 -- ---- joins
 
@@ -52,13 +52,12 @@ unfolding element_at
 joined_to_the_export = record {
   elsewhere = λ e. true≢false (sym (ap (λ (t : List ℕ). bytes_eq t (codes "app")) e));
   is_there = refl;
-  mark = mark_of_kind Import;
-  borne = mark_of_kind Export;
-  marks = (number 1 ∷ [], number 1, ends refl, (0, omega arith, refl), (number 2, number 2, (0, omega arith, refl), stays, refl));
-  follows = refl;
-  bears = (number 2, number 2, (0, omega arith, refl), stays, refl);
-  finds = refl;
-  same_key = refl;
+  here = mark_of_kind Import;
+  there = mark_of_kind Export;
+  here_marked = (number 1 ∷ [], number 1, ends refl, (0, omega arith, refl), (number 2, number 2, (0, omega arith, refl), stays, refl));
+  there_marked = (number 2, number 2, (0, omega arith, refl), stays, refl);
+  kinds = (refl, refl);
+  same_moniker = refl;
 }
 
 -- no vertex is joined within the project itself
@@ -94,7 +93,7 @@ no_reading zero line e = cc
 no_reading (suc k) line e = no_reading k line e
 
 -- it stands for the body of that byte
-pub stands_for_the_brace : StandsFor brace_came (codes "{")
+pub stands_for_the_brace : HasRead brace_came (codes "{")
 stands_for_the_brace = inr ([], codes "{", (tt, (λ e. absurd (omega (arith, e)), tt), refl), (refl, λ k c has. no_reading k has.0 has.1, refl))
 
 brace_is_there : (front : List ℕ) → [] ≡ front ++ codes "{" → ⊥
@@ -102,7 +101,7 @@ brace_is_there [] e = cc
 brace_is_there (b ∷ front) e = cc
 
 -- and not for the empty body
-pub not_for_the_empty_body : StandsFor brace_came [] → ⊥
-not_for_the_empty_body (inl refused) = cc
+pub not_for_the_empty_body : HasRead brace_came [] → ⊥
+not_for_the_empty_body (inl found) = cc
 not_for_the_empty_body (inr (lines, last, cut, holds)) =
     brace_is_there (flat_map ended lines) (cut.2 ∙ ap (λ l. flat_map ended lines ++ l) (sym holds.2))

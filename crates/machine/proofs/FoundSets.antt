@@ -7,11 +7,11 @@ use Rattle.std.specs.Ordering.{nat_cmp, ordering_reverse, ordering_then}
 use Rattle.std.specs.declared.cmp.Ordering.{Ordering}
 use Rattle.std.specs.declared.cmp.Ordering.TheVariants.{Less, Equal, Greater}
 use Rattle.lsif.specs.Element.{IdValue, PackageValue, VertexValue, vertex}
-use Rattle.dump.specs.declared.request.Request.{Request}
-use Rattle.dump.specs.declared.request.Request.TheVariants as requests
+use Rattle.dump.specs.declared.request_kind.RequestKind.{RequestKind}
+use Rattle.dump.specs.declared.request_kind.RequestKind.TheVariants as requests
 use Rattle.dump.specs.declared.role.Role.{Role}
 use Rattle.dump.specs.Fault.{IsFaultless}
-use Rattle.dump.specs.Monikers.{Bears, KeyValue, MarkValue, Marks, moniker_pairs}
+use Rattle.dump.specs.Monikers.{Bears, MonikerKey, MarkValue, Marks, moniker_pairs}
 use Rattle.dump.specs.Places.{IsListing}
 use Rattle.dump.specs.Progress.{DumpValue}
 use Rattle.dump.specs.Requests.{First, finds, follows}
@@ -50,10 +50,10 @@ same_packages (Some p) (Some q) =
     (λ (e : Some p ≡ Some q). (ap (text_in (λ (k : PackageValue). k.manager)) e, (ap (text_in (λ (k : PackageValue). k.name)) e, ap (text_in (λ (k : PackageValue). k.version)) e)))
     (both (same_texts p.manager q.manager) (both (same_texts p.name q.name) (same_texts p.version q.version)))
 
-same_keys : (a b : KeyValue) → Decision (a ≡ b)
+same_keys : (a b : MonikerKey) → Decision (a ≡ b)
 same_keys a b =
     also (λ (e : (a.scheme ≡ b.scheme) × ((a.identifier ≡ b.identifier) × (a.«package» ≡ b.«package»))). λ i. record { scheme = e.0 i; identifier = e.1.0 i; «package» = e.1.1 i })
-    (λ (e : a ≡ b). (ap (λ (k : KeyValue). k.scheme) e, (ap (λ (k : KeyValue). k.identifier) e, ap (λ (k : KeyValue). k.«package») e)))
+    (λ (e : a ≡ b). (ap (λ (k : MonikerKey). k.scheme) e, (ap (λ (k : MonikerKey). k.identifier) e, ap (λ (k : MonikerKey). k.«package») e)))
     (both (same_texts a.scheme b.scheme) (both (same_texts a.identifier b.identifier) (same_packages a.«package» b.«package»)))
 
 other_text : (s t : List ℕ) → Decision (s ≢ t)
@@ -80,7 +80,7 @@ at_tie a b e =
     let line = number_tie a.1 b.1 tie.1 in
     λ i. (project i, line i)
 
-module _ (m : State) (index : IsIndex m) (request : Request) (project : List ℕ) (dump : DumpValue) (free : IsFaultless (map Ok dump.elements)) (r : IdValue) where
+module _ (m : State) (index : IsIndex m) (request : RequestKind) (project : List ℕ) (dump : DumpValue) (free : IsFaultless (map Ok dump.elements)) (r : IdValue) where
   -- ---- the joined vertices
 
   -- a mark of the range, and one of the same key that the vertex bears
@@ -129,15 +129,14 @@ module _ (m : State) (index : IsIndex m) (request : Request) (project : List ℕ
         λ (at, (mark, (has, (asked, (found, (bears, (sought, same))))))). record {
           elsewhere = at.0;
           is_there = at.1;
-          mark = mark;
-          borne = found;
-          marks = has;
-          follows = asked;
-          bears = bears;
-          finds = sought;
-          same_key = same;
+          here = mark;
+          there = found;
+          here_marked = has;
+          there_marked = bears;
+          kinds = (asked, sought);
+          same_moniker = same;
         },
-        λ h. ((h.elsewhere, h.is_there, ((j.2, h.bears.0), h.bears.2, refl)), (h.mark, (h.marks, (h.follows, (h.borne, (h.bears, (h.finds, h.same_key))))))),
+        λ h. ((h.elsewhere, h.is_there, ((j.2, h.there_marked.0), h.there_marked.2, refl)), (h.here, (h.here_marked, (h.kinds.0, (h.there, (h.there_marked, (h.kinds.1, h.same_moniker))))))),
       ))
       (of_those IsThere (λ j. MarksMeet j.1 j.2) there (λ j at. marks_meet j.1 j.2))
 

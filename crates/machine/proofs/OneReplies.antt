@@ -8,8 +8,8 @@ use Rattle.std.specs.declared.cmp.Ordering.{Ordering}
 use Rattle.std.specs.declared.cmp.Ordering.TheVariants.{Less, Equal, Greater}
 use Rattle.positions.specs.Position.{PositionValue}
 use Rattle.lsif.specs.Element.{IdValue, hover_result, ElementValue, vertex, edge}
-use Rattle.dump.specs.declared.request.Request.{Request}
-use Rattle.dump.specs.declared.request.Request.TheVariants as requests
+use Rattle.dump.specs.declared.request_kind.RequestKind.{RequestKind}
+use Rattle.dump.specs.declared.request_kind.RequestKind.TheVariants as requests
 use Rattle.dump.specs.declared.role.Role.{Role}
 use Rattle.dump.specs.Graph.{vertex_at}
 use Rattle.dump.specs.Places.{IsListing, HasDocument}
@@ -73,10 +73,10 @@ same_some x y e = cc
 -- ---- what is taken of dumps
 
 abbrev pub OneFirst : Type 0
-OneFirst = (request : Request) (elements : List ElementValue) (x : IdValue) (found other : Option IdValue) → First request elements x found → First request elements x other → found ≡ other
+OneFirst = (request : RequestKind) (elements : List ElementValue) (x : IdValue) (found other : Option IdValue) → First request elements x found → First request elements x other → found ≡ other
 
 abbrev pub OnePick : Type 0
-OnePick = (request : Request) (elements : List ElementValue) (uri : List ℕ) (position : PositionValue) (picked other : Option RangeValue)
+OnePick = (request : RequestKind) (elements : List ElementValue) (uri : List ℕ) (position : PositionValue) (picked other : Option RangeValue)
     → Pick request elements uri position picked → Pick request elements uri position other → picked ≡ other
 
 abbrev vertex_of : ElementValue → IdValue → IdValue
@@ -86,7 +86,7 @@ vertex_of (edge i e) other = other
 module _ (first : OneFirst) (pick : OnePick) where
   -- ---- places
 
-  one_places : (m : State) (request : Request) (in_roles : List Role) (target : DocumentPositionValue) (dump : DumpValue) (r s : ReplyValue)
+  one_places : (m : State) (request : RequestKind) (in_roles : List Role) (target : DocumentPositionValue) (dump : DumpValue) (r s : ReplyValue)
       → AnswersPlaces m request in_roles target dump r → AnswersPlaces m request in_roles target dump s → r ≡ s
   one_places m request in_roles target dump r s (picked {places = xs} x p l) (picked {places = ys} y q k) =
       let same = same_some x y (pick request dump.elements target.uri target.position (Some x) (Some y) p q) in

@@ -2,7 +2,7 @@
 use Rattle.std.proofs.Common.{◌≡◌, true, List, map, refl, subst}
 use Rattle.std.specs.Prelude.{Contains, Some, Ok}
 use Rattle.lsif.specs.Element.{IdValue, ItemValue, contains, next, definition, references, declaration, implementation, hover, moniker_edge, package_edge, attach, item, other_edge, ElementValue, vertex, edge}
-use Rattle.dump.specs.declared.request.Request.{Request}
+use Rattle.dump.specs.declared.request_kind.RequestKind.{RequestKind}
 use Rattle.dump.specs.declared.role.Role.{Role}
 use Rattle.dump.specs.Fault.{IsFaultless}
 use Rattle.dump.specs.Graph.{vertex_at}
@@ -81,6 +81,6 @@ module _ (in_roles : List Role) (d : List ElementValue) (free : IsFaultless (map
   places result = of_union (λ other place. IsItemPlace in_roles d other place) (Path (result_pairs d) result) (path_ends (result_pairs d) result) (λ other path. item_places other)
 
 -- those of the first result of a vertex
-pub first_places : (request : Request) (in_roles : List Role) (dump : DumpValue) → IsFaultless (map Ok dump.elements) → (x : IdValue) → Finite (HasPlace request in_roles dump x)
+pub first_places : (request : RequestKind) (in_roles : List Role) (dump : DumpValue) → IsFaultless (map Ok dump.elements) → (x : IdValue) → Finite (HasPlace request in_roles dump x)
 first_places request in_roles dump free x =
     of_union (λ result place. Places in_roles dump.elements result place) (λ result. First request dump.elements x (Some result)) (first_results dump.elements free request x) (λ result first. places in_roles dump.elements free result)

@@ -1,6 +1,6 @@
 -- The law of commands that are sent again.
-use Rattle.std.proofs.Common.{◌≡◌, ◌≢◌, ◌⊎◌, inl, inr, ⊎_elim, arith, Bool, true, false, ◌&&◌, ◌||◌, cond, List, [], ◌∷◌, ◌++◌, refl, sym, ap, ◌∙◌, subst}
-use Rattle.std.specs.Prelude.{ℕ, ◌==◌, Option, Some, None, is_some, Result, Ok, Err, All, Contains, bytes_eq}
+use Rattle.std.proofs.Common.{◌≡◌, ◌⊎◌, inl, inr, ⊎_elim, arith, Bool, true, false, ◌&&◌, ◌||◌, cond, List, [], ◌∷◌, ◌++◌, refl, sym, ap, ◌∙◌, subst}
+use Rattle.std.specs.Prelude.{ℕ, Option, Some, None, is_some, Result, Ok, Err, All, Contains, bytes_eq}
 use Rattle.std.proofs.lemmas.List.Elements.{All-push, All-weaker, All-contains, All-cons, All-nil}
 use Rattle.std.proofs.lemmas.List.{map-append}
 use Rattle.std.proofs.lemmas.Slice.Eq.{bytes_eq-Decides}
@@ -11,10 +11,11 @@ use Rattle.tags.specs.declared.code.LineFault as tags
 use Rattle.machine.specs.Judging.{judged, judged_dump, judged_tags, dump_change, tags_change}
 use Rattle.machine.specs.State.{Change, Accepted, State, nothing, dump_after, tags_after, accepted}
 use Rattle.machine.specs.Machine.{reply_of, effect_by, reply_to, after, is_new}
-use Rattle.machine.specs.Reply.{ReplyValue, is_refusal, out_of_memory, store_refused, dump_refused, tags_refused}
+use Rattle.machine.specs.Reply.{ReplyValue, refused, made, is_refusal, reply_status, dump_refused, tags_refused}
+use Rattle.machine.specs.declared.code.Code.TheVariants.{D01, D02, D03, S01, S02}
 use Rattle.machine.specs.Requests.{ActionValue, put_dump, put_tags, remove, CommandValue, RequestValue, command, query}
-use Rattle.machine.specs.Runs.{MayReply, moved, left, Run, left_by}
-use Rattle.machine.specs.Retries.{KeptValue, has_key, with_command, once, plain_dump, plain_tags, plain_kept, Event, sent, stop, LeftValue, Moment, first_moment, after_reply, after_stop, Goes, Life, IsPlain, with_run, states_left}
+use Rattle.machine.specs.Runs.{MayReply, own, no_memory, no_store, moved, after_a_stop, Run, after_a_stop_of_run}
+use Rattle.machine.specs.Retries.{KeptValue, has_key, with_command, once, plain_dump, plain_tags, plain_kept, Event, sent, stop, StopValue, Moment, first_moment, moment_after_reply, moment_after_stop, Goes, Life, IsPlain, with_run, states_after_a_stop}
 use Rattle.machine.proofs.Members.{contains_cases, not_in_nil, and_both}
 
 -- the state is that of this history
@@ -63,14 +64,14 @@ once-append (c ∷ cs) ds es e = ap (with_command c (judged c.action)) (once-app
 
 -- ---- a life
 
-abbrev IsGood : List CommandValue → LeftValue → Type 0
+abbrev IsGood : List CommandValue → StopValue → Type 0
 IsGood counted l = Agrees l.state (once (l.commands ++ counted))
 
 record Holds (t : Moment) : Type 0 where
   now : Agrees t.now (once t.counted)
-  left : All (IsGood t.counted) t.left
+  left : All (IsGood t.counted) t.after_a_stop
 
-abbrev alone : State → LeftValue
+abbrev alone : State → StopValue
 alone n = record { state = n; commands = [] }
 
 first : Holds first_moment
@@ -79,19 +80,19 @@ first = record {
   left = All-cons (IsGood []) (alone nothing) [] (record { dump = λ p. refl; tags = λ p. refl; kept = λ p k. refl }) (All-nil (IsGood []));
 }
 
-left_after : (c : CommandValue) (t : Moment) → Holds t → (b : Bool) → is_new t.now c ≡ b → All (IsGood (c ∷ t.counted)) (cond b (alone (after t.now c) ∷ []) t.left)
+left_after : (c : CommandValue) (t : Moment) → Holds t → (b : Bool) → is_new t.now c ≡ b → All (IsGood (c ∷ t.counted)) (cond b (alone (after t.now c) ∷ []) t.after_a_stop)
 left_after c t i true e = All-cons (IsGood (c ∷ t.counted)) (alone (after t.now c)) [] (steps t.now c t.counted i.now) (All-nil (IsGood (c ∷ t.counted)))
 left_after c t i false e =
     let same : once (c ∷ t.counted) ≡ once t.counted = not_new t.now c (once t.counted) i.now (t.now.kept c.project c.key) (judged c.action) refl e in
-    All-weaker (IsGood t.counted) (IsGood (c ∷ t.counted)) (λ l g. subst (Agrees l.state) (once-append l.commands t.counted (c ∷ t.counted) (sym same)) g) t.left i.left
+    All-weaker (IsGood t.counted) (IsGood (c ∷ t.counted)) (λ l g. subst (Agrees l.state) (once-append l.commands t.counted (c ∷ t.counted) (sym same)) g) t.after_a_stop i.left
 
-replies : (b : Bool) (c : CommandValue) (t : Moment) → Holds t → Holds (after_reply b c t)
-replies true c t i = record { now = i.now; left = All-push (IsGood t.counted) t.left (record { state = after t.now c; commands = c ∷ [] }) i.left (steps t.now c t.counted i.now) }
+replies : (b : Bool) (c : CommandValue) (t : Moment) → Holds t → Holds (moment_after_reply b c t)
+replies true c t i = record { now = i.now; left = All-push (IsGood t.counted) t.after_a_stop (record { state = after t.now c; commands = c ∷ [] }) i.left (steps t.now c t.counted i.now) }
 replies false c t i = record { now = steps t.now c t.counted i.now; left = left_after c t i (is_new t.now c) refl }
 
-stops : (l : LeftValue) (t : Moment) → Holds t → Contains t.left l → Holds (after_stop l t)
+stops : (l : StopValue) (t : Moment) → Holds t → Contains t.after_a_stop l → Holds (moment_after_stop l t)
 stops l t i at =
-    let good = All-contains (IsGood t.counted) t.left l i.left at in
+    let good = All-contains (IsGood t.counted) t.after_a_stop l i.left at in
     record { now = good; left = All-cons (IsGood (l.commands ++ t.counted)) (alone l.state) [] good (All-nil (IsGood (l.commands ++ t.counted))) }
 
 goes : (s : Bool) (e : Event) (t u : Moment) → Holds t → Goes s t e u → Holds u
@@ -108,9 +109,9 @@ is_plain s es t l = let i = lives s es t l in record { dump = i.now.dump; tags =
 -- ---- a command whose key is kept
 
 again_by : (s : Bool) (m : State) (c : CommandValue) (r : ReplyValue) (kept : Accepted) → m.kept c.project c.key ≡ Some kept → MayReply s m (command c) r → (is_refusal r ≡ true) ⊎ (r ≡ reply_of kept)
-again_by s m c r kept e (inl (may, is)) = inl (ap is_refusal is)
-again_by s m c r kept e (inr (inl is)) = inl (ap is_refusal is)
-again_by s m c r kept e (inr (inr is)) = inr (is ∙ ap (λ o. (effect_by m c o (judged c.action)).reply) e)
+again_by s m c r kept e (own is) = inr (is ∙ ap (λ o. (effect_by m c o (judged c.action)).reply) e)
+again_by s m c r kept e no_memory = inl refl
+again_by s m c r kept e (no_store may) = inl refl
 
 pub again : (s : Bool) (es : List Event) (t : Moment) (c : CommandValue) (r : ReplyValue) (kept : Accepted) → Life s es t → MayReply s t.now (command c) r
     → plain_kept (once t.counted) c.project c.key ≡ Some kept → (is_refusal r ≡ true) ⊎ (r ≡ reply_of kept)
@@ -118,24 +119,21 @@ again s es t c r kept l may e = again_by s t.now c r kept ((lives s es t l).now.
 
 -- ---- a command that was accepted
 
-fault_of_dump : (said : Result DumpValue dumps.LineFault) (fault : ReplyValue) → dump_change said ≡ Err fault → fault.status ≡ 422
+fault_of_dump : (said : Result DumpValue dumps.LineFault) (fault : ReplyValue) → dump_change said ≡ Err fault → reply_status fault ≡ 422
 fault_of_dump (Ok dump) fault e = cc
-fault_of_dump (Err f) fault e = let is : dump_refused f ≡ fault = cc in sym (ap (λ (r : ReplyValue). r.status) is)
+fault_of_dump (Err f) fault e = let is : dump_refused f ≡ fault = cc in sym (ap reply_status is)
 
-fault_of_tags : (said : Result (List TagValue) tags.LineFault) (fault : ReplyValue) → tags_change said ≡ Err fault → fault.status ≡ 422
+fault_of_tags : (said : Result (List TagValue) tags.LineFault) (fault : ReplyValue) → tags_change said ≡ Err fault → reply_status fault ≡ 422
 fault_of_tags (Ok tags) fault e = cc
-fault_of_tags (Err f) fault e = let is : tags_refused f ≡ fault = cc in sym (ap (λ (r : ReplyValue). r.status) is)
+fault_of_tags (Err f) fault e = let is : tags_refused f ≡ fault = cc in sym (ap reply_status is)
 
-fault_of : (action : ActionValue) (fault : ReplyValue) → judged action ≡ Err fault → fault.status ≡ 422
+fault_of : (action : ActionValue) (fault : ReplyValue) → judged action ≡ Err fault → reply_status fault ≡ 422
 fault_of (put_dump profile body) fault e = fault_of_dump (judged_dump profile body) fault e
 fault_of (put_tags body) fault e = fault_of_tags (judged_tags body) fault e
 fault_of remove fault e = cc
 
-not_other : (r s : ReplyValue) (n : ℕ) → n ≢ 200 → s.status ≡ n → r ≡ s → r.status ≡ 200 → ⊥
-not_other r s n other status is ok = other (sym status ∙ ap (λ (x : ReplyValue). x.status) (sym is) ∙ ok)
-
 -- what the reply to an accepted command says is kept after it
-kept_by : (m : State) (c : CommandValue) (o : Option Accepted) (body : Result Change ReplyValue) → m.kept c.project c.key ≡ o → judged c.action ≡ body → (effect_by m c o body).reply.status ≡ 200
+kept_by : (m : State) (c : CommandValue) (o : Option Accepted) (body : Result Change ReplyValue) → m.kept c.project c.key ≡ o → judged c.action ≡ body → reply_status (effect_by m c o body).reply ≡ 200
     → (kept : Accepted) × ((effect_by m c o body).after.kept c.project c.key ≡ Some kept) × ((effect_by m c o body).reply ≡ reply_of kept)
 kept_by m c (Some kept) body e said ok = (kept, e, refl)
 kept_by m c None (Err fault) e said ok = absurd (let status = fault_of c.action fault said in omega (arith, status, ok))
@@ -146,10 +144,10 @@ kept_by m c None (Ok change) e said ok = (
 )
 
 -- the machine's own reply, where it has this status
-own_reply : (s : Bool) (m : State) (c : CommandValue) (r : ReplyValue) → MayReply s m (command c) r → r.status ≡ 200 → r ≡ reply_to m c
-own_reply s m c r (inl (may, is)) ok = absurd (not_other r store_refused 503 (omega arith) refl is ok)
-own_reply s m c r (inr (inl is)) ok = absurd (not_other r out_of_memory 503 (omega arith) refl is ok)
-own_reply s m c r (inr (inr is)) ok = is
+own_reply : (s : Bool) (m : State) (c : CommandValue) (r : ReplyValue) → MayReply s m (command c) r → reply_status r ≡ 200 → r ≡ reply_to m c
+own_reply s m c r (own is) ok = is
+own_reply s m c r no_memory ok = absurd (omega (arith, ok))
+own_reply s m c r (no_store may) ok = absurd (omega (arith, ok))
 
 -- what is kept of a history stays where it goes on
 stays_by : (has same : Bool) (c : CommandValue) (change : Change) (h : List KeptValue) (p k : List ℕ) (kept : Accepted) → has_key c.project c.key h ≡ has → (bytes_eq c.project p && bytes_eq c.key k) ≡ same
@@ -176,7 +174,7 @@ stays (c ∷ cs) ds p k kept is = stays_with c (judged c.action) (once (cs ++ ds
 abbrev IsKept : Moment → CommandValue → ReplyValue → Type 0
 IsKept t c r = (kept : Accepted) × (plain_kept (once t.counted) c.project c.key ≡ Some kept) × (r ≡ reply_of kept)
 
-kept_after : (b : Bool) (d : CommandValue) (t : Moment) (c : CommandValue) (r : ReplyValue) → IsKept t c r → IsKept (after_reply b d t) c r
+kept_after : (b : Bool) (d : CommandValue) (t : Moment) (c : CommandValue) (r : ReplyValue) → IsKept t c r → IsKept (moment_after_reply b d t) c r
 kept_after true d t c r k = k
 kept_after false d t c r k = (k.0, stays (d ∷ []) t.counted c.project c.key k.0 k.1, k.2)
 
@@ -184,24 +182,29 @@ kept_on : (s : Bool) (e : Event) (t u : Moment) (c : CommandValue) (r : ReplyVal
 kept_on s (sent d q) t u c r g k = subst (λ (v : Moment). IsKept v c r) (sym g.1) (kept_after (is_refusal q) d t c r k)
 kept_on s stop t u c r g k = subst (λ (v : Moment). IsKept v c r) (sym g.2) (k.0, stays g.0.commands t.counted c.project c.key k.0 k.1, k.2)
 
-no_refusal : (r : ReplyValue) → r.status ≡ 200 → is_refusal r ≡ false
-no_refusal r ok = ap (λ n. n == 503) ok
+no_refusal : (r : ReplyValue) → reply_status r ≡ 200 → is_refusal r ≡ false
+no_refusal (made status body) ok = refl
+no_refusal (refused D01) ok = refl
+no_refusal (refused D02) ok = refl
+no_refusal (refused D03) ok = refl
+no_refusal (refused S01) ok = absurd (omega (arith, ok))
+no_refusal (refused S02) ok = absurd (omega (arith, ok))
 
-kept_now : (s : Bool) (t u : Moment) (c : CommandValue) (r : ReplyValue) → Holds t → Goes s t (sent c r) u → r.status ≡ 200 → IsKept u c r
+kept_now : (s : Bool) (t u : Moment) (c : CommandValue) (r : ReplyValue) → Holds t → Goes s t (sent c r) u → reply_status r ≡ 200 → IsKept u c r
 kept_now s t u c r i g ok =
-    let own = own_reply s t.now c r g.0 ok in
-    let k = kept_by t.now c (t.now.kept c.project c.key) (judged c.action) refl refl (ap (λ (x : ReplyValue). x.status) (sym own) ∙ ok) in
-    let is : u ≡ after_reply false c t = g.1 ∙ ap (λ b. after_reply b c t) (no_refusal r ok) in
-    subst (λ (v : Moment). IsKept v c r) (sym is) (k.0, sym ((steps t.now c t.counted i.now).kept c.project c.key) ∙ k.1, own ∙ k.2)
+    let mine = own_reply s t.now c r g.0 ok in
+    let k = kept_by t.now c (t.now.kept c.project c.key) (judged c.action) refl refl (ap reply_status (sym mine) ∙ ok) in
+    let is : u ≡ moment_after_reply false c t = g.1 ∙ ap (λ b. moment_after_reply b c t) (no_refusal r ok) in
+    subst (λ (v : Moment). IsKept v c r) (sym is) (k.0, sym ((steps t.now c t.counted i.now).kept c.project c.key) ∙ k.1, mine ∙ k.2)
 
-was_kept : (s : Bool) (es : List Event) (t : Moment) (c : CommandValue) (r : ReplyValue) → Life s es t → Contains es (sent c r) → r.status ≡ 200 → IsKept t c r
+was_kept : (s : Bool) (es : List Event) (t : Moment) (c : CommandValue) (r : ReplyValue) → Life s es t → Contains es (sent c r) → reply_status r ≡ 200 → IsKept t c r
 was_kept s [] t c r l at ok = absurd (not_in_nil (sent c r) at)
 was_kept s (e ∷ es) u c r l at ok = ⊎_elim
     (λ (is : e ≡ sent c r). kept_now s l.0 u c r (lives s es l.0 l.1) (subst (λ (f : Event). Goes s l.0 f u) is l.2) ok)
     (λ (before : Contains es (sent c r)). kept_on s e l.0 u c r l.2 (was_kept s es l.0 c r l.1 before ok))
     (contains_cases e es (sent c r) at)
 
-pub sent_again : (s : Bool) (es : List Event) (t : Moment) (c later : CommandValue) (r reply : ReplyValue) → Life s es t → Contains es (sent c r) → r.status ≡ 200
+pub sent_again : (s : Bool) (es : List Event) (t : Moment) (c later : CommandValue) (r reply : ReplyValue) → Life s es t → Contains es (sent c r) → reply_status r ≡ 200
     → later.project ≡ c.project → later.key ≡ c.key → MayReply s t.now (command later) reply → (is_refusal reply ≡ true) ⊎ (reply ≡ r)
 sent_again s es t c later r reply l at ok project key may =
     let k = was_kept s es t c r l at ok in
@@ -211,24 +214,24 @@ sent_again s es t c later r reply l at ok project key may =
 -- ---- runs
 
 left_of : (b n : Bool) (c : CommandValue) (t : Moment) → is_new t.now c ≡ n
-    → states_left (after_reply b c t) ≡ cond b (states_left t ++ after t.now c ∷ []) (cond n (after t.now c ∷ []) (states_left t))
-left_of true n c t e = map-append (λ (l : LeftValue). l.state) t.left (record { state = after t.now c; commands = c ∷ [] } ∷ [])
+    → states_after_a_stop (moment_after_reply b c t) ≡ cond b (states_after_a_stop t ++ after t.now c ∷ []) (cond n (after t.now c ∷ []) (states_after_a_stop t))
+left_of true n c t e = map-append (λ (l : StopValue). l.state) t.after_a_stop (record { state = after t.now c; commands = c ∷ [] } ∷ [])
 left_of false true c t e = rw e refl
 left_of false false c t e = rw e refl
 
-now_of : (b : Bool) (c : CommandValue) (t : Moment) → (after_reply b c t).now ≡ cond b t.now (after t.now c)
+now_of : (b : Bool) (c : CommandValue) (t : Moment) → (moment_after_reply b c t).now ≡ cond b t.now (after t.now c)
 now_of true c t = refl
 now_of false c t = refl
 
 pub runs : (s : Bool) (qs : List RequestValue) (rs : List ReplyValue) (es : List Event) (t : Moment) (n : State) → Life s es t → Run s t.now qs rs n
-    → (u : Moment) × Life s (with_run qs rs es) u × (u.now ≡ n) × (states_left u ≡ left_by t.now (states_left t) qs rs)
+    → (u : Moment) × Life s (with_run qs rs es) u × (u.now ≡ n) × (states_after_a_stop u ≡ after_a_stop_of_run t.now (states_after_a_stop t) qs rs)
 runs s [] [] es t n l e = (t, l, sym e, refl)
 runs s [] (r ∷ rs) es t n l e = absurd e
 runs s (q ∷ qs) [] es t n l e = absurd e
 runs s (query q ∷ qs) (r ∷ rs) es t n l e = runs s qs rs es t n l e.1
 runs s (command c ∷ qs) (r ∷ rs) es t n l e =
-    let u = after_reply (is_refusal r) c t in
+    let u = moment_after_reply (is_refusal r) c t in
     let is : u.now ≡ moved t.now (command c) r = now_of (is_refusal r) c t in
-    let lefts : states_left u ≡ left t.now (states_left t) (command c) r = left_of (is_refusal r) (is_new t.now c) c t refl in
+    let lefts : states_after_a_stop u ≡ after_a_stop t.now (states_after_a_stop t) (command c) r = left_of (is_refusal r) (is_new t.now c) c t refl in
     let more = runs s qs rs (sent c r ∷ es) u n (t, l, (e.0, refl)) (subst (λ m. Run s m qs rs n) (sym is) e.1) in
-    (more.0, more.1, more.2, more.3 ∙ ap (λ m. left_by m (states_left u) qs rs) is ∙ ap (λ k. left_by (moved t.now (command c) r) k qs rs) lefts)
+    (more.0, more.1, more.2, more.3 ∙ ap (λ m. after_a_stop_of_run m (states_after_a_stop u) qs rs) is ∙ ap (λ k. after_a_stop_of_run (moved t.now (command c) r) k qs rs) lefts)

@@ -20,7 +20,7 @@ use Rattle.tags.specs.States.{State, Summary, listed, state_after, summary_of}
 use Rattle.tags.specs.Steps.Readings.{reading_of}
 use Rattle.tags.specs.Values.{TagValue}
 use Rattle.tags.specs.declared.code.Code.{Code}
-use Rattle.machine.specs.Uploads.{BodyValue, TakenLines, dump_lines, tags_lines, no_tags_line, empty, settled, Holds, HoldsDump, HoldsReadings, StandsFor}
+use Rattle.machine.specs.Uploads.{BodyValue, TakenLines, dump_lines, tags_lines, no_tags_line, empty, settled, Holds, HoldsDump, HoldsReadings, HasRead}
 use Rattle.machine.specs.Steps.Uploads.{StandsBy, Took, after}
 use Rattle.machine.proofs.Judging.{same_elements}
 
@@ -156,11 +156,11 @@ holds_lines dump_laws tag_laws (tags_lines state) held lines last t =
     let all = map ended_line (settled tag_lines_of.longest_line lines last) in
     (map reading_of all, are_readings tag_laws all, holds_readings tag_laws state held lines last t)
 
-pub stands_by : DumpLaws → TagLaws → (held : BodyValue) (body : List ℕ) → StandsFor held body → StandsBy held body
+pub stands_by : DumpLaws → TagLaws → (held : BodyValue) (body : List ℕ) → HasRead held body → StandsBy held body
 stands_by dump_laws tag_laws held body (inl refused) = inl refused
 stands_by dump_laws tag_laws held body (inr h) = inr (h.0, h.1, h.2, took_lines dump_laws tag_laws held.lines held.last h.0 h.1 h.3)
 
-pub stands_for : DumpLaws → TagLaws → (held : BodyValue) (body : List ℕ) → StandsBy held body → StandsFor held body
+pub stands_for : DumpLaws → TagLaws → (held : BodyValue) (body : List ℕ) → StandsBy held body → HasRead held body
 stands_for dump_laws tag_laws held body (inl refused) = inl refused
 stands_for dump_laws tag_laws held body (inr t) = inr (t.0, t.1, t.2, holds_lines dump_laws tag_laws held.lines held.last t.0 t.1 t.3)
 
@@ -189,8 +189,8 @@ unfolding summary_of tags_of
 no_summary = refl
 
 -- a reader of tags that has taken nothing stands for the body of no byte
-pub empty_tags : StandsFor (empty no_tags_line) []
+pub empty_tags : HasRead (empty no_tags_line) []
 empty_tags = inr ([], [], (tt, tt, refl), ([], tt, (λ k c has. no_line k has.0 has.1, no_summary, refl)))
 
-pub empty_reader : (state : State (List TagValue)) (held : BodyValue) → state ≡ tags.start [] → held ≡ empty (tags_lines state) → StandsFor held []
-empty_reader state held none is = subst (λ b. StandsFor b []) (sym (is ∙ ap (λ s. empty (tags_lines s)) none)) empty_tags
+pub empty_reader : (state : State (List TagValue)) (held : BodyValue) → state ≡ tags.start [] → held ≡ empty (tags_lines state) → HasRead held []
+empty_reader state held none is = subst (λ b. HasRead b []) (sym (is ∙ ap (λ s. empty (tags_lines s)) none)) empty_tags

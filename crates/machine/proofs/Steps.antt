@@ -4,7 +4,7 @@ use Rattle.std.proofs.lemmas.List.{map-append, take_more}
 use Rattle.machine.specs.State.{State}
 use Rattle.machine.specs.Reply.{ReplyValue}
 use Rattle.machine.specs.Requests.{RequestValue, request_value, request_values}
-use Rattle.machine.specs.Runs.{MayReply, moved, Run, left, left_by}
+use Rattle.machine.specs.Runs.{MayReply, moved, Run, after_a_stop, after_a_stop_of_run}
 use Rattle.machine.specs.declared.request.Request.{Request}
 
 pub run_more : (s : Bool) (m n : State) (qs : List RequestValue) (rs : List ReplyValue) (q : RequestValue) (r : ReplyValue)
@@ -21,8 +21,8 @@ requests_more requests i request lt is =
     ∙ ap (λ (q : Request). request_values (take i requests) ++ request_value q ∷ []) (sym is)
 
 pub left_more : (s : Bool) (m n : State) (states : List State) (qs : List RequestValue) (rs : List ReplyValue) (q : RequestValue) (r : ReplyValue)
-    → Run s m qs rs n → left_by m states (qs ++ q ∷ []) (rs ++ r ∷ []) ≡ left n (left_by m states qs rs) q r
-left_more s m n states [] [] q r e = ap (λ k. left k states q r) (sym e)
+    → Run s m qs rs n → after_a_stop_of_run m states (qs ++ q ∷ []) (rs ++ r ∷ []) ≡ after_a_stop n (after_a_stop_of_run m states qs rs) q r
+left_more s m n states [] [] q r e = ap (λ k. after_a_stop k states q r) (sym e)
 left_more s m n states [] (t ∷ rs) q r e = absurd e
 left_more s m n states (p ∷ qs) [] q r e = absurd e
-left_more s m n states (p ∷ qs) (t ∷ rs) q r e = left_more s (moved m p t) n (left m states p t) qs rs q r e.1
+left_more s m n states (p ∷ qs) (t ∷ rs) q r e = left_more s (moved m p t) n (after_a_stop m states p t) qs rs q r e.1

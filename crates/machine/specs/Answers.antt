@@ -4,8 +4,8 @@ use Rattle.std.specs.declared.cmp.Ordering.{Ordering}
 use Rattle.std.specs.declared.cmp.Ordering.TheVariants.{Greater}
 use Rattle.std.specs.Ordering.{nat_cmp, ordering_then}
 use Rattle.lsif.specs.Element.{IdValue, VertexValue, hover_result, vertex}
-use Rattle.dump.specs.declared.request.Request.{Request}
-use Rattle.dump.specs.declared.request.Request.TheVariants as requests
+use Rattle.dump.specs.declared.request_kind.RequestKind.{RequestKind}
+use Rattle.dump.specs.declared.request_kind.RequestKind.TheVariants as requests
 use Rattle.dump.specs.declared.role.Role.{Role}
 use Rattle.dump.specs.declared.role.Role.TheVariants as roles
 use Rattle.dump.specs.Graph.{vertex_at}
@@ -23,12 +23,12 @@ use Rattle.machine.specs.Requests.{DocumentPositionValue, QueryValue, definition
 -- ---- places
 
 -- a place of the vertex's first result, in one of these roles
-abbrev pub HasPlace : Request → List Role → DumpValue → IdValue → PlaceValue → Type 0
+abbrev pub HasPlace : RequestKind → List Role → DumpValue → IdValue → PlaceValue → Type 0
 HasPlace request in_roles dump x place =
     (result : IdValue) × First request dump.elements x (Some result) × Places in_roles dump.elements result place
 
 -- a place of the range's own, or of a vertex that is joined to it
-abbrev pub IsFound : State → Request → List Role → List ℕ → DumpValue → IdValue → FoundPlace → Type 0
+abbrev pub IsFound : State → RequestKind → List Role → List ℕ → DumpValue → IdValue → FoundPlace → Type 0
 IsFound m request in_roles project dump r found =
     ((found.project ≡ project) × HasPlace request in_roles dump r found.place)
     ⊎ ((second : DumpValue) × (y : IdValue) × IsJoined m request project dump r found.project second y × HasPlace request in_roles second y found.place)
@@ -38,7 +38,7 @@ abbrev pub found_cmp : FoundPlace → FoundPlace → Ordering
 found_cmp a b = ordering_then (text_cmp a.project b.project) (place_cmp a.place b.place)
 
 -- the places that answer the request: those of the range that is picked, and none where none is
-pub data AnswersPlaces (m : State) (request : Request) (in_roles : List Role) (target : DocumentPositionValue) (dump : DumpValue) : ReplyValue → Type 0 where
+pub data AnswersPlaces (m : State) (request : RequestKind) (in_roles : List Role) (target : DocumentPositionValue) (dump : DumpValue) : ReplyValue → Type 0 where
   picked : {places : List FoundPlace} (r : RangeValue) → Pick request dump.elements target.uri target.position (Some r)
       → IsListing found_cmp (IsFound m request in_roles target.project dump r.id) places → AnswersPlaces m request in_roles target dump (places_found places)
   unpicked : Pick request dump.elements target.uri target.position None → AnswersPlaces m request in_roles target dump (places_found [])

@@ -2,22 +2,21 @@
 -- found where another exports a moniker of the same key).
 use Rattle.std.specs.Prelude.{◌≡◌, ◌≢◌, true, List, ℕ, Some}
 use Rattle.lsif.specs.Element.{IdValue}
-use Rattle.dump.specs.declared.request.Request.{Request}
+use Rattle.dump.specs.declared.request_kind.RequestKind.{RequestKind}
 use Rattle.dump.specs.Monikers.{MarkValue, Bears, Marks}
 use Rattle.dump.specs.Progress.{DumpValue}
 use Rattle.dump.specs.Requests.{follows, finds}
 use Rattle.machine.specs.State.{State}
 
--- the vertex y of another project is joined to the range r of this project's dump: a mark of the range has the key of a mark that
--- y bears
-pub record IsJoined (m : State) (request : Request) (project : List ℕ) (dump : DumpValue) (r : IdValue) (other : List ℕ) (second : DumpValue)
+-- the vertex y there, in another project, is joined to the range r here, in this project's dump: a mark that r has and one that y bears
+-- are of one moniker, by kinds that the request follows here and finds there
+pub record IsJoined (m : State) (request : RequestKind) (project : List ℕ) (dump : DumpValue) (r : IdValue) (other : List ℕ) (second : DumpValue)
     (y : IdValue) : Type 0 where
   pub elsewhere : other ≢ project
   pub is_there : m.dump other ≡ Some second
-  pub mark : MarkValue
-  pub borne : MarkValue
-  pub marks : Marks dump.elements r mark
-  pub follows : follows request mark.kind ≡ true
-  pub bears : Bears second.elements y borne
-  pub finds : finds request borne.kind ≡ true
-  pub same_key : mark.key ≡ borne.key
+  pub here : MarkValue
+  pub there : MarkValue
+  pub here_marked : Marks dump.elements r here
+  pub there_marked : Bears second.elements y there
+  pub kinds : (follows request here.kind ≡ true) × (finds request there.kind ≡ true)
+  pub same_moniker : here.key ≡ there.key

@@ -1,5 +1,5 @@
 -- Replies: the status and the body of each. Bodies are compact JSON (RFC 8259) with members in the order of their bytes.
-use Rattle.std.specs.Prelude.{ℕ, Bool, ◌++◌, ◌==◌, List, codes, map, Option, Some, None}
+use Rattle.std.specs.Prelude.{ℕ, Bool, true, false, ◌++◌, List, codes, map, Option, Some, None}
 use Rattle.serde_json.specs.Data.{Data, null, boolean, number, string, array, object, unsigned, member, no_members, item, no_items}
 use Rattle.serde_json.specs.View.{items_of}
 use Rattle.serde_json.specs.Written.{compact_text}
@@ -18,38 +18,42 @@ use Rattle.machine.specs.State.{count_data, removed_data}
 use Rattle.machine.specs.declared.code.Code.{Code}
 use Rattle.machine.specs.declared.code.Code.TheVariants.{D01, D02, D03, S01, S02}
 
-pub record ReplyValue : Type 0 where
-  pub status : ℕ
-  pub body : List ℕ
-
 -- ---- codes that are of no line
 
-abbrev pub name_of : Code → List ℕ
-name_of D01 = codes "D01"
-name_of D02 = codes "D02"
-name_of D03 = codes "D03"
-name_of S01 = codes "S01"
-name_of S02 = codes "S02"
+-- a code's status (RFC 9110, section 15), its name and its text
+pub record CodeRow : Type 0 where
+  pub status : ℕ
+  pub name : List ℕ
+  pub text : List ℕ
 
-abbrev pub text_of : Code → List ℕ
-text_of D01 = codes "project has no dump"
-text_of D02 = codes "no such document"
-text_of D03 = codes "bad parameter"
-text_of S01 = codes "store refused"
-text_of S02 = codes "out of memory"
+abbrev pub row_of : Code → CodeRow
+row_of D01 = record { status = 404; name = codes "D01"; text = codes "project has no dump" }
+row_of D02 = record { status = 404; name = codes "D02"; text = codes "no such document" }
+row_of D03 = record { status = 400; name = codes "D03"; text = codes "bad parameter" }
+row_of S01 = record { status = 503; name = codes "S01"; text = codes "store refused" }
+row_of S02 = record { status = 503; name = codes "S02"; text = codes "out of memory" }
 
-abbrev pub status_of : Code → ℕ
-status_of D01 = 404
-status_of D02 = 404
-status_of D03 = 400
-status_of S01 = 503
-status_of S02 = 503
+-- a code's name and its text as JSON
+abbrev pub fault_body : List ℕ → List ℕ → List ℕ
+fault_body name text = codes "{\"fault\":\"" ++ (name ++ (codes "\",\"text\":\"" ++ (text ++ codes "\"}")))
 
 abbrev pub fault_text : Code → List ℕ
-fault_text c = codes "{\"fault\":\"" ++ (name_of c ++ (codes "\",\"text\":\"" ++ (text_of c ++ codes "\"}")))
+fault_text c = fault_body (row_of c).name (row_of c).text
 
-abbrev pub refused : Code → ReplyValue
-refused c = record { status = status_of c; body = fault_text c }
+-- ---- replies
+
+-- a reply that names a code, or one that is made: its status and its body
+pub data ReplyValue : Type 0 where
+  refused : Code → ReplyValue
+  made : ℕ → List ℕ → ReplyValue
+
+abbrev pub reply_status : ReplyValue → ℕ
+reply_status (refused c) = (row_of c).status
+reply_status (made status body) = status
+
+abbrev pub reply_body : ReplyValue → List ℕ
+reply_body (refused c) = fault_text c
+reply_body (made status body) = body
 
 abbrev pub out_of_memory : ReplyValue
 out_of_memory = refused S02
@@ -57,14 +61,16 @@ out_of_memory = refused S02
 abbrev pub store_refused : ReplyValue
 store_refused = refused S01
 
--- a reply that serves nothing: only these have this status
+-- a reply that serves nothing: the store refused, or memory was refused
 abbrev pub is_refusal : ReplyValue → Bool
-is_refusal r = r.status == 503
+is_refusal (refused S01) = true
+is_refusal (refused S02) = true
+is_refusal reply = false
 
 -- ---- replies with a JSON value
 
 abbrev pub written : ℕ → Data → ReplyValue
-written status body = record { status = status; body = compact_text body }
+written status body = made status (compact_text body)
 
 -- a dump of so many elements was accepted
 abbrev pub dump_accepted : ℕ → ReplyValue
@@ -123,7 +129,7 @@ contents_text None = codes "null"
 contents_text (Some contents) = contents
 
 abbrev pub hover_found : Option (List ℕ) → ReplyValue
-hover_found contents = record { status = 200; body = codes "{\"contents\":" ++ (contents_text contents ++ codes "}") }
+hover_found contents = made 200 (codes "{\"contents\":" ++ (contents_text contents ++ codes "}"))
 
 -- ---- tags
 

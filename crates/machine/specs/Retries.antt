@@ -58,36 +58,36 @@ pub data Event : Type 0 where
   stop : Event
 
 -- a state that a stop may leave, with the commands that it has beyond those that count
-pub record LeftValue : Type 0 where
+pub record StopValue : Type 0 where
   pub state : State
   pub commands : List CommandValue
 
 -- a moment of a life: the state, what a stop may leave, and the commands that count
 pub record Moment : Type 0 where
   pub now : State
-  pub left : List LeftValue
+  pub after_a_stop : List StopValue
   pub counted : List CommandValue
 
 abbrev pub first_moment : Moment
-first_moment = record { now = nothing; left = record { state = nothing; commands = [] } ∷ []; counted = [] }
+first_moment = record { now = nothing; after_a_stop = record { state = nothing; commands = [] } ∷ []; counted = [] }
 
 -- after a command was refused, or had another reply: then it counts
-abbrev pub after_reply : Bool → CommandValue → Moment → Moment
-after_reply true c t = record { now = t.now; left = t.left ++ record { state = after t.now c; commands = c ∷ [] } ∷ []; counted = t.counted }
-after_reply false c t = record {
+abbrev pub moment_after_reply : Bool → CommandValue → Moment → Moment
+moment_after_reply true c t = record { now = t.now; after_a_stop = t.after_a_stop ++ record { state = after t.now c; commands = c ∷ [] } ∷ []; counted = t.counted }
+moment_after_reply false c t = record {
   now = after t.now c;
-  left = if is_new t.now c then record { state = after t.now c; commands = [] } ∷ [] else t.left;
+  after_a_stop = if is_new t.now c then record { state = after t.now c; commands = [] } ∷ [] else t.after_a_stop;
   counted = c ∷ t.counted;
 }
 
 -- after a stop that left this: the commands that it has count
-abbrev pub after_stop : LeftValue → Moment → Moment
-after_stop l t = record { now = l.state; left = record { state = l.state; commands = [] } ∷ []; counted = l.commands ++ t.counted }
+abbrev pub moment_after_stop : StopValue → Moment → Moment
+moment_after_stop l t = record { now = l.state; after_a_stop = record { state = l.state; commands = [] } ∷ []; counted = l.commands ++ t.counted }
 
 -- one event more; where a store may refuse, that may be the reply
 abbrev pub Goes : Bool → Moment → Event → Moment → Type 0
-Goes store_may_refuse t (sent c r) u = MayReply store_may_refuse t.now (command c) r × (u ≡ after_reply (is_refusal r) c t)
-Goes store_may_refuse t stop u = (l : LeftValue) × Contains t.left l × (u ≡ after_stop l t)
+Goes store_may_refuse t (sent c r) u = MayReply store_may_refuse t.now (command c) r × (u ≡ moment_after_reply (is_refusal r) c t)
+Goes store_may_refuse t stop u = (l : StopValue) × Contains t.after_a_stop l × (u ≡ moment_after_stop l t)
 
 -- a life from the empty state: its events, and the moment to which they lead
 abbrev pub Life : Bool → List Event → Moment → Type 0
@@ -110,5 +110,5 @@ with_run [] rs es = es
 with_run (q ∷ qs) [] es = es
 
 -- the states that a stop may leave at a moment
-abbrev pub states_left : Moment → List State
-states_left t = map (λ (l : LeftValue). l.state) t.left
+abbrev pub states_after_a_stop : Moment → List State
+states_after_a_stop t = map (λ (l : StopValue). l.state) t.after_a_stop

@@ -1,5 +1,5 @@
 -- Runs of the machine, with refusals in between, because memory ran out or the store refused; and what a stop may leave.
-use Rattle.std.specs.Prelude.{◌≡◌, ◌⊎◌, Bool, true, List, [], ◌∷◌, ◌++◌, if◌then◌else◌}
+use Rattle.std.specs.Prelude.{◌≡◌, Bool, true, List, [], ◌∷◌, ◌++◌, if◌then◌else◌}
 use Rattle.machine.specs.Answers.{Answers}
 use Rattle.machine.specs.Machine.{reply_to, after, is_new}
 use Rattle.machine.specs.State.{State}
@@ -12,8 +12,10 @@ Replies m (command c) r = r ≡ reply_to m c
 Replies m (query q) r = Answers m q r
 
 -- the machine may give this reply: its own, or that memory was refused, or, where the store may refuse, that it did
-abbrev pub MayReply : Bool → State → RequestValue → ReplyValue → Type 0
-MayReply store_may_refuse m q r = ((store_may_refuse ≡ true) × (r ≡ store_refused)) ⊎ (r ≡ out_of_memory) ⊎ Replies m q r
+pub data MayReply (store_may_refuse : Bool) (m : State) (q : RequestValue) : ReplyValue → Type 0 where
+  own : {r : ReplyValue} → Replies m q r → MayReply store_may_refuse m q r
+  no_memory : MayReply store_may_refuse m q out_of_memory
+  no_store : store_may_refuse ≡ true → MayReply store_may_refuse m q store_refused
 
 -- the state after this reply: a refusal leaves it
 abbrev pub moved : State → RequestValue → ReplyValue → State
@@ -31,12 +33,12 @@ Run store_may_refuse m (q ∷ qs) [] n = ⊥
 
 -- the states of which a stop leaves one, after this reply: where a command was refused, its own state may have been reached;
 -- where it made its change, that is there; else nothing new
-abbrev pub left : State → List State → RequestValue → ReplyValue → List State
-left m states (command c) r = if is_refusal r then states ++ after m c ∷ [] else if is_new m c then after m c ∷ [] else states
-left m states (query q) r = states
+abbrev pub after_a_stop : State → List State → RequestValue → ReplyValue → List State
+after_a_stop m states (command c) r = if is_refusal r then states ++ after m c ∷ [] else if is_new m c then after m c ∷ [] else states
+after_a_stop m states (query q) r = states
 
 -- the same after a run
-abbrev pub left_by : State → List State → List RequestValue → List ReplyValue → List State
-left_by m states (q ∷ qs) (r ∷ rs) = left_by (moved m q r) (left m states q r) qs rs
-left_by m states [] rs = states
-left_by m states (q ∷ qs) [] = states
+abbrev pub after_a_stop_of_run : State → List State → List RequestValue → List ReplyValue → List State
+after_a_stop_of_run m states (q ∷ qs) (r ∷ rs) = after_a_stop_of_run (moved m q r) (after_a_stop m states q r) qs rs
+after_a_stop_of_run m states [] rs = states
+after_a_stop_of_run m states (q ∷ qs) [] = states

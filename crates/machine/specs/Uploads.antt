@@ -70,9 +70,9 @@ abbrev pub Holds : TakenLines → List ℕ → List (List ℕ) → List ℕ → 
 Holds (dump_lines profile progress) = HoldsDump profile progress
 Holds (tags_lines state) = HoldsTags state
 
--- it stands for each body whose lines these are, and after memory was refused for every body
-abbrev pub StandsFor : BodyValue → List ℕ → Type 0
-StandsFor held body =
+-- it has read each body whose lines these are, and after memory was refused every body
+abbrev pub HasRead : BodyValue → List ℕ → Type 0
+HasRead held body =
     (held.is_out_of_memory ≡ true)
     ⊎ ((lines : List (List ℕ)) × (last : List ℕ) × IsCut body lines last × Holds held.lines held.last lines last)
 

@@ -1,7 +1,7 @@
 //! What a command asks for, judged by its body: the change that it makes, or the reply that refuses it.
 ghost use Rattle.std.specs.Prelude.{◌≡◌, [], IfOk};
 ghost use Rattle.machine.specs.Judging.{judged};
-ghost use Rattle.machine.specs.Uploads.{StandsFor, action_of};
+ghost use Rattle.machine.specs.Uploads.{HasRead, action_of};
 ghost use Rattle.machine.specs.Requests.{command_value};
 ghost use Rattle.machine.specs.Steps.Changes.{said_value};
 
@@ -22,7 +22,7 @@ pub enum Change {
 
 /// What is said of a body that is one piece: the change that its command makes, or its fault.
 fn judge_body(mut reader: BodyReader, body: &[u8]) -> Result<Result<Change, Reply>, AllocError>
-    requires { StandsFor reader [] }
+    requires { HasRead reader [] }
     ensures { IfOk result (λ answer. said_value answer ≡ judged (action_of reader.lines body.now)) }
 {
     reader.piece(body)?;

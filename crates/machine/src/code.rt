@@ -1,6 +1,6 @@
 //! The faults of requests that are of no line.
 ghost use Rattle.std.specs.Prelude.{◌≡◌};
-ghost use Rattle.machine.specs.Reply.{status_of, fault_text};
+ghost use Rattle.machine.specs.Reply.{row_of, fault_text};
 
 /// Why a request has no answer: a fault that is of no line.
 #[derive(Clone, Copy, Debug, PartialEq, Eq)]
@@ -20,25 +20,22 @@ pub enum Code {
 impl Code {
     /// The status of its reply (RFC 9110, section 15).
     pub fn status(self) -> u16
-        ensures { result ≡ status_of self }
+        ensures { result ≡ (row_of self).status }
     {
-        match self {
-            Code::D01 | Code::D02 => 404,
-            Code::D03 => 400,
-            Code::S01 | Code::S02 => 503,
-        }
+        self.reply().0
     }
 
-    /// The body of its reply.
-    pub(crate) fn body(self) -> &'static str
-        ensures { result.now ≡ fault_text self }
+    /// The status of its reply, and the body.
+    pub(crate) fn reply(self) -> (u16, &'static str)
+        ensures status { result.0 ≡ (row_of self).status }
+        ensures body { result.1.now ≡ fault_text self }
     {
         match self {
-            Code::D01 => "{\"fault\":\"D01\",\"text\":\"project has no dump\"}",
-            Code::D02 => "{\"fault\":\"D02\",\"text\":\"no such document\"}",
-            Code::D03 => "{\"fault\":\"D03\",\"text\":\"bad parameter\"}",
-            Code::S01 => "{\"fault\":\"S01\",\"text\":\"store refused\"}",
-            Code::S02 => "{\"fault\":\"S02\",\"text\":\"out of memory\"}",
+            Code::D01 => (404, r#"{"fault":"D01","text":"project has no dump"}"#),
+            Code::D02 => (404, r#"{"fault":"D02","text":"no such document"}"#),
+            Code::D03 => (400, r#"{"fault":"D03","text":"bad parameter"}"#),
+            Code::S01 => (503, r#"{"fault":"S01","text":"store refused"}"#),
+            Code::S02 => (503, r#"{"fault":"S02","text":"out of memory"}"#),
         }
     }
 }

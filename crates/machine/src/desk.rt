@@ -10,8 +10,8 @@ pub trait Desk {
     ghost use Rattle.machine.specs.State.{State};
     ghost use Rattle.machine.specs.Reply.{out_of_memory};
     ghost use Rattle.machine.specs.Requests as requests;
-    ghost use Rattle.machine.specs.Runs.{MayReply, moved, left};
-    ghost use Rattle.machine.specs.Uploads.{StandsFor, command_of};
+    ghost use Rattle.machine.specs.Runs.{MayReply, moved, after_a_stop};
+    ghost use Rattle.machine.specs.Uploads.{HasRead, command_of};
 
     /// The states that it stands for.
     ghost stands: { Self → State → Type 0 };
@@ -33,17 +33,17 @@ pub trait Desk {
         ensures state { is_reliable self.new → (m : State) → stands self.old m
             → stands self.new (moved m (requests.command (requests.command_value command.now)) result) }
         ensures left { is_reliable self.new → (m : State) (states : List State) → stands self.old m → may_leave self.old states
-            → may_leave self.new (left m states (requests.command (requests.command_value command.now)) result) };
+            → may_leave self.new (after_a_stop m states (requests.command (requests.command_value command.now)) result) };
 
     /// Serves the command that an upload is, with each body that it stands for. Where it met want of memory, that is the reply.
     fn finish_upload(&mut self, upload: Upload) -> Reply
         ensures reliable { is_reliable self.new → is_reliable self.old }
-        ensures reply { is_reliable self.new → (m : State) (body : List ℕ) → stands self.old m → StandsFor upload.body body
+        ensures reply { is_reliable self.new → (m : State) (body : List ℕ) → stands self.old m → HasRead upload.body body
             → MayReply store_may_refuse m (requests.command (command_of upload body)) result }
-        ensures state { is_reliable self.new → (m : State) (body : List ℕ) → stands self.old m → StandsFor upload.body body
+        ensures state { is_reliable self.new → (m : State) (body : List ℕ) → stands self.old m → HasRead upload.body body
             → stands self.new (moved m (requests.command (command_of upload body)) result) }
         ensures left { is_reliable self.new → (m : State) (states : List State) (body : List ℕ) → stands self.old m → may_leave self.old states
-            → StandsFor upload.body body → may_leave self.new (left m states (requests.command (command_of upload body)) result) }
+            → HasRead upload.body body → may_leave self.new (after_a_stop m states (requests.command (command_of upload body)) result) }
         ensures memory { upload.body.is_out_of_memory ≡ true → result ≡ out_of_memory };
 
     /// Answers a query.

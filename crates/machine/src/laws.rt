@@ -13,10 +13,10 @@ ghost use Rattle.machine.specs.Moments.{IsIndex};
 ghost use Rattle.machine.specs.Judging.{judged_dump, judged_tags};
 ghost use Rattle.machine.specs.Machine.{reply_of};
 ghost use Rattle.machine.specs.State.{Accepted, State};
-ghost use Rattle.machine.specs.Reply.{ReplyValue, is_refusal};
+ghost use Rattle.machine.specs.Reply.{ReplyValue, is_refusal, reply_status};
 ghost use Rattle.machine.specs.Requests.{CommandValue, QueryValue, RequestValue, command};
-ghost use Rattle.machine.specs.Retries.{Event, sent, IsPlain, Life, Moment, once, plain_kept, states_left, with_run};
-ghost use Rattle.machine.specs.Runs.{MayReply, Run, left_by};
+ghost use Rattle.machine.specs.Retries.{Event, sent, IsPlain, Life, Moment, once, plain_kept, states_after_a_stop, with_run};
+ghost use Rattle.machine.specs.Runs.{MayReply, Run, after_a_stop_of_run};
 
 use dump::{fault_law, listing_law, pick_law};
 use tags::text_law;
@@ -64,11 +64,11 @@ pub fn retry_law()
         → Life store_may_refuse events t → MayReply store_may_refuse t.now (command c) r
         → plain_kept (once t.counted) c.project c.key ≡ Some kept → (is_refusal r ≡ true) ⊎ (r ≡ reply_of kept) }
     ensures first { (store_may_refuse : Bool) (events : List Event) (t : Moment) (c later : CommandValue) (r reply : ReplyValue)
-        → Life store_may_refuse events t → Contains events (sent c r) → r.status ≡ 200
+        → Life store_may_refuse events t → Contains events (sent c r) → reply_status r ≡ 200
         → later.project ≡ c.project → later.key ≡ c.key → MayReply store_may_refuse t.now (command later) reply
         → (is_refusal reply ≡ true) ⊎ (reply ≡ r) }
     ensures runs { (store_may_refuse : Bool) (events : List Event) (t : Moment) (requests : List RequestValue) (replies : List ReplyValue) (n : State)
         → Life store_may_refuse events t → Run store_may_refuse t.now requests replies n
         → (u : Moment) × Life store_may_refuse (with_run requests replies events) u × (u.now ≡ n)
-        × (states_left u ≡ left_by t.now (states_left t) requests replies) }
+        × (states_after_a_stop u ≡ after_a_stop_of_run t.now (states_after_a_stop t) requests replies) }
 {}

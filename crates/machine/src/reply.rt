@@ -4,47 +4,52 @@ ghost use Rattle.std.specs.Prelude.{◌≡◌, map};
 use crate::code::Code;
 use std::marker::Model;
 
-// A made text, or the fixed text of a code.
+// A code; or a status with a made body, or with a fixed one.
 #[derive(Drop)]
-pub(crate) enum Body {
-    Made(String),
-    Fixed(&'static str),
+pub(crate) enum Content {
+    Refused(Code),
+    Made(u16, String),
+    Fixed(u16, &'static str),
 }
 
 /// A status (RFC 9110, section 15) and a body, which is compact JSON with its members in the order of their bytes.
 #[derive(Drop)]
 pub struct Reply {
-    status: u16,
-    body: Body,
+    content: Content,
 }
 
 impl Model for Reply {
     ghost use Rattle.machine.specs.Reply.{ReplyValue};
-    ghost use Rattle.machine.specs.Bodies.{body_bytes};
+    ghost use Rattle.machine.specs.Bodies.{content_value};
 
     ghost Value = { ReplyValue };
 
-    ghost view = { λ r. record { status = r.status; body = body_bytes r.body } };
+    ghost view = { λ r. content_value r.content };
 }
 
 impl Reply {
     ghost use Rattle.std.specs.Prelude.{string_bytes};
-    ghost use Rattle.machine.specs.Reply.{refused, out_of_memory};
+    ghost use Rattle.machine.specs.Reply.{made, out_of_memory, refused, reply_body, reply_status};
 
     /// The status.
     pub fn status(&self) -> u16
-        ensures { result ≡ self.now.status }
+        ensures { result ≡ reply_status self.now }
     {
-        self.status
+        match &self.content {
+            Content::Refused(code) => code.reply().0,
+            Content::Made(status, _) => *status,
+            Content::Fixed(status, _) => *status,
+        }
     }
 
     /// The body.
     pub fn body(&self) -> &str
-        ensures { result.now ≡ self.now.body }
+        ensures { result.now ≡ reply_body self.now }
     {
-        match &self.body {
-            Body::Made(text) => text.as_str(),
-            Body::Fixed(text) => text,
+        match &self.content {
+            Content::Refused(code) => code.reply().1,
+            Content::Made(_, body) => body.as_str(),
+            Content::Fixed(_, body) => body,
         }
     }
 
@@ -53,8 +58,7 @@ impl Reply {
         ensures { result ≡ refused code }
     {
         Reply {
-            status: code.status(),
-            body: Body::Fixed(code.body()),
+            content: Content::Refused(code),
         }
     }
 
@@ -66,22 +70,20 @@ impl Reply {
     }
 
     /// A reply with a body that is there already. It takes no memory.
-    pub(crate) fn fixed(status: u16, text: &'static str) -> Reply
-        ensures { result ≡ record { status = status; body = text.now } }
+    pub(crate) fn fixed(status: u16, body: &'static str) -> Reply
+        ensures { result ≡ made status body.now }
     {
         Reply {
-            status,
-            body: Body::Fixed(text),
+            content: Content::Fixed(status, body),
         }
     }
 
     /// A reply with a made body.
-    pub fn made(status: u16, text: String) -> Reply
-        ensures { result ≡ record { status = status; body = string_bytes text } }
+    pub fn made(status: u16, body: String) -> Reply
+        ensures { result ≡ made status (string_bytes body) }
     {
         Reply {
-            status,
-            body: Body::Made(text),
+            content: Content::Made(status, body),
         }
     }
 }

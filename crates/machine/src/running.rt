@@ -2,7 +2,7 @@
 ghost use Rattle.std.specs.Prelude.{◌≡◌, List, IfOk, OnErr};
 ghost use Rattle.machine.specs.State.{State};
 ghost use Rattle.machine.specs.Requests.{request_value, request_values};
-ghost use Rattle.machine.specs.Runs.{MayReply, moved, Run, left, left_by};
+ghost use Rattle.machine.specs.Runs.{MayReply, moved, Run, after_a_stop, after_a_stop_of_run};
 
 use crate::desk::Desk;
 use crate::reply::Reply;
@@ -32,7 +32,7 @@ fn serve<D: Desk>(desk: &mut D, request: &Request<'_>) -> Reply
     ensures reply { D.is_reliable desk.new → (m : State) → D.stands desk.old m → MayReply D.store_may_refuse m (request_value request.now) result }
     ensures state { D.is_reliable desk.new → (m : State) → D.stands desk.old m → D.stands desk.new (moved m (request_value request.now) result) }
     ensures left { D.is_reliable desk.new → (m : State) (states : List State) → D.stands desk.old m → D.may_leave desk.old states
-        → D.may_leave desk.new (left m states (request_value request.now) result) }
+        → D.may_leave desk.new (after_a_stop m states (request_value request.now) result) }
 {
     match request {
         Request::Command(command) => desk.apply(command),
@@ -51,7 +51,7 @@ pub fn run<D: Desk>(
     ensures run { IfOk result (λ replies. D.is_reliable desk.new → (m : State) → D.stands desk.old m
         → (n : State) × Run D.store_may_refuse m (request_values requests.now) replies.items n × D.stands desk.new n) }
     ensures left { IfOk result (λ replies. D.is_reliable desk.new → (m : State) (states : List State) → D.stands desk.old m → D.may_leave desk.old states
-        → D.may_leave desk.new (left_by m states (request_values requests.now) replies.items)) }
+        → D.may_leave desk.new (after_a_stop_of_run m states (request_values requests.now) replies.items)) }
     ensures unserved { OnErr result (desk.new ≡ desk.old) }
 {
     let mut replies = Vec::with_capacity(alloc, requests.len())?;

@@ -4,7 +4,7 @@ ghost use Rattle.machine.specs.Judging.{judged};
 ghost use Rattle.machine.specs.Steps.Changes.{said_value};
 ghost use Rattle.machine.specs.Steps.Uploads.{HasState, Says, StandsBy, TookBody, body_value, emptied, taken};
 ghost use Rattle.lsif.specs.Pieces.{begun};
-ghost use Rattle.machine.specs.Uploads.{StandsFor, action_of, command_of, empty, longest_of, no_dump_line, no_tags_line};
+ghost use Rattle.machine.specs.Uploads.{HasRead, action_of, command_of, empty, longest_of, no_dump_line, no_tags_line};
 
 use crate::change::Change;
 use crate::line_reader::{LineReader, ReadingState};
@@ -140,7 +140,7 @@ impl BodyReader {
     /// Reads a dump by a profile.
     pub(crate) fn dump(alloc: Global, profile: Profile) -> Result<BodyReader, AllocError>
         ensures value { IfOk result (λ b. b ≡ empty (no_dump_line profile)) }
-        ensures stands { IfOk result (λ b. StandsFor b []) }
+        ensures stands { IfOk result (λ b. HasRead b []) }
     {
         let checker = Checker::new(alloc, profile);
         BodyReader::new(alloc, LineReader::Dump(checker), LONGEST_LINE)
@@ -149,7 +149,7 @@ impl BodyReader {
     /// Reads a tags file.
     pub(crate) fn tags(alloc: Global) -> Result<BodyReader, AllocError>
         ensures value { IfOk result (λ b. b ≡ empty no_tags_line) }
-        ensures stands { IfOk result (λ b. StandsFor b []) }
+        ensures stands { IfOk result (λ b. HasRead b []) }
     {
         let reader = TagReader::new(alloc);
         BodyReader::new(alloc, LineReader::Tags(reader), LONGEST_TAG_LINE)
@@ -175,7 +175,7 @@ impl BodyReader {
 
     /// Takes the next piece of the body.
     pub(crate) fn piece(&mut self, bytes: &[u8]) -> Result<(), AllocError>
-        ensures stands { (body : List ℕ) → StandsFor self.old body → StandsFor self.new (body ++ bytes.now) }
+        ensures stands { (body : List ℕ) → HasRead self.old body → HasRead self.new (body ++ bytes.now) }
         ensures same { emptied self.new.lines ≡ emptied self.old.lines }
         ensures answer { MatchResult result (λ _. self.new.is_out_of_memory ≡ false) (λ _. self.new.is_out_of_memory ≡ true) }
         ensures for_good { self.old.is_out_of_memory ≡ true → self.new.is_out_of_memory ≡ true }
@@ -207,7 +207,7 @@ impl BodyReader {
 
     /// What is said of the body: the change that its command makes, or its fault.
     pub fn finish(self) -> Result<Result<Change, Reply>, AllocError>
-        ensures said { (body : List ℕ) → StandsFor self body → IfOk result (λ answer. said_value answer ≡ judged (action_of self.lines body)) }
+        ensures said { (body : List ℕ) → HasRead self body → IfOk result (λ answer. said_value answer ≡ judged (action_of self.lines body)) }
         ensures memory { self.is_out_of_memory ≡ true → is_err result ≡ true }
     {
         fault_law();
@@ -253,7 +253,7 @@ impl Upload {
         profile: Profile,
     ) -> Result<Upload, UploadFault>
         ensures value { IfOk result (λ u. u ≡ record { project = project; key = key; body = empty (no_dump_line profile) }) }
-        ensures stands { IfOk result (λ u. StandsFor u.body []) }
+        ensures stands { IfOk result (λ u. HasRead u.body []) }
     {
         let body = BodyReader::dump(alloc, profile)?;
         Ok(Upload { project, key, body })
@@ -262,7 +262,7 @@ impl Upload {
     /// Puts a tags file. No byte of its body has come.
     pub fn tags(alloc: Global, project: ProjectName, key: Key) -> Result<Upload, UploadFault>
         ensures value { IfOk result (λ u. u ≡ record { project = project; key = key; body = empty no_tags_line }) }
-        ensures stands { IfOk result (λ u. StandsFor u.body []) }
+        ensures stands { IfOk result (λ u. HasRead u.body []) }
     {
         let body = BodyReader::tags(alloc)?;
         Ok(Upload { project, key, body })
@@ -270,7 +270,7 @@ impl Upload {
 
     /// Takes the next piece of the body. The fault of a line waits for the end. Where memory is refused, that is the answer for good.
     pub fn piece(&mut self, bytes: &[u8]) -> Result<(), UploadFault>
-        ensures stands { (body : List ℕ) → StandsFor self.old.body body → StandsFor self.new.body (body ++ bytes.now) }
+        ensures stands { (body : List ℕ) → HasRead self.old.body body → HasRead self.new.body (body ++ bytes.now) }
         ensures same { (body : List ℕ) → command_of self.new body ≡ command_of self.old body }
         ensures answer { MatchResult result (λ _. self.new.body.is_out_of_memory ≡ false) (λ fault. (fault ≡ UploadFault.Memory)
             × (self.new.body.is_out_of_memory ≡ true)) }

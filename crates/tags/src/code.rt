@@ -34,42 +34,38 @@ pub enum Code {
 }
 
 impl Code {
+    /// The code and what it says, as they are printed.
+    fn printed(self) -> (&'static str, &'static str)
+        ensures name { result.0.now ≡ name_of self }
+        ensures text { result.1.now ≡ text_of self }
+    {
+        match self {
+            Code::T01 => ("T01", "line too long"),
+            Code::T02 => ("T02", "not UTF-8"),
+            Code::T03 => ("T03", "control character"),
+            Code::T04 => ("T04", "fewer than three parts"),
+            Code::T05 => ("T05", "bad escape"),
+            Code::T06 => ("T06", "bad address"),
+            Code::T07 => ("T07", "bad field"),
+            Code::T08 => ("T08", "format is not 2"),
+            Code::T09 => ("T09", "pseudo-tag after a tag"),
+            Code::T10 => ("T10", "names descend"),
+            Code::T11 => ("T11", "too many lines"),
+        }
+    }
+
     /// The code as it is printed.
     pub fn name(self) -> &'static str
         ensures { result.now ≡ name_of self }
     {
-        match self {
-            Code::T01 => "T01",
-            Code::T02 => "T02",
-            Code::T03 => "T03",
-            Code::T04 => "T04",
-            Code::T05 => "T05",
-            Code::T06 => "T06",
-            Code::T07 => "T07",
-            Code::T08 => "T08",
-            Code::T09 => "T09",
-            Code::T10 => "T10",
-            Code::T11 => "T11",
-        }
+        self.printed().0
     }
 
     /// The text that reports and replies print for the code.
     pub fn text(self) -> &'static str
         ensures { result.now ≡ text_of self }
     {
-        match self {
-            Code::T01 => "line too long",
-            Code::T02 => "not UTF-8",
-            Code::T03 => "control character",
-            Code::T04 => "fewer than three parts",
-            Code::T05 => "bad escape",
-            Code::T06 => "bad address",
-            Code::T07 => "bad field",
-            Code::T08 => "format is not 2",
-            Code::T09 => "pseudo-tag after a tag",
-            Code::T10 => "names descend",
-            Code::T11 => "too many lines",
-        }
+        self.printed().1
     }
 }
 

@@ -4,9 +4,9 @@ mod profiles;
 mod spans;
 
 use dump::{
-    CheckedDump, Checker, DumpFault, FeedFault, LineFault, Request, Role, chain_law, container_law,
-    ends_law, fault_law, hover_law, line_law, listing_law, nesting_law, own_law, path_law,
-    pick_law, read_dump, role_of, uri_law, vertex_law,
+    CheckedDump, Checker, DumpFault, FeedFault, LineFault, RequestKind, Role, chain_law,
+    container_law, ends_law, fault_law, hover_law, line_law, listing_law, nesting_law, own_law,
+    path_law, pick_law, read_dump, role_of, uri_law, vertex_law,
 };
 use lsif::{Code, Counted, Element, Id, Profile, Property, ReadFault, Vertex, read_element};
 use std::alloc::Global;
@@ -173,11 +173,11 @@ fn number(found: Option<&Id>) -> u64 {
 /// The definition, the references, the hover, the declaration, the implementation and the package of this vertex.
 fn found_of(alloc: Global, dump: &CheckedDump, vertex: u64) -> Result<String, Fail> {
     let id = Id::Number(vertex);
-    let definition = number(dump.first(Request::Definition, &id));
-    let references = number(dump.first(Request::References, &id));
-    let hover = number(dump.first(Request::Hover, &id));
-    let declaration = number(dump.first(Request::Declaration, &id));
-    let implementation = number(dump.first(Request::Implementation, &id));
+    let definition = number(dump.first(RequestKind::Definition, &id));
+    let references = number(dump.first(RequestKind::References, &id));
+    let hover = number(dump.first(RequestKind::Hover, &id));
+    let declaration = number(dump.first(RequestKind::Declaration, &id));
+    let implementation = number(dump.first(RequestKind::Implementation, &id));
     let package = number(dump.package_of(&id));
     Ok(format!(in alloc;
         "{vertex}: {definition} {references} {hover} {declaration} {implementation} {package}"
@@ -189,11 +189,11 @@ fn found_of(alloc: Global, dump: &CheckedDump, vertex: u64) -> Result<String, Fa
 fn own_of(alloc: Global, dump: &CheckedDump, vertex: u64) -> Result<String, Fail> {
     let id = Id::Number(vertex);
     let next = number(dump.next(&id));
-    let definition = number(dump.result(Request::Definition, &id));
-    let references = number(dump.result(Request::References, &id));
-    let hover = number(dump.result(Request::Hover, &id));
-    let declaration = number(dump.result(Request::Declaration, &id));
-    let implementation = number(dump.result(Request::Implementation, &id));
+    let definition = number(dump.result(RequestKind::Definition, &id));
+    let references = number(dump.result(RequestKind::References, &id));
+    let hover = number(dump.result(RequestKind::Hover, &id));
+    let declaration = number(dump.result(RequestKind::Declaration, &id));
+    let implementation = number(dump.result(RequestKind::Implementation, &id));
     Ok(format!(in alloc;
         ", next {next}, own {definition} {references} {hover} {declaration} {implementation}\n"
     )?)

@@ -3,7 +3,7 @@ use Rattle.std.specs.Prelude.{◌≡◌, ◌≢◌, ◌⊎◌, ℕ, List, Option
 use Rattle.std.specs.declared.cmp.Ordering.{Ordering}
 use Rattle.std.specs.declared.cmp.Ordering.TheVariants.{Greater}
 use Rattle.std.specs.Ordering.{nat_cmp, ordering_then}
-use Rattle.dump.specs.declared.request.Request.TheVariants.{Hover}
+use Rattle.dump.specs.declared.request_kind.RequestKind.TheVariants.{Hover}
 use Rattle.machine.specs.State.{State}
 use Rattle.machine.specs.Projects.{text_cmp}
 use Rattle.tables.specs.Selections.{FindsHover, RangeFound}

@@ -3,7 +3,7 @@ use Rattle.std.specs.Prelude.{◌≡◌, ◌≢◌, ◌↔◌, ◌⊎◌, ℕ, t
 use Rattle.std.specs.declared.cmp.Ordering.{Ordering}
 use Rattle.std.specs.Ordering.{nat_cmp, ordering_then}
 use Rattle.lsif.specs.Element.{range, ElementValue}
-use Rattle.dump.specs.declared.request.Request.{Request}
+use Rattle.dump.specs.declared.request_kind.RequestKind.{RequestKind}
 use Rattle.dump.specs.declared.role.Role.{Role}
 use Rattle.dump.specs.Graph.{vertex_at}
 use Rattle.dump.specs.Places.{HasDocument, PlaceValue}
@@ -31,11 +31,11 @@ Adds old new P = AreThose (λ x. Contains old x ⊎ P x) new
 -- ---- the range that is picked
 
 -- the text of the key of a mark of the range at this line, by which the request goes on to other projects
-abbrev pub IsRowKey : State → Request → List ℕ → ℕ → List ℕ → Type 0
+abbrev pub IsRowKey : State → RequestKind → List ℕ → ℕ → List ℕ → Type 0
 IsRowKey m request project line text = (mark : MarkText) × HasMark m project line mark × (follows request mark.kind ≡ true) × (mark.key ≡ text)
 
 -- the range has a result, or such a key
-abbrev pub RowSpeaks : State → Request → List ℕ → RangeFound → Type 0
+abbrev pub RowSpeaks : State → RequestKind → List ℕ → RangeFound → Type 0
 RowSpeaks m request project row = (is_some (result_for request row.results) ≡ true) ⊎ ((text : List ℕ) × IsRowKey m request project row.line text)
 
 -- the range of the dump has this row
@@ -43,24 +43,24 @@ abbrev pub HasRow : List ElementValue → RangeValue → RangeFound → Type 0
 HasRow elements r row = (vertex_at elements r.id ≡ Some (range r.span)) × IsRangeFound elements r row
 
 -- a request at the position is asked of the range of this row, or of none
-abbrev pub PicksRow : DumpValue → Request → List ℕ → PositionValue → Option RangeFound → Type 0
+abbrev pub PicksRow : DumpValue → RequestKind → List ℕ → PositionValue → Option RangeFound → Type 0
 PicksRow dump request uri at None = Pick request dump.elements uri at None
 PicksRow dump request uri at (Some row) = (r : RangeValue) × Pick request dump.elements uri at (Some r) × HasRow dump.elements r row
 
 -- the texts are those of the keys of these marks by which the request goes on to other projects
-abbrev pub AreFollowed : Request → List MarkText → List (List ℕ) → Type 0
+abbrev pub AreFollowed : RequestKind → List MarkText → List (List ℕ) → Type 0
 AreFollowed request marks = AreThose (λ text. (mark : MarkText) × Contains marks mark × ((follows request mark.kind ≡ true) × (mark.key ≡ text)))
 
 -- the texts are those of the keys of the range at this line
-abbrev pub AreKeys : State → Request → List ℕ → ℕ → List (List ℕ) → Type 0
+abbrev pub AreKeys : State → RequestKind → List ℕ → ℕ → List (List ℕ) → Type 0
 AreKeys m request project line = AreThose (IsRowKey m request project line)
 
 -- in a document of the project's dump a request at the position is asked of the range of this row, or of none
-abbrev pub PicksIn : State → Request → List ℕ → List ℕ → PositionValue → Option RangeFound → Type 0
+abbrev pub PicksIn : State → RequestKind → List ℕ → List ℕ → PositionValue → Option RangeFound → Type 0
 PicksIn m request project uri at row = (dump : DumpValue) × (m.dump project ≡ Some dump) × HasDocument dump.elements uri × PicksRow dump request uri at row
 
 -- what is picked
-abbrev pub Picks : State → Request → List ℕ → List ℕ → PositionValue → Picked → Type 0
+abbrev pub Picks : State → RequestKind → List ℕ → List ℕ → PositionValue → Picked → Type 0
 Picks m request project uri at picks.NoDump = m.dump project ≡ None
 Picks m request project uri at picks.NoDocument = (dump : DumpValue) × (m.dump project ≡ Some dump) × (HasDocument dump.elements uri → ⊥)
 Picks m request project uri at picks.NoRange = PicksIn m request project uri at None
@@ -79,7 +79,7 @@ abbrev pub joined_value : JoinedBearer → JoinedValue
 joined_value j = record { project = string_bytes j.project; line = j.line; number = j.number }
 
 -- a bearer in another project, of a mark that the request looks for there, which has a first result
-pub record OfBearer (request : Request) (own : List ℕ) (bearer : BearerFound) (j : JoinedValue) : Type 0 where
+pub record OfBearer (request : RequestKind) (own : List ℕ) (bearer : BearerFound) (j : JoinedValue) : Type 0 where
   pub elsewhere : bearer.project ≢ own
   pub finds : finds request bearer.kind ≡ true
   pub its_project : bearer.project ≡ j.project
@@ -87,15 +87,15 @@ pub record OfBearer (request : Request) (own : List ℕ) (bearer : BearerFound) 
   pub its_result : result_for request bearer.results ≡ Some j.number
 
 -- one that bears a mark with the key of this text
-abbrev pub IsKeyJoined : State → Request → List ℕ → List ℕ → JoinedValue → Type 0
+abbrev pub IsKeyJoined : State → RequestKind → List ℕ → List ℕ → JoinedValue → Type 0
 IsKeyJoined m request own text j = (bearer : BearerFound) × Bears m text bearer × OfBearer request own bearer j
 
 -- one that bears a mark with one of these keys
-abbrev pub AreJoined : State → Request → List ℕ → List (List ℕ) → JoinedValue → Type 0
+abbrev pub AreJoined : State → RequestKind → List ℕ → List (List ℕ) → JoinedValue → Type 0
 AreJoined m request own texts j = (text : List ℕ) × Contains texts text × IsKeyJoined m request own text j
 
 -- one that bears a mark with a key of the range of this row
-abbrev pub IsRowJoined : State → Request → List ℕ → RangeFound → JoinedValue → Type 0
+abbrev pub IsRowJoined : State → RequestKind → List ℕ → RangeFound → JoinedValue → Type 0
 IsRowJoined m request own row j = (text : List ℕ) × IsRowKey m request own row.line text × IsKeyJoined m request own text j
 
 -- ---- results
@@ -116,11 +116,11 @@ abbrev pub result_of_joined : JoinedValue → ProjectResultValue
 result_of_joined j = record { project = j.project; number = j.number }
 
 -- the range's own first result
-abbrev pub IsOwnResult : Request → List ℕ → RangeFound → ProjectResultValue → Type 0
+abbrev pub IsOwnResult : RequestKind → List ℕ → RangeFound → ProjectResultValue → Type 0
 IsOwnResult request own row t = (t.project ≡ own) × (result_for request row.results ≡ Some t.number)
 
 -- the first result of the range, or of a vertex that is joined to it
-abbrev pub IsAnsweringResult : State → Request → List ℕ → RangeFound → ProjectResultValue → Type 0
+abbrev pub IsAnsweringResult : State → RequestKind → List ℕ → RangeFound → ProjectResultValue → Type 0
 IsAnsweringResult m request own row t = IsOwnResult request own row t ⊎ ((j : JoinedValue) × IsRowJoined m request own row j × (result_of_joined j ≡ t))
 
 -- a place of the result in this role, in the result's project

@@ -10,7 +10,7 @@ ghost use Rattle.desk.specs.Steps.Rows.{Adds, AreJoined, AreThose, IsKeyJoined, 
 ghost use Rattle.desk.specs.declared.index.IndexFault.TheVariants.{Refused};
 
 use crate::index::{Index, IndexFault};
-use dump::Request;
+use dump::RequestKind;
 use lsif::MonikerKind;
 use std::alloc::{AllocError, Global};
 use tables::FoundBearer;
@@ -26,31 +26,31 @@ pub(crate) struct JoinedBearer {
 }
 
 /// The number of the bearer's first result for the request.
-fn result_of(bearer: &FoundBearer, request: Request) -> Option<u32>
+fn result_of(bearer: &FoundBearer, request: RequestKind) -> Option<u32>
     ensures { result ≡ result_for request (bearer_found bearer.now).results }
 {
     match request {
-        Request::Definition => bearer.def,
-        Request::References => bearer.refs,
-        Request::Hover => bearer.hover,
-        Request::Declaration => bearer.decl,
-        Request::Implementation => bearer.imp,
+        RequestKind::Definition => bearer.def,
+        RequestKind::References => bearer.refs,
+        RequestKind::Hover => bearer.hover,
+        RequestKind::Declaration => bearer.decl,
+        RequestKind::Implementation => bearer.imp,
     }
 }
 
 /// Whether a request looks in other projects for marks of this kind.
-fn finds(request: Request, kind: MonikerKind) -> bool
+fn finds(request: RequestKind, kind: MonikerKind) -> bool
     ensures { result ≡ finds request kind }
 {
     match kind {
-        MonikerKind::Import => matches!(request, Request::References),
+        MonikerKind::Import => matches!(request, RequestKind::References),
         MonikerKind::Export => true,
         MonikerKind::Local => false,
     }
 }
 
 /// What the row of a bearer tells, where it's of another project, and of a kind that the request looks for there, and has a result.
-fn joined_of(request: Request, own: &str, bearer: FoundBearer) -> Option<JoinedBearer>
+fn joined_of(request: RequestKind, own: &str, bearer: FoundBearer) -> Option<JoinedBearer>
     ensures some { IfSome result (λ j. OfBearer request own.now (bearer_found bearer) (joined_value j)) }
     ensures none { IfNone result ((j : JoinedValue) → OfBearer request own.now (bearer_found bearer) j → ⊥) }
 {
@@ -70,7 +70,7 @@ fn joined_of(request: Request, own: &str, bearer: FoundBearer) -> Option<JoinedB
 /// Adds the bearers that are joined.
 fn add_bearers(
     found: &mut Vec<JoinedBearer>,
-    request: Request,
+    request: RequestKind,
     own: &str,
     mut bearers: Vec<FoundBearer>,
 ) -> Result<(), AllocError>
@@ -90,7 +90,7 @@ fn add_key<I: Index>(
     alloc: Global,
     index: &mut I,
     found: &mut Vec<JoinedBearer>,
-    request: Request,
+    request: RequestKind,
     own: &str,
     key: &str,
 ) -> Result<(), IndexFault>
@@ -109,7 +109,7 @@ fn add_key<I: Index>(
 pub(crate) fn joined_bearers<I: Index>(
     alloc: Global,
     index: &mut I,
-    request: Request,
+    request: RequestKind,
     own: &str,
     keys: &[String],
 ) -> Result<Vec<JoinedBearer>, IndexFault>

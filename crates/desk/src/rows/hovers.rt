@@ -1,7 +1,7 @@
 //! The contents that answer a hover query: those of the range's own result, and where it has none, those of the first vertex that is joined to it, by
 //! project and line (`HoversAt` of `specs/Answers`).
 ghost use Rattle.std.specs.Prelude.{◌≡◌, Contains, IfOk, IfErr, map, option_map, string_bytes, true};
-ghost use Rattle.dump.specs.declared.request.Request.TheVariants as requests;
+ghost use Rattle.dump.specs.declared.request_kind.RequestKind.TheVariants as requests;
 ghost use Rattle.dump.specs.Places.{IsListing};
 ghost use Rattle.tables.specs.Selections.{range_found};
 ghost use Rattle.machine.specs.State.{State};
@@ -15,7 +15,7 @@ ghost use Rattle.desk.specs.declared.index.IndexFault.TheVariants.{Refused};
 use crate::index::{Index, IndexFault};
 use crate::rows::bearers::{JoinedBearer, joined_bearers};
 use crate::rows::ranges::{Picked, pick};
-use dump::Request;
+use dump::RequestKind;
 use machine::{Code, DocUri, ProjectName, Reply, hover_found};
 use positions::Position;
 use std::alloc::Global;
@@ -46,7 +46,7 @@ fn contents_at<I: Index>(
     if let Some(number) = range.hover {
         return index.hover(own, number);
     }
-    let mut found = joined_bearers(alloc, index, Request::Hover, own, keys)?;
+    let mut found = joined_bearers(alloc, index, RequestKind::Hover, own, keys)?;
     list_bearers(&mut found);
     match found.first() {
         Some(row) => index.hover(row.project.as_str(), row.number),
@@ -69,7 +69,7 @@ pub(crate) fn hover<I: Index>(
     ensures refused { IfErr result (λ fault. fault ≡ Refused → I.may_refuse ≡ true) }
 {
     let (project, uri) = (project.as_str(), uri.as_str());
-    match pick(alloc, index, Request::Hover, project, uri, at)? {
+    match pick(alloc, index, RequestKind::Hover, project, uri, at)? {
         Picked::NoDump => Ok(Reply::refused(Code::D01)),
         Picked::NoDocument => Ok(Reply::refused(Code::D02)),
         Picked::NoRange => Ok(hover_found(alloc, None)?),

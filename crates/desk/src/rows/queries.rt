@@ -1,6 +1,6 @@
 //! The replies to queries, each made of what the selections of an index find.
 ghost use Rattle.std.specs.Prelude.{◌≡◌, ◌≢◌, IfOk, List, map, option_map, IfErr, true};
-ghost use Rattle.dump.specs.declared.request.Request.TheVariants as requests;
+ghost use Rattle.dump.specs.declared.request_kind.RequestKind.TheVariants as requests;
 ghost use Rattle.tables.specs.Names.{tag_found as row_found};
 ghost use Rattle.tables.specs.Selections as selections;
 ghost use Rattle.machine.specs.State.{State};
@@ -16,7 +16,7 @@ use crate::rows::hovers::hover;
 use crate::rows::places::{places_of, places_reply};
 use crate::rows::ranges::{Picked, pick};
 use crate::rows::results::answering_results;
-use dump::{Request, Role};
+use dump::{RequestKind, Role};
 use machine::{
     Code, DocUri, FoundProject, FoundTag, ProjectName, Query, Reply, places_found, profile_found,
     projects_found, tags_found,
@@ -40,7 +40,7 @@ fn reference_roles(declaration: bool) -> &'static [Role]
 pub(crate) fn places<I: Index>(
     alloc: Global,
     index: &mut I,
-    request: Request,
+    request: RequestKind,
     roles: &[Role],
     project: &ProjectName,
     uri: &DocUri,
@@ -188,7 +188,7 @@ pub(crate) fn answer<I: Index>(
         Query::Definition { project, uri, at } => places(
             alloc,
             index,
-            Request::Definition,
+            RequestKind::Definition,
             &[Role::Definitions],
             project,
             uri,
@@ -202,7 +202,7 @@ pub(crate) fn answer<I: Index>(
         } => places(
             alloc,
             index,
-            Request::References,
+            RequestKind::References,
             reference_roles(*declaration),
             project,
             uri,
@@ -212,7 +212,7 @@ pub(crate) fn answer<I: Index>(
         Query::Declaration { project, uri, at } => places(
             alloc,
             index,
-            Request::Declaration,
+            RequestKind::Declaration,
             &[Role::Definitions],
             project,
             uri,
@@ -221,7 +221,7 @@ pub(crate) fn answer<I: Index>(
         Query::Implementation { project, uri, at } => places(
             alloc,
             index,
-            Request::Implementation,
+            RequestKind::Implementation,
             &[Role::Definitions],
             project,
             uri,

@@ -10,7 +10,7 @@ ghost use Rattle.desk.specs.Steps.Rows.{AreFollowed, AreKeys, Picks, RowSpeaks};
 ghost use Rattle.desk.specs.declared.index.IndexFault.TheVariants.{Refused};
 
 use crate::index::{Index, IndexFault};
-use dump::Request;
+use dump::RequestKind;
 use lsif::MonikerKind;
 use positions::Position;
 use std::alloc::{AllocError, Global};
@@ -30,25 +30,25 @@ pub(crate) enum Picked {
 }
 
 /// The number of the range's first result for the request.
-pub(crate) fn result_of(range: &FoundRange, request: Request) -> Option<u32>
+pub(crate) fn result_of(range: &FoundRange, request: RequestKind) -> Option<u32>
     ensures { result ≡ result_for request (range_found range.now).results }
 {
     match request {
-        Request::Definition => range.def,
-        Request::References => range.refs,
-        Request::Hover => range.hover,
-        Request::Declaration => range.decl,
-        Request::Implementation => range.imp,
+        RequestKind::Definition => range.def,
+        RequestKind::References => range.refs,
+        RequestKind::Hover => range.hover,
+        RequestKind::Declaration => range.decl,
+        RequestKind::Implementation => range.imp,
     }
 }
 
 /// Whether a request goes on to other projects by marks of this kind.
-fn follows(request: Request, kind: MonikerKind) -> bool
+fn follows(request: RequestKind, kind: MonikerKind) -> bool
     ensures { result ≡ follows request kind }
 {
     match kind {
         MonikerKind::Import => true,
-        MonikerKind::Export => matches!(request, Request::References),
+        MonikerKind::Export => matches!(request, RequestKind::References),
         MonikerKind::Local => false,
     }
 }
@@ -56,7 +56,7 @@ fn follows(request: Request, kind: MonikerKind) -> bool
 /// The texts of the keys of those marks by which the request goes on to other projects.
 fn followed_keys(
     alloc: Global,
-    request: Request,
+    request: RequestKind,
     mut marks: Vec<FoundMark>,
 ) -> Result<Vec<String>, AllocError>
     ensures { IfOk result (λ keys. AreFollowed request (map mark_found marks.items) (map string_bytes keys.items)) }
@@ -74,7 +74,7 @@ fn followed_keys(
 fn keys_at<I: Index>(
     alloc: Global,
     index: &mut I,
-    request: Request,
+    request: RequestKind,
     project: &str,
     line: u32,
 ) -> Result<Vec<String>, IndexFault>
@@ -93,7 +93,7 @@ fn keys_at<I: Index>(
 fn first_speaking<I: Index>(
     alloc: Global,
     index: &mut I,
-    request: Request,
+    request: RequestKind,
     project: &str,
     ranges: &[FoundRange],
 ) -> Result<Option<(FoundRange, Vec<String>)>, IndexFault>
@@ -118,7 +118,7 @@ fn first_speaking<I: Index>(
 pub(crate) fn pick<I: Index>(
     alloc: Global,
     index: &mut I,
-    request: Request,
+    request: RequestKind,
     project: &str,
     uri: &str,
     at: Position,

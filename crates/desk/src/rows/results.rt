@@ -11,7 +11,7 @@ ghost use Rattle.desk.specs.declared.index.IndexFault.TheVariants.{Refused};
 use crate::index::{Index, IndexFault};
 use crate::rows::bearers::{JoinedBearer, joined_bearers};
 use crate::rows::ranges::result_of;
-use dump::Request;
+use dump::RequestKind;
 use std::alloc::{AllocError, Global};
 use tables::FoundRange;
 
@@ -25,7 +25,7 @@ pub(crate) struct ProjectResult {
 /// The range's own first result, where it has one.
 fn own_result(
     alloc: Global,
-    request: Request,
+    request: RequestKind,
     own: &str,
     range: &FoundRange,
 ) -> Result<Vec<ProjectResult>, AllocError>
@@ -69,7 +69,7 @@ fn list_results(project_results: &mut Vec<ProjectResult>)
 pub(crate) fn answering_results<I: Index>(
     alloc: Global,
     index: &mut I,
-    request: Request,
+    request: RequestKind,
     own: &str,
     range: &FoundRange,
     keys: &[String],

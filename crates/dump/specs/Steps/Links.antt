@@ -7,7 +7,8 @@ use Rattle.dump.specs.declared.index_map.IndexMap.{IndexMap}
 use Rattle.dump.specs.declared.single.SingleLabel.{SingleLabel}
 use Rattle.dump.specs.Contained.{contains_of, contains_range}
 use Rattle.dump.specs.Ended.{begins, finishes}
-use Rattle.dump.specs.Graph.{vertex_at, is_document, is_among}
+use Rattle.dump.specs.Graph.{vertex_at, is_among}
+use Rattle.dump.specs.Kinds.{is_document}
 use Rattle.dump.specs.Steps.Ids.{index_at}
 use Rattle.dump.specs.Walks.{label_index, same_label, single_of}
 

@@ -5,7 +5,7 @@ use Rattle.lsif.specs.Element.{IdValue, MonikerValue, moniker, moniker_edge, Ele
 use Rattle.dump.specs.Monikers.{Near, moniker_pairs, package_of}
 use Rattle.dump.specs.Walks.{Path}
 use Rattle.flatten.specs.Flat.{number_of}
-use Rattle.flatten.specs.KeyTexts.{key_text, key_value}
+use Rattle.flatten.specs.KeyTexts.{key_text, moniker_key}
 use Rattle.flatten.specs.declared.borne.Mark.{Mark}
 
 -- a kind, and the text of a key
@@ -17,7 +17,7 @@ abbrev pub mark_value : Mark → MarkText
 mark_value m = record { kind = m.kind; key = string_bytes m.key }
 
 abbrev pub text_of : List ElementValue → IdValue → MonikerValue → MarkText
-text_of elements i m = record { kind = m.kind; key = key_text (key_value m (package_of elements i)) }
+text_of elements i m = record { kind = m.kind; key = key_text (moniker_key m (package_of elements i)) }
 
 -- where the element is a moniker: its mark
 abbrev pub mark_text : List ElementValue → ElementValue → Option MarkText

@@ -5,8 +5,8 @@ use Rattle.std.specs.Option.{option_or}
 use Rattle.std.specs.List.Sorted.{IsNonDecreasingBy}
 use Rattle.lsif.specs.Element.{IdValue, id_value, ElementValue}
 use Rattle.dump.specs.Requests.{label_of}
-use Rattle.dump.specs.declared.request.Request.TheVariants.{Definition, References, Hover, Declaration, Implementation}
-use Rattle.dump.specs.declared.request.Request.{Request}
+use Rattle.dump.specs.declared.request_kind.RequestKind.TheVariants.{Definition, References, Hover, Declaration, Implementation}
+use Rattle.dump.specs.declared.request_kind.RequestKind.{RequestKind}
 use Rattle.dump.specs.Walks.{IsChain, first_to, next_pairs, single_pairs}
 use Rattle.flatten.specs.Flat.{ResultsValue, number_of}
 use Rattle.flatten.specs.declared.chains.Along.{Along}
@@ -56,11 +56,11 @@ is_source pairs None = false
 abbrev pub is_bearing : List ElementValue → List (ℕ × ℕ) → IdValue → Bool
 is_bearing elements borne x = is_source borne (number_of elements x)
 
-abbrev pub own_result : List ElementValue → Request → IdValue → Option IdValue
+abbrev pub own_result : List ElementValue → RequestKind → IdValue → Option IdValue
 own_result elements request x = first_to (single_pairs (label_of request) elements) x
 
 -- the number of the request's result of the vertex itself
-abbrev pub own_number : List ElementValue → Request → IdValue → Option ℕ
+abbrev pub own_number : List ElementValue → RequestKind → IdValue → Option ℕ
 own_number elements request x = option_and_then (number_of elements) (own_result elements request x)
 
 abbrev pub own_bearer : List ElementValue → List (ℕ × ℕ) → IdValue → Option IdValue

@@ -2,7 +2,7 @@
 use Rattle.std.specs.Prelude.{◌≡◌, ℕ, List, [], Option, Some, None, Result, Ok, Err, ⊤}
 use Rattle.std.specs.declared.alloc.AllocError.{AllocError}
 use Rattle.machine.specs.Requests.{DocumentPositionValue, QueryValue, RequestValue, command, definition, hover, declaration, implementation, at_value, request_value}
-use Rattle.machine.specs.Uploads.{StandsFor, UploadValue, command_of}
+use Rattle.machine.specs.Uploads.{HasRead, UploadValue, command_of}
 use Rattle.http_edge.specs.declared.queries.DocumentPosition.{DocumentPosition}
 use Rattle.http_edge.specs.declared.queries.PositionQuery.{PositionQuery}
 use Rattle.http_edge.specs.declared.queries.PositionQuery.TheVariants as at_position
@@ -27,14 +27,14 @@ upload_request body upload = command (command_of upload body)
 
 -- this is the request with each body, or there is none; no byte of an upload's body has come
 abbrev pub AsksFor : Asked → (List ℕ → Option RequestValue) → Type 0
-AsksFor (Upload upload) asked = StandsFor upload.body [] × ((body : List ℕ) → asked body ≡ Some (upload_request body upload))
+AsksFor (Upload upload) asked = HasRead upload.body [] × ((body : List ℕ) → asked body ≡ Some (upload_request body upload))
 AsksFor (Request q) asked = (body : List ℕ) → asked body ≡ Some (request_value q)
 AsksFor (Refused refusal) asked = (refusal ≡ BadParameter) × ((body : List ℕ) → asked body ≡ None)
 
 -- this is what the method and the target ask with each body, and an upload stands for these bytes of it; or memory was refused
 abbrev pub AsksAfter : Result Asked AllocError → List ℕ → List ℕ → List ℕ → Type 0
 AsksAfter (Ok (Upload upload)) method target body =
-    StandsFor upload.body body × ((whole : List ℕ) → message_of method target whole ≡ request (command (command_of upload whole)))
+    HasRead upload.body body × ((whole : List ℕ) → message_of method target whole ≡ request (command (command_of upload whole)))
 AsksAfter (Ok (Request q)) method target body = (whole : List ℕ) → message_of method target whole ≡ request (request_value q)
 AsksAfter (Ok (Refused refusal)) method target body = (whole : List ℕ) → message_of method target whole ≡ refused refusal
 AsksAfter (Err e) method target body = ⊤

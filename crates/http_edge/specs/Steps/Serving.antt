@@ -3,13 +3,13 @@ use Rattle.std.specs.Prelude.{◌≡◌, ◌≢◌, ℕ, ◌<◌, ◌≤◌, ◌
 use Rattle.std.specs.declared.alloc.AllocError.{AllocError}
 use Rattle.machine.specs.State.{State}
 use Rattle.machine.specs.Requests.{command, request_value}
-use Rattle.machine.specs.Uploads.{StandsFor, command_of}
+use Rattle.machine.specs.Uploads.{HasRead, command_of}
 use Rattle.lsif.specs.Streams.{Moves, AtEnd}
 use Rattle.http_edge.specs.Heads.{HeadValue, rejected, SettlesHead, IsHeadUnended}
 use Rattle.http_edge.specs.Messages.{Settles, IsUnended, ends}
 use Rattle.http_edge.specs.Requests.{MessageValue, request, refused, message_of}
 use Rattle.http_edge.specs.Replies.{AnswerValue}
-use Rattle.http_edge.specs.Serving.{MovesOrHides, MayAnswer, answered, left_after}
+use Rattle.http_edge.specs.Serving.{MovesOrHides, MayAnswer, answered, after_a_stop_of_answer}
 use Rattle.http_edge.specs.Steps.Heads.{head_value}
 use Rattle.http_edge.specs.Steps.Requests.{AsksAfter}
 use Rattle.http_edge.specs.declared.head.Head.{Head}
@@ -59,7 +59,7 @@ ReadsBody len held left asked held' left' asked' (Err e) = (bytes : List ℕ) ×
 
 -- what was read of a message is this one: an upload stands for its body; where memory was refused, it's any that doesn't end the stream
 abbrev pub Says : Result Asked AllocError → MessageValue → Type 0
-Says (Ok (Upload upload)) message = (body : List ℕ) × StandsFor upload.body body × (message ≡ request (command (command_of upload body)))
+Says (Ok (Upload upload)) message = (body : List ℕ) × HasRead upload.body body × (message ≡ request (command (command_of upload body)))
 Says (Ok (Request q)) message = message ≡ request (request_value q)
 Says (Ok (Refused refusal)) message = message ≡ refused refusal
 Says (Err e) message = ends message ≡ false
@@ -95,4 +95,4 @@ pub record Responds (store_may_refuse : Bool) (stood stands : State → Type 0) 
   pub answer : is_reliable → (m : State) (message : MessageValue) → stood m → Says asked message → MayAnswer store_may_refuse m message given
   pub state : is_reliable → (m : State) (message : MessageValue) → stood m → Says asked message → stands (answered m message given)
   pub left : is_reliable → (m : State) (states : List State) (message : MessageValue) → stood m → old_leaves states → Says asked message
-      → new_leaves (left_after m states message given)
+      → new_leaves (after_a_stop_of_answer m states message given)

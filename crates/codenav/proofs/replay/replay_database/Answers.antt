@@ -1,5 +1,5 @@
 use Rattle.std.proofs.Common.{◌∷◌, []}
-use Rattle.http_edge.specs.Serving.{left_by}
+use Rattle.http_edge.specs.Serving.{after_a_stop_of_answers}
 use Rattle.codenav.proofs.replay.replay_database.Goals as goal
 
 pub returns-clause-clean : goal.returns-clause-clean
@@ -11,7 +11,7 @@ returns-clause-replays g c clean m finds =
     let first = c.replay-answer.ensures.reliable reliable in
     let served = c.replay-answer.ensures.replays in
     let run = served.2 reliable m (c.in_ok-desk.ensures.stands first m finds) in
-    let left = left_by m (m ∷ []) served.0 served.1 in (
+    let left = after_a_stop_of_answers m (m ∷ []) served.0 served.1 in (
       served.0,
       served.1,
       run.0,

@@ -1,5 +1,5 @@
 use Rattle.std.proofs.Common.{[], ◌∷◌, refl, arith}
-use Rattle.http_edge.specs.Serving.{left_by}
+use Rattle.http_edge.specs.Serving.{after_a_stop_of_answers}
 use Rattle.codenav.proofs.serve.serve_connections.Goals as goal
 
 pub serving-init : goal.serving-init
@@ -26,7 +26,7 @@ serving-preserved g c =
           let before = i.each (c.in-Ok.ensures.reliable k) m states s may in
           let after = one.1 k before.0 before.3 in (
             after.0,
-            left_by before.0 before.1 one.0.messages one.0.answers,
+            after_a_stop_of_answers before.0 before.1 one.0.messages one.0.answers,
             (before.0, before.1, before.2, after.1, refl),
             after.2,
             after.3 before.1 before.4,

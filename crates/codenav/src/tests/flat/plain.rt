@@ -1,5 +1,5 @@
 //! The rows of a dump by a plain walk: whatever is looked up, all elements are gone over.
-use dump::{CheckedDump, Request, Role, role_of};
+use dump::{CheckedDump, RequestKind, Role, role_of};
 use flatten::{BearerRow, DocRow, HoverRow, ItemRow, MarkRow, RangeRow, Rows, key_text};
 use lsif::{Edge, Element, Id, MonikerKind, Package, Property, Vertex};
 use positions::Span;
@@ -34,7 +34,7 @@ fn vertex_of<'a>(elements: &'a [Element], id: &Id) -> Option<&'a Vertex> {
 enum Label {
     Next,
     Package,
-    Result(Request),
+    Result(RequestKind),
 }
 
 /// The label of the edge, where it's one of these, and what it joins.
@@ -42,11 +42,15 @@ fn joined(edge: &Edge) -> Option<(Label, &Id, &Id)> {
     match edge {
         Edge::Next(from, to) => Some((Label::Next, from, to)),
         Edge::Package(from, to) => Some((Label::Package, from, to)),
-        Edge::Definition(from, to) => Some((Label::Result(Request::Definition), from, to)),
-        Edge::References(from, to) => Some((Label::Result(Request::References), from, to)),
-        Edge::Hover(from, to) => Some((Label::Result(Request::Hover), from, to)),
-        Edge::Declaration(from, to) => Some((Label::Result(Request::Declaration), from, to)),
-        Edge::Implementation(from, to) => Some((Label::Result(Request::Implementation), from, to)),
+        Edge::Definition(from, to) => Some((Label::Result(RequestKind::Definition), from, to)),
+        Edge::References(from, to) => Some((Label::Result(RequestKind::References), from, to)),
+        Edge::Hover(from, to) => Some((Label::Result(RequestKind::Hover), from, to)),
+        Edge::Declaration(from, to) => Some((Label::Result(RequestKind::Declaration), from, to)),
+        Edge::Implementation(from, to) => Some((
+            Label::Result(RequestKind::Implementation),
+            from,
+            to,
+        )),
         _ => None,
     }
 }
@@ -83,7 +87,7 @@ fn chain<'a>(
 }
 
 /// The number of the first result that the request has along the chain.
-fn first(elements: &[Element], members: &[&Id], request: Request) -> Option<u32> {
+fn first(elements: &[Element], members: &[&Id], request: RequestKind) -> Option<u32> {
     for member in members {
         if let Some(result) = target(elements, Label::Result(request), member) {
             return line_of(elements, result);
@@ -173,11 +177,11 @@ fn range_rows<'a>(
             uri: range.uri,
             span: range.span,
             parent: parent(ranges, range),
-            def: first(elements, &members, Request::Definition),
-            refs: first(elements, &members, Request::References),
-            hover: first(elements, &members, Request::Hover),
-            decl: first(elements, &members, Request::Declaration),
-            imp: first(elements, &members, Request::Implementation),
+            def: first(elements, &members, RequestKind::Definition),
+            refs: first(elements, &members, RequestKind::References),
+            hover: first(elements, &members, RequestKind::Hover),
+            decl: first(elements, &members, RequestKind::Declaration),
+            imp: first(elements, &members, RequestKind::Implementation),
         })?;
     }
     Ok(rows)
@@ -396,11 +400,11 @@ fn add_bearers(
                 line,
                 key,
                 kind,
-                def: first(elements, &members, Request::Definition),
-                refs: first(elements, &members, Request::References),
-                hover: first(elements, &members, Request::Hover),
-                decl: first(elements, &members, Request::Declaration),
-                imp: first(elements, &members, Request::Implementation),
+                def: first(elements, &members, RequestKind::Definition),
+                refs: first(elements, &members, RequestKind::References),
+                hover: first(elements, &members, RequestKind::Hover),
+                decl: first(elements, &members, RequestKind::Declaration),
+                imp: first(elements, &members, RequestKind::Implementation),
             })?;
         }
     }

@@ -1,7 +1,7 @@
 use Rattle.std.proofs.Common.{sym, arith}
 use Rattle.lsif.specs.Element.{id_value}
 use Rattle.dump.specs.Graph.{vertex_at}
-use Rattle.dump.specs.Steps.Kinds.{is_of_kind}
+use Rattle.dump.specs.Kinds.{is_of_kind}
 use Rattle.dump.proofs.Lists.{all-hit, all-miss, all-end}
 use Rattle.dump.proofs.vertices.are_of_kind.Goals as goal
 

@@ -2,7 +2,7 @@ use Rattle.std.proofs.Common.{◌≡◌, map, drop}
 use Rattle.std.specs.List.{list_all}
 use Rattle.lsif.specs.Element.{id_value}
 use Rattle.dump.specs.Graph.{vertex_at}
-use Rattle.dump.specs.Steps.Kinds.{is_of_kind}
+use Rattle.dump.specs.Kinds.{is_of_kind}
 use Rattle.dump.proofs.vertices.are_of_kind.Given as goal
 
 abbrev pub invariant-loop-id : goal.invariant-loop-id

@@ -1,5 +1,5 @@
 use Rattle.std.proofs.Common.{◌∙◌, sym}
-use Rattle.machine.specs.Retries.{states_left}
+use Rattle.machine.specs.Retries.{states_after_a_stop}
 use Rattle.http_edge.specs.Serving.{replies_in, requests_in}
 use Rattle.http_edge.proofs.ServedRuns.{run_of, left_of}
 use Rattle.http_edge.proofs.laws.run_law.Goals as goal
@@ -13,4 +13,4 @@ returns-clause-left c = λ store m n states messages answers. left_of store m st
 pub returns-clause-life : goal.returns-clause-life
 returns-clause-life c = λ store events t messages answers n life run.
     let more = c.retry_law.ensures.runs store events t (requests_in messages) (replies_in messages answers) n life (run_of store t.now messages answers n run) in
-    (more.0, more.1, more.2, more.3 ∙ sym (left_of store t.now (states_left t) messages answers n run))
+    (more.0, more.1, more.2, more.3 ∙ sym (left_of store t.now (states_after_a_stop t) messages answers n run))

@@ -5,7 +5,7 @@ use Rattle.http_edge.specs.Steps.Messages.{SettlesAll}
 use Rattle.http_edge.specs.Requests.{MessageValue}
 use Rattle.machine.specs.State.{State}
 use Rattle.http_edge.specs.Replies.{AnswerValue}
-use Rattle.http_edge.specs.Serving.{Run, left_by, texts}
+use Rattle.http_edge.specs.Serving.{MayAnswerAll, after_a_stop_of_answers, texts}
 use Rattle.http_edge.proofs.serve.serve.Given as goal
 
 abbrev pub invariant-serving : goal.invariant-serving
@@ -18,8 +18,8 @@ invariant-serving g l = record {
   within : l.count ≤ l.limit;
   answers : List AnswerValue;
   reliable : g.D.Desk.is_reliable l.desk → g.D.Desk.is_reliable l.fn.desk;
-  run : g.D.Desk.is_reliable l.desk → (m : State) → g.D.Desk.stands l.fn.desk m → (n : State) × Run g.D.Desk.store_may_refuse m messages answers n × g.D.Desk.stands l.desk n
-      × ((states : List State) → g.D.Desk.may_leave l.fn.desk states → g.D.Desk.may_leave l.desk (left_by m states messages answers));
+  run : g.D.Desk.is_reliable l.desk → (m : State) → g.D.Desk.stands l.fn.desk m → (n : State) × MayAnswerAll g.D.Desk.store_may_refuse m messages answers n × g.D.Desk.stands l.desk n
+      × ((states : List State) → g.D.Desk.may_leave l.fn.desk states → g.D.Desk.may_leave l.desk (after_a_stop_of_answers m states messages answers));
   written : Writes (g.W.Sink.output l.fn.w) (texts answers) (g.W.Sink.output l.w);
   reads : g.R.Source.failed l.r ≡ g.R.Source.failed l.fn.r;
   counts : SameCounts (g.W.Sink.output l.fn.w) (g.W.Sink.output l.w);

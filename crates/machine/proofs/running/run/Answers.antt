@@ -1,7 +1,7 @@
 use Rattle.std.proofs.Common.{List, ◌∷◌, [], ◌++◌, ◌∙◌, take, arith, sym, ap, subst}
 use Rattle.machine.specs.Reply.{ReplyValue}
 use Rattle.machine.specs.Requests.{RequestValue, request_value, request_values}
-use Rattle.machine.specs.Runs.{moved, Run, left_by}
+use Rattle.machine.specs.Runs.{moved, Run, after_a_stop_of_run}
 use Rattle.machine.proofs.Steps.{run_more, left_more, requests_more}
 use Rattle.machine.proofs.running.run.Goals as goal
 
@@ -28,8 +28,8 @@ loop-request-preserved g c =
           );
       left = λ good m states stood leaves.
           let h = i.run (s.reliable good) m stood in
-          let more = ap (λ (qs : List RequestValue). left_by m states qs c.push_reserved.new.self.items) asked
-          ∙ ap (λ (rs : List ReplyValue). left_by m states (done ++ q ∷ []) rs) told
+          let more = ap (λ (qs : List RequestValue). after_a_stop_of_run m states qs c.push_reserved.new.self.items) asked
+          ∙ ap (λ (rs : List ReplyValue). after_a_stop_of_run m states (done ++ q ∷ []) rs) told
           ∙ left_more store m h.0 states done c.loop-request.replies.items q c.serve-reply.result h.1 in
           subst (g.D.Desk.may_leave c.serve-reply.new.desk) (sym more) (s.left good h.0 _ h.2 (i.left (s.reliable good) m states stood leaves));
     }

@@ -2,7 +2,7 @@ use Rattle.std.proofs.Common.{Global, ◌≡◌, ◌∙◌, inr, length, map, re
 use Rattle.std.specs.Prelude.{Some, None, String, option_map, slice_get}
 use Rattle.std.specs.Option.{option_copied}
 use Rattle.std.proofs.lemmas.Result.{IfOk-weaker}
-use Rattle.dump.specs.declared.request.Request.TheVariants as requests
+use Rattle.dump.specs.declared.request_kind.RequestKind.TheVariants as requests
 use Rattle.flatten.proofs.Members.{nil_of}
 use Rattle.tables.specs.Selections.{FindsHover, range_found}
 use Rattle.desk.specs.Steps.RowHovers.{joined_cmp}

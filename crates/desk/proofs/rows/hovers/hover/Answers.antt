@@ -1,6 +1,6 @@
 use Rattle.std.proofs.Common.{Global, ◌≡◌, map, sym, subst, string_bytes, rules}
 use Rattle.std.specs.Prelude.{String, option_map}
-use Rattle.dump.specs.declared.request.Request.TheVariants as requests
+use Rattle.dump.specs.declared.request_kind.RequestKind.TheVariants as requests
 use Rattle.tables.specs.Selections.{range_found}
 use Rattle.machine.specs.Answers.{AnswersAt, AnswersHover, no_dump, no_such_document}
 use Rattle.machine.specs.Reply.{hover_found}

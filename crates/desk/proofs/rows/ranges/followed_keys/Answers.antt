@@ -1,5 +1,5 @@
 use Rattle.std.proofs.Common.{Global, ◌≡◌, ◌∙◌, ◌++◌, [], ◌∷◌, ℕ, List, true, false, sym, string_bytes, rules, arith}
-use Rattle.dump.specs.declared.request.Request.{Request}
+use Rattle.dump.specs.declared.request_kind.RequestKind.{RequestKind}
 use Rattle.dump.specs.Requests.{follows}
 use Rattle.flatten.proofs.Members.{nil_of}
 use Rattle.tables.specs.Selections.{MarkText, mark_found}
@@ -8,7 +8,7 @@ use Rattle.desk.proofs.Finding.{iff_sym, iff_trans, or_none}
 use Rattle.desk.proofs.Popped.{none_left, pop_adds, pop_skips}
 use Rattle.desk.proofs.rows.ranges.followed_keys.Goals as goal
 
-abbrev Makes : Request → MarkText → List ℕ → Type 0
+abbrev Makes : RequestKind → MarkText → List ℕ → Type 0
 Makes request mark text = (follows request mark.kind ≡ true) × (mark.key ≡ text)
 
 abbrev bytes : String Global → List ℕ

@@ -6,7 +6,7 @@ use crate::single::SingleLabel;
 
 /// A request that a vertex has a result for (LSIF 0.6.0, "Requests").
 #[derive(Clone, Copy, Debug, PartialEq, Eq)]
-pub enum Request {
+pub enum RequestKind {
     Definition,
     References,
     Hover,
@@ -14,17 +14,17 @@ pub enum Request {
     Implementation,
 }
 
-impl Request {
+impl RequestKind {
     /// The label of the edges that name the results of the request.
     pub(crate) fn label(self) -> SingleLabel
         ensures { result ≡ label_of self }
     {
         match self {
-            Request::Definition => SingleLabel::Definition,
-            Request::References => SingleLabel::References,
-            Request::Hover => SingleLabel::Hover,
-            Request::Declaration => SingleLabel::Declaration,
-            Request::Implementation => SingleLabel::Implementation,
+            RequestKind::Definition => SingleLabel::Definition,
+            RequestKind::References => SingleLabel::References,
+            RequestKind::Hover => SingleLabel::Hover,
+            RequestKind::Declaration => SingleLabel::Declaration,
+            RequestKind::Implementation => SingleLabel::Implementation,
         }
     }
 }
