@@ -55,7 +55,8 @@ MayAnswerAll store_may_refuse m (message ∷ messages) [] n = ⊥
 
 -- the states of which a stop leaves one after all of them
 abbrev pub after_a_stop_of_answers : State → List State → List MessageValue → List AnswerValue → List State
-after_a_stop_of_answers m states (message ∷ messages) (answer ∷ answers) = after_a_stop_of_answers (answered m message answer) (after_a_stop_of_answer m states message answer) messages answers
+after_a_stop_of_answers m states (message ∷ messages) (answer ∷ answers) =
+    after_a_stop_of_answers (answered m message answer) (after_a_stop_of_answer m states message answer) messages answers
 after_a_stop_of_answers m states [] answers = states
 after_a_stop_of_answers m states (message ∷ messages) [] = states
 
