@@ -38,7 +38,8 @@ abbrev pub found_cmp : FoundPlace → FoundPlace → Ordering
 found_cmp a b = ordering_then (text_cmp a.project b.project) (place_cmp a.place b.place)
 
 -- the places that answer the request: those of the range that is picked, and none where none is
-pub data AnswersPlaces (m : State) (request : RequestKind) (in_roles : List Role) (target : DocumentPositionValue) (dump : DumpValue) : ReplyValue → Type 0 where
+pub data AnswersPlaces (m : State) (request : RequestKind) (in_roles : List Role) (target : DocumentPositionValue) (dump : DumpValue)
+    : ReplyValue → Type 0 where
   picked : {places : List FoundPlace} (r : RangeValue) → Pick request dump.elements target.uri target.position (Some r)
       → IsListing found_cmp (IsFound m request in_roles target.project dump r.id) places → AnswersPlaces m request in_roles target dump (places_found places)
   unpicked : Pick request dump.elements target.uri target.position None → AnswersPlaces m request in_roles target dump (places_found [])

@@ -73,7 +73,11 @@ first_moment = record { now = nothing; after_a_stop = record { state = nothing; 
 
 -- after a command was refused, or had another reply: then it counts
 abbrev pub moment_after_reply : Bool → CommandValue → Moment → Moment
-moment_after_reply true c t = record { now = t.now; after_a_stop = t.after_a_stop ++ record { state = after t.now c; commands = c ∷ [] } ∷ []; counted = t.counted }
+moment_after_reply true c t = record {
+  now = t.now;
+  after_a_stop = t.after_a_stop ++ record { state = after t.now c; commands = c ∷ [] } ∷ [];
+  counted = t.counted;
+}
 moment_after_reply false c t = record {
   now = after t.now c;
   after_a_stop = if is_new t.now c then record { state = after t.now c; commands = [] } ∷ [] else t.after_a_stop;
