@@ -1,4 +1,4 @@
-//! `codenav check-lsif`: the report of a dump.
+//! `codenav check-lsif`: reads a dump and writes its report. The text of reports is in `report.rt`.
 ghost use Rattle.std.specs.Prelude.{◌≡◌, ◌-◌, ◌^◌, ◌<◌, IfOk};
 ghost use Rattle.lsif.specs.Streams.{CanCount};
 ghost use Rattle.codenav.specs.Report.{Checks, CountsCheck, ReportsDump};

@@ -1,4 +1,4 @@
-//! `codenav check-tags`: the report of a tags file.
+//! `codenav check-tags`: reads a tags file and writes its report. The text of reports is in `report.rt`.
 ghost use Rattle.std.specs.Prelude.{◌-◌, ◌^◌, ◌<◌, IfOk};
 ghost use Rattle.lsif.specs.Buffered.{unread};
 ghost use Rattle.lsif.specs.Streams.{CanCount};

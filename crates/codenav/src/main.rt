@@ -1,4 +1,4 @@
-//! `codenav`, a code navigation index server.
+//! `codenav`, a code navigation index server: calls what the words of the command line ask for, and ends with its status. `specs/Call`.
 #![tactic(auto)]
 
 ghost use Rattle.std.specs.Prelude.{◌≡◌, false};

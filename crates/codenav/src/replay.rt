@@ -1,4 +1,4 @@
-//! `codenav replay`: the replies to the requests of a stream.
+//! `codenav replay`: the replies to the requests of a stream, over a database in memory or in a file. `specs/Replay`.
 ghost use Rattle.std.specs.Prelude.{◌≡◌, ◌-◌, ◌^◌, ◌<◌, false, true, List, Err, IfOk, IfErr};
 ghost use Rattle.sqlite_wal.specs.Files.{image_at};
 ghost use Rattle.sqlite.specs.Files.{file_state};

@@ -1,4 +1,4 @@
-//! `codenav serve`: the replies to the requests of connections.
+//! `codenav serve`: the replies to the requests of connections, one request each. A stream is served in the crate `http_edge`. `specs/Serve`.
 ghost use Rattle.std.specs.Prelude.{◌≡◌, ◌+◌, ◌-◌, ◌^◌, ◌<◌, true, List, Err, IfErr, length};
 ghost use Rattle.machine.specs.State.{State};
 ghost use Rattle.lsif.specs.Streams.{CanCount};

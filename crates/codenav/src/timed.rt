@@ -1,4 +1,4 @@
-//! Connections that may take so much time.
+//! Connections that may take so much time, in all and for each read and write. The limits stand in `main.rt`. `next_wait` in `specs/Serve`.
 ghost use Rattle.std.specs.Prelude.{◌≡◌, option_map};
 ghost use Rattle.std.specs.Duration.{as_nanos};
 ghost use Rattle.codenav.specs.Serve.{next_wait};

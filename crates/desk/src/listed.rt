@@ -1,4 +1,4 @@
-//! The projects and the tags that an index in memory lists.
+//! The projects and the tags that an index in memory lists, over its map of projects. What is selected of dumps is in `selected.rt`.
 ghost use Rattle.std.specs.Prelude.{◌≡◌, ◌++◌, IfOk, OnOk, map, option_map, string_bytes};
 ghost use Rattle.std.specs.BTreeMap.{IsOrdered};
 ghost use Rattle.std.specs.String.{string_cmp};

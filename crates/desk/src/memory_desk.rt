@@ -1,4 +1,4 @@
-//! The desk over a database in files in memory.
+//! The desk over a database in files in memory, which is new and empty. One over a file is made by the program (`codenav/src/database.rt`).
 ghost use Rattle.std.specs.Prelude.{◌≡◌, ◌∷◌, [], true, false, IfOk};
 ghost use Rattle.sqlite.specs.Held.{state};
 ghost use Rattle.tables.specs.Schema.{empty_schema};

@@ -1,4 +1,4 @@
-//! What is kept of a project.
+//! What the index in memory keeps of a project: its dump, its tags and the replies under their keys, and how a change alters them.
 ghost use Rattle.std.specs.Prelude.{◌≡◌, ℕ, List, OnOk, OnErr, Some, None, bytes_eq, string_bytes, if◌then◌else◌};
 ghost use Rattle.std.specs.BTreeMap.{get_by_text};
 ghost use Rattle.machine.specs.State.{dump_after, tags_after};

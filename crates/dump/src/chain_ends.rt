@@ -1,4 +1,4 @@
-//! Where chains of `next` edges end.
+//! Where chains of `next` edges end, by shortcuts that are shortened as they are used. `specs/Steps/Chains`.
 ghost use Rattle.std.specs.Prelude.{◌≡◌, ◌<◌, ◌++◌, ◌∷◌, [], None, Some, map, vec_len, vec_capacity};
 ghost use Rattle.lsif.specs.Element.{IdValue, element_value};
 ghost use Rattle.dump.specs.Steps.Chains.{index_in, HasShortcuts, IsIndexIn, IsEnd, CanJoin, JoinsIndices};

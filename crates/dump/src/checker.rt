@@ -1,4 +1,5 @@
-//! The checker of a dump, and a checked dump.
+//! The checker of a dump, to which elements are fed line by line, and a checked dump with its look-ups. What forbids an element is in `order.rt`.
+//! `specs/Progress`.
 ghost use Rattle.std.specs.Prelude.{◌≡◌, true, map, []};
 ghost use Rattle.lsif.specs.Code.{is_shape_code};
 ghost use Rattle.lsif.specs.Element.{element_value, reading_value};

@@ -1,4 +1,4 @@
-//! Which ranges the documents of a dump contain.
+//! Which ranges the documents of a dump contain, asked of lists of ids. One range is asked of the graph (`graph.rt`). `specs/Contained`.
 ghost use Rattle.std.specs.Prelude.{◌≡◌};
 ghost use Rattle.std.specs.List.{list_any};
 ghost use Rattle.lsif.specs.Element.{id_value, id_values};

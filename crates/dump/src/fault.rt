@@ -1,4 +1,4 @@
-//! Where a dump is faulty.
+//! Where a dump is faulty: a line and its code; and why an element or a dump is refused. The codes are the crate `lsif`'s.
 ghost use Rattle.std.specs.Prelude.{◌≡◌};
 ghost use Rattle.dump.specs.declared.fault.FeedFault.TheVariants.{Memory};
 

@@ -1,4 +1,4 @@
-//! Tables from ids to values.
+//! Tables from ids to values: numbers and texts have an ordered map each, so that no choice of ids makes look-ups slow. `specs/Steps/Ids`.
 ghost use Rattle.std.specs.Prelude.{◌≡◌, true, Some, None, IfOk, OnOk, OnErr, option_copied, if◌then◌else◌};
 ghost use Rattle.lsif.specs.Element.{IdValue, id_value, id_values, same_id};
 ghost use Rattle.dump.specs.Graph.{has_repeated};

@@ -1,4 +1,4 @@
-//! Tables from ids to indices in a list.
+//! Tables from ids to indices in a list: numbers below a bound have a slot each, all other ids stand in a map (`ids.rt`). `specs/Steps/Ids`.
 ghost use Rattle.std.specs.Prelude.{◌≡◌, ◌<◌, ◌^◌, ℕ, None, OnOk, OnErr, get_or, nat_eq, if◌then◌else◌};
 ghost use Rattle.lsif.specs.Element.{IdValue, id_value, same_id};
 ghost use Rattle.dump.specs.Steps.Ids.{entered, index_at};

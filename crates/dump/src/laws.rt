@@ -1,4 +1,4 @@
-//! What is true of the definitions alone.
+//! Laws of the definitions of dumps, which speak of no program: that there is one first fault, one listing, one pick and so on.
 ghost use Rattle.std.specs.Prelude.{◌≡◌, ◌≢◌, ◌++◌, ◌<◌, ◌≤◌, ◌+◌, ℕ, List, Contains, Option, Some, None, Ok, map, length, slice_get, ◌↔◌, IsTrue};
 ghost use Rattle.positions.specs.Position.{PositionValue};
 ghost use Rattle.lsif.specs.Element.{IdValue, VertexValue, document, hover_result, ElementValue, vertex, Reading};

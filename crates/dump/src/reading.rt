@@ -1,4 +1,4 @@
-//! The dump that a reader's bytes are.
+//! The dump that a reader's bytes are: each line is read and handed to the checker (`checker.rt`). An upload's lines come from the crate `machine`.
 ghost use Rattle.std.specs.Prelude.{◌≡◌, ◌-◌, ◌^◌, ◌<◌, IfOk, IfErr, option_map};
 ghost use Rattle.lsif.specs.Element.{reading_value};
 ghost use Rattle.lsif.specs.Buffered.{unread};

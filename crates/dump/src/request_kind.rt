@@ -1,4 +1,4 @@
-//! The requests that results of vertices answer.
+//! The kinds of requests that results of vertices answer, and the label of the edges that name their results. `label_of` in `specs/Requests`.
 ghost use Rattle.std.specs.Prelude.{◌≡◌};
 ghost use Rattle.dump.specs.Requests.{label_of};
 

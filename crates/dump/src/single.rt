@@ -1,4 +1,4 @@
-//! The labels whose edges leave a vertex once at most.
+//! The labels whose edges leave a vertex once at most, and which edges have them. `single_of` in `specs/Walks`.
 ghost use Rattle.std.specs.Prelude.{◌≡◌, option_map};
 ghost use Rattle.lsif.specs.Element.{id_value, element_value};
 ghost use Rattle.dump.specs.Steps.Links.{single_target};

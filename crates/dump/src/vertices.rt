@@ -1,4 +1,5 @@
-//! What the vertices of ids are.
+//! What the vertices of ids are, and of which kinds, as edges and events ask. `specs/Kinds` has the kinds and the edge table; the test of its rows
+//! is in `order.rt`.
 ghost use Rattle.std.specs.Prelude.{◌≡◌, option_map};
 ghost use Rattle.lsif.specs.Element.{id_value, id_values, vertex_value};
 ghost use Rattle.std.specs.List.{list_all};

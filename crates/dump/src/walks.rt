@@ -1,4 +1,4 @@
-//! What paths and chains of `next` edges lead to.
+//! Whether a path of `next` edges leads from one vertex to another, and the first result along a chain of them. `specs/Walks`.
 ghost use Rattle.std.specs.Prelude.{◌≡◌, List, None, option_map};
 ghost use Rattle.lsif.specs.Element.{IdValue, id_value};
 ghost use Rattle.dump.specs.Progress.{IsSound};

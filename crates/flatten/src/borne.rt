@@ -1,4 +1,4 @@
-//! The monikers that vertices bear, and their marks.
+//! The monikers that vertices bear themselves, over `attach` edges, and their marks. What a range's chain bears is gathered in `marks.rt`.
 ghost use Rattle.std.specs.Prelude.{◌≡◌, ◌↔◌, ◌++◌, ℕ, IfOk, OnOk, Contains, map, get_or, option_map, string_bytes};
 ghost use Rattle.std.specs.List.Sorted.{IsNonDecreasingBy};
 ghost use Rattle.lsif.specs.Element.{id_value, element_value, moniker_value, package_value};

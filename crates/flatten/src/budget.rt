@@ -1,4 +1,4 @@
-//! How many rows or pairs there may still be.
+//! How many rows or pairs there may still be: each takes one, and so does each 128 bytes of text. The limits stand in `flattening.rt`.
 ghost use Rattle.std.specs.Prelude.{◌≡◌, ◌+◌, OnOk};
 
 use crate::fault::FlattenFault;

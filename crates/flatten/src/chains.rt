@@ -1,4 +1,5 @@
-//! What vertices have along their chains of `next` edges.
+//! What vertices have along their chains of `next` edges, found in one walk for all of them: their first results, and what first bears marks.
+//! `AreResults` in `specs/Flat`.
 ghost use Rattle.std.specs.Prelude.{◌≡◌, IfOk, IfSome, OnOk, get_or, map, option_map};
 ghost use Rattle.std.specs.List.Sorted.{IsNonDecreasingBy};
 ghost use Rattle.lsif.specs.Element.{id_value};

@@ -1,4 +1,4 @@
-//! What pairs of numbers lead to.
+//! What pairs of numbers lead to, from a list of starts, in any number of steps: each number once. `IsReached` in `specs/Reached`.
 ghost use Rattle.std.specs.Prelude.{◌≡◌, ◌==◌, ◌≤◌, ◌↔◌, ℕ, nat_lt, nat_le, true, false, length, map, filter, Contains, IsPermutation, IfOk, OnOk, IfSome, IfNone};
 ghost use Rattle.std.specs.List.Sorted.{IsNonDecreasingBy, IsPartitionPoint};
 ghost use Rattle.std.specs.Ordering.{nat_cmp};

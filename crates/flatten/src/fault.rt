@@ -1,4 +1,4 @@
-//! Why nothing is made flat.
+//! Why no rows are made: too many of them, or want of memory.
 ghost use Rattle.std.specs.Prelude.{◌≡◌};
 ghost use Rattle.flatten.specs.declared.fault.FlattenFault.TheVariants.{Memory};
 

@@ -1,4 +1,4 @@
-//! A checked dump, made flat.
+//! A checked dump, made flat: the rows of all kinds, made one kind after the other, and the limit of their number. `IsFlat` in `specs/Flat`.
 ghost use Rattle.std.specs.Prelude.{◌≡◌, IfOk};
 ghost use Rattle.flatten.specs.Flat.{HasPositions, IsFlat};
 ghost use Rattle.flatten.specs.Rows.{rows_value};

@@ -1,4 +1,4 @@
-//! Numbers in the order in which they were found.
+//! Numbers in the order in which they were found, each once, as a walk needs them (`closure.rt`).
 ghost use Rattle.std.specs.Prelude.{◌≡◌, ◌∷◌, [], Contains, IfOk, OnOk};
 ghost use Rattle.std.specs.Ordering.{nat_cmp};
 ghost use Rattle.dump.specs.Places.{IsListing};

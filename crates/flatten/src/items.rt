@@ -1,4 +1,4 @@
-//! The places of results.
+//! The rows of items: the places of each result in each role, over all results that it leads to (`closure.rt`). `IsItemRow` in `specs/Flat`.
 ghost use Rattle.std.specs.Prelude.{◌≡◌, ◌++◌, Ok, IfOk, OnOk, Contains, map, option_map};
 ghost use Rattle.std.specs.List.{All, flat_map};
 ghost use Rattle.lsif.specs.Element.{id_value, id_values, element_value, vertex_value};

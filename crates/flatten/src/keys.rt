@@ -1,4 +1,4 @@
-//! The texts of keys.
+//! The texts of moniker keys, by which dumps are joined: equal keys have equal texts, and no others do. `specs/KeyTexts`.
 ghost use Rattle.std.specs.Prelude.{◌≡◌, ◌++◌, IfOk, OnOk, string_bytes, option_map};
 ghost use Rattle.lsif.specs.Element.{moniker_value, package_value};
 ghost use Rattle.dump.specs.Monikers.{MonikerKey};

@@ -1,4 +1,5 @@
-//! The rows of marks and of bearers.
+//! The rows of marks, which ranges have, and of bearers. Which vertex bears which mark is found in `borne.rt`. `IsMarkRow` and `IsBearerRow` in
+//! `specs/Flat`.
 ghost use Rattle.std.specs.Prelude.{◌≡◌, ◌++◌, ◌∷◌, [], IfOk, OnOk, Ok, Contains, map, option_map};
 ghost use Rattle.std.specs.List.{All};
 ghost use Rattle.lsif.specs.Element.{id_value, element_value};

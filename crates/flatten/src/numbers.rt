@@ -1,4 +1,4 @@
-//! Numbers of vertices.
+//! Numbers of vertices: their lines in the dump, counted from 1, by which rows refer to them. `specs/Flat`.
 ghost use Rattle.std.specs.Prelude.{◌≡◌, Some, None, get_or, option_map};
 ghost use Rattle.lsif.specs.Element.{IdValue, id_value};
 ghost use Rattle.flatten.specs.Flat.{number_of};

@@ -1,4 +1,4 @@
-//! The smallest range in which each range lies.
+//! The smallest range of its document in which each range lies. `IsParent` in `specs/Flat`.
 ghost use Rattle.std.specs.Prelude.{◌≡◌, ◌↔◌, ◌++◌, ◌<◌, ℕ, Ok, IfOk, OnOk, Contains, length, map, option_map};
 ghost use Rattle.std.specs.List.Sorted.{IsNonDecreasingBy};
 ghost use Rattle.std.specs.List.{All, flat_map};

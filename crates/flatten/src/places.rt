@@ -1,4 +1,4 @@
-//! The places of ranges.
+//! Places as rows are compared by them: by the document's URL, the start and the end. The rows that have them are in `items.rt` and `ranges.rt`.
 ghost use Rattle.std.specs.Prelude.{◌≡◌, option_map};
 ghost use Rattle.lsif.specs.Element.{id_value};
 ghost use Rattle.dump.specs.Graph.{vertex_at};

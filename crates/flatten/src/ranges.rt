@@ -1,4 +1,4 @@
-//! The rows of ranges.
+//! The rows of ranges: of each its place, its parent and its first results. The parents are found in `parents.rt`. `IsRangeRow` in `specs/Flat`.
 ghost use Rattle.std.specs.Prelude.{◌≡◌, ◌++◌, Some, Ok, IfOk, OnOk, Contains, map};
 ghost use Rattle.std.specs.List.{All, flat_map};
 ghost use Rattle.lsif.specs.Element.{id_value, element_value, range};

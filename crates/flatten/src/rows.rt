@@ -1,4 +1,4 @@
-//! The rows of a dump.
+//! The types of rows, and the rows of a whole dump. What they have to say is in `specs/Flat`, what they say in `specs/Rows`.
 use dump::Role;
 use lsif::{MonikerKind, Profile};
 use positions::Span;

@@ -1,4 +1,4 @@
-//! What is true of the definitions of a stream.
+//! Laws of the definitions of a stream: it's cut in one way, and what is served of it is a run of the machine.
 ghost use Rattle.std.specs.Prelude.{◌≡◌, ℕ, Bool, List};
 ghost use Rattle.machine.specs.State.{State};
 ghost use Rattle.machine.specs.Retries.{Event, Life, Moment, states_after_a_stop, with_run};

@@ -1,4 +1,5 @@
-//! Reads the messages of a stream.
+//! Reads the messages of a stream: a head, and then the body in pieces, which an upload takes as they come. `specs/Messages` says which messages a
+//! stream has.
 ghost use Rattle.std.specs.Prelude.{◌≡◌, ◌≢◌, ℕ, ◌+◌, ◌-◌, ◌^◌, ◌<◌, ◌≤◌, List, [], ◌++◌, drop, take, Option, Some, None, IfOk, IfSome, length};
 ghost use Rattle.httparse.specs.Spans.{span_bytes, IsWithin};
 ghost use Rattle.lsif.specs.Streams.{AtEnd, CountsFailure, Moves, Pulls};

@@ -1,4 +1,4 @@
-//! Why requests are refused before the desk.
+//! Why requests are refused before the desk: each refusal's status, body and whether the stream ends with it, in one table. `specs/Refusals`.
 ghost use Rattle.std.specs.Prelude.{◌≡◌};
 ghost use Rattle.http_edge.specs.Refusals.{row_of, allow_of, body_of};
 

@@ -1,4 +1,4 @@
-//! The text of replies.
+//! The text of replies: status line, fields and body (RFC 9112). What a body says is known to the machine. `specs/Replies`.
 ghost use Rattle.std.specs.Prelude.{◌≡◌, ◌+◌, ◌≤◌, ◌++◌, codes, length};
 ghost use Rattle.arrayvec.specs.ArrayString.{array_string_len};
 ghost use Rattle.lsif.specs.Sending.{Sends};

@@ -1,4 +1,4 @@
-//! The routes of paths.
+//! The routes: their paths, over `matchit`, and the method of each. What a route asks is in `request.rt`. `specs/Routes`.
 ghost use Rattle.std.specs.Prelude.{◌≡◌, ◌↔◌, ℕ, List, IfOk, Some, option_map};
 ghost use Rattle.http_edge.specs.Steps.Routes.{routes, named_route, template_of};
 ghost use Rattle.http_edge.specs.Routes.{method_of, route_of, IsPathOf};

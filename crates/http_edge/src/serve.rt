@@ -1,4 +1,5 @@
-//! Serves a stream.
+//! Serves a stream by any desk: one message after the other is read, answered and written. Reading is in `reading.rt`, the text of answers in
+//! `reply.rt`. `specs/Serving`.
 ghost use Rattle.std.specs.Prelude.{◌≡◌, ◌≢◌, ℕ, ◌-◌, ◌^◌, ◌<◌, ◌≤◌, List, [], Err, length};
 ghost use Rattle.machine.specs.State.{State};
 ghost use Rattle.lsif.specs.Sending.{CountsSending, Sends};

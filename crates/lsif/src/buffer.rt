@@ -1,4 +1,5 @@
-//! Buffered bytes.
+//! A buffer of a fixed length before a reader: what was read and isn't taken yet. It knows no lines (`lines.rt`). `specs/Buffered` says what it
+//! holds.
 ghost use Rattle.std.specs.Prelude.{◌≡◌, ℕ, ◌+◌, ◌-◌, ◌^◌, ◌<◌, ◌≤◌, List, [], ◌++◌, drop, take, Option, Some, IfOk, length, vec_len, slice_range};
 ghost use Rattle.lsif.specs.Streams.{CountsFailure, Pulls};
 ghost use Rattle.lsif.specs.Buffered.{Fills};

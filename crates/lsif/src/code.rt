@@ -1,4 +1,5 @@
-//! The codes of a dump's faults.
+//! The codes of a dump's faults, each with its name and its text, in one table. When each holds is said in `specs/Shape` and `specs/Reading`, and in
+//! the crate `dump`; the table is in `specs/Code`.
 ghost use Rattle.std.specs.Prelude.{◌≡◌};
 ghost use Rattle.lsif.specs.Code.{name_of, text_of};
 

@@ -1,4 +1,4 @@
-//! Lines that are cut from the pieces of a text.
+//! Lines that are cut from the pieces of a text, as an upload's body comes. A reader's lines are in `lines.rt`. `specs/Pieces`.
 ghost use Rattle.std.specs.Prelude.{◌≡◌, ◌≤◌, ◌+◌, ◌++◌, length, vec_capacity, MatchOption, MatchResult, [], option_map, IfSome};
 ghost use Rattle.lsif.specs.Lines.{IsLine};
 ghost use Rattle.lsif.specs.Pieces.{Takes, line_in, rest_in};

@@ -1,4 +1,5 @@
-//! Elements: vertices and edges.
+//! The types of elements: vertices, edges and what they hold. How a line spells them is in `vertices.rt` and `edges.rt`; `specs/Element` has the
+//! same without where it lies in memory.
 ghost use Rattle.std.specs.Prelude.{◌≡◌};
 ghost use Rattle.lsif.specs.Element.{id_value, id_values, edge_value, element_value, element_id, ends_of};
 

@@ -1,4 +1,4 @@
-//! Why a line gives no element.
+//! Why a line gives no element: a code, or want of memory. The codes are in `code.rt`.
 ghost use Rattle.std.specs.Prelude.{◌≡◌};
 ghost use Rattle.lsif.specs.declared.fault.ReadFault.TheVariants.{Memory};
 

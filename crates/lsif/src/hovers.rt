@@ -1,4 +1,5 @@
-//! What hovers show.
+//! The contents of hover results: what is kept of them, and their text as compact JSON. The label that leads here is read in `vertices.rt`;
+//! `specs/Hovers` says what is kept.
 ghost use Rattle.std.specs.Prelude.{◌≡◌, IfOk, codes, option_map, string_bytes};
 ghost use Rattle.lsif.specs.Hovers.{code_in, markup_in, marked_in, marked_strings_in, contents_in, hover_in};
 ghost use Rattle.serde_json.specs.View.{view, items_view};

@@ -1,4 +1,5 @@
-//! Ids.
+//! Ids of vertices and edges: numbers and texts, how a line spells them and when two are the same. What has an id is in `element.rt`; which ids are
+//! read is said in `specs/Ids`.
 ghost use Rattle.std.specs.Prelude.{◌≡◌, IsTrue, ◌↔◌, IfOk, option_map, codes};
 ghost use Rattle.lsif.specs.Element.{id_value, id_values, same_id};
 ghost use Rattle.lsif.specs.Ids.{id_in, id_at, ids_in};

@@ -1,4 +1,5 @@
-//! Lines of a reader.
+//! The lines of a reader, one after the other, of at most so many bytes each. A text that comes in pieces is cut by `cutter.rt`. `specs/Lines` says
+//! which lines a text has.
 ghost use Rattle.std.specs.Prelude.{◌≡◌, ◌≢◌, ℕ, ◌-◌, ◌^◌, ◌<◌, List, [], ◌++◌, None, MatchResult, false};
 ghost use Rattle.lsif.specs.Pieces.{begun};
 ghost use Rattle.lsif.specs.Steps.Cutting.{CountsRead, CutsLine, NextTaken};

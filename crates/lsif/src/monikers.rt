@@ -1,4 +1,5 @@
-//! Names of symbols across projects, and the packages that they're of.
+//! Monikers and packages: the names of symbols across projects, and what lines spell of them. What they join is asked in the crate `dump`.
+//! `specs/Monikers`.
 ghost use Rattle.std.specs.Prelude.{◌≡◌, IfOk, codes, option_map, string_bytes};
 ghost use Rattle.lsif.specs.Element.{moniker_value, package_value};
 ghost use Rattle.lsif.specs.Monikers.{holds_nul, name_in, name_at, kind_of, kind_in, version_in, moniker_in, package_in};

@@ -1,4 +1,5 @@
-//! The reading of a line.
+//! The reading of one line: the element that it spells in a profile, or the least code of its shape. The lines before it aren't known here.
+//! `specs/Reading`.
 ghost use Rattle.std.specs.Prelude.{◌≡◌, ℕ, List, IfErr};
 ghost use Rattle.lsif.specs.Element.{element_value};
 ghost use Rattle.lsif.specs.Reading.{base_labels, labels_of, element_in, json_of, reading_by, reading, IsAddedLabel, IsOtherLabel, HasNoAddedLabel};

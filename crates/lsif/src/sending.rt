@@ -1,4 +1,4 @@
-//! Bytes that are written one part after another.
+//! Bytes that are written one part after another, until a write fails or takes none. `specs/Sending` says what was written then.
 ghost use Rattle.lsif.specs.Sending.{Sends};
 ghost use Rattle.lsif.specs.Streams.{CanCount};
 

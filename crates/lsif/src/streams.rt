@@ -1,4 +1,5 @@
-//! Readers and writers that count their failures.
+//! The traits of readers and writers that count their failures, and the wrapper that makes such of any others. `specs/Streams` says what is known of
+//! them.
 ghost use Rattle.std.specs.Prelude.{◌≡◌, ℕ, ◌+◌, ◌-◌, ◌^◌, ◌<◌, ◌≤◌, List, Option, Some, IfOk, length};
 ghost use Rattle.lsif.specs.Streams.{CanCount, CountsFailure, Output, Pulls, Pushes, counted, unless_failed};
 

@@ -1,4 +1,5 @@
-//! The vertices that lines spell.
+//! The vertices that lines spell: their labels in each profile, and what they say. Hovers, monikers and events have files of their own.
+//! `specs/Vertices`.
 ghost use Rattle.std.specs.Prelude.{◌≡◌, IfOk, option_map, codes, string_bytes};
 ghost use Rattle.lsif.specs.Element.{vertex_value};
 ghost use Rattle.lsif.specs.Vertices.{coordinate_at, position_in, span_in, is_supported, uri_in, vertex_label, wider_vertex_label, vertex_of};

@@ -1,4 +1,4 @@
-//! The bodies of replies, as `serde_json` writes them.
+//! The bodies of replies, as `serde_json` writes them; lists are made item by item. What they say is in `specs/Reply`.
 ghost use Rattle.std.specs.Prelude.{◌≡◌, ◌++◌, ◌∷◌, [], IfOk, OnOk, false, map, option_map, string_bytes};
 ghost use Rattle.serde_json.specs.Data.{array};
 ghost use Rattle.serde_json.specs.View.{view, items_of};

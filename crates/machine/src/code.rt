@@ -1,4 +1,4 @@
-//! The faults of requests that are of no line.
+//! The codes of requests that are of no line, each with its status and its body, in one table. `specs/Reply`.
 ghost use Rattle.std.specs.Prelude.{◌≡◌};
 ghost use Rattle.machine.specs.Reply.{row_of, fault_text};
 

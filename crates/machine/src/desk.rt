@@ -1,4 +1,5 @@
-//! What serves requests.
+//! The trait of what serves requests, with what each call promises of the states of the machine. The desks themselves are in the crate `desk`.
+//! `specs/Runs` has the promises' words.
 use crate::reply::Reply;
 use crate::request::{Command, Query};
 use crate::upload::Upload;

@@ -1,4 +1,4 @@
-//! What queries find.
+//! What queries find, as replies are made of it: places, tags and projects. How they're found isn't known here. `specs/Found`.
 use positions::Span;
 use tags::Tag;
 

@@ -1,4 +1,5 @@
-//! What is true of the machine.
+//! Laws of the machine, which speak of its definitions alone: what a body is judged to be, that a query has one reply, and that commands may be sent
+//! again.
 ghost use Rattle.std.specs.Prelude.{◌≡◌, ◌↔◌, ◌⊎◌, ℕ, Bool, true, List, Contains, None, Some, Ok, Err, map};
 ghost use Rattle.dump.specs.declared.fault.LineFault as dumps;
 ghost use Rattle.dump.specs.Fault.{IsFault};

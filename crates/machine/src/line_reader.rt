@@ -1,4 +1,4 @@
-//! What takes the lines of a body.
+//! What takes the lines of a body: those of a dump or of a tags file, each to its checker. The pieces are cut in `upload.rt`.
 ghost use Rattle.std.specs.Prelude.{◌≡◌, ℕ, List, IfOk, true};
 ghost use Rattle.machine.specs.Steps.Changes.{said_value};
 ghost use Rattle.machine.specs.Steps.Uploads.{IsHanded, Judges, Rises, emptied, next, said, taken};

@@ -1,4 +1,4 @@
-//! The parts of requests that are of a form.
+//! The parts of requests that have a form: names of projects, keys, URLs of documents and numbers. `specs/Names`.
 ghost use Rattle.std.specs.Prelude.{◌≡◌, ◌<◌, None, IfOk, IfSome, option_and_then};
 ghost use Rattle.std.specs.List.{list_all};
 ghost use Rattle.url.specs.Parser.{parse_url};

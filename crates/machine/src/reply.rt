@@ -1,4 +1,5 @@
-//! Replies.
+//! The type of a reply: a status and a body, or a code that is of no line. What bodies say is in `bodies.rt`, how they're sent in the crate
+//! `http_edge`. `specs/Reply`.
 ghost use Rattle.std.specs.Prelude.{◌≡◌, map};
 
 use crate::code::Code;

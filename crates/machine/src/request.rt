@@ -1,4 +1,5 @@
-//! What is asked of a desk.
+//! The types of requests: commands, which change a project, and queries. How they're read from a stream is known in the crate `http_edge`.
+//! `specs/Requests`.
 ghost use Rattle.std.specs.Prelude.{◌≡◌};
 ghost use Rattle.machine.specs.Requests.{command_value};
 

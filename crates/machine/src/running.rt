@@ -1,4 +1,5 @@
-//! Requests that are served one after another.
+//! Runs: requests that are served one after another by any desk. Tests alone call it; the program serves streams (the crate `http_edge`).
+//! `specs/Runs`.
 ghost use Rattle.std.specs.Prelude.{◌≡◌, List, IfOk, OnErr};
 ghost use Rattle.machine.specs.State.{State};
 ghost use Rattle.machine.specs.Requests.{request_value, request_values};

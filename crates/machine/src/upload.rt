@@ -1,4 +1,5 @@
-//! Bodies that come in pieces.
+//! Uploads, whose bodies come in pieces: they are judged line by line and never held whole. What takes the lines is in `line_reader.rt`.
+//! `specs/Uploads`.
 ghost use Rattle.std.specs.Prelude.{◌≡◌, ◌≢◌, ◌<◌, ◌≤◌, ◌++◌, ℕ, List, [], IfOk, MatchResult, is_err, length, take, true, false};
 ghost use Rattle.machine.specs.Judging.{judged};
 ghost use Rattle.machine.specs.Steps.Changes.{said_value};

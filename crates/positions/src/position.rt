@@ -1,4 +1,4 @@
-//! Positions in text documents.
+//! Positions in text documents: a line and a character in UTF-16 code units, in the range that LSP and the tables can hold. `specs/Position`.
 ghost use Rattle.std.specs.Prelude.{◌≡◌, ℕ, ◌<◌, ◌↔◌, IsTrue, IsSome, IfSome, Some, pos};
 ghost use Rattle.std.specs.declared.cmp.Ordering.TheVariants.{Less, Equal};
 ghost use Rattle.positions.specs.Position.{PositionValue, number_limit, IsPosition, packed_of, IsBefore, is_before, later_of, earlier_of};

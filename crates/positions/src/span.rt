@@ -1,4 +1,4 @@
-//! Spans of text documents.
+//! Spans of text documents, and how two of them lie: what covers a position, nests or overlaps. `specs/Span`.
 ghost use Rattle.std.specs.Prelude.{◌≡◌, ◌↔◌, IsTrue, IsSome, IfSome};
 ghost use Rattle.positions.specs.Position.{PositionValue, IsPosition, IsAtOrBefore};
 ghost use Rattle.positions.specs.Span.{SpanValue, is_span, covers, nests, overlaps, Covers, Nests};

@@ -1,4 +1,4 @@
-//! The bearers of a key, as they are selected.
+//! The bearers of a moniker key in all projects, as they are selected, in order. `FindsBearers` in `specs/Selections`.
 ghost use Rattle.std.specs.Prelude.{◌≡◌, ◌∷◌, [], List, ℕ, ℤ, Contains, Some, map, string_bytes, pos, false, IsTrue, IfOk, OnOk, IfErr};
 ghost use Rattle.std.specs.declared.cmp.Ordering.TheVariants.{Equal};
 ghost use Rattle.std.specs.List.{AllByRecursion};

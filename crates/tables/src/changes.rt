@@ -1,4 +1,5 @@
-//! The changes of the index, each one transaction.
+//! The changes of the index, each one transaction with its kept reply: a dump or tags replaced, and both removed. `specs/Contents` says what they
+//! leave.
 ghost use Rattle.std.specs.Prelude.{◌≡◌, ◌||◌, nat_lt, ℕ, List, pos, Option, Some, None, is_some, false, IsTrue, IfOk, OnOk, OnErr, IfErr};
 ghost use Rattle.sqlite.specs.State.{HasCleanDisk, Survives, KeepsCommit};
 ghost use Rattle.sqlite.specs.Held.{state};

@@ -1,4 +1,4 @@
-//! The documents of dumps, as they are selected.
+//! The documents of dumps, as they are selected: whether a dump has one of this URL.
 ghost use Rattle.std.specs.Prelude.{◌≡◌, ◌↔◌, List, ℕ, Some, pos, false, IsTrue, IfOk, OnOk};
 ghost use Rattle.sqlite_rules.specs.Lists.{Has};
 ghost use Rattle.sqlite.specs.State.{HasCleanDisk};

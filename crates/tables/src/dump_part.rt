@@ -1,4 +1,4 @@
-//! The rows of a dump, put under a slot of its own.
+//! The rows of a dump, put under a slot of its own, table by table. The rows are made by the crate `flatten`.
 ghost use Rattle.std.specs.Prelude.{◌≡◌, ◌∷◌, [], ℕ, pos, map, Some, None, IsTrue, IfOk, OnOk, OnErr};
 ghost use Rattle.sqlite_value.specs.declared.value.Value.TheVariants.{Int};
 ghost use Rattle.sqlite.specs.State.{HasCleanDisk, Survives, KeepsCommit};

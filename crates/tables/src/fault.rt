@@ -1,4 +1,4 @@
-//! Why the tables refuse.
+//! Why the tables refuse, with the code of each reason and its text, and the private reason that a row isn't one of the tables'. `specs/Fault`.
 ghost use Rattle.std.specs.Prelude.{◌≡◌};
 ghost use Rattle.tables.specs.Fault.{IsStoreFault, name_of, text_of, fault_of};
 ghost use Rattle.tables.specs.Steps.Refusals.{told_fault};

@@ -1,4 +1,4 @@
-//! Which format the tables of a database have.
+//! Which format the tables of a database have, by its version, and whether its names are the index's own.
 ghost use Rattle.std.specs.Prelude.{◌≡◌, ◌≢◌, ◌∷◌, [], ◌⊎◌, pos, true, false, codes, IsTrue, IfOk, OnErr, Ok};
 ghost use Rattle.sqlite_value.specs.declared.value.Value.TheVariants.{Int};
 ghost use Rattle.sqlite_value.specs.Order.{Row as Columns, column};

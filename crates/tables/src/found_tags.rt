@@ -1,4 +1,4 @@
-//! Tags with their projects, made of the rows that are selected.
+//! Tags with their projects, made of the rows that are selected (`names.rt`); the fields are read from their JSON.
 ghost use Rattle.std.specs.Prelude.{◌≡◌, ◌↔◌, List, ℕ, Contains, Some, map, option_map, string_bytes, false, IsTrue, IfOk, OnOk};
 ghost use Rattle.sqlite.specs.State.{HasCleanDisk};
 ghost use Rattle.sqlite.specs.Held.{state};

@@ -1,4 +1,4 @@
-//! The items of results, as they are selected.
+//! The items of results, as they are selected: the places of a result in a role, in order. `FindsItems` in `specs/Selections`.
 ghost use Rattle.std.specs.Prelude.{◌≡◌, ◌∷◌, [], List, ℕ, Contains, map, pos, false, IsTrue, IfOk, IfErr};
 ghost use Rattle.std.specs.Rc.{rc_str_bytes};
 ghost use Rattle.sqlite_value.specs.declared.value.Value.TheVariants.{Text};

@@ -1,4 +1,4 @@
-//! Marks, as they are selected.
+//! Marks, as they are selected: those of a range, by kind and key. `FindsMarks` in `specs/Selections`.
 ghost use Rattle.std.specs.Prelude.{◌≡◌, ◌∷◌, [], List, ℕ, Contains, map, string_bytes, pos, false, IsTrue, IfOk, IfErr};
 ghost use Rattle.sqlite_value.specs.declared.value.Value.TheVariants.{Text};
 ghost use Rattle.sqlite_rules.specs.Lists.{Has};

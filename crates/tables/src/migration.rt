@@ -1,4 +1,4 @@
-//! The way from format 1 to format 2.
+//! The way from format 1 to format 2, in one transaction. An opening alone changes no format (`tables.rt`). `WasUpgraded` in `specs/Databases`.
 ghost use Rattle.std.specs.Prelude.{◌≡◌, ◌≢◌, ◌⊎◌, true, false, IsTrue, IfOk, IfErr, OnOk, OnErr};
 ghost use Rattle.tables.specs.Fault.{IsStoreFault};
 ghost use Rattle.tables.specs.Opening.{AfterMigration, StaysCommitted, IsRolledBack, Migrates};

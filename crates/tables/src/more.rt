@@ -1,4 +1,4 @@
-//! The declarations and implementations of ranges and bearers.
+//! The declarations and implementations of ranges and bearers, which format 2 keeps in a table of their own: put and selected.
 ghost use Rattle.std.specs.Prelude.{◌≡◌, ◌∷◌, [], ◌⊎◌, ◌≤◌, length, map, take, IsTrue, OnOk};
 ghost use Rattle.std.specs.List.{flat_map};
 ghost use Rattle.sqlite_value.specs.declared.value.Value.TheVariants.{Int};

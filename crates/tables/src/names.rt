@@ -1,4 +1,4 @@
-//! Tags by their names, as they are selected.
+//! Tags by their names, as they are selected: of one name, or of a prefix, from the first name on. `specs/Names`.
 ghost use Rattle.std.specs.Prelude.{◌≡◌, List, Contains, map, option_map, false, IsTrue, IfOk, OnOk, IfErr};
 ghost use Rattle.sqlite.specs.State.{HasCleanDisk, Survives};
 ghost use Rattle.sqlite.specs.Held.{state};

@@ -1,4 +1,4 @@
-//! The rows of a part, put into its tables.
+//! The trait of the rows of a part, and how a list of them is put into its table.
 ghost use Rattle.std.specs.Prelude.{◌≡◌, ◌∷◌, [], ℕ, map, IsTrue, OnOk};
 ghost use Rattle.sqlite_value.specs.declared.value.Value.TheVariants.{Int};
 ghost use Rattle.sqlite_value.specs.Order.{Row as Columns};

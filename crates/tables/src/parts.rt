@@ -1,4 +1,4 @@
-//! The parts of projects, as they are selected.
+//! The parts of projects, as they are selected: the slot of a part, and the profile of a dump.
 ghost use Rattle.std.specs.Prelude.{◌≡◌, List, ℕ, Some, option_map, pos, false, IsTrue, IfOk, OnOk, IfErr};
 ghost use Rattle.sqlite_rules.specs.Lists.{Has};
 ghost use Rattle.sqlite.specs.State.{HasCleanDisk, Survives};

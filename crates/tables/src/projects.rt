@@ -1,4 +1,4 @@
-//! The projects with a part, as they are selected.
+//! The projects with a part, as they are selected, by name. `FindsProjects` in `specs/Selections`.
 ghost use Rattle.std.specs.Prelude.{◌≡◌, Contains, is_some, map, string_bytes, false, IsTrue, IfOk, OnOk, IfErr};
 ghost use Rattle.sqlite.specs.State.{HasCleanDisk, Survives};
 ghost use Rattle.sqlite.specs.Held.{state};

@@ -1,4 +1,4 @@
-//! The kept replies, as they are selected.
+//! The kept replies, as they are selected: the text under a project and a key.
 ghost use Rattle.std.specs.Prelude.{◌≡◌, false, IsTrue, IfOk, option_map, string_bytes, IfErr};
 ghost use Rattle.sqlite.specs.State.{HasCleanDisk, Survives};
 ghost use Rattle.sqlite.specs.Held.{state};

@@ -1,4 +1,4 @@
-//! The contents of hover results, as they are selected.
+//! The contents of hover results, as they are selected. `FindsHover` in `specs/Selections`.
 ghost use Rattle.std.specs.Prelude.{◌≡◌, List, ℕ, Some, option_map, string_bytes, pos, false, IsTrue, IfOk, OnOk, IfErr};
 ghost use Rattle.sqlite_rules.specs.Lists.{Has};
 ghost use Rattle.sqlite.specs.State.{HasCleanDisk, Survives};

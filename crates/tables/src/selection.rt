@@ -1,4 +1,5 @@
-//! Selections of typed rows.
+//! Selections of typed rows: a statement is run, and each row read by its type's columns, or refused. The statements are in the files of what they
+//! select.
 ghost use Rattle.std.specs.Prelude.{◌≡◌, ⊤, List, false, IfOk, IfSome, OnOk};
 ghost use Rattle.std.specs.List.{AllByRecursion};
 ghost use Rattle.sqlite_value.specs.Order.{Row as Columns};

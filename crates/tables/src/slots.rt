@@ -1,4 +1,4 @@
-//! The slots of parts, and the kept replies.
+//! The slots, of which each part of a project has one, and the kept replies: put and removed. `specs/Parts` has the parts' numbers.
 ghost use Rattle.std.specs.Prelude.{◌≡◌, ◌∷◌, [], ◌↔◌, ℕ, None, IsTrue, IfOk, OnOk};
 ghost use Rattle.sqlite_value.specs.declared.value.Value.TheVariants.{Int, Text, Null};
 ghost use Rattle.sqlite.specs.State.{HasCleanDisk, Survives, KeepsCommit};

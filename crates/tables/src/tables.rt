@@ -1,4 +1,5 @@
-//! The tables of the index.
+//! The tables of the index: a database is opened, or its tables are made, or it's refused. Changes and selections are in files of their own.
+//! `specs/Stands` says which states they stand for.
 ghost use Rattle.std.specs.Prelude.{◌≡◌, ◌⊎◌, false, IsTrue, IfOk, IfErr, OnOk, OnErr};
 ghost use Rattle.sqlite.specs.State.{HasCleanDisk, Survives, KeepsCommit, IsUnchanged};
 ghost use Rattle.sqlite.specs.Held.{state};

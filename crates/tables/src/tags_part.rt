@@ -1,4 +1,4 @@
-//! The rows of tags, put under a slot of their own.
+//! The rows of tags, put under a slot of their own; the fields are written as JSON. A dump's rows are in `dump_part.rt`.
 ghost use Rattle.std.specs.Prelude.{◌≡◌, ◌∷◌, [], ◌++◌, ℕ, pos, map, option_map, string_bytes, Some, None, IsTrue, IfOk, OnOk};
 ghost use Rattle.sqlite_value.specs.declared.value.Value.TheVariants.{Int};
 ghost use Rattle.sqlite.specs.State.{HasCleanDisk, Survives, KeepsCommit};

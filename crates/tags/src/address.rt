@@ -1,4 +1,4 @@
-//! The address of a tag.
+//! The address of a tag: a number or a pattern, where it ends and what may follow it. `specs/Grammar`.
 ghost use Rattle.std.specs.Prelude.{◌≡◌, ◌≤◌, ◌<◌, IfSome, false, length, not, position};
 ghost use Rattle.std.specs.Char.{is_ascii_digit};
 ghost use Rattle.tags.specs.Steps.Cutting.{address_len, after_number_len, closing, digits_len, is_delimiter, is_in_range_number, is_number, pattern_len};

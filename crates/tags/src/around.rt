@@ -1,4 +1,4 @@
-//! What stands around the first byte of a value.
+//! What stands around the first byte of a value: texts that are split at it. `specs/Around`.
 ghost use Rattle.std.specs.Prelude.{◌≡◌, ◌==◌, ◌+◌, ◌<◌, IfSome, length, option_map, position, IsUtf8};
 ghost use Rattle.tags.specs.Around.{around};
 

@@ -1,4 +1,4 @@
-//! Lines that are judged, and whose tags are counted.
+//! The checker of a tags file, which judges lines and counts tags, for `check-tags`. One that keeps the tags is in `reader.rt`. `specs/States`.
 ghost use Rattle.std.specs.Prelude.{◌≡◌, ◌+◌, ◌<◌, ◌≤◌, IfNone, OnErr, OnOk};
 ghost use Rattle.tags.specs.Steps.Contents.{IsContent, Reads};
 ghost use Rattle.tags.specs.Faults.{result_map};

@@ -1,4 +1,5 @@
-//! The codes of faults, and what is refused.
+//! The codes of a tags file's faults, each with its name and its text, in one table, and the faults that name them. `specs/Codes`; when each holds,
+//! `specs/Conditions`.
 ghost use Rattle.std.specs.Prelude.{◌≡◌};
 ghost use Rattle.tags.specs.Codes.{name_of, text_of};
 ghost use Rattle.tags.specs.declared.code.TagsFault.TheVariants as tags_fault;

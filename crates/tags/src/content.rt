@@ -1,4 +1,4 @@
-//! What a line says, judged without memory.
+//! What a line says, judged without memory: its least code, or that it's a tag, a pseudo-tag or empty. `specs/Conditions`.
 ghost use Rattle.std.specs.Prelude.{◌≡◌, IsUtf8};
 ghost use Rattle.std.specs.List.{list_any};
 ghost use Rattle.tags.specs.Faults.{result_map};

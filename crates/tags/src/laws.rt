@@ -1,4 +1,4 @@
-//! What is true of the definitions alone.
+//! Laws of the definitions of a tags file: each line has one code or parts, and each file one fault or its tags.
 ghost use Rattle.std.specs.Prelude.{◌≡◌, ◌↔◌, ◌+◌, ◌++◌, ◌∷◌, [], Ok, Err, Some, ℕ, List, fold, length, true};
 ghost use Rattle.tags.specs.Bytes.{tab};
 ghost use Rattle.tags.specs.Escapes.{decoded};

@@ -1,4 +1,5 @@
-//! The order of lines.
+//! What the lines before a line forbid: a pseudo-tag after a tag, names that descend, too many lines. What a line says by itself is judged in
+//! `content.rt`. `specs/Fault`.
 ghost use Rattle.std.specs.Prelude.{◌≡◌, ◌<◌, IfNone, OnErr, OnOk, Some, None, false, length, option_map, vec_capacity};
 ghost use Rattle.tags.specs.Fault.{descends, order_by, written_in};
 ghost use Rattle.tags.specs.Values.{ContentValue};

@@ -1,4 +1,4 @@
-//! The parts of a line, with their spans.
+//! The parts of a line as they are written, with their spans: `split`. What they say of a tag is read in `tag.rt`. `specs/Parts`.
 ghost use Rattle.std.specs.Prelude.{◌≡◌, ◌+◌, ◌-◌, ◌^◌, ◌<◌, ◌≤◌, ◌++◌, IfOk, OnOk, length, option_map};
 ghost use Rattle.std.specs.List.{AllByRecursion};
 ghost use Rattle.std.specs.Option.{ForSome};

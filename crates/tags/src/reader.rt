@@ -1,4 +1,4 @@
-//! Lines whose tags are kept.
+//! The reader of a tags file whose tags are kept, for uploads. One that only counts them is in `checker.rt`. `specs/States`.
 ghost use Rattle.std.specs.Prelude.{◌≡◌, ◌++◌, ◌∷◌, ◌<◌, [], vec_capacity, vec_len};
 ghost use Rattle.tags.specs.Faults.{result_map};
 ghost use Rattle.tags.specs.Fault.{Reading};
