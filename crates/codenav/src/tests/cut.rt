@@ -123,28 +123,49 @@ fn expect_over<R: AllocGlobal + Abort>(
     Ok(())
 }
 
+/// A writer that fails behind so many bytes of the reply to a command, and what is asked after it.
+fn expect_effect<R: AllocGlobal + Abort>(
+    rt: &R,
+    before: &'static str,
+    row: &'static str,
+    after: &'static str,
+    taken: usize,
+) -> Result<(), Fail> {
+    let mut desk = PlainDesk::new(rt.alloc());
+    expect_over(rt, &mut desk, before, row)?;
+    let (command, wanted) = exchange(rt.alloc(), row, 1)?;
+    let fails_at = u32::try_from(taken)?.saturating_add(1);
+    let (answer, written) = serve_over(rt.alloc(), &mut desk, command.as_str(), 0, fails_at);
+    let front = wanted.as_bytes().get(..taken).ok_or("no such place")?;
+    assert_eq!(rt;
+        (answer, written.as_slice()),
+        (Err(ServeFault::Write), front),
+        "{taken}: {row}"
+    );
+    expect_over(rt, &mut desk, after, row)
+}
+
 /// A writer that fails at the first byte of the reply to a command, or at a later one: the command has its effect.
 fn with_effect<R: AllocGlobal + Abort>(rt: &R) -> Result<(), Fail> {
     for (before, row, after) in CUT {
-        let (command, wanted) = exchange(rt.alloc(), row, 1)?;
+        let (_, wanted) = exchange(rt.alloc(), row, 1)?;
         for taken in [0, 1, 9, 20, wanted.len().saturating_sub(1)] {
-            let mut desk = PlainDesk::new(rt.alloc());
-            expect_over(rt, &mut desk, before, row)?;
-            let fails_at = u32::try_from(taken)?.saturating_add(1);
-            let (answer, written) = serve_over(
-                rt.alloc(),
-                &mut desk,
-                command.as_str(),
-                0,
-                fails_at,
-            );
-            assert_eq!(rt; answer, Err(ServeFault::Write), "{taken}: {row}");
-            let front = wanted.get(..taken).ok_or("no such place")?;
-            assert_eq!(rt; written.as_slice(), front.as_bytes(), "{taken}: {row}");
-            expect_over(rt, &mut desk, after, row)?;
+            expect_effect(rt, before, row, after, taken)?;
         }
     }
     Ok(())
+}
+
+/// The replies to those of the uploads that come whole within so many bytes.
+fn replies_within(alloc: Global, bytes: usize) -> Result<String, Fail> {
+    let mut wanted = String::new(alloc);
+    for count in 1..8 {
+        let (requests, replies) = exchange(alloc, UPLOADS, count)?;
+        if requests.len() <= bytes {
+            wanted = replies;
+        }
+    }
+    Ok(wanted)
 }
 
 /// A reader that fails at each of its reads: the requests that came whole are answered.
@@ -155,30 +176,40 @@ fn readers_that_fail<R: AllocGlobal + Abort>(rt: &R) -> Result<(), Fail> {
         let mut reader = in_pieces(stream.as_bytes(), 100);
         reader.fails_at = fails_at;
         let (answer, written, left) = replay_over(rt.alloc(), reader, 1_000_000, 0);
-        assert_eq!(rt; answer, Err(ServeFault::Read), "{fails_at}");
-        let mut wanted = String::new(rt.alloc());
-        for count in 1..8 {
-            let (requests, replies) = exchange(rt.alloc(), UPLOADS, count)?;
-            if requests.len() <= stream.len().saturating_sub(left) {
-                wanted = replies;
-            }
-        }
-        assert_eq!(rt; written.as_slice(), wanted.as_bytes(), "{fails_at}");
+        let wanted = replies_within(rt.alloc(), stream.len().saturating_sub(left))?;
+        assert_eq!(rt;
+            (answer, written.as_slice()),
+            (Err(ServeFault::Read), wanted.as_bytes()),
+            "{fails_at}"
+        );
     }
     Ok(())
 }
 
-/// A writer that takes one byte at a time and fails at each of its writes: it took what comes before in the replies.
+/// A writer that takes one byte at a time and fails behind so many bytes of the replies: it took what comes before.
+fn expect_taken<R: AllocGlobal + Abort>(
+    rt: &R,
+    requests: &str,
+    wanted: &str,
+    before: usize,
+) -> Result<(), Fail> {
+    let mut desk = PlainDesk::new(rt.alloc());
+    let fails_at = u32::try_from(before)?.saturating_add(1);
+    let (answer, written) = serve_over(rt.alloc(), &mut desk, requests, 0, fails_at);
+    let taken = wanted.as_bytes().get(..before).ok_or("no such place")?;
+    assert_eq!(rt;
+        (answer, written.as_slice()),
+        (Err(ServeFault::Write), taken),
+        "{before}"
+    );
+    Ok(())
+}
+
 fn writers_that_fail<R: AllocGlobal + Abort>(rt: &R) -> Result<(), Fail> {
     let (stream, replies) = exchange(rt.alloc(), UPLOADS, 7)?;
     for (requests, wanted) in [(PROJECTS, NO_PROJECTS), (stream.as_str(), replies.as_str())] {
         for before in 0..wanted.len() {
-            let mut desk = PlainDesk::new(rt.alloc());
-            let fails_at = u32::try_from(before)?.saturating_add(1);
-            let (answer, written) = serve_over(rt.alloc(), &mut desk, requests, 0, fails_at);
-            assert_eq!(rt; answer, Err(ServeFault::Write), "{before}");
-            let taken = wanted.get(..before).ok_or("no such place")?;
-            assert_eq!(rt; written.as_slice(), taken.as_bytes(), "{before}");
+            expect_taken(rt, requests, wanted, before)?;
         }
     }
     Ok(())

@@ -17,6 +17,7 @@ use desk::{
 use lsif::Profile;
 use positions::Position;
 use samples::dump_text;
+use sqlite::Alter;
 use std::alloc::Global;
 use std::process::Abort;
 use std::test::Fail;
@@ -179,7 +180,16 @@ fn reply_to<D: Desk>(alloc: Global, desk: &mut D, row: &'static str) -> Result<S
 /// Asserts the replies of new desks, one that keeps dumps in memory and one over tables: below each row stand the status and the body of its reply.
 fn expect_replies<R: AllocGlobal + Abort>(rt: &R, scenario: &'static str) -> Result<(), Fail> {
     expect_of(rt, &mut PlainDesk::new(rt.alloc()), scenario)?;
-    expect_of(rt, &mut TableDesk::open_in_memory(rt.alloc())?, scenario)
+    expect_of_tables(rt, &mut TableDesk::open_in_memory(rt.alloc())?, scenario)
+}
+
+/// Asserts the replies of a new desk over tables.
+fn expect_of_tables<R: AllocGlobal + Abort, S: Alter>(
+    rt: &R,
+    desk: &mut TableDesk<S>,
+    scenario: &'static str,
+) -> Result<(), Fail> {
+    expect_of(rt, desk, scenario)
 }
 
 /// Asserts the replies of a new desk.

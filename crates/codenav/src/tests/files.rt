@@ -1,10 +1,10 @@
 //! Databases in files: what a second start answers, and what a migration keeps.
 use super::replay::exchange;
 use super::samples::{Slow, in_pieces, slow_writer};
-use crate::database::{close_connection, migrate_file};
+use crate::database::{close_connection, connect_file, migrate_file};
 use crate::replay::replay_file;
 use lsif::Counted;
-use sqlite::{Connection, Unknown};
+use sqlite::{Alter, Connection, Unknown};
 use std::fs;
 use std::test::Fail;
 use tables::TablesFault;
@@ -82,12 +82,22 @@ fn same_file_twice(rt: HostRuntime) -> Result<(), Fail> {
     Ok(())
 }
 
+/// Runs statements over a connection.
+fn run<S: Alter>(conn: &mut Connection<S>, statements: &str) -> Result<(), Fail> {
+    conn.execute_batch(statements)?;
+    Ok(())
+}
+
 /// Runs statements over the database in this file.
 fn change(rt: &HostRuntime, path: &str, statements: &str) -> Result<(), Fail> {
-    let mut conn = Connection::open(rt, path)?;
-    conn.execute_batch(statements)?;
-    conn.close()?;
-    Ok(())
+    match connect_file(rt, path, Unknown) {
+        Ok(mut conn) => {
+            let done = run(&mut conn, statements);
+            close_connection(conn);
+            done
+        }
+        Err(fault) => Err(fault.text())?,
+    }
 }
 
 /// How many projects a migration of the database in this file counts.

@@ -1,5 +1,5 @@
-//! Uploads that are deep, long or many: long lines and values in many arrays, many lines, long chains, a ring of results and a
-//! result of many edges.
+//! Uploads that are deep, long or many: long lines and values in many arrays, many lines, long chains, ranges that lie in each other, a ring of results
+//! and a result of many edges.
 use super::check::{Kind, expect_in, expect_text};
 use super::faults::{EACH_ORDER, EACH_SHAPE, META_DATA, OVERLAPPING};
 use super::replay::expect_places;
@@ -102,19 +102,73 @@ fn closed_chain<R: AllocGlobal + Abort>(rt: &R) -> Result<(), Fail> {
     expect_in(rt, text.as_str(), "99997 L14")
 }
 
-/// A `contains` edge of 10,000 ranges.
-fn long_list<R: AllocGlobal + Abort>(rt: &R) -> Result<(), Fail> {
-    let mut text = text_of(rt.alloc(), "metaData 0.6.0\ndocument file:///a.ts")?;
-    let mut edge = String::from_str(rt.alloc(), "contains 2>[")?;
-    for number in 3..10_003 {
-        let range = format!(in rt.alloc(); "range {number}:0 {number}:1")?;
-        push_line(&mut text, number, range.as_str(), "")?;
-        edge.push_str(format!(in rt.alloc(); "{number},")?.as_str())?;
+/// A `contains` edge of the ranges from the first number to before the last.
+fn contains(alloc: Global, first: usize, last: usize) -> Result<String, Fail> {
+    let mut edge = String::from_str(alloc, "contains 2>[")?;
+    for number in first..last {
+        edge.push_str(format!(in alloc; "{number},")?.as_str())?;
     }
     edge.pop();
     edge.push(']')?;
+    Ok(edge)
+}
+
+/// A `contains` edge of 10,000 ranges.
+fn long_list<R: AllocGlobal + Abort>(rt: &R) -> Result<(), Fail> {
+    let mut text = text_of(rt.alloc(), "metaData 0.6.0\ndocument file:///a.ts")?;
+    for number in 3..10_003usize {
+        let range = format!(in rt.alloc(); "range {number}:0 {number}:1")?;
+        push_line(&mut text, number, range.as_str(), "")?;
+    }
+    let edge = contains(rt.alloc(), 3, 10_003)?;
     push_line(&mut text, 10_003, edge.as_str(), "")?;
     expect_in(rt, text.as_str(), "ok 10003")
+}
+
+/// Adds a range that lies in those of lesser depth, and one beside all of these.
+fn push_nested(text: &mut String, number: usize, depth: usize) -> Result<(), Fail> {
+    let alloc = *text.allocator();
+    let end = 40_000usize.saturating_sub(depth);
+    let inner = format!(in alloc; "range {depth}:0 {end}:0")?;
+    push_line(text, number, inner.as_str(), "")?;
+    let line = depth.saturating_add(50_000);
+    let beside = format!(in alloc; "range {line}:0 {line}:1")?;
+    push_line(text, number.saturating_add(1), beside.as_str(), "")
+}
+
+/// 10,000 ranges that lie in each other, the outermost first or last, and as many beside them.
+fn nested(alloc: Global, is_falling: bool) -> Result<String, Fail> {
+    let mut text = text_of(alloc, "metaData 0.6.0\ndocument file:///a.ts")?;
+    for k in 0..10_000usize {
+        let depth = if is_falling {
+            9_999usize.saturating_sub(k)
+        } else {
+            k
+        };
+        push_nested(&mut text, 2 * k + 3, depth)?;
+    }
+    Ok(text)
+}
+
+/// Each of the nested ranges has a `contains` edge of its own; then comes one that overlaps some of them.
+fn an_edge_each<R: AllocGlobal + Abort>(rt: &R, is_falling: bool) -> Result<(), Fail> {
+    let mut text = nested(rt.alloc(), is_falling)?;
+    for number in 3..20_003usize {
+        let edge = format!(in rt.alloc(); "contains 2>[{number}]")?;
+        push_line(&mut text, number + 20_000, edge.as_str(), "")?;
+    }
+    expect_in(rt, text.as_str(), "ok 40002")?;
+    push_line(&mut text, 40_003, "range 10:1 45000:0", "")?;
+    push_line(&mut text, 40_004, "contains 2>[40003]", "")?;
+    expect_in(rt, text.as_str(), "40004 L12")
+}
+
+/// One `contains` edge has all of them.
+fn one_edge<R: AllocGlobal + Abort>(rt: &R, is_falling: bool) -> Result<(), Fail> {
+    let mut text = nested(rt.alloc(), is_falling)?;
+    let edge = contains(rt.alloc(), 3, 20_003)?;
+    push_line(&mut text, 20_003, edge.as_str(), "")?;
+    expect_in(rt, text.as_str(), "ok 20003")
 }
 
 /// One range, a chain of 49,996 result sets each made before the edge that leads to it, and a definition at the last.
@@ -186,6 +240,10 @@ fn malicious(rt: HostRuntime) -> Result<(), Fail> {
     long_lines(&rt)?;
     closed_chain(&rt)?;
     long_list(&rt)?;
+    for is_falling in [false, true] {
+        an_edge_each(&rt, is_falling)?;
+        one_edge(&rt, is_falling)?;
+    }
     long_chain(&rt)?;
     ring(&rt)?;
     many_edges(&rt)?;

@@ -3,7 +3,7 @@ use super::samples::{BASE, Pieces, Slow, changed, in_pieces, reply, slow_writer}
 use crate::replay::replay_in_memory;
 use http_edge::ServeFault;
 use lsif::Counted;
-use std::alloc::Global;
+use std::alloc::{AllocError, Global};
 use std::process::Abort;
 use std::test::Fail;
 
@@ -308,24 +308,8 @@ pub(super) fn expect<R: AllocGlobal + Abort>(
     assert_eq!(rt; answer.map(|served| served as usize), Ok(count), "{wanted}");
 }
 
-/// Asserts that a dump of so many elements is accepted, and the places of a request at the first position of `file:///a.ts`: the
-/// first character of so many lines.
-pub(super) fn expect_places<R: AllocGlobal + Abort>(
-    rt: &R,
-    dump: &str,
-    request: &str,
-    elements: u32,
-    lines: u32,
-) -> Result<(), Fail> {
-    let alloc = rt.alloc();
-    let length = dump.len();
-    let upload = format!(in alloc;
-        "PUT /projects/app/lsif?key=k1 HTTP/1.1\r\nContent-Length: {length}\r\n\r\n{dump}"
-    )?;
-    let query = format!(in alloc;
-        "GET /projects/app/{request}?uri=file:///a.ts&line=0&character=0 HTTP/1.1\r\n\r\n"
-    )?;
-    let stream = format!(in alloc; "{upload}{query}")?;
+/// The reply with the places of a request: the first character of so many lines of `file:///a.ts`.
+fn places_reply(alloc: Global, lines: u32) -> Result<String, Fail> {
     let mut places = String::from_str(alloc, "200 {\"places\":[")?;
     for line in 0..lines {
         let place = format!(in alloc;
@@ -335,9 +319,30 @@ pub(super) fn expect_places<R: AllocGlobal + Abort>(
     }
     places.pop();
     places.push_str("]}")?;
-    let accepted = format!(in alloc; "200 {{\"accepted\":\"lsif\",\"count\":{elements}}}")?;
-    let mut wanted = reply_of(alloc, accepted.as_str())?;
-    wanted.push_str(reply_of(alloc, places.as_str())?.as_str())?;
+    reply_of(alloc, places.as_str())
+}
+
+/// An upload of a dump, and a request at the first position of `file:///a.ts`.
+fn place_requests(alloc: Global, dump: &str, request: &str) -> Result<String, AllocError> {
+    let length = dump.len();
+    format!(in alloc;
+        "PUT /projects/app/lsif?key=k1 HTTP/1.1\r\nContent-Length: {length}\r\n\r\n{dump}GET /projects/app/{request}?uri=file:///a.ts&line=0&character=0 HTTP/1.1\r\n\r\n"
+    )
+}
+
+/// Asserts that a dump of so many elements is accepted, and the places of a request at the first position of `file:///a.ts`: the
+/// first character of so many lines.
+pub(super) fn expect_places<R: AllocGlobal + Abort>(
+    rt: &R,
+    dump: &str,
+    request: &str,
+    elements: u32,
+    lines: u32,
+) -> Result<(), Fail> {
+    let stream = place_requests(rt.alloc(), dump, request)?;
+    let accepted = format!(in rt.alloc(); "200 {{\"accepted\":\"lsif\",\"count\":{elements}}}")?;
+    let mut wanted = reply_of(rt.alloc(), accepted.as_str())?;
+    wanted.push_str(places_reply(rt.alloc(), lines)?.as_str())?;
     expect(rt, stream.as_bytes(), 1_000_000, 2, wanted.as_str());
     Ok(())
 }

@@ -1,6 +1,6 @@
 //! Ranges around ranges, and a row that isn't one of this product's.
-use super::{reply_to, text_of};
-use desk::{Command, Desk, DocUri, Key, ProjectName, Query, TableDesk};
+use super::{project, reply_to, text_of};
+use desk::{Command, Desk, DocUri, Key, Query, TableDesk};
 use lsif::Profile;
 use positions::Position;
 use sqlite::{Alter, Connection};
@@ -66,9 +66,13 @@ fn changed<S: Alter + Drop>(
     Ok(TableDesk::new(alloc, opened(conn)?))
 }
 
-/// The reply to the request of a row, over the tables in which this statement was run.
-fn found(alloc: Global, row: &'static str, sql: &str) -> Result<String, Fail> {
-    let mut desk = TableDesk::open_in_memory(alloc)?;
+/// The reply to the request of a row, over the tables of a new desk in which this statement was run once there is a dump.
+fn found<S: Alter + Drop>(
+    alloc: Global,
+    mut desk: TableDesk<S>,
+    row: &'static str,
+    sql: &str,
+) -> Result<String, Fail> {
     let accepted = reply_to(alloc, &mut desk, "put app k1 1 nested")?;
     if accepted.as_str() != r#"200 {"accepted":"lsif","count":8}"# {
         return Ok(accepted);
@@ -80,7 +84,8 @@ fn found(alloc: Global, row: &'static str, sql: &str) -> Result<String, Fail> {
 #[test]
 fn climb(rt: HostRuntime) -> Result<(), Fail> {
     for (row, sql, wanted) in ROWS {
-        let found = found(rt.alloc(), *row, *sql)?;
+        let desk = TableDesk::open_in_memory(rt.alloc())?;
+        let found = found(rt.alloc(), desk, *row, *sql)?;
         assert_eq!(rt; found.as_str(), *wanted, "{row} {sql}");
     }
     Ok(())
@@ -115,24 +120,35 @@ fn levels(alloc: Global) -> Result<String, Fail> {
     Ok(text)
 }
 
-/// The reply to the definition at the innermost range of the dump, which a desk is given first.
-fn deepest<D: Desk>(alloc: Global, desk: &mut D, dump: &str) -> Result<String, Fail> {
-    let project = ProjectName::read(alloc, "app")?.ok_or("no project's name")?;
-    let key = Key::read(alloc, "k1")?.ok_or("no key")?;
-    let reply = desk.apply(&Command::PutDump {
-        project,
-        key,
+/// The upload of a dump.
+fn put(alloc: Global, dump: &str) -> Result<Command<'_>, Fail> {
+    Ok(Command::PutDump {
+        project: project(alloc, "app")?,
+        key: Key::read(alloc, "k1")?.ok_or("no key")?,
         profile: Profile::One,
         body: dump.as_bytes(),
-    });
-    if reply.status() != 200 {
-        return text_of(alloc, &reply);
-    }
-    let project = ProjectName::read(alloc, "app")?.ok_or("no project's name")?;
-    let uri = DocUri::read(alloc, "file:///d.ts")?.ok_or("no URL")?;
+    })
+}
+
+/// The query for the definition at the innermost range of the dump.
+fn innermost(alloc: Global) -> Result<Query, Fail> {
     let at = Position::new(0, LEVELS.saturating_sub(1)).ok_or("no position")?;
-    let reply = desk.ask(&Query::Definition { project, uri, at });
-    text_of(alloc, &reply)
+    Ok(Query::Definition {
+        project: project(alloc, "app")?,
+        uri: DocUri::read(alloc, "file:///d.ts")?.ok_or("no URL")?,
+        at,
+    })
+}
+
+/// The reply to that query, where the desk is given the dump first.
+fn deepest<S: Alter>(alloc: Global, desk: &mut TableDesk<S>, dump: &str) -> Result<String, Fail> {
+    let upload = put(alloc, dump)?;
+    let query = innermost(alloc)?;
+    let accepted = desk.apply(&upload);
+    if accepted.status() != 200 {
+        return text_of(alloc, &accepted);
+    }
+    text_of(alloc, &desk.ask(&query))
 }
 
 #[test]

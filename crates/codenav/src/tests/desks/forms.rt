@@ -10,26 +10,36 @@ fn code_text(alloc: Global, code: Code) -> Result<String, Fail> {
     Ok(format!(in alloc; "{}, {reply}\n", code.status())?)
 }
 
-/// The replies of the codes, and what a command is of.
+/// The project and the key of a command.
+fn command_text(alloc: Global) -> Result<String, Fail> {
+    let command = Command::Remove {
+        project: project(alloc, "app")?,
+        key: Key::read(alloc, "K-1")?.ok_or("no key")?,
+    };
+    let (project, key) = (command.project().as_str(), command.key().as_str());
+    Ok(format!(in alloc; "{project} {key}\n")?)
+}
+
+/// What a command is of, and the replies of the codes.
+fn found_texts(alloc: Global) -> Result<String, Fail> {
+    let mut found = command_text(alloc)?;
+    for code in [Code::D01, Code::D02, Code::D03, Code::S01, Code::S02] {
+        found.push_str(code_text(alloc, code)?.as_str())?;
+    }
+    found.push_str(text_of(alloc, &Reply::out_of_memory())?.as_str())?;
+    Ok(found)
+}
+
 #[test]
 fn replies_of_codes(rt: HostRuntime) -> Result<(), Fail> {
-    let command = Command::Remove {
-        project: project(rt.alloc(), "app")?,
-        key: Key::read(rt.alloc(), "K-1")?.ok_or("no key")?,
-    };
-    assert_eq!(rt; command.project().as_str(), "app");
-    assert_eq!(rt; command.key().as_str(), "K-1");
-    let mut found = String::new(rt.alloc());
-    for code in [Code::D01, Code::D02, Code::D03, Code::S01, Code::S02] {
-        found.push_str(code_text(rt.alloc(), code)?.as_str())?;
-    }
-    found.push_str(text_of(rt.alloc(), &Reply::out_of_memory())?.as_str())?;
-    let wanted = r#"404, 404 {"fault":"D01","text":"project has no dump"}
+    let wanted = r#"app K-1
+404, 404 {"fault":"D01","text":"project has no dump"}
 404, 404 {"fault":"D02","text":"no such document"}
 400, 400 {"fault":"D03","text":"bad parameter"}
 503, 503 {"fault":"S01","text":"store refused"}
 503, 503 {"fault":"S02","text":"out of memory"}
 503 {"fault":"S02","text":"out of memory"}"#;
+    let found = found_texts(rt.alloc())?;
     assert_eq!(rt; found.as_str(), wanted);
     Ok(())
 }

@@ -1,6 +1,7 @@
 //! Each list of four requests, and so each shorter one: it's the beginning of others. Both desks give the same replies.
 use super::{requests, served, uploads};
 use desk::{Desk, PlainDesk, Request, TableDesk};
+use sqlite::Alter;
 use std::process::Abort;
 use std::test::Fail;
 
@@ -138,6 +139,16 @@ fn expect_list<R: AllocGlobal + Abort, D: Desk>(
     Ok(())
 }
 
+/// The same of a new desk over tables.
+fn expect_list_of_tables<R: AllocGlobal + Abort, S: Alter>(
+    rt: &R,
+    desk: &mut TableDesk<S>,
+    requests: &[Request<'_>],
+    rows: [usize; 5],
+) -> Result<(), Fail> {
+    expect_list(rt, desk, requests, rows)
+}
+
 /// Asserts the replies of both desks to the lists of four of the first nine rows that begin with this one, each with the list of the projects behind it.
 fn expect_lists<R: AllocGlobal + Abort>(rt: &R, first: usize) -> Result<(), Fail> {
     let uploads = uploads(rt.alloc(), ROWS)?;
@@ -146,7 +157,7 @@ fn expect_lists<R: AllocGlobal + Abort>(rt: &R, first: usize) -> Result<(), Fail
         let rows = [first, n / 81, n / 9 % 9, n % 9, 9];
         expect_list(rt, &mut PlainDesk::new(rt.alloc()), &requests, rows)?;
         let mut desk = TableDesk::open_in_memory(rt.alloc())?;
-        expect_list(rt, &mut desk, &requests, rows)?;
+        expect_list_of_tables(rt, &mut desk, &requests, rows)?;
     }
     Ok(())
 }

@@ -146,19 +146,26 @@ const HELD: [(&str, &str, [(&str, usize); 4]); 3] = [
     ),
 ];
 
-/// A body under a kept key has the kept reply, whatever it is; the fault of a line waits for the end.
-#[test]
-fn held_bytes_and_kept_keys(rt: HostRuntime) -> Result<(), Fail> {
-    for (row, wanted, pieces) in HELD {
-        let mut desk = PlainDesk::new(rt.alloc());
-        let mut upload = begin(rt.alloc(), row)?;
-        for (piece, held) in pieces {
-            let taken = upload.piece(piece.as_bytes());
-            assert_eq!(rt; (row, taken, upload.held()), (row, Ok(()), held));
-        }
-        let found = text_of(rt.alloc(), &desk.finish_upload(upload))?;
-        assert_eq!(rt; (row, found.as_str()), (row, wanted));
+/// Asserts how many bytes are held after each piece of an upload, and its reply: the fault of a line waits for the end.
+fn expect_held<R: AllocGlobal + Abort>(
+    rt: &R,
+    row: &'static str,
+    wanted: &str,
+    pieces: [(&str, usize); 4],
+) -> Result<(), Fail> {
+    let mut upload = begin(rt.alloc(), row)?;
+    for (piece, held) in pieces {
+        let taken = upload.piece(piece.as_bytes());
+        assert_eq!(rt; (row, taken, upload.held()), (row, Ok(()), held));
     }
+    let mut desk = PlainDesk::new(rt.alloc());
+    let found = text_of(rt.alloc(), &desk.finish_upload(upload))?;
+    assert_eq!(rt; (row, found.as_str()), (row, wanted));
+    Ok(())
+}
+
+/// A body under a kept key has the kept reply, whatever it is.
+fn expect_kept<R: AllocGlobal + Abort>(rt: &R) -> Result<(), Fail> {
     let mut desk = PlainDesk::new(rt.alloc());
     let kept = reply_to(rt.alloc(), &mut desk, "put app k1 1 base")?;
     for (row, body) in [
@@ -170,6 +177,14 @@ fn held_bytes_and_kept_keys(rt: HostRuntime) -> Result<(), Fail> {
         assert_eq!(rt; (row, body, found.as_str()), (row, body, kept.as_str()));
     }
     Ok(())
+}
+
+#[test]
+fn held_bytes_and_kept_keys(rt: HostRuntime) -> Result<(), Fail> {
+    for (row, wanted, pieces) in HELD {
+        expect_held(&rt, row, wanted, pieces)?;
+    }
+    expect_kept(&rt)
 }
 
 /// A dump of so many elements.
@@ -193,81 +208,56 @@ fn filled(alloc: Global, text: &str, len: usize) -> Result<String, Fail> {
     Ok(filled)
 }
 
-/// Large bodies that come in pieces of 8,192 bytes.
-#[test]
-fn large_bodies(rt: HostRuntime) -> Result<(), Fail> {
-    let alloc = rt.alloc();
-    let dump = large_dump(alloc, 40000)?;
-    let line = dump_text(alloc, "nothing | 1 metaData")?;
-    let tag = "x\tf.c\t/";
-    let (longest, longer) = (
-        filled(alloc, line.as_str(), 1048576)?,
-        filled(alloc, line.as_str(), 1048577)?,
+/// Asserts the reply of a new desk to a large body that comes in pieces of 8,192 bytes: a text, and what is behind it.
+fn expect_large<R: AllocGlobal + Abort>(
+    rt: &R,
+    row: &'static str,
+    text: &str,
+    last: &str,
+    wanted: &str,
+) -> Result<(), Fail> {
+    let mut desk = PlainDesk::new(rt.alloc());
+    let whole = format!(in rt.alloc(); "{text}{last}")?;
+    let found = reply_in_pieces(rt.alloc(), &mut desk, row, whole.as_bytes(), 0, 8192)?;
+    assert_eq!(rt;
+        (row, whole.len(), found.as_str()),
+        (row, whole.len(), wanted)
     );
-    let (long_tag, longer_tag) = (filled(alloc, tag, 65535)?, filled(alloc, tag, 65536)?);
-    for (row, body, last, wanted) in [
-        (
-            "put app k1 1",
-            &dump,
-            "",
-            r#"200 {"accepted":"lsif","count":40000}"#,
-        ),
-        (
-            "put app k1 1",
-            &longest,
-            "",
-            r#"200 {"accepted":"lsif","count":1}"#,
-        ),
-        (
-            "put app k1 1",
-            &longest,
-            "\n",
-            r#"200 {"accepted":"lsif","count":1}"#,
-        ),
-        (
-            "put app k1 1",
-            &longer,
-            "",
-            r#"422 {"fault":"L01","line":1,"text":"line too long"}"#,
-        ),
-        (
-            "put app k1 1",
-            &longest,
-            "\r\n",
-            r#"422 {"fault":"L01","line":1,"text":"line too long"}"#,
-        ),
-        (
-            "tags app k1",
-            &long_tag,
-            "/",
-            r#"200 {"accepted":"tags","count":1}"#,
-        ),
-        (
-            "tags app k1",
-            &long_tag,
-            "/\n",
-            r#"200 {"accepted":"tags","count":1}"#,
-        ),
-        (
-            "tags app k1",
-            &longer_tag,
-            "/",
-            r#"422 {"fault":"T01","line":1,"text":"line too long"}"#,
-        ),
-        (
-            "tags app k1",
-            &long_tag,
-            "/\r\n",
-            r#"422 {"fault":"T01","line":1,"text":"line too long"}"#,
-        ),
+    Ok(())
+}
+
+#[test]
+fn large_dumps(rt: HostRuntime) -> Result<(), Fail> {
+    let dump = large_dump(rt.alloc(), 40000)?;
+    let wanted = r#"200 {"accepted":"lsif","count":40000}"#;
+    expect_large(&rt, "put app k1 1", dump.as_str(), "", wanted)?;
+    let line = dump_text(rt.alloc(), "nothing | 1 metaData")?;
+    let accepted = r#"200 {"accepted":"lsif","count":1}"#;
+    let refused = r#"422 {"fault":"L01","line":1,"text":"line too long"}"#;
+    for (len, last, wanted) in [
+        (1048576, "", accepted),
+        (1048576, "\n", accepted),
+        (1048577, "", refused),
+        (1048576, "\r\n", refused),
     ] {
-        let mut desk = PlainDesk::new(alloc);
-        let whole = format!(in alloc; "{body}{last}")?;
-        let found = reply_in_pieces(alloc, &mut desk, row, whole.as_bytes(), 0, 8192)?;
-        assert_eq!(rt;
-            (row, whole.len(), found.as_str()),
-            (row, whole.len(), wanted)
-        );
+        let text = filled(rt.alloc(), line.as_str(), len)?;
+        expect_large(&rt, "put app k1 1", text.as_str(), last, wanted)?;
+    }
+    Ok(())
+}
+
+#[test]
+fn large_tags(rt: HostRuntime) -> Result<(), Fail> {
+    let accepted = r#"200 {"accepted":"tags","count":1}"#;
+    let refused = r#"422 {"fault":"T01","line":1,"text":"line too long"}"#;
+    for (len, last, wanted) in [
+        (65535, "/", accepted),
+        (65535, "/\n", accepted),
+        (65536, "/", refused),
+        (65535, "/\r\n", refused),
+    ] {
+        let text = filled(rt.alloc(), "x\tf.c\t/", len)?;
+        expect_large(&rt, "tags app k1", text.as_str(), last, wanted)?;
     }
     Ok(())
 }
