@@ -2,7 +2,8 @@
 # Measures what requests cost a desk over the tables of a database. Over a file: the median time of definition, references and hover over two dumps of
 # some 80,000 elements each, of which one imports what the other exports, against C SQLite by Python's `sqlite3`, which asks the same database the same
 # statements and makes the same replies, in one run; and the median time of a query for the projects. In memory: a put of the greater dump into an empty
-# database, against its check and the replacement of its rows. Then the time where one result has 40,000 `item` edges to one range.
+# database, against its check and the replacement of its rows. Then a definition at the innermost of 10, and of 10,000, ranges that lie in one another, of which
+# the outermost alone has one; and the time where one result has 40,000 `item` edges to one range.
 # usage: bench/queries.sh [QUERIES]      (default 200 of each kind)
 # It builds and proves a small program over the crates of this repository, in a copy beside /tmp, which takes some minutes.
 set -eu
@@ -275,6 +276,22 @@ make_wide() {
     }'
 }
 
+# A dump of so many ranges that lie in one another, of which the outermost alone has a definition.
+make_nested() {
+    awk -v count="$1" 'BEGIN {
+        print "{\"id\":1,\"type\":\"vertex\",\"label\":\"metaData\",\"version\":\"0.6.0\",\"positionEncoding\":\"utf-16\"}"
+        print "{\"id\":2,\"type\":\"vertex\",\"label\":\"document\",\"uri\":\"file:///n.ts\"}"
+        for (k = 0; k < count; k++) {
+            print "{\"id\":" k + 3 ",\"type\":\"vertex\",\"label\":\"range\",\"start\":{\"line\":0,\"character\":" k "},\"end\":{\"line\":0,\"character\":" 3 * count - k "}}"
+            ids = ids (k ? "," : "") k + 3
+        }
+        print "{\"id\":\"d\",\"type\":\"vertex\",\"label\":\"definitionResult\"}"
+        print "{\"id\":\"e\",\"type\":\"edge\",\"label\":\"textDocument/definition\",\"outV\":3,\"inV\":\"d\"}"
+        print "{\"id\":\"i\",\"type\":\"edge\",\"label\":\"item\",\"outV\":\"d\",\"inVs\":[3],\"document\":2}"
+        print "{\"id\":\"c\",\"type\":\"edge\",\"label\":\"contains\",\"outV\":2,\"inVs\":[" ids "]}"
+    }'
+}
+
 # So many queries of each kind at positions of a project with so many result sets, and as many for the projects.
 make_queries() {
     awk -v name="$1" -v sets="$2" -v count="$3" 'BEGIN {
@@ -294,19 +311,20 @@ median() {
     awk -v kind="$1" '$1 == kind { print $2 }' "$2" | sort -n | awk '{ all[NR] = $1 } END { print all[int((NR + 1) / 2)] }'
 }
 
-# The medians of the queries of the file `commands`, beside the peer's.
+# The medians of the queries of the file `commands` of these kinds, beside the peer's.
 measure() {
+    local name=$1
+    shift
     (cd "$folder" && "$built" >own && python3 peer.py index.db >peer)
     if ! cmp -s <(grep -v '^put \|^projects ' "$folder/own" | cut -d' ' -f1,4-) <(cut -d' ' -f1,3- "$folder/peer"); then
-        echo "queries: the replies of $1 differ" >&2
+        echo "queries: the replies of $name differ" >&2
         exit 1
     fi
-    for kind in definition references hover; do
-        awk -v name="$1" -v kind="$kind" -v own="$(median $kind "$folder/own")" -v peer="$(median $kind "$folder/peer")" 'BEGIN {
+    for kind; do
+        awk -v name="$name" -v kind="$kind" -v own="$(median $kind "$folder/own")" -v peer="$(median $kind "$folder/peer")" 'BEGIN {
             printf "%-14s %-12s %9.1f us %9.1f us %7.2f\n", name, kind, own, peer, own / peer
         }'
     done
-    printf '%-14s %-12s %9.1f us\n' "$1" projects "$(median projects "$folder/own")"
 }
 
 make_dump lib 4190 export >"$folder/lib.lsif"
@@ -319,7 +337,14 @@ for project in lib app; do
     [ "$project" = lib ] || sets=6110
     rm -f "$folder"/index.db*
     { echo "put lib lib.lsif"; echo "put app app.lsif"; make_queries "$project" "$sets" "$queries"; } >"$folder/commands"
-    measure "$project"
+    measure "$project" definition references hover
+    printf '%-14s %-12s %9.1f us\n' "$project" projects "$(median projects "$folder/own")"
+done
+for count in 10 10000; do
+    rm -f "$folder"/index.db*
+    make_nested "$count" >"$folder/nested.lsif"
+    { echo "put n nested.lsif"; for _ in $(seq 20); do echo "definition n file:///n.ts 0 $((count - 1))"; done; } >"$folder/commands"
+    measure "$count nested" definition
 done
 rm -f "$folder"/index.db*
 { echo "put w wide.lsif"; for _ in $(seq 20); do echo "references w file:///w.ts 0 1"; done; echo "memory lib.lsif"; } >"$folder/commands"
