@@ -139,7 +139,7 @@ pub enum Edge {
 }
 
 impl Edge {
-    /// The source, and the target or the targets.
+    /// The source, and the target or the targets (LSIF 0.6.0, "Edges"). The shard of an `item` edge is none of them.
     pub fn ends(&self) -> (&Id, &[Id])
         ensures source { id_value result.0.now ≡ (ends_of (edge_value self.now)).0 }
         ensures targets { id_values result.1.now ≡ (ends_of (edge_value self.now)).1 }
