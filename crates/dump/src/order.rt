@@ -32,25 +32,22 @@ fn is_misplaced(graph: &Graph, element: &Element) -> bool
     }
 }
 
-/// An end isn't the id of an earlier vertex.
-fn joins_no_vertex(graph: &Graph, element: &Element) -> bool
-    ensures { result ≡ joins_no_vertex graph.now (element_value element.now) }
-{
-    match element {
-        Element::Vertex(_, _) => false,
-        Element::Edge(_, edge) => {
-            let (source, targets) = edge.ends();
-            !is_of_kind(graph, Kind::Any, source) || !are_of_kind(graph, Kind::Any, targets)
-        }
-    }
-}
-
 /// Whether the ends of an edge have the kinds of a row of the edge table.
 fn fits_row(graph: &Graph, edge: &Edge, source_kind: Kind, target_kind: Kind) -> bool
     ensures { result ≡ fits_row graph.now (edge_value edge.now) (source_kind, target_kind) }
 {
     let (source, targets) = edge.ends();
     is_of_kind(graph, source_kind, source) && are_of_kind(graph, target_kind, targets)
+}
+
+/// An end isn't the id of an earlier vertex.
+fn joins_no_vertex(graph: &Graph, element: &Element) -> bool
+    ensures { result ≡ joins_no_vertex graph.now (element_value element.now) }
+{
+    match element {
+        Element::Vertex(_, _) => false,
+        Element::Edge(_, edge) => !fits_row(graph, edge, Kind::Any, Kind::Any),
+    }
 }
 
 /// Whether an `item` edge with this property has the kinds of a row.
