@@ -15,7 +15,7 @@ build_program queries "positions lsif dump flatten tables desk sqlite" "$program
 //! and the body of each. Of `memory FILE` it prints how long a put into an empty database in memory takes, the check of the dump, and the replacement.
 #![tactic(auto)]
 use desk::{Command, Desk, DocUri, Key, ProjectName, Query, Reply, TableDesk};
-use dump::{CheckedDump, Checker};
+use dump::{CheckedDump, Checker, RequestKind};
 use flatten::flatten;
 use lsif::{Profile, ReadFault, read_element};
 use positions::Position;
@@ -38,9 +38,9 @@ fn query(alloc: Global, words: &[&str]) -> io::Result<Query> {
     let uri = DocUri::read(alloc, uri)?.ok_or(bad())?;
     let at = Position::new(number(line)?, number(character)?).ok_or(bad())?;
     match *kind {
-        "definition" => Ok(Query::Definition { project, uri, at }),
+        "definition" => Ok(Query::At { kind: RequestKind::Definition, project, uri, at }),
         "references" => Ok(Query::References { project, uri, at, declaration: true }),
-        _ => Ok(Query::Hover { project, uri, at }),
+        _ => Ok(Query::At { kind: RequestKind::Hover, project, uri, at }),
     }
 }
 
@@ -138,11 +138,11 @@ def covering(slot, uri, at):
         if at < row[2]:
             found.append(row)
         row = None if row[3] is None else one(PARENT, slot, row[3], uri)
-    return [(row, one("SELECT decl, imp FROM more WHERE slot = ?1 AND line = ?2", slot, row[0])) for row in found]
+    return found
 
 
 def picked(slot, uri, at, column, kinds):
-    for row, _ in covering(slot, uri, at):
+    for row in covering(slot, uri, at):
         marks = every("SELECT kind, keytext FROM mark WHERE slot = ?1 AND line = ?2", slot, row[0])
         keys = [key for kind, key in marks if kind in kinds]
         if row[column] is not None or keys:

@@ -13,10 +13,11 @@ connections=${2:-10000}
 "$top/codenav" --help >/dev/null
 program=$top/crates/codenav/out/codenav
 
-build_program asks "positions lsif desk" <<'EOP'
+build_program asks "positions lsif dump desk" <<'EOP'
 //! Asks a desk that has the dump of the file `dump` for the projects and for a definition, as often as the file `count` says, and
 //! prints the nanoseconds of one query of each kind.
 #![tactic(auto)]
+use dump::RequestKind;
 use desk::{Command, Desk, DocUri, Key, ProjectName, Query, TableDesk};
 use lsif::Profile;
 use positions::Position;
@@ -33,7 +34,7 @@ fn project(alloc: Global) -> io::Result<ProjectName> {
 fn definition(alloc: Global) -> io::Result<Query> {
     let uri = DocUri::read(alloc, "file:///a.ts")?.ok_or(bad())?;
     let at = Position::new(2, 1).ok_or(bad())?;
-    Ok(Query::Definition { project: project(alloc)?, uri, at })
+    Ok(Query::At { kind: RequestKind::Definition, project: project(alloc)?, uri, at })
 }
 
 fn ask<R: Print + Clock, D: Desk>(rt: &R, desk: &mut D, query: &Query, name: &str, count: u32) -> io::Result<()> {

@@ -13,7 +13,7 @@ build_program rows "positions lsif dump flatten tags tables sqlite" "$program_ch
 //! Puts the dump in the file `made` into the database `index.db` so many times, and one in memory, and prints the microseconds of each; then asks
 //! the database what the file `asked` says, a line each, and prints the kind and the nanoseconds.
 #![tactic(auto)]
-use dump::{CheckedDump, Checker, Role};
+use dump::{CheckedDump, Checker, RequestKind, Role};
 use flatten::{Rows, flatten};
 use lsif::{Profile, ReadFault, read_element};
 use positions::Position;
@@ -48,7 +48,7 @@ fn cover<S: Alter>(alloc: Global, tables: &mut Tables<S>, what: &str) -> io::Res
     let Some(at) = Position::new(number(line)?, number(character)?) else {
         return Err(bad());
     };
-    match tables.covering(alloc, "app", uri, at).map_err(|_| bad())? {
+    match tables.covering(alloc, RequestKind::Definition, "app", uri, at).map_err(|_| bad())? {
         Covering::Ranges(found) => Ok(found.len()),
         Covering::NoDump | Covering::NoDocument => Err(bad()),
     }
@@ -182,7 +182,7 @@ def cover(of, what):
     found, next_row = [], base.execute(start_text, (of, uri, at)).fetchone()
     while next_row is not None:
         if at < next_row[2]:
-            found.append((next_row, base.execute(more_text, (of, next_row[0])).fetchall()))
+            found.append(next_row)
         next_row = None if next_row[3] is None else base.execute(parent_text, (of, next_row[3], uri)).fetchone()
     return found
 

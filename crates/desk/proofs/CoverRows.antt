@@ -12,6 +12,7 @@ use Rattle.std.proofs.lemmas.List.Kept.{IsStrictlySortedBy-dedup, Any-dedup, Con
 use Rattle.std.proofs.lemmas.List.Sorted.{Contains-permutation, IsPermutation-sym}
 use Rattle.positions.specs.Position.{PositionValue}
 use Rattle.lsif.specs.Element.{IdValue, document}
+use Rattle.dump.specs.declared.request_kind.RequestKind.{RequestKind}
 use Rattle.dump.specs.Fault.{IsFaultless}
 use Rattle.dump.specs.Graph.{vertex_at}
 use Rattle.dump.specs.Contained.{is_in, IsNested}
@@ -89,9 +90,9 @@ one_member cmp (z ∷ xs) x y up f g e b = elim (contains_cases z xs x f) [
 
 -- ---- the rows that cover
 
-pub rows_told : (rows : List RangeRow) → map range_found_of rows ≡ map row_found (map range_value rows)
-rows_told [] = refl
-rows_told (r ∷ rows) = ap (λ l. range_found_of r ∷ l) (rows_told rows)
+pub rows_told : (request : RequestKind) (rows : List RangeRow) → map (range_found_of request) rows ≡ map (row_found request) (map range_value rows)
+rows_told request [] = refl
+rows_told request (r ∷ rows) = ap (λ l. range_found_of request r ∷ l) (rows_told request rows)
 
 module _ (dump : DumpValue) (uri : List ℕ) (at : PositionValue) (nested : IsNested dump.elements) (documents : (d e : IdValue) (u : List ℕ) → vertex_at dump.elements d ≡ Some (document u) → vertex_at dump.elements e ≡ Some (document u) → d ≡ e) where
   module _ (doc : IdValue) (there : vertex_at dump.elements doc ≡ Some (document uri)) where
@@ -145,7 +146,7 @@ module _ (dump : DumpValue) (uri : List ℕ) (at : PositionValue) (nested : IsNe
         (ap (λ n. nat_cmp n x.0.line) line ∙ itself) (ap (nat_cmp x.0.line) line ∙ itself) in
         subst (Contains (map range_value zs)) (same ∙ x.2) (contains_map range_value zs z.0 z.1)
 
-    pub rows_cover : IsFaultless (map Ok dump.elements) → (flat : RowsValue) → IsFlat dump.elements flat → FindsCover dump.elements uri at (map row_found (map range_value zs))
-    rows_cover free flat is_flat =
-        covers_rows dump uri at free flat is_flat (map range_value zs) (are_within zs (λ z h. covers_row z (from z h)) up)
+    pub rows_cover : (request : RequestKind) → IsFaultless (map Ok dump.elements) → (flat : RowsValue) → IsFlat dump.elements flat → FindsCover request dump.elements uri at (map (row_found request) (map range_value zs))
+    rows_cover request free flat is_flat =
+        covers_rows dump uri at free flat is_flat request (map range_value zs) (are_within zs (λ z h. covers_row z (from z h)) up)
         (λ r. ((λ h. let z = map_source range_value zs r h in subst (IsCoverRow dump uri at) z.2 (covers_row z.0 (from z.0 z.1))), is_there r))

@@ -76,7 +76,7 @@ below_of x y e = subst (λ o. MatchOrdering o (x < y) (x ≡ y) (y < x)) e (rank
 
 -- ---- what is joined
 
-module _ (m : State) (free : AreFaultless m) (own_name : List ℕ) (dump : DumpValue) (there : m.dump own_name ≡ Some dump) (r : RangeValue) (row : RangeFound) (has : HasRow dump.elements r row) where
+module _ (m : State) (free : AreFaultless m) (own_name : List ℕ) (dump : DumpValue) (there : m.dump own_name ≡ Some dump) (r : RangeValue) (row : RangeFound) (has : HasRow Hover dump.elements r row) where
   -- a vertex that bears a mark is one
   bearer_vertex : (elements : List ElementValue) → IsFaultless (map Ok elements) → (y : IdValue) (mark : MarkValue) → Bears elements y mark → (v : VertexValue) × (vertex_at elements y ≡ Some v)
   bearer_vertex elements sure y mark (bound, near, at, path, is) =
@@ -133,7 +133,7 @@ module _ (m : State) (free : AreFaultless m) (own_name : List ℕ) (dump : DumpV
 
   pub hovers_row : (o : Option (List ℕ)) → RowHovers m own_name row o → HoversAt m own_name dump r.id o
   hovers_row o (inl (n, is, found)) =
-      let c = hover_found m free own_name dump there r.id n (subst (IsResult dump.elements Hover r.id) is (has.1.results Hover)) o found in
+      let c = hover_found m free own_name dump there r.id n (subst (IsResult dump.elements Hover r.id) is (has.1.result)) o found in
       subst (HoversAt m own_name dump r.id) (sym c.1) (own c.2)
   hovers_row o (inr (none, (least, is, found))) =
-      joined_hovers least o (bare_result dump.elements (free own_name dump there) r.id (subst (IsResult dump.elements Hover r.id) none (has.1.results Hover))) is found
+      joined_hovers least o (bare_result dump.elements (free own_name dump there) r.id (subst (IsResult dump.elements Hover r.id) none (has.1.result))) is found

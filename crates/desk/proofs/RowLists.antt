@@ -105,7 +105,7 @@ role_items m t p q is same role items listing place = (to, back)
 
 -- the range's own result and those of joined vertices are the results that answer
 pub results_are : (m : State) (request : RequestKind) (own : List ℕ) (row : RangeFound) (texts : List (List ℕ)) (joined : List JoinedValue) (t : ProjectResultValue) {A B C : Type 0} → AreKeys m request own row.line texts
-    → ((j : JoinedValue) → Contains joined j ↔ AreJoined m request own texts j) → (C ↔ A) → (A ↔ (B ⊎ ((j : JoinedValue) × Contains joined j × (result_of_joined j ≡ t)))) → (B ↔ IsOwnResult request own row t)
+    → ((j : JoinedValue) → Contains joined j ↔ AreJoined m request own texts j) → (C ↔ A) → (A ↔ (B ⊎ ((j : JoinedValue) × Contains joined j × (result_of_joined j ≡ t)))) → (B ↔ IsOwnResult own row t)
     → C ↔ IsAnsweringResult m request own row t
 results_are m request own row texts joined t {A} {B} {C} keyed are listed added mine = iff_trans listed (iff_trans added (to, back))
   where

@@ -146,7 +146,7 @@ module _ (m : State) (free : AreFaultless m) where
 
   -- ---- the range and what is joined to it
 
-  module _ (request : RequestKind) (own : List ℕ) (dump : DumpValue) (there : m.dump own ≡ Some dump) (r : RangeValue) (row : RangeFound) (has : HasRow dump.elements r row) where
+  module _ (request : RequestKind) (own : List ℕ) (dump : DumpValue) (there : m.dump own ≡ Some dump) (r : RangeValue) (row : RangeFound) (has : HasRow request dump.elements r row) where
     -- a mark of the row is one of the range
     mark_to : (mark : MarkText) → HasMark m own row.line mark → (known : MarkValue) × Marks dump.elements r.id known × (known.kind ≡ mark.kind) × (key_text known.key ≡ mark.key)
     mark_to mark (second, is, told) =
@@ -159,15 +159,15 @@ module _ (m : State) (free : AreFaultless m) where
     mark_from known marks = (dump, there, record { range = r.id; span = r.span; mark = known; at_line = has.1.at_line; is_range = has.0; marks = marks; is_kind = refl; is_key = refl })
 
     pub speaks_to : RowSpeaks m request own row → Speaks request dump.elements r.id
-    speaks_to (inl some) = inl (by (result_for request row.results) refl some)
+    speaks_to (inl some) = inl (by (row.result) refl some)
       where
-        by : (o : Option ℕ) → result_for request row.results ≡ o → is_some o ≡ true → (result : IdValue) × First request dump.elements r.id (Some result)
+        by : (o : Option ℕ) → row.result ≡ o → is_some o ≡ true → (result : IdValue) × First request dump.elements r.id (Some result)
         by None e s = cc
-        by (Some n) e s = let f = number_first dump.elements (free own dump there) request r.id n (subst (IsResult dump.elements request r.id) e (has.1.results request)) in (f.0, f.1)
+        by (Some n) e s = let f = number_first dump.elements (free own dump there) request r.id n (subst (IsResult dump.elements request r.id) e (has.1.result)) in (f.0, f.1)
     speaks_to (inr (text, (mark, marked, follow, key))) = let k = mark_to mark marked in inr (k.0, k.1, ap (follows request) k.2 ∙ follow)
 
     pub speaks_from : Speaks request dump.elements r.id → RowSpeaks m request own row
-    speaks_from (inl (result, first)) = let f = first_number dump.elements (free own dump there) request r.id result (result_for request row.results) (has.1.results request) first in inl (ap is_some f.1)
+    speaks_from (inl (result, first)) = let f = first_number dump.elements (free own dump there) request r.id result (row.result) (has.1.result) first in inl (ap is_some f.1)
     speaks_from (inr (known, marks, follow)) = inr (key_text known.key, (record { kind = known.kind; key = key_text known.key }, mark_from known marks, follow, refl))
 
     -- a bearer of one of the keys is joined, and has its results
@@ -226,7 +226,7 @@ module _ (m : State) (free : AreFaultless m) where
       pub results_to : IsPlaceOfOne m in_roles (IsAnsweringResult m request own row) found → IsFound m request in_roles own dump r.id found
       results_to (t, inl (mine, number), (same, place)) =
           let at : m.dump t.project ≡ Some dump = ap m.dump mine ∙ there in
-          let is : IsResult dump.elements request r.id (Some t.number) = subst (IsResult dump.elements request r.id) number (has.1.results request) in
+          let is : IsResult dump.elements request r.id (Some t.number) = subst (IsResult dump.elements request r.id) number (has.1.result) in
           inl (sym same ∙ mine, place_to request other in_roles t.project dump at r.id t.number is found.place place)
       results_to (t, inr (j, known, is), (same, place)) =
           let h = joined_to j known in
@@ -237,8 +237,8 @@ module _ (m : State) (free : AreFaultless m) where
 
       pub results_from : IsFound m request in_roles own dump r.id found → IsPlaceOfOne m in_roles (IsAnsweringResult m request own row) found
       results_from (inl (mine, h)) =
-          let f = first_number dump.elements (free own dump there) request r.id h.0 (result_for request row.results) (has.1.results request) h.1 in
-          let is : IsResult dump.elements request r.id (Some f.0) = subst (IsResult dump.elements request r.id) f.1 (has.1.results request) in
+          let f = first_number dump.elements (free own dump there) request r.id h.0 (row.result) (has.1.result) h.1 in
+          let is : IsResult dump.elements request r.id (Some f.0) = subst (IsResult dump.elements request r.id) f.1 (has.1.result) in
           (record { project = own; number = f.0 }, inl (refl, f.1), (sym mine, place_from request other in_roles own dump there r.id f.0 is found.place h))
       results_from (inr (second, y, j, h)) =
           let sure = free found.project second j.is_there in
@@ -256,21 +256,21 @@ module _ (m : State) (free : AreFaultless m) where
   module _ (request : RequestKind) (own : List ℕ) (dump : DumpValue) (there : m.dump own ≡ Some dump) where
     -- the first row that speaks is that of the first range that does
     abbrev IsSame : Option RangeValue → Option RangeFound → Type 0
-    IsSame (Some r) (Some row) = HasRow dump.elements r row
+    IsSame (Some r) (Some row) = HasRow request dump.elements r row
     IsSame None None = Unit {0}
     IsSame (Some r) None = ⊥
     IsSame None (Some row) = ⊥
 
-    first_rows : (ranges : List RangeValue) (rows : List RangeFound) (o : Option RangeFound) → AllZip (IsRangeFound dump.elements) ranges rows → ((r : RangeValue) → Contains ranges r → vertex_at dump.elements r.id ≡ Some (range r.span))
+    first_rows : (ranges : List RangeValue) (rows : List RangeFound) (o : Option RangeFound) → AllZip (IsRangeFound request dump.elements) ranges rows → ((r : RangeValue) → Contains ranges r → vertex_at dump.elements r.id ≡ Some (range r.span))
         → IsFirst (RowSpeaks m request own) rows o → (p : Option RangeValue) × IsFirst (λ (r : RangeValue). Speaks request dump.elements r.id) ranges p × IsSame p o
     first_rows [] [] o all are nobody = (None, nobody, tt)
     first_rows [] (row ∷ rows) o all are first = absurd all
     first_rows (r ∷ ranges) [] o all are first = absurd all
     first_rows (r ∷ ranges) (row ∷ rows) o all are (here speaks) =
-        let has : HasRow dump.elements r row = (are r (contains_head r ranges), all.0) in
+        let has : HasRow request dump.elements r row = (are r (contains_head r ranges), all.0) in
         (Some r, here (speaks_to request own dump there r row has speaks), has)
     first_rows (r ∷ ranges) (row ∷ rows) o all are (later silent first) =
-        let has : HasRow dump.elements r row = (are r (contains_head r ranges), all.0) in
+        let has : HasRow request dump.elements r row = (are r (contains_head r ranges), all.0) in
         let rest = first_rows ranges rows o all.1 (λ s at. are s (contains_tail r ranges s at)) first in
         (rest.0, later (λ s. silent (speaks_from request own dump there r row has s)) rest.1, rest.2)
 
@@ -280,7 +280,7 @@ module _ (m : State) (free : AreFaultless m) where
     picked_by uri at None (Some r) pick same = absurd same
     picked_by uri at (Some row) None pick same = absurd same
 
-    pub picked_row : (uri : List ℕ) (at : PositionValue) (rows : List RangeFound) (o : Option RangeFound) → FindsCover dump.elements uri at rows → IsFirst (RowSpeaks m request own) rows o → PicksRow dump request uri at o
+    pub picked_row : (uri : List ℕ) (at : PositionValue) (rows : List RangeFound) (o : Option RangeFound) → FindsCover request dump.elements uri at rows → IsFirst (RowSpeaks m request own) rows o → PicksRow dump request uri at o
     picked_row uri at rows o (ranges, cover, all) first =
         let f = first_rows ranges rows o all (λ r at. ((cover.each r).0 at).0.span) first in
         picked_by uri at o f.0 (ranges, cover, f.1) f.2

@@ -20,12 +20,12 @@ use Rattle.tags.specs.Judging.{lines_rise}
 use Rattle.tags.specs.Values.{TagValue}
 use Rattle.dump.specs.Places.{IsListing}
 use Rattle.machine.specs.FoundTags.{IsAsked, IsTag, line_cmp, name_cmp, FoundTag}
-use Rattle.tables.specs.Names.{tag_found}
+use Rattle.machine.specs.Found.{tag_found}
 use Rattle.machine.specs.Projects.{text_cmp}
 use Rattle.machine.specs.State.{State}
 use Rattle.desk.specs.Steps.Listed.{is_asked, tags_so, project_tags, tags_of, by_value, TagsRise, AllRise}
 use Rattle.desk.specs.Steps.Plain.{Stands}
-use Rattle.tables.specs.declared.found_tags.FoundTag as program
+use Rattle.machine.specs.declared.found.FoundTag as program
 use Rattle.desk.specs.declared.project.Project.{Project}
 use Rattle.machine.proofs.EntryLists.{entry_found, found_entry, rises_cons, rises_nil, rises_head, rises_tail, rises_append}
 use Rattle.machine.proofs.Listing.{rises_map}

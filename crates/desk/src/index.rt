@@ -4,13 +4,13 @@ ghost use Rattle.std.specs.Prelude.{◌≡◌};
 ghost use Rattle.desk.specs.Steps.Indexes.{fault_of};
 ghost use Rattle.desk.specs.declared.index.IndexFault.TheVariants.{Memory};
 
-use dump::{CheckedDump, Role};
+use dump::{CheckedDump, RequestKind, Role};
 use flatten::FlattenFault;
 use lsif::Profile;
-use machine::TagsPart;
+use machine::{FoundProject, FoundTag, TagsPart};
 use positions::Position;
 use std::alloc::{AllocError, Global};
-use tables::{Covering, FoundBearer, FoundItem, FoundMark, FoundTag, ProjectRow, TablesFault};
+use tables::{Covering, FoundBearer, FoundItem, FoundMark, TablesFault};
 
 /// Why an index refuses: S01 and S02 of a reply.
 #[derive(Clone, Copy, Debug, PartialEq, Eq)]
@@ -54,10 +54,12 @@ impl From<TablesFault> for IndexFault {
 /// the abstract machine; what is said of a call holds where the index is reliable after it. A call that refuses changes nothing.
 pub trait Index {
     ghost use Rattle.std.specs.Prelude.{◌≡◌, Bool, true, ◌||◌, ◌∷◌, [], ◌++◌, List, None, IfOk, IfErr, OnOk, is_some, map, option_map, string_bytes};
-    ghost use Rattle.tables.specs.Names.{FindsNamed, FindsPrefixed, tag_found};
+    ghost use Rattle.machine.specs.Found.{tag_found};
+    ghost use Rattle.tables.specs.Names.{FindsNamed, FindsPrefixed};
     ghost use Rattle.tables.specs.Stands.{IsNew};
     ghost use Rattle.machine.specs.State.{State, changed, clear, set_dump, set_tags};
-    ghost use Rattle.tables.specs.Selections.{FindsBearers, FindsCovering, FindsHover, FindsItems, FindsMarks, FindsProjects, bearer_found, item_found, mark_found, project_found};
+    ghost use Rattle.machine.specs.Found.{project_found};
+    ghost use Rattle.tables.specs.Selections.{FindsBearers, FindsCovering, FindsHover, FindsItems, FindsMarks, FindsProjects, bearer_found, item_found, mark_found};
     ghost use Rattle.desk.specs.Indexes.{AreFaultless, Changes, ReadsOnly, kept_text};
     ghost use Rattle.desk.specs.declared.index.IndexFault.TheVariants.{Refused};
 
@@ -81,16 +83,17 @@ pub trait Index {
         ensures reads_only { is_reliable self.new → ReadsOnly stands may_leave self.old self.new }
         ensures refused { IfErr result (λ fault. fault ≡ Refused → may_refuse ≡ true) };
 
-    /// The ranges of the document of this URL that cover the position, the smallest first. A dump that answers has no fault.
+    /// The ranges of the document of this URL that cover the position, the smallest first, with their results for the request. A dump that answers has no fault.
     fn covering(
         &mut self,
         alloc: Global,
+        request: RequestKind,
         project: &str,
         uri: &str,
         at: Position,
     ) -> Result<Covering, IndexFault>
         ensures reliable { is_reliable self.new → is_reliable self.old }
-        ensures found { is_reliable self.new → (m : State) → stands self.old m → IfOk result (FindsCovering m project.now uri.now at) }
+        ensures found { is_reliable self.new → (m : State) → stands self.old m → IfOk result (FindsCovering m request project.now uri.now at) }
         ensures faultless { is_reliable self.new → (m : State) → stands self.old m → OnOk result (AreFaultless m) }
         ensures reads_only { is_reliable self.new → ReadsOnly stands may_leave self.old self.new }
         ensures refused { IfErr result (λ fault. fault ≡ Refused → may_refuse ≡ true) };
@@ -164,7 +167,7 @@ pub trait Index {
         ensures refused { IfErr result (λ fault. fault ≡ Refused → may_refuse ≡ true) };
 
     /// The projects that have a dump or tags.
-    fn projects(&mut self, alloc: Global) -> Result<Vec<ProjectRow>, IndexFault>
+    fn projects(&mut self, alloc: Global) -> Result<Vec<FoundProject>, IndexFault>
         ensures reliable { is_reliable self.new → is_reliable self.old }
         ensures found { is_reliable self.new → (m : State) → stands self.old m → IfOk result (λ found. FindsProjects m (map project_found found.items)) }
         ensures reads_only { is_reliable self.new → ReadsOnly stands may_leave self.old self.new }

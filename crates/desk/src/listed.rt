@@ -5,16 +5,15 @@ ghost use Rattle.std.specs.String.{string_cmp};
 ghost use Rattle.std.specs.List.Sorted.{IsPermutation, IsSorted};
 ghost use Rattle.tags.specs.Views.{field_value, tag_value};
 ghost use Rattle.machine.specs.FoundTags.{name_cmp};
-ghost use Rattle.tables.specs.Names.{tag_found};
-ghost use Rattle.tables.specs.Selections.{project_found};
+ghost use Rattle.machine.specs.Found.{project_found, tag_found};
 ghost use Rattle.desk.specs.Steps.Listed.{is_asked, is_wanted, by_value, project_tags, projects_of, tags_of, tags_so, AllRise, TagsRise};
 
 use crate::project::Project;
+use machine::{FoundProject, FoundTag};
 use std::alloc::{AllocError, Global};
 use std::cmp::Ordering;
 use std::collections::BTreeMap;
-use tables::{FoundTag, ProjectRow};
-use tags::{Field, Tag};
+use tags::Tag;
 
 /// Which names of tags are asked for: those that are equal to a text, or that begin with it.
 #[derive(Clone, Copy)]
@@ -42,48 +41,6 @@ fn is_asked(asked: Option<&str>, project: &str) -> bool
     }
 }
 
-/// A copy of fields.
-fn copy_fields(alloc: Global, fields: &[Field]) -> Result<Vec<Field>, AllocError>
-    ensures { IfOk result (λ copies. map field_value copies.items ≡ map field_value fields.now) }
-{
-    let mut copies = Vec::new(alloc);
-    for field in fields {
-        let name = String::from_str(alloc, field.name.as_str())?;
-        let value = String::from_str(alloc, field.value.as_str())?;
-        copies.push(Field { name, value })?;
-    }
-    Ok(copies)
-}
-
-/// A copy of a text, where there is one.
-fn copy_text(alloc: Global, text: &Option<String>) -> Result<Option<String>, AllocError>
-    ensures { IfOk result (λ copy. option_map string_bytes copy ≡ option_map string_bytes text.now) }
-{
-    match text {
-        Some(text) => Ok(Some(String::from_str(alloc, text.as_str())?)),
-        None => Ok(None),
-    }
-}
-
-/// A copy of a tag.
-fn copy_tag(alloc: Global, tag: &Tag) -> Result<Tag, AllocError>
-    ensures { IfOk result (λ copy. tag_value copy ≡ tag_value tag.now) }
-{
-    let name = String::from_str(alloc, tag.name.as_str())?;
-    let file = String::from_str(alloc, tag.file.as_str())?;
-    let address = String::from_str(alloc, tag.address.as_str())?;
-    let kind = copy_text(alloc, &tag.kind)?;
-    let fields = copy_fields(alloc, &tag.fields)?;
-    Ok(Tag {
-        line: tag.line,
-        name,
-        file,
-        address,
-        kind,
-        fields,
-    })
-}
-
 /// Adds the tags of a project with the names that are asked for.
 fn add_tags(
     found: &mut Vec<FoundTag>,
@@ -98,7 +55,7 @@ fn add_tags(
     for tag in tags {
         if is_wanted(wanted, tag.name.as_str()) {
             let project = String::from_str(alloc, project)?;
-            let tag = copy_tag(alloc, tag)?;
+            let tag = tag.clone()?;
             found.push(FoundTag { project, tag })?;
         }
     }
@@ -172,7 +129,7 @@ pub(crate) fn list_by_name(found: &mut Vec<FoundTag>)
 pub(crate) fn list_projects(
     alloc: Global,
     projects: &BTreeMap<String, Project>,
-) -> Result<Vec<ProjectRow>, AllocError>
+) -> Result<Vec<FoundProject>, AllocError>
     ensures found { IfOk result (λ found. map project_found found.items ≡ projects_of projects.now.entries) }
     ensures ordered { IsOrdered string_cmp projects.now }
 {
@@ -181,7 +138,7 @@ pub(crate) fn list_projects(
         let (dump, tags) = (project.dump.is_some(), project.tags.is_some());
         if dump || tags {
             let name = String::from_str(alloc, name.as_str())?;
-            found.push(ProjectRow { name, dump, tags })?;
+            found.push(FoundProject { name, dump, tags })?;
         }
     }
     Ok(found)

@@ -10,13 +10,13 @@ use crate::kept::{change, dump_in, has_part, kept_in};
 use crate::listed::{Wanted, list_by_name, list_projects, list_tags};
 use crate::project::Project;
 use crate::selected::{bearers_in, covering_of, hover_of, items_of, marks_of};
-use dump::{CheckedDump, Role};
+use dump::{CheckedDump, RequestKind, Role};
 use lsif::Profile;
-use machine::{Change, TagsPart, removal_text};
+use machine::{Change, FoundProject, FoundTag, TagsPart, removal_text};
 use positions::Position;
 use std::alloc::{AllocError, Global};
 use std::collections::BTreeMap;
-use tables::{Covering, FoundBearer, FoundItem, FoundMark, FoundTag, ProjectRow};
+use tables::{Covering, FoundBearer, FoundItem, FoundMark};
 
 /// Keeps in memory the dump and the tags that each project has, and the replies of accepted commands under their keys. What another dump or other
 /// tags are put in the place of is given up.
@@ -86,6 +86,7 @@ impl Index for MemoryIndex {
     fn covering(
         &mut self,
         alloc: Global,
+        request: RequestKind,
         project: &str,
         uri: &str,
         at: Position,
@@ -96,7 +97,7 @@ impl Index for MemoryIndex {
         if dump.document_of(uri).is_none() {
             return Ok(Covering::NoDocument);
         }
-        Ok(Covering::Ranges(covering_of(alloc, dump, uri, at)?))
+        Ok(Covering::Ranges(covering_of(alloc, dump, request, uri, at)?))
     }
 
     fn items(
@@ -148,7 +149,7 @@ impl Index for MemoryIndex {
         Ok(found)
     }
 
-    fn projects(&mut self, alloc: Global) -> Result<Vec<ProjectRow>, IndexFault> {
+    fn projects(&mut self, alloc: Global) -> Result<Vec<FoundProject>, IndexFault> {
         Ok(list_projects(alloc, &self.projects)?)
     }
 

@@ -12,7 +12,7 @@ ghost use Rattle.desk.specs.Steps.Selected.{AddsBearers, IsBearerAmong, IsBearer
 ghost use Rattle.machine.specs.Steps.Places.{same_role};
 
 use crate::project::Project;
-use dump::{CheckedDump, Role, nesting_law, uri_law};
+use dump::{CheckedDump, RequestKind, Role, nesting_law, uri_law};
 use flatten::{FlattenFault, RangeRow, flatten};
 use positions::{Position, Span};
 use std::alloc::{AllocError, Global};
@@ -158,33 +158,48 @@ fn list_rows(rows: &mut Vec<RangeRow<'_>>)
     rows.dedup_by_key(|r| *r.span);
 }
 
-/// What is found of the ranges of these rows.
-fn found_ranges(alloc: Global, rows: &[RangeRow<'_>]) -> Result<Vec<FoundRange>, AllocError>
-    ensures { IfOk result (λ found. map range_found found.items ≡ map range_found_of rows.now) }
+/// What the request finds of the range of this row.
+fn found_range(row: &RangeRow<'_>, request: RequestKind) -> FoundRange
+    ensures { range_found result ≡ range_found_of request row.now }
+{
+    let result = match request {
+        RequestKind::Definition => row.def,
+        RequestKind::References => row.refs,
+        RequestKind::Hover => row.hover,
+        RequestKind::Declaration => row.decl,
+        RequestKind::Implementation => row.imp,
+    };
+    FoundRange {
+        line: row.line,
+        span: *row.span,
+        result,
+    }
+}
+
+/// What the request finds of the ranges of these rows.
+fn found_ranges(
+    alloc: Global,
+    request: RequestKind,
+    rows: &[RangeRow<'_>],
+) -> Result<Vec<FoundRange>, AllocError>
+    ensures { IfOk result (λ found. map range_found found.items ≡ map (range_found_of request) rows.now) }
 {
     let mut found = Vec::new(alloc);
     for row in rows {
-        found.push(FoundRange {
-            line: row.line,
-            span: *row.span,
-            def: row.def,
-            refs: row.refs,
-            hover: row.hover,
-            decl: row.decl,
-            imp: row.imp,
-        })?;
+        found.push(found_range(row, request))?;
     }
     Ok(found)
 }
 
-/// The ranges of the document of this serialized URL that cover the position, the smallest first.
+/// The ranges of the document of this serialized URL that cover the position, the smallest first, with their results for the request.
 pub(crate) fn covering_of(
     alloc: Global,
     dump: &CheckedDump,
+    request: RequestKind,
     uri: &str,
     at: Position,
 ) -> Result<Vec<FoundRange>, FlattenFault>
-    ensures { IfOk result (λ found. FindsCover dump.now.elements uri.now at (map range_found found.items)) }
+    ensures { IfOk result (λ found. FindsCover request dump.now.elements uri.now at (map range_found found.items)) }
 {
     nesting_law();
     uri_law();
@@ -192,7 +207,7 @@ pub(crate) fn covering_of(
     let rows = flatten(alloc, dump)?;
     let mut covering = covering_rows(alloc, &rows.ranges, uri, at)?;
     list_rows(&mut covering);
-    Ok(found_ranges(alloc, &covering)?)
+    Ok(found_ranges(alloc, request, &covering)?)
 }
 
 /// Adds the bearers of the key in the dump of this project, where it has one.

@@ -6,14 +6,14 @@ ghost use Rattle.tables.specs.Columns.{dump_rows};
 ghost use Rattle.tables.specs.Stands.{IsDump};
 
 use crate::index::{Index, IndexFault};
-use dump::{CheckedDump, Role};
+use dump::{CheckedDump, RequestKind, Role};
 use flatten::{FlattenFault, Rows, flatten};
 use lsif::Profile;
-use machine::TagsPart;
+use machine::{FoundProject, FoundTag, TagsPart};
 use positions::Position;
 use sqlite::Alter;
 use std::alloc::Global;
-use tables::{Covering, FoundBearer, FoundItem, FoundMark, FoundTag, ProjectRow, Tables};
+use tables::{Covering, FoundBearer, FoundItem, FoundMark, Tables};
 
 /// The rows of a dump, as tables keep them.
 fn rows_of<'a>(alloc: Global, dump: &'a CheckedDump) -> Result<Rows<'a>, FlattenFault>
@@ -45,12 +45,13 @@ impl<S: Alter> Index for Tables<S> {
     fn covering(
         &mut self,
         alloc: Global,
+        request: RequestKind,
         project: &str,
         uri: &str,
         at: Position,
     ) -> Result<Covering, IndexFault> {
         self.check()?;
-        Ok(Tables::covering(self, alloc, project, uri, at)?)
+        Ok(Tables::covering(self, alloc, request, project, uri, at)?)
     }
 
     fn marks(
@@ -104,7 +105,7 @@ impl<S: Alter> Index for Tables<S> {
         Ok(Tables::names_prefix(self, alloc, prefix, project)?)
     }
 
-    fn projects(&mut self, alloc: Global) -> Result<Vec<ProjectRow>, IndexFault> {
+    fn projects(&mut self, alloc: Global) -> Result<Vec<FoundProject>, IndexFault> {
         self.check()?;
         Ok(Tables::projects(self, alloc)?)
     }

@@ -8,7 +8,7 @@ ghost use Rattle.dump.specs.declared.fault.FeedFault.TheVariants.{Line};
 use crate::fault::{FeedFault, LineFault};
 use crate::graph::Graph;
 use crate::laws::chain_law;
-use crate::order::{end_fault, order_code};
+use crate::order::{add, end_fault};
 use crate::request_kind::RequestKind;
 use crate::single::SingleLabel;
 use crate::vertices::vertex_at;
@@ -71,16 +71,13 @@ impl Checker {
             return Err(FeedFault::Line(fault));
         }
         let line = self.graph.len() as u32 + 1;
-        let element = match reading {
-            Ok(element) => element,
-            Err(code) => return Err(self.stop(LineFault { line, code })),
+        let refused = match reading {
+            Ok(element) => add(&mut self.graph, element)?,
+            Err(code) => Some(code),
         };
-        match order_code(&self.graph, &element)? {
+        match refused {
             Some(code) => Err(self.stop(LineFault { line, code })),
-            None => {
-                self.graph.push(element)?;
-                Ok(())
-            }
+            None => Ok(()),
         }
     }
 

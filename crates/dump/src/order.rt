@@ -1,5 +1,5 @@
 //! What an element may not be after the elements before it, and what a whole dump may not have.
-ghost use Rattle.std.specs.Prelude.{◌≡◌, false, ◌<◌, ◌≤◌, ◌&&◌, IfOk, IfNone, length, not};
+ghost use Rattle.std.specs.Prelude.{◌≡◌, false, ◌<◌, ◌≤◌, ◌&&◌, ◌++◌, [], ◌∷◌, IfOk, IfNone, IfSome, OnErr, length, not};
 ghost use Rattle.std.specs.List.{list_any};
 ghost use Rattle.lsif.specs.Element.{edge_value, element_value};
 ghost use Rattle.dump.specs.Conditions.{is_misplaced, joins_no_vertex, fits_row, may_not_join, is_contained_again, is_conflicting, leaves_again, closes_cycle, has_no_shard, is_misplaced_item, has_used_uri, order_code, is_uncontained, end_code, most_elements};
@@ -255,6 +255,23 @@ pub(crate) fn order_code(graph: &Graph, element: &Element) -> Result<Option<Code
     } else {
         None
     };
+    Ok(code)
+}
+
+/// Adds the element where those before it allow it, and answers its code where they don't. Where memory is refused the
+/// elements stay as they are.
+pub(crate) fn add(graph: &mut Graph, element: Element) -> Result<Option<Code>, AllocError>
+    requires { IsSound graph.old }
+    ensures code { IfOk result (λ code. code ≡ order_code graph.old (element_value element)) }
+    ensures added { IfOk result (λ code. IfNone code (graph.new ≡ graph.old ++ element_value element ∷ [])) }
+    ensures room { IfOk result (λ code. IfNone code (length graph.old < most_elements)) }
+    ensures refused { IfOk result (λ code. IfSome code (λ c. graph.new ≡ graph.old)) }
+    ensures kept { OnErr result (graph.new ≡ graph.old) }
+{
+    let code = order_code(graph, &element)?;
+    if code.is_none() {
+        graph.push(element)?;
+    }
     Ok(code)
 }
 

@@ -1,13 +1,14 @@
 //! The queries of routes. None stands for one with a parameter that is missing, there twice, or not of its form.
 ghost use Rattle.std.specs.Prelude.{◌≡◌, ℕ, List, Option, IfOk, codes, option_map};
-ghost use Rattle.machine.specs.Requests.{profile, query_value};
+ghost use Rattle.machine.specs.Requests.{position_query, profile, query_value};
 ghost use Rattle.http_edge.specs.Parameters.{parameter};
 ghost use Rattle.http_edge.specs.Requests.{both, declaration_in, names_of, place_in, prefix_of, project_name, references_of, searched_in, tags_of, is_tag_text};
 ghost use Rattle.machine.specs.Names.{where_so};
-ghost use Rattle.http_edge.specs.Steps.Requests.{place_value, query_at};
+ghost use Rattle.http_edge.specs.Steps.Requests.{place_value};
 
 use crate::forms::{read_declaration, read_position, read_searched, read_tag_text, read_uri};
 use crate::parameters::{ParameterValue, Parameters};
+use dump::RequestKind;
 use machine::{DocUri, ProjectName, Query};
 use positions::Position;
 use std::alloc::{AllocError, Global};
@@ -18,32 +19,6 @@ struct DocumentPosition {
     project: ProjectName,
     uri: DocUri,
     position: Position,
-}
-
-/// A query of which nothing but the position is asked.
-#[derive(Clone, Copy)]
-pub(crate) enum PositionQuery {
-    Definition,
-    Hover,
-    Declaration,
-    Implementation,
-}
-
-/// The query at a position.
-fn query_at(query: PositionQuery, place: DocumentPosition) -> Query
-    ensures { query_value result ≡ query_at query (place_value place) }
-{
-    let DocumentPosition {
-        project,
-        uri,
-        position: at,
-    } = place;
-    match query {
-        PositionQuery::Definition => Query::Definition { project, uri, at },
-        PositionQuery::Hover => Query::Hover { project, uri, at },
-        PositionQuery::Declaration => Query::Declaration { project, uri, at },
-        PositionQuery::Implementation => Query::Implementation { project, uri, at },
-    }
 }
 
 fn read_place(
@@ -68,14 +43,19 @@ fn read_place(
 
 pub(crate) fn read_position_query(
     alloc: Global,
-    query: PositionQuery,
+    kind: RequestKind,
     project: &str,
     parameters: &Parameters<'_>,
 ) -> Result<Option<Query>, AllocError>
-    ensures { IfOk result (λ o. option_map query_value o ≡ option_map (query_at query) (place_in project.now parameters.now)) }
+    ensures { IfOk result (λ o. option_map query_value o ≡ option_map (position_query kind) (place_in project.now parameters.now)) }
 {
     match read_place(alloc, project, parameters)? {
-        Some(place) => Ok(Some(query_at(query, place))),
+        Some(place) => Ok(Some(Query::At {
+            kind,
+            project: place.project,
+            uri: place.uri,
+            at: place.position,
+        })),
         None => Ok(None),
     }
 }

@@ -10,11 +10,10 @@ ghost use Rattle.http_edge.specs.Steps.Routes.{named_route, routes};
 
 use crate::commands::{read_dump, read_removal, read_tags};
 use crate::parameters::Parameters;
-use crate::queries::{
-    PositionQuery, read_position_query, read_profile_query, read_references, read_tags_query,
-};
+use crate::queries::{read_position_query, read_profile_query, read_references, read_tags_query};
 use crate::refusal::Refusal;
 use crate::route::{Route, find_route};
+use dump::RequestKind;
 use machine::{Command, Query, Request, Upload};
 use matchit::Router;
 use std::alloc::{AllocError, Global};
@@ -106,15 +105,15 @@ fn read_route<'b>(
         Route::Tags => return Ok(asked_upload(read_tags(alloc, project, parameters)?)),
         Route::Project => return Ok(asked_command(read_removal(alloc, project, parameters)?)),
         Route::Definition => {
-            read_position_query(alloc, PositionQuery::Definition, project, parameters)?
+            read_position_query(alloc, RequestKind::Definition, project, parameters)?
         }
         Route::References => read_references(alloc, project, parameters)?,
-        Route::Hover => read_position_query(alloc, PositionQuery::Hover, project, parameters)?,
+        Route::Hover => read_position_query(alloc, RequestKind::Hover, project, parameters)?,
         Route::Declaration => {
-            read_position_query(alloc, PositionQuery::Declaration, project, parameters)?
+            read_position_query(alloc, RequestKind::Declaration, project, parameters)?
         }
         Route::Implementation => {
-            read_position_query(alloc, PositionQuery::Implementation, project, parameters)?
+            read_position_query(alloc, RequestKind::Implementation, project, parameters)?
         }
         Route::Profile => read_profile_query(alloc, project)?,
         Route::Names => read_tags_query(alloc, parameters)?,

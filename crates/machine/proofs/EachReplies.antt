@@ -1,19 +1,18 @@
 -- From each state whose dumps and tags were judged a query has a reply.
-use Rattle.std.proofs.Common.{◌≡◌, ⊎_elim, List, [], ◌∷◌, map, refl}
+use Rattle.std.proofs.Common.{◌≡◌, ⊎_elim, List, [], map, refl}
 use Rattle.std.specs.Prelude.{Option, Some, None, Ok}
 use Rattle.dump.specs.declared.request_kind.RequestKind.{RequestKind}
 use Rattle.dump.specs.declared.request_kind.RequestKind.TheVariants as requests
 use Rattle.dump.specs.declared.role.Role.{Role}
-use Rattle.dump.specs.declared.role.Role.TheVariants as roles
 use Rattle.dump.specs.Fault.{IsFaultless}
 use Rattle.dump.specs.Places.{HasDocument}
 use Rattle.dump.specs.Progress.{DumpValue}
 use Rattle.dump.specs.Requests.{Pick, RangeValue}
 use Rattle.machine.specs.State.{State}
-use Rattle.machine.specs.Answers.{Answers, AnswersAt, AnswersHover, AnswersPlaces, no_dump, no_such_document, answered, picked, picked_hover, unpicked, unpicked_hover, profile_reply, reference_roles}
+use Rattle.machine.specs.Answers.{AnswersKind, roles_of, Answers, AnswersAt, AnswersHover, AnswersPlaces, no_dump, no_such_document, answered, picked, picked_hover, unpicked, unpicked_hover, profile_reply, reference_roles}
 use Rattle.machine.specs.Moments.{IsIndex}
 use Rattle.machine.specs.Reply.{ReplyValue, hover_found, places_found, projects_found, refused, tags_found}
-use Rattle.machine.specs.Requests.{DocumentPositionValue, QueryValue, declaration, definition, hover, implementation, names, prefix, profile, projects, references}
+use Rattle.machine.specs.Requests.{DocumentPositionValue, QueryValue, position_query, references, names, prefix, projects, profile}
 use Rattle.machine.specs.declared.code.Code.TheVariants.{D01, D02}
 use Rattle.machine.proofs.CoverSets.{has_pick}
 use Rattle.machine.proofs.DumpSets.{has_document}
@@ -59,12 +58,16 @@ module _ (m : State) (index : IsIndex m) where
 
   -- ---- queries
 
+  of_kind : (kind : RequestKind) (target : DocumentPositionValue) (dump : DumpValue) → IsFaultless (map Ok dump.elements) → HasDocument dump.elements target.uri → (r : ReplyValue) × AnswersKind m kind target dump r
+  of_kind requests.Definition target = places requests.Definition (roles_of requests.Definition) target
+  of_kind requests.References target = places requests.References (roles_of requests.References) target
+  of_kind requests.Hover target = contents target
+  of_kind requests.Declaration target = places requests.Declaration (roles_of requests.Declaration) target
+  of_kind requests.Implementation target = places requests.Implementation (roles_of requests.Implementation) target
+
   pub has_reply : (query : QueryValue) → (r : ReplyValue) × Answers m query r
-  has_reply (definition target) = at_position target (AnswersPlaces m requests.Definition (roles.Definitions ∷ []) target) (places requests.Definition (roles.Definitions ∷ []) target)
+  has_reply (position_query kind target) = at_position target (AnswersKind m kind target) (of_kind kind target)
   has_reply (references target declared) = at_position target (AnswersPlaces m requests.References (reference_roles declared) target) (places requests.References (reference_roles declared) target)
-  has_reply (hover target) = at_position target (AnswersHover m target) (contents target)
-  has_reply (declaration target) = at_position target (AnswersPlaces m requests.Declaration (roles.Definitions ∷ []) target) (places requests.Declaration (roles.Definitions ∷ []) target)
-  has_reply (implementation target) = at_position target (AnswersPlaces m requests.Implementation (roles.Definitions ∷ []) target) (places requests.Implementation (roles.Definitions ∷ []) target)
   has_reply (names name asked) = let l = name_listing m index name asked in (tags_found l.0, (l.0, l.1, refl))
   has_reply (prefix start asked) = let l = prefix_listing m index start asked in (tags_found l.0, (l.0, l.1, refl))
   has_reply projects = let l = project_listing m index in (projects_found l.0, (l.0, l.1, refl))

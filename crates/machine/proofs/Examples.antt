@@ -19,7 +19,7 @@ use Rattle.machine.specs.Judging.{judged}
 use Rattle.machine.specs.Machine.{effect_by, reply_of, reply_to, after}
 use Rattle.machine.specs.State.{Accepted, State, nothing}
 use Rattle.machine.specs.Reply.{ReplyValue, refused}
-use Rattle.machine.specs.Requests.{CommandValue, DocumentPositionValue, definition}
+use Rattle.machine.specs.Requests.{CommandValue, DocumentPositionValue, position_query}
 use Rattle.machine.specs.Uploads.{BodyValue, HasRead, no_dump_line}
 
 -- ---- joins
@@ -79,7 +79,7 @@ kept_key_answers m c kept e = (ap (λ (o : Option Accepted). reply_where o) e, a
 -- ---- queries
 
 -- no project of an empty database has a dump
-pub nothing_has_no_dump : (target : DocumentPositionValue) → Answers nothing (definition target) (refused D01)
+pub nothing_has_no_dump : (target : DocumentPositionValue) → Answers nothing (position_query Definition target) (refused D01)
 nothing_has_no_dump target = no_dump refl
 
 -- ---- uploads

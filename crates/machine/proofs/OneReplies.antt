@@ -16,12 +16,12 @@ use Rattle.dump.specs.Places.{IsListing, HasDocument}
 use Rattle.dump.specs.Progress.{DumpValue}
 use Rattle.dump.specs.Requests.{First, Pick, RangeValue}
 use Rattle.dump.proofs.OnePicks.{one_listing, place_total}
-use Rattle.machine.specs.Answers.{IsFound, found_cmp, AnswersPlaces, picked, unpicked, HasContents, HasJoinedContents, IsAtOrBefore, HoversAt, own, joined, bare, AnswersHover, picked_hover, unpicked_hover, AnswersAt, no_dump, no_such_document, answered, Answers}
+use Rattle.machine.specs.Answers.{AnswersKind, IsFound, found_cmp, AnswersPlaces, picked, unpicked, HasContents, HasJoinedContents, IsAtOrBefore, HoversAt, own, joined, bare, AnswersHover, picked_hover, unpicked_hover, AnswersAt, no_dump, no_such_document, answered, Answers}
 use Rattle.machine.specs.FoundTags.{IsTag, BeginsWith, line_cmp, name_cmp, FoundTag}
 use Rattle.machine.specs.Projects.{text_cmp, IsProject, project_cmp, ProjectValue}
 use Rattle.machine.specs.State.{State}
 use Rattle.machine.specs.Reply.{ReplyValue, FoundPlace, places_found, hover_found, tags_found, projects_found}
-use Rattle.machine.specs.Requests.{DocumentPositionValue, QueryValue, definition, references, hover, declaration, implementation, names, prefix, projects, profile}
+use Rattle.machine.specs.Requests.{DocumentPositionValue, QueryValue, position_query, references, names, prefix, projects, profile}
 use Rattle.machine.proofs.Listing.{eq_of, text_eq}
 
 -- ---- orders
@@ -155,12 +155,16 @@ module _ (first : OneFirst) (pick : OnePick) where
 
   -- ---- queries
 
+  one_kind : (m : State) (kind : RequestKind) (target : DocumentPositionValue) (dump : DumpValue) (r s : ReplyValue) → AnswersKind m kind target dump r → AnswersKind m kind target dump s → r ≡ s
+  one_kind m requests.Definition target = one_places m _ _ target
+  one_kind m requests.References target = one_places m _ _ target
+  one_kind m requests.Hover target = one_hover_reply m target
+  one_kind m requests.Declaration target = one_places m _ _ target
+  one_kind m requests.Implementation target = one_places m _ _ target
+
   pub one_reply : (m : State) (q : QueryValue) (r s : ReplyValue) → Answers m q r → Answers m q s → r ≡ s
-  one_reply m (definition target) r s a b = one_at m target _ (one_places m _ _ target) r s a b
+  one_reply m (position_query kind target) r s a b = one_at m target _ (one_kind m kind target) r s a b
   one_reply m (references target declared) r s a b = one_at m target _ (one_places m _ _ target) r s a b
-  one_reply m (hover target) r s a b = one_at m target _ (one_hover_reply m target) r s a b
-  one_reply m (declaration target) r s a b = one_at m target _ (one_places m _ _ target) r s a b
-  one_reply m (implementation target) r s a b = one_at m target _ (one_places m _ _ target) r s a b
   one_reply m (names name asked) r s (found, l, is) (others, k, says) =
       is ∙ ap tags_found (one_listing line_cmp line_total (λ (f : FoundTag). IsTag m asked f × (f.tag.name ≡ name)) found others l k) ∙ sym says
   one_reply m (prefix start asked) r s (found, l, is) (others, k, says) =

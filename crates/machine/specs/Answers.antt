@@ -18,7 +18,7 @@ use Rattle.machine.specs.State.{State}
 use Rattle.machine.specs.Reply.{ReplyValue, FoundPlace, refused, places_found, hover_found, tags_found, projects_found, profile_found}
 use Rattle.machine.specs.FoundTags.{FoundTag, IsTag, BeginsWith, line_cmp, name_cmp}
 use Rattle.machine.specs.Projects.{ProjectValue, IsProject, project_cmp, text_cmp}
-use Rattle.machine.specs.Requests.{DocumentPositionValue, QueryValue, definition, references, hover, declaration, implementation, names, prefix, projects, profile}
+use Rattle.machine.specs.Requests.{DocumentPositionValue, QueryValue, position_query, references, names, prefix, projects, profile}
 
 -- ---- places
 
@@ -88,6 +88,16 @@ pub data AnswersAt (m : State) (target : DocumentPositionValue) (Answers : DumpV
 
 -- ---- queries
 
+-- the roles of the places that a request of a kind asks for
+abbrev pub roles_of : RequestKind → List Role
+roles_of requests.References = roles.Definitions ∷ roles.References ∷ []
+roles_of kind = roles.Definitions ∷ []
+
+-- what answers it at a position of a dump
+abbrev pub AnswersKind : State → RequestKind → DocumentPositionValue → DumpValue → ReplyValue → Type 0
+AnswersKind m requests.Hover target = AnswersHover m target
+AnswersKind m kind target = AnswersPlaces m kind (roles_of kind) target
+
 -- references with the declaration ask for definitions, too
 abbrev pub reference_roles : Bool → List Role
 reference_roles declared = if declared then roles.Definitions ∷ roles.References ∷ [] else roles.References ∷ []
@@ -99,11 +109,8 @@ profile_reply (Some dump) = profile_found dump.profile
 
 -- the reply to a query
 abbrev pub Answers : State → QueryValue → ReplyValue → Type 0
-Answers m (definition target) r = AnswersAt m target (AnswersPlaces m requests.Definition (roles.Definitions ∷ []) target) r
+Answers m (position_query kind target) r = AnswersAt m target (AnswersKind m kind target) r
 Answers m (references target declared) r = AnswersAt m target (AnswersPlaces m requests.References (reference_roles declared) target) r
-Answers m (hover target) r = AnswersAt m target (AnswersHover m target) r
-Answers m (declaration target) r = AnswersAt m target (AnswersPlaces m requests.Declaration (roles.Definitions ∷ []) target) r
-Answers m (implementation target) r = AnswersAt m target (AnswersPlaces m requests.Implementation (roles.Definitions ∷ []) target) r
 Answers m (names name asked) r =
     (found : List FoundTag) × IsListing line_cmp (λ (f : FoundTag). IsTag m asked f × (f.tag.name ≡ name)) found × (r ≡ tags_found found)
 Answers m (prefix start asked) r =

@@ -1,6 +1,7 @@
 -- What requests say.
 use Rattle.std.specs.Prelude.{ℕ, Bool, List, map, Option, string_bytes}
 use Rattle.positions.specs.Position.{PositionValue}
+use Rattle.dump.specs.declared.request_kind.RequestKind.{RequestKind}
 use Rattle.lsif.specs.declared.element.Profile.{Profile}
 use Rattle.machine.specs.declared.request.Command.{Command}
 use Rattle.machine.specs.declared.request.Command.TheVariants as commands
@@ -26,14 +27,11 @@ pub record DocumentPositionValue : Type 0 where
   pub uri : List ℕ
   pub position : PositionValue
 
--- a query at a position (for references whether definitions are asked, too); the tags of a name or a prefix, in all projects or
+-- a query at a position, by the kind of its request; references, and whether definitions are asked, too; the tags of a name or a prefix, in all projects or
 -- in one; the projects; or the profile of a project's dump
 pub data QueryValue : Type 0 where
-  definition : DocumentPositionValue → QueryValue
+  position_query : RequestKind → DocumentPositionValue → QueryValue
   references : DocumentPositionValue → Bool → QueryValue
-  hover : DocumentPositionValue → QueryValue
-  declaration : DocumentPositionValue → QueryValue
-  implementation : DocumentPositionValue → QueryValue
   names : List ℕ → Option (List ℕ) → QueryValue
   prefix : List ℕ → Option (List ℕ) → QueryValue
   projects : QueryValue
@@ -54,11 +52,8 @@ abbrev pub at_value : List ℕ → List ℕ → PositionValue → DocumentPositi
 at_value project uri position = record { project = project; uri = uri; position = position }
 
 abbrev pub query_value : Query → QueryValue
-query_value (queries.Definition project uri position) = definition (at_value project uri position)
+query_value (queries.At kind project uri position) = position_query kind (at_value project uri position)
 query_value (queries.References project uri position declared) = references (at_value project uri position) declared
-query_value (queries.Hover project uri position) = hover (at_value project uri position)
-query_value (queries.Declaration project uri position) = declaration (at_value project uri position)
-query_value (queries.Implementation project uri position) = implementation (at_value project uri position)
 query_value (queries.Names name project) = names (string_bytes name) project
 query_value (queries.Prefix start project) = prefix (string_bytes start) project
 query_value queries.Projects = projects

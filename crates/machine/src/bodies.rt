@@ -213,10 +213,10 @@ fn kind(alloc: Global, kind: &Option<String>) -> Result<Value, AllocError>
     }
 }
 
-fn tag(alloc: Global, found: &FoundTag<'_>) -> Result<Value, AllocError>
+fn tag(alloc: Global, found: &FoundTag) -> Result<Value, AllocError>
     ensures { IfOk result (λ v. view v ≡ tag_data (tag_found found.now)) }
 {
-    let tag = found.tag;
+    let tag = &found.tag;
     let fields = fields_value(alloc, &tag.fields)?;
     let kind = kind(alloc, &tag.kind)?;
     json!(in alloc; {
@@ -226,7 +226,7 @@ fn tag(alloc: Global, found: &FoundTag<'_>) -> Result<Value, AllocError>
         "kind": kind,
         "line": tag.line,
         "name": &tag.name,
-        "project": found.project
+        "project": found.project.as_str()
     })
 }
 
@@ -235,7 +235,7 @@ fn add_tag(
     alloc: Global,
     text: &mut String,
     later: bool,
-    found: &FoundTag<'_>,
+    found: &FoundTag,
 ) -> Result<(), AllocError>
     ensures { OnOk result (string_bytes text.new ≡ string_bytes text.old ++ (comma_if later ++ compact_text (tag_data (tag_found found.now)))) }
 {
@@ -244,7 +244,7 @@ fn add_tag(
 }
 
 /// The reply to a query that these tags answer.
-pub fn tags_found(alloc: Global, tags: &[FoundTag<'_>]) -> Result<Reply, AllocError>
+pub fn tags_found(alloc: Global, tags: &[FoundTag]) -> Result<Reply, AllocError>
     ensures { IfOk result (λ r. r ≡ tags_found (map tag_found tags.now)) }
 {
     let mut text = String::from_str(alloc, TAGS)?;
@@ -259,24 +259,20 @@ pub fn tags_found(alloc: Global, tags: &[FoundTag<'_>]) -> Result<Reply, AllocEr
 
 // ---- projects and profiles
 
-fn project(alloc: Global, found: &FoundProject<'_>) -> Result<Value, AllocError>
+fn project(alloc: Global, found: &FoundProject) -> Result<Value, AllocError>
     ensures { IfOk result (λ v. view v ≡ project_data (project_found found.now)) }
 {
-    json!(in alloc; {"dump": found.dump, "name": found.name, "tags": found.tags})
+    json!(in alloc; {"dump": found.dump, "name": found.name.as_str(), "tags": found.tags})
 }
 
-fn add_project(
-    alloc: Global,
-    found: &FoundProject<'_>,
-    list: &mut Vec<Value>,
-) -> Result<(), AllocError>
+fn add_project(alloc: Global, found: &FoundProject, list: &mut Vec<Value>) -> Result<(), AllocError>
     ensures { OnOk result (map view list.new.items ≡ map view list.old.items ++ project_data (project_found found.now) ∷ []) }
 {
     let value = project(alloc, found)?;
     serde_json::push(list, value)
 }
 
-fn project_list(alloc: Global, projects: &[FoundProject<'_>]) -> Result<Vec<Value>, AllocError>
+fn project_list(alloc: Global, projects: &[FoundProject]) -> Result<Vec<Value>, AllocError>
     ensures { IfOk result (λ list. map view list.items ≡ map project_data (map project_found projects.now)) }
 {
     let mut list = Vec::new(alloc);
@@ -286,7 +282,7 @@ fn project_list(alloc: Global, projects: &[FoundProject<'_>]) -> Result<Vec<Valu
     Ok(list)
 }
 
-fn projects_value(alloc: Global, projects: &[FoundProject<'_>]) -> Result<Value, AllocError>
+fn projects_value(alloc: Global, projects: &[FoundProject]) -> Result<Value, AllocError>
     ensures { IfOk result (λ v. view v ≡ projects_data (map project_found projects.now)) }
 {
     let list = Value::Array(project_list(alloc, projects)?);
@@ -294,7 +290,7 @@ fn projects_value(alloc: Global, projects: &[FoundProject<'_>]) -> Result<Value,
 }
 
 /// The reply to the query for the projects, which are these.
-pub fn projects_found(alloc: Global, projects: &[FoundProject<'_>]) -> Result<Reply, AllocError>
+pub fn projects_found(alloc: Global, projects: &[FoundProject]) -> Result<Reply, AllocError>
     ensures { IfOk result (λ r. r ≡ projects_found (map project_found projects.now)) }
 {
     let body = projects_value(alloc, projects)?;

@@ -13,16 +13,16 @@ pub struct FoundPlace<'a> {
 }
 
 /// A tag of a project.
-#[derive(Clone, Copy)]
-pub struct FoundTag<'a> {
-    pub project: &'a str,
-    pub tag: &'a Tag,
+#[derive(Debug, PartialEq, Eq, Drop)]
+pub struct FoundTag {
+    pub project: String,
+    pub tag: Tag,
 }
 
-/// A project that has a dump or tags.
-#[derive(Clone, Copy)]
-pub struct FoundProject<'a> {
-    pub name: &'a str,
+/// A project with a dump or tags, and which of them it has.
+#[derive(Debug, PartialEq, Eq, Drop)]
+pub struct FoundProject {
+    pub name: String,
     pub dump: bool,
     pub tags: bool,
 }

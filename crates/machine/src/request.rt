@@ -4,6 +4,7 @@ ghost use Rattle.std.specs.Prelude.{◌≡◌};
 ghost use Rattle.machine.specs.Requests.{command_value};
 
 use crate::names::{DocUri, Key, ProjectName};
+use dump::RequestKind;
 use lsif::Profile;
 use positions::Position;
 
@@ -57,36 +58,19 @@ impl Command<'_> {
 /// What is asked of the projects. A position stands in the document of a serialized URL (Language Server Protocol 3.17).
 #[derive(Drop)]
 pub enum Query {
-    /// Where what stands at a position is defined ("textDocument/definition").
-    Definition {
+    /// What a request of this kind finds at a position ("textDocument/definition" and the like); of references where it's named and where it's defined.
+    At {
+        kind: RequestKind,
         project: ProjectName,
         uri: DocUri,
         at: Position,
     },
-    /// Where it's named ("textDocument/references"), and where it's defined, too, if the declaration is asked for.
+    /// Where what stands at a position is named ("textDocument/references"), and where it's defined, too, if the declaration is asked for.
     References {
         project: ProjectName,
         uri: DocUri,
         at: Position,
         declaration: bool,
-    },
-    /// What is said of it ("textDocument/hover").
-    Hover {
-        project: ProjectName,
-        uri: DocUri,
-        at: Position,
-    },
-    /// Where it's declared ("textDocument/declaration").
-    Declaration {
-        project: ProjectName,
-        uri: DocUri,
-        at: Position,
-    },
-    /// Where it's implemented ("textDocument/implementation").
-    Implementation {
-        project: ProjectName,
-        uri: DocUri,
-        at: Position,
     },
     /// The tags of a name, in all projects or in one.
     Names {

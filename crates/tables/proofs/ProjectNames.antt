@@ -28,8 +28,9 @@ use Rattle.tables.specs.Contents.{Contents, Replies, Keeps}
 use Rattle.machine.specs.State.{State}
 use Rattle.tables.specs.Stands.{StandsFor}
 use Rattle.machine.specs.Projects.{ProjectValue, text_cmp}
-use Rattle.tables.specs.Selections.{FindsProjects, project_found}
-use Rattle.tables.specs.declared.projects.ProjectRow.{ProjectRow}
+use Rattle.machine.specs.Found.{project_found}
+use Rattle.tables.specs.Selections.{FindsProjects}
+use Rattle.machine.specs.declared.found.FoundProject.{FoundProject}
 use Rattle.tables.specs.Steps.SelectionTexts.{select_projects}
 use Rattle.tables.specs.Steps.Selected.{AreRead, Selects, equals}
 use Rattle.tables.specs.Steps.Slots.{IsSlotOf, HasPart, IsTold}
@@ -108,8 +109,8 @@ names_found old new rows found listed parts replies is schema shown read list =
     same_listing text_cmp _ _ (map string_bytes listed) (have_parts old.now.trees parts replies is found
     (selects_typed slot_values name_shown IsAny name_columns select_projects [] 1 selection (λ x. refl) old new rows schema (typed_slots old.now.trees parts replies is) shown found read)) list
 
-abbrev pub names_of : List ProjectRow → List (List ℕ)
-names_of found = map (λ (p : ProjectRow). string_bytes p.name) found
+abbrev pub names_of : List FoundProject → List (List ℕ)
+names_of found = map (λ (p : FoundProject). string_bytes p.name) found
 
 -- ---- which parts
 
@@ -186,9 +187,9 @@ module _ (db : Trees) (m : State) (s : StandsFor db m) where
     );
   }
 
-  pub projects_are : (found : List ProjectRow) → AllByRecursion (IsTold m) (map project_found found) → IsListing text_cmp (HasPart s.parts) (names_of found) → FindsProjects m (map project_found found)
+  pub projects_are : (found : List FoundProject) → AllByRecursion (IsTold m) (map project_found found) → IsListing text_cmp (HasPart s.parts) (names_of found) → FindsProjects m (map project_found found)
   projects_are found told list = values_are (map project_found found) told (subst (IsListing text_cmp (HasPart s.parts)) (sym (map-map name_of project_found found)) list)
 
-pub told_all : (m : State) (before after : List ProjectRow) (project : ProjectRow) → after ≡ before ++ project ∷ [] → AllByRecursion (IsTold m) (map project_found before) → IsTold m (project_found project) → AllByRecursion (IsTold m) (map project_found after)
+pub told_all : (m : State) (before after : List FoundProject) (project : FoundProject) → after ≡ before ++ project ∷ [] → AllByRecursion (IsTold m) (map project_found before) → IsTold m (project_found project) → AllByRecursion (IsTold m) (map project_found after)
 told_all m before after project is told one =
     subst (AllByRecursion (IsTold m)) (sym (ap (map project_found) is ∙ map-append project_found before (project ∷ []))) (all_last (IsTold m) (map project_found before) (project_found project) told one)

@@ -8,8 +8,8 @@ use Rattle.sqlite_rules.proofs.ListLemmas.{has_contained, contains_had}
 use Rattle.machine.specs.State.{State}
 use Rattle.tables.specs.Stands.{StandsFor}
 use Rattle.machine.specs.FoundTags.{FoundTag, IsTag, IsAsked}
-use Rattle.tables.specs.Names.{tag_found}
-use Rattle.tables.specs.declared.found_tags.FoundTag as declared
+use Rattle.machine.specs.Found.{tag_found}
+use Rattle.machine.specs.declared.found.FoundTag as declared
 use Rattle.tables.specs.declared.found_tags.TagRow.{TagRow}
 use Rattle.tables.specs.Steps.TagRows.{TellsTag, AllTell, IsTold, TellNamed, FindsTags, IsFoundIf, Grows}
 use Rattle.tables.proofs.FoundBearers.{has_last, has_before, last_or}

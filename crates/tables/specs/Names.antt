@@ -1,13 +1,8 @@
 -- Which tags of a state selections by name find.
-use Rattle.std.specs.Prelude.{◌≡◌, ℕ, List, Option, string_bytes}
+use Rattle.std.specs.Prelude.{◌≡◌, ℕ, List, Option}
 use Rattle.dump.specs.Places.{IsListing}
-use Rattle.tags.specs.Views.{tag_value}
 use Rattle.machine.specs.FoundTags.{BeginsWith, FoundTag, IsTag, line_cmp, name_cmp}
 use Rattle.machine.specs.State.{State}
-use Rattle.tables.specs.declared.found_tags.FoundTag as declared
-
-abbrev pub tag_found : declared.FoundTag → FoundTag
-tag_found found = record { project = string_bytes found.project; tag = tag_value found.tag }
 
 -- the tags of this name: of the project that is asked for, where one is, and else of all
 abbrev pub FindsNamed : State → Option (List ℕ) → List ℕ → List FoundTag → Type 0

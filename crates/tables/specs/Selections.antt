@@ -8,11 +8,12 @@ use Rattle.lsif.specs.declared.element.MonikerKind.{MonikerKind}
 use Rattle.positions.specs.Position.{PositionValue}
 use Rattle.positions.specs.Span.{SpanValue}
 use Rattle.lsif.specs.Element.{ElementValue}
+use Rattle.dump.specs.declared.request_kind.RequestKind.{RequestKind}
 use Rattle.dump.specs.declared.role.Role.{Role}
 use Rattle.dump.specs.Places.{PlaceValue, HasDocument, IsListing, place_cmp}
 use Rattle.dump.specs.Progress.{DumpValue}
 use Rattle.dump.specs.Requests.{Cover, RangeValue}
-use Rattle.flatten.specs.Flat.{ResultsValue, AreResults, BearerRowValue, IsBearerRow, IsHoverRow, IsItemRow, IsMarkRow, kind_index, number_of}
+use Rattle.flatten.specs.Flat.{ResultsValue, BearerRowValue, IsBearerRow, IsHoverRow, IsItemRow, IsMarkRow, IsResult, kind_index, number_of}
 use Rattle.machine.specs.Projects.{IsProject, ProjectValue, project_cmp, text_cmp}
 use Rattle.machine.specs.State.{State}
 use Rattle.tables.specs.declared.bearers.FoundBearer.{FoundBearer}
@@ -21,12 +22,8 @@ use Rattle.tables.specs.declared.covering.Covering.TheVariants.{NoDump, NoDocume
 use Rattle.tables.specs.declared.covering.FoundRange.{FoundRange}
 use Rattle.tables.specs.declared.items.FoundItem.{FoundItem}
 use Rattle.tables.specs.declared.marks.FoundMark.{FoundMark}
-use Rattle.tables.specs.declared.projects.ProjectRow.{ProjectRow}
 
 -- ---- projects
-
-abbrev pub project_found : ProjectRow → ProjectValue
-project_found project = record { name = string_bytes project.name; dump = project.dump; tags = project.tags }
 
 -- the projects with a part, each once
 abbrev pub FindsProjects : State → List ProjectValue → Type 0
@@ -83,35 +80,31 @@ FindsItems m project result role = IsListing place_cmp (HasItem m project result
 
 -- ---- covering
 
--- a range that is found: its number, its span and its first results
+-- a range that is found: its number, its span and its first result for the request
 pub record RangeFound : Type 0 where
   pub line : ℕ
   pub span : SpanValue
-  pub results : ResultsValue
+  pub result : Option ℕ
 
 abbrev pub range_found : FoundRange → RangeFound
-range_found r = record {
-  line = r.line;
-  span = r.span;
-  results = record { definition = r.def; references = r.refs; hover = r.hover; declaration = r.decl; implementation = r.imp };
-}
+range_found r = record { line = r.line; span = r.span; result = r.result }
 
--- the range of the dump is found with its number, its span and its first results
-pub record IsRangeFound (elements : List ElementValue) (r : RangeValue) (found : RangeFound) : Type 0 where
+-- the range of the dump is found with its number, its span and its first result for the request
+pub record IsRangeFound (request : RequestKind) (elements : List ElementValue) (r : RangeValue) (found : RangeFound) : Type 0 where
   pub at_line : number_of elements r.id ≡ Some found.line
   pub span : r.span ≡ found.span
-  pub results : AreResults elements r.id found.results
+  pub result : IsResult elements request r.id found.result
 
--- the ranges of the document of this uri that cover the position, the smallest first
-abbrev pub FindsCover : List ElementValue → List ℕ → PositionValue → List RangeFound → Type 0
-FindsCover elements uri position found = (ranges : List RangeValue) × Cover elements uri position ranges × AllZip (IsRangeFound elements) ranges found
+-- the ranges of the document of this uri that cover the position, the smallest first, with their results for the request
+abbrev pub FindsCover : RequestKind → List ElementValue → List ℕ → PositionValue → List RangeFound → Type 0
+FindsCover request elements uri position found = (ranges : List RangeValue) × Cover elements uri position ranges × AllZip (IsRangeFound request elements) ranges found
 
 -- the project has no dump, or its dump no document of this uri, or these ranges of it cover the position
-abbrev pub FindsCovering : State → List ℕ → List ℕ → PositionValue → Covering → Type 0
-FindsCovering m project uri position NoDump = m.dump project ≡ None
-FindsCovering m project uri position NoDocument = (dump : DumpValue) × (m.dump project ≡ Some dump) × (HasDocument dump.elements uri → ⊥)
-FindsCovering m project uri position (Ranges found) =
-    (dump : DumpValue) × (m.dump project ≡ Some dump) × HasDocument dump.elements uri × FindsCover dump.elements uri position (map range_found found.items)
+abbrev pub FindsCovering : State → RequestKind → List ℕ → List ℕ → PositionValue → Covering → Type 0
+FindsCovering m request project uri position NoDump = m.dump project ≡ None
+FindsCovering m request project uri position NoDocument = (dump : DumpValue) × (m.dump project ≡ Some dump) × (HasDocument dump.elements uri → ⊥)
+FindsCovering m request project uri position (Ranges found) =
+    (dump : DumpValue) × (m.dump project ≡ Some dump) × HasDocument dump.elements uri × FindsCover request dump.elements uri position (map range_found found.items)
 
 -- ---- bearers
 

@@ -4,7 +4,7 @@ ghost use Rattle.sqlite_rules.specs.Lists.{Has};
 ghost use Rattle.sqlite.specs.State.{HasCleanDisk, Survives};
 ghost use Rattle.sqlite.specs.Held.{state};
 ghost use Rattle.dump.specs.Progress.{DumpValue};
-ghost use Rattle.flatten.specs.Flat.{RangeRowValue, IsRangeRow};
+ghost use Rattle.flatten.specs.Flat.{RangeRowValue, IsRangeRow, result_for};
 ghost use Rattle.tables.specs.Schema.{schema_two};
 ghost use Rattle.tables.specs.Contents.{slot_row};
 ghost use Rattle.machine.specs.State.{State};
@@ -21,6 +21,7 @@ use crate::parts::find_slot;
 use crate::range_rows::{SlotRange, parent_of, start_of};
 use crate::slots::Part;
 use crate::tables::Tables;
+use dump::RequestKind;
 use positions::{Position, Span};
 use sqlite::{Alter, Connection};
 use std::alloc::Global;
@@ -32,12 +33,8 @@ pub struct FoundRange {
     pub line: u32,
     /// Its start and its end, which is exclusive.
     pub span: Span,
-    /// The numbers of its first results: of a definition, of references, of a hover, of a declaration and of an implementation.
-    pub def: Option<u32>,
-    pub refs: Option<u32>,
-    pub hover: Option<u32>,
-    pub decl: Option<u32>,
-    pub imp: Option<u32>,
+    /// The number of its first result for the request.
+    pub result: Option<u32>,
 }
 
 /// What covers a position of a document.
@@ -79,30 +76,52 @@ fn climb<S: Alter>(
     Ok(found)
 }
 
-/// The range that a row tells, with its declaration and its implementation.
-fn complete<S: Alter>(
+/// The number of the first result that a request has of the range of this row. Declarations and implementations stand in rows of their own.
+fn result_of<S: Alter>(
     conn: &mut Connection<S>,
     slot: i64,
+    request: RequestKind,
     row: &SlotRange,
-) -> Result<FoundRange, Refusal>
-    ensures whole { HasCleanDisk (state S.Store conn.new) → (state S.Store conn.old).now.schema ≡ schema_two → (m : State)
+) -> Result<Option<u32>, Refusal>
+    ensures result { HasCleanDisk (state S.Store conn.new) → (state S.Store conn.old).now.schema ≡ schema_two → (m : State)
         → StandsFor (state S.Store conn.old).now.trees m
         → (project : List ℕ) (dump : DumpValue) → Has ((state S.Store conn.old).now.trees 1) (slot_row slot project (pos 1)) → m.dump project ≡ Some dump
-        → (r : RangeRowValue) → IsRangeRow dump.elements r → TellsRange row.now r → IfOk result (λ found. range_found found ≡ row_found r) }
+        → (r : RangeRowValue) → IsRangeRow dump.elements r → TellsRange row.now r → IfOk result (λ number. number ≡ result_for request r.results) }
     ensures kept { HasCleanDisk (state S.Store conn.new) → (state S.Store conn.old).now.schema ≡ schema_two
         → OnOk result (IsAsBefore (state S.Store conn.old) (state S.Store conn.new)) }
     ensures looks { Looks (state S.Store conn.old) (state S.Store conn.new) }
     ensures mode { conn.old.in_transaction ≡ false → conn.new.in_transaction ≡ false }
 {
-    let more = more_of(conn, slot, row.line)?;
+    match request {
+        RequestKind::Definition => Ok(row.def),
+        RequestKind::References => Ok(row.refs),
+        RequestKind::Hover => Ok(row.hover),
+        RequestKind::Declaration => Ok(more_of(conn, slot, row.line)?.decl),
+        RequestKind::Implementation => Ok(more_of(conn, slot, row.line)?.imp),
+    }
+}
+
+/// What a request finds of the range of this row.
+fn complete<S: Alter>(
+    conn: &mut Connection<S>,
+    slot: i64,
+    request: RequestKind,
+    row: &SlotRange,
+) -> Result<FoundRange, Refusal>
+    ensures whole { HasCleanDisk (state S.Store conn.new) → (state S.Store conn.old).now.schema ≡ schema_two → (m : State)
+        → StandsFor (state S.Store conn.old).now.trees m
+        → (project : List ℕ) (dump : DumpValue) → Has ((state S.Store conn.old).now.trees 1) (slot_row slot project (pos 1)) → m.dump project ≡ Some dump
+        → (r : RangeRowValue) → IsRangeRow dump.elements r → TellsRange row.now r → IfOk result (λ found. range_found found ≡ row_found request r) }
+    ensures kept { HasCleanDisk (state S.Store conn.new) → (state S.Store conn.old).now.schema ≡ schema_two
+        → OnOk result (IsAsBefore (state S.Store conn.old) (state S.Store conn.new)) }
+    ensures looks { Looks (state S.Store conn.old) (state S.Store conn.new) }
+    ensures mode { conn.old.in_transaction ≡ false → conn.new.in_transaction ≡ false }
+{
+    let result = result_of(conn, slot, request, row)?;
     Ok(FoundRange {
         line: row.line,
         span: row.span,
-        def: row.def,
-        refs: row.refs,
-        hover: row.hover,
-        decl: more.decl,
-        imp: more.imp,
+        result,
     })
 }
 
@@ -111,20 +130,21 @@ fn ranges_in<S: Alter>(
     alloc: Global,
     conn: &mut Connection<S>,
     slot: i64,
+    request: RequestKind,
     uri: &str,
     at: Position,
 ) -> Result<Vec<FoundRange>, Refusal>
     ensures found { HasCleanDisk (state S.Store conn.new) → (state S.Store conn.old).now.schema ≡ schema_two → (m : State)
         → StandsFor (state S.Store conn.old).now.trees m
         → (project : List ℕ) (dump : DumpValue) → Has ((state S.Store conn.old).now.trees 1) (slot_row slot project (pos 1)) → m.dump project ≡ Some dump
-        → IfOk result (λ found. FindsCover dump.elements uri.now at (map range_found found.items)) }
+        → IfOk result (λ found. FindsCover request dump.elements uri.now at (map range_found found.items)) }
     ensures looks { Looks (state S.Store conn.old) (state S.Store conn.new) }
     ensures mode { conn.old.in_transaction ≡ false → conn.new.in_transaction ≡ false }
 {
     let rows = climb(alloc, conn, slot, uri, at)?;
     let mut found = Vec::new(alloc);
     for row in &rows {
-        let range = complete(conn, slot, row)?;
+        let range = complete(conn, slot, request, row)?;
         if found.push(range).is_err() {
             return Err(Refusal::Memory);
         }
@@ -137,17 +157,18 @@ fn covering_in<S: Alter>(
     alloc: Global,
     conn: &mut Connection<S>,
     slot: i64,
+    request: RequestKind,
     uri: &str,
     at: Position,
 ) -> Result<Covering, Refusal>
     ensures found { HasCleanDisk (state S.Store conn.new) → (state S.Store conn.old).now.schema ≡ schema_two → (m : State)
         → StandsFor (state S.Store conn.old).now.trees m
-        → (project : List ℕ) → Has ((state S.Store conn.old).now.trees 1) (slot_row slot project (pos 1)) → IfOk result (FindsCovering m project uri.now at) }
+        → (project : List ℕ) → Has ((state S.Store conn.old).now.trees 1) (slot_row slot project (pos 1)) → IfOk result (FindsCovering m request project uri.now at) }
     ensures looks { Looks (state S.Store conn.old) (state S.Store conn.new) }
     ensures mode { conn.old.in_transaction ≡ false → conn.new.in_transaction ≡ false }
 {
     if has_document(conn, slot, uri)? {
-        Ok(Covering::Ranges(ranges_in(alloc, conn, slot, uri, at)?))
+        Ok(Covering::Ranges(ranges_in(alloc, conn, slot, request, uri, at)?))
     } else {
         Ok(Covering::NoDocument)
     }
@@ -157,41 +178,43 @@ fn covering_in<S: Alter>(
 fn find_covering<S: Alter>(
     alloc: Global,
     conn: &mut Connection<S>,
+    request: RequestKind,
     project: &str,
     uri: &str,
     at: Position,
 ) -> Result<Covering, Refusal>
     ensures found { HasCleanDisk (state S.Store conn.new) → (state S.Store conn.old).now.schema ≡ schema_two → (m : State)
-        → StandsFor (state S.Store conn.old).now.trees m → IfOk result (FindsCovering m project.now uri.now at) }
+        → StandsFor (state S.Store conn.old).now.trees m → IfOk result (FindsCovering m request project.now uri.now at) }
     ensures looks { Looks (state S.Store conn.old) (state S.Store conn.new) }
     ensures mode { conn.old.in_transaction ≡ false → conn.new.in_transaction ≡ false }
 {
     match find_slot(conn, project, Part::Dump)? {
-        Some(slot) => covering_in(alloc, conn, slot, uri, at),
+        Some(slot) => covering_in(alloc, conn, slot, request, uri, at),
         None => Ok(Covering::NoDump),
     }
 }
 
 impl<S: Alter> Tables<S> {
-    /// The ranges of a document of the project's dump that cover the position, the smallest first; or that the project has no dump, or the dump no
+    /// The ranges of a document of the project's dump that cover the position, the smallest first, with their results for the request; or that the project has no dump, or the dump no
     /// document of this serialized URL. It's `Refused` where the store refuses, or where a row isn't one of this product's, and `Memory` where memory
     /// is refused, also to a database in memory (`in_memory`).
     pub fn covering(
         &mut self,
         alloc: Global,
+        request: RequestKind,
         project: &str,
         uri: &str,
         position: Position,
     ) -> Result<Covering, TablesFault>
         ensures found { HasCleanDisk (state S.Store self.new) → (m : State) → Rests (state S.Store self.old) m
-            → IfOk result (FindsCovering m project.now uri.now position) }
+            → IfOk result (FindsCovering m request project.now uri.now position) }
         ensures same { HasCleanDisk (state S.Store self.new) → IsTrue (state S.Store self.new).is_open → (m : State) → Rests (state S.Store self.old) m
             → IsAsBefore (state S.Store self.old) (state S.Store self.new) }
         ensures clean { HasCleanDisk (state S.Store self.new) → HasCleanDisk (state S.Store self.old) }
         ensures fault { IfErr result IsStoreFault }
         ensures survives { (m : State) → Rests (state S.Store self.old) m → Survives (state S.Store self.old) (state S.Store self.new) (λ _. ⊥) }
     {
-        match find_covering(alloc, &mut self.conn, project, uri, position) {
+        match find_covering(alloc, &mut self.conn, request, project, uri, position) {
             Ok(found) => Ok(found),
             Err(refusal) => Err(refusal.fault(self.is_in_memory)),
         }

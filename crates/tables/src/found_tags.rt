@@ -13,7 +13,7 @@ ghost use Rattle.tables.specs.Columns.{fields_text, tag_columns};
 ghost use Rattle.machine.specs.State.{State};
 ghost use Rattle.tables.specs.Stands.{IsAsBefore, StandsFor};
 ghost use Rattle.machine.specs.FoundTags.{FoundTag as FoundTagValue, IsAsked};
-ghost use Rattle.tables.specs.Names.{tag_found};
+ghost use Rattle.machine.specs.Found.{tag_found};
 ghost use Rattle.tables.specs.Steps.Selected.{Looks};
 ghost use Rattle.tables.specs.Steps.TagRows.{AllTell, Grows, IsFoundIf, IsTold, TellsTag, columns_of, tag_row_columns};
 
@@ -21,17 +21,11 @@ use crate::bearers::slot_project;
 use crate::columns::column;
 use crate::fault::Refusal;
 use crate::selection::Listed;
+use machine::FoundTag;
 use serde_json::{Category, Value};
 use sqlite::{Alter, Connection, Row};
 use std::alloc::Global;
 use tags::{Field, Tag};
-
-/// A tag of a project.
-#[derive(Debug, PartialEq, Eq, Drop)]
-pub struct FoundTag {
-    pub project: String,
-    pub tag: Tag,
-}
 
 /// The row of a tag. The fields are as they are written.
 #[derive(Drop)]

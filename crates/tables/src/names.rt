@@ -8,14 +8,16 @@ ghost use Rattle.machine.specs.State.{State};
 ghost use Rattle.tables.specs.Fault.{IsStoreFault};
 ghost use Rattle.tables.specs.Stands.{IsAsBefore, StandsFor, Rests};
 ghost use Rattle.machine.specs.FoundTags.{BeginsWith, line_cmp, name_cmp};
-ghost use Rattle.tables.specs.Names.{FindsNamed, FindsPrefixed, tag_found};
+ghost use Rattle.machine.specs.Found.{tag_found};
+ghost use Rattle.tables.specs.Names.{FindsNamed, FindsPrefixed};
 ghost use Rattle.tables.specs.Steps.Selected.{Looks};
 ghost use Rattle.tables.specs.Steps.TagRows.{TellNamed, with_prefix};
 
 use crate::fault::{Refusal, TablesFault};
-use crate::found_tags::{FoundTag, TagRow, complete_all};
+use crate::found_tags::{TagRow, complete_all};
 use crate::selection::{Listed, select_all};
 use crate::tables::Tables;
+use machine::FoundTag;
 use sqlite::types::ValueRef;
 use sqlite::{Alter, Connection, Row, params};
 use std::alloc::Global;

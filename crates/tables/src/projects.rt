@@ -10,7 +10,8 @@ ghost use Rattle.machine.specs.State.{State};
 ghost use Rattle.tables.specs.Fault.{IsStoreFault};
 ghost use Rattle.tables.specs.Stands.{IsAsBefore, StandsFor, Rests};
 ghost use Rattle.machine.specs.Projects.{text_cmp};
-ghost use Rattle.tables.specs.Selections.{FindsProjects, project_found};
+ghost use Rattle.machine.specs.Found.{project_found};
+ghost use Rattle.tables.specs.Selections.{FindsProjects};
 ghost use Rattle.tables.specs.Steps.Selected.{Looks};
 ghost use Rattle.tables.specs.Steps.Slots.{HasPart, IsTold};
 
@@ -19,16 +20,9 @@ use crate::parts::find_slot;
 use crate::selection::select_all;
 use crate::slots::Part;
 use crate::tables::Tables;
+use machine::FoundProject;
 use sqlite::{Alter, Connection};
 use std::alloc::Global;
-
-/// A project with a part, and which parts it has.
-#[derive(Debug, PartialEq, Eq, Drop)]
-pub struct ProjectRow {
-    pub name: String,
-    pub dump: bool,
-    pub tags: bool,
-}
 
 /// Whether the project has the part.
 fn has_part<S: Alter>(conn: &mut Connection<S>, project: &str, part: Part) -> Result<bool, Refusal>
@@ -45,7 +39,7 @@ fn has_part<S: Alter>(conn: &mut Connection<S>, project: &str, part: Part) -> Re
 }
 
 /// The project of this name, and which parts it has. It's `Row` where it has neither: the row of a slot that named it is of another part.
-fn project_of<S: Alter>(conn: &mut Connection<S>, name: String) -> Result<ProjectRow, Refusal>
+fn project_of<S: Alter>(conn: &mut Connection<S>, name: String) -> Result<FoundProject, Refusal>
     ensures name { IfOk result (λ project. string_bytes project.name ≡ string_bytes name) }
     ensures told { HasCleanDisk (state S.Store conn.new) → (state S.Store conn.old).now.schema ≡ schema_two → (m : State)
         → StandsFor (state S.Store conn.old).now.trees m → IfOk result (λ project. IsTold m (project_found project)) }
@@ -59,7 +53,7 @@ fn project_of<S: Alter>(conn: &mut Connection<S>, name: String) -> Result<Projec
     if !dump && !tags {
         return Err(Refusal::Row);
     }
-    Ok(ProjectRow { name, dump, tags })
+    Ok(FoundProject { name, dump, tags })
 }
 
 /// Puts the names in order, each once.
@@ -89,7 +83,7 @@ fn select_names<S: Alter>(alloc: Global, conn: &mut Connection<S>) -> Result<Vec
 fn list_projects<S: Alter>(
     alloc: Global,
     conn: &mut Connection<S>,
-) -> Result<Vec<ProjectRow>, Refusal>
+) -> Result<Vec<FoundProject>, Refusal>
     ensures found { HasCleanDisk (state S.Store conn.new) → (state S.Store conn.old).now.schema ≡ schema_two → (m : State)
         → StandsFor (state S.Store conn.old).now.trees m → IfOk result (λ found. FindsProjects m (map project_found found.items)) }
     ensures looks { Looks (state S.Store conn.old) (state S.Store conn.new) }
@@ -110,7 +104,7 @@ fn list_projects<S: Alter>(
 impl<S: Alter> Tables<S> {
     /// The projects with a part: each once, by name (its bytes). It's `Refused` where the store refuses, or where a row isn't one of this product's,
     /// and `Memory` where memory is refused, also to a database in memory (`in_memory`).
-    pub fn projects(&mut self, alloc: Global) -> Result<Vec<ProjectRow>, TablesFault>
+    pub fn projects(&mut self, alloc: Global) -> Result<Vec<FoundProject>, TablesFault>
         ensures found { HasCleanDisk (state S.Store self.new) → (m : State) → Rests (state S.Store self.old) m
             → IfOk result (λ found. FindsProjects m (map project_found found.items)) }
         ensures same { HasCleanDisk (state S.Store self.new) → IsTrue (state S.Store self.new).is_open → (m : State) → Rests (state S.Store self.old) m

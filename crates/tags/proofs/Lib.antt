@@ -2,6 +2,7 @@ pub mod AddressLemmas
 pub mod AroundLemmas
 pub mod ConditionLemmas
 pub mod ContentLemmas
+pub mod Copies
 pub mod CutLemmas
 pub mod EscapeLemmas
 pub mod FieldLemmas

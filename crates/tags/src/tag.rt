@@ -2,7 +2,7 @@
 ghost use Rattle.std.specs.Prelude.{◌≡◌, IfOk};
 ghost use Rattle.tags.specs.Steps.Contents.{IsCut};
 ghost use Rattle.tags.specs.Values.{EntryValue, numbered};
-ghost use Rattle.tags.specs.Views.{tag_value};
+ghost use Rattle.tags.specs.Views.{field_value, tag_value};
 
 use crate::around::text_of;
 use crate::cut::Cut;
@@ -16,6 +16,17 @@ pub struct Field {
     pub name: String,
     /// Without escapes.
     pub value: String,
+}
+
+impl Clone for Field {
+    ghost is_clone = { λ field copy. field_value copy ≡ field_value field };
+
+    fn clone(&self) -> Result<Field, AllocError> {
+        Ok(Field {
+            name: self.name.clone()?,
+            value: self.value.clone()?,
+        })
+    }
 }
 
 /// A tag of a tags file: tags(5), "Proposal".
@@ -33,6 +44,26 @@ pub struct Tag {
     pub kind: Option<String>,
     /// The other fields, in order.
     pub fields: Vec<Field>,
+}
+
+impl Clone for Tag {
+    ghost is_clone = { λ tag copy. tag_value copy ≡ tag_value tag };
+
+    #[tactic(auto, using(crate::proofs::Copies::fields_same))]
+    fn clone(&self) -> Result<Tag, AllocError> {
+        let kind = match &self.kind {
+            Some(kind) => Some(kind.clone()?),
+            None => None,
+        };
+        Ok(Tag {
+            line: self.line,
+            name: self.name.clone()?,
+            file: self.file.clone()?,
+            address: self.address.clone()?,
+            kind,
+            fields: self.fields.clone()?,
+        })
+    }
 }
 
 /// The tag of a line of this number, by its cut.

@@ -1,4 +1,5 @@
 //! Connections on loopback and clients that take their time, and what they're replied.
+use super::databases::opened;
 use super::samples::{BASE, reply, text_of};
 use crate::database::connect_file;
 use crate::serve::{CountedListener, ServerFault, serve_connection, serve_in_memory};
@@ -15,7 +16,6 @@ use std::net::{
 use std::process::Abort;
 use std::test::Fail;
 use std::time::{Clock, Duration};
-use tables::Tables;
 
 /// Requests without a body, each with the end of its reply's status line, the length of the reply's body and the body.
 /// They are asked of an index that has the base dump, in the project `app`.
@@ -122,13 +122,7 @@ fn first_other_over<S: Alter + Drop>(
     rt: &HostRuntime,
     conn: Connection<S>,
 ) -> Result<Option<String>, Fail> {
-    if !conn.is_autocommit() {
-        return Err("within a transaction")?;
-    }
-    match Tables::open(conn) {
-        Ok(tables) => first_other(rt, &mut TableDesk::new(rt.alloc(), tables)),
-        Err((fault, _)) => Err(fault.text())?,
-    }
+    first_other(rt, &mut TableDesk::new(rt.alloc(), opened(conn)?))
 }
 
 /// The same over a desk that keeps dumps in memory, and over a database in a file.
@@ -142,46 +136,65 @@ fn served(rt: HostRuntime) -> Result<(), Fail> {
     Ok(())
 }
 
+/// A head that says no length, and 50,000 bytes behind it.
+fn without_length(alloc: Global) -> Result<String, Fail> {
+    let mut text = String::from_str(alloc, "PUT /projects/app/tags?key=k1 HTTP/1.1\r\n\r\n")?;
+    for _ in 0..5000 {
+        text.push_str("1234567890")?;
+    }
+    Ok(text)
+}
+
+/// How the service of so many connections ends over a database in memory that is empty at first.
+fn serve_all(
+    rt: &HostRuntime,
+    listener: &TcpListener,
+    requests: u32,
+) -> Result<Result<(), ServerFault>, Fail> {
+    let mut desk = TableDesk::open_in_memory(rt.alloc())?;
+    let mut counted = CountedListener::new(listener);
+    let limits = limits(50, 5000);
+    Ok(serve_in_memory(rt.alloc(), &mut desk, rt, limits, &mut counted, requests))
+}
+
+/// Clients that have sent these texts, the first one first.
+fn clients(
+    rt: &HostRuntime,
+    listener: &TcpListener,
+    rows: &[(&str, &str)],
+) -> Result<Vec<TcpStream>, Fail> {
+    let mut clients = Vec::new(rt.alloc());
+    for (sent, _) in rows {
+        clients.push(client(rt, listener, sent)?)?;
+    }
+    Ok(clients)
+}
+
 /// A client that sends nothing and ends, one that sends nothing and stays, one that stops in its head, one whose head
 /// is refused before all that it sends is read, and one that is told that there's no project: each counts as one
 /// connection.
 #[test]
 fn counted(rt: HostRuntime) -> Result<(), Fail> {
-    let alloc = rt.alloc();
     let listener = listen(&rt)?;
+    let long = without_length(rt.alloc())?;
+    let refused = r#"{"fault":"H03","text":"length required"}"#;
+    let refused = reply(rt.alloc(), "411 Length Required", 40, refused)?;
+    let listed = reply(rt.alloc(), "200 OK", 15, NO_PROJECTS)?;
+    let rows = [
+        ("", ""),
+        ("GET /projects HTTP/1.1\r\nHost: ", ""),
+        (long.as_str(), refused.as_str()),
+        ("GET /projects HTTP/1.1\r\n\r\n", listed.as_str()),
+    ];
     drop(client(&rt, &listener, "")?);
-    let silent = client(&rt, &listener, "")?;
-    let stalled = client(&rt, &listener, "GET /projects HTTP/1.1\r\nHost: ")?;
-    let length = "PUT /projects/app/tags?key=k1 HTTP/1.1\r\n\r\n";
-    let mut bytes = String::from_str(alloc, length)?;
-    for _ in 0..5000 {
-        bytes.push_str("1234567890")?;
+    let mut clients = clients(&rt, &listener, &rows)?;
+    assert_eq!(rt; serve_all(&rt, &listener, 5)?, Ok(()));
+    for (_, wanted) in rows.iter().rev() {
+        let client = clients.pop().ok_or("no client")?;
+        assert_eq!(rt; received(rt.alloc(), client)?.as_str(), *wanted);
     }
-    let refused = client(&rt, &listener, bytes.as_str())?;
-    let last = client(&rt, &listener, "GET /projects HTTP/1.1\r\n\r\n")?;
-    let mut desk = TableDesk::open_in_memory(alloc)?;
-    let mut counted = CountedListener::new(&listener);
-    assert_eq!(rt;
-        serve_in_memory(alloc, &mut desk, &rt, limits(50, 5000), &mut counted, 5),
-        Ok(())
-    );
-    assert_eq!(rt; received(alloc, silent)?.as_str(), "");
-    assert_eq!(rt; received(alloc, stalled)?.as_str(), "");
-    let wanted = reply(
-        alloc,
-        "411 Length Required",
-        40,
-        r#"{"fault":"H03","text":"length required"}"#,
-    )?;
-    assert_eq!(rt; received(alloc, refused)?.as_str(), wanted.as_str());
-    let wanted = reply(alloc, "200 OK", 15, NO_PROJECTS)?;
-    assert_eq!(rt; received(alloc, last)?.as_str(), wanted.as_str());
     listener.set_nonblocking(true)?;
-    let mut counted = CountedListener::new(&listener);
-    assert_eq!(rt;
-        serve_in_memory(alloc, &mut desk, &rt, limits(50, 5000), &mut counted, 1),
-        Err(ServerFault::Accept)
-    );
+    assert_eq!(rt; serve_all(&rt, &listener, 1)?, Err(ServerFault::Accept));
     Ok(())
 }
 

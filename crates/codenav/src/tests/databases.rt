@@ -30,7 +30,7 @@ const FORMAT_ONE: &str = "CREATE TABLE format (version INTEGER PRIMARY KEY) STRI
     CREATE TABLE tag (slot INTEGER NOT NULL REFERENCES slot ON DELETE CASCADE, line INTEGER NOT NULL, name TEXT NOT NULL, file TEXT NOT NULL, address TEXT NOT NULL, kind TEXT, fields TEXT NOT NULL, PRIMARY KEY (slot, line)) STRICT;\
     INSERT INTO format (version) VALUES (1)";
 
-fn opened<S: Alter + Drop>(conn: Connection<S>) -> Result<Tables<S>, Fail> {
+pub(super) fn opened<S: Alter + Drop>(conn: Connection<S>) -> Result<Tables<S>, Fail> {
     if !conn.is_autocommit() {
         return Err("in a transaction")?;
     }
@@ -48,7 +48,7 @@ fn tags_of(alloc: Global, text: &str) -> Result<Vec<Tag>, Fail> {
 }
 
 /// A database in files in memory that stop after so many calls; or the files, where they stop while it's opened.
-fn connected(
+pub(super) fn connected(
     alloc: Global,
     log: u64,
     db: u64,
@@ -65,7 +65,7 @@ fn connected(
     }
 }
 
-fn files_of(conn: Connection<FileStore<Fuse<Memory>>>) -> Files<Fuse<Memory>> {
+pub(super) fn files_of(conn: Connection<FileStore<Fuse<Memory>>>) -> Files<Fuse<Memory>> {
     match conn.close_files() {
         Ok(files) => files,
         Err((_, store)) => store.close(),
@@ -73,7 +73,7 @@ fn files_of(conn: Connection<FileStore<Fuse<Memory>>>) -> Files<Fuse<Memory>> {
 }
 
 /// A connection to what a crash left of the files.
-fn reopened(
+pub(super) fn reopened(
     alloc: Global,
     files: Files<Fuse<Memory>>,
 ) -> Result<Connection<FileStore<Fuse<Memory>>>, Fail> {
@@ -87,7 +87,7 @@ fn reopened(
 }
 
 /// After how many calls each file stops, where the log or the other stops after so many.
-fn fuses(is_log: bool, calls: u64) -> (u64, u64) {
+pub(super) fn fuses(is_log: bool, calls: u64) -> (u64, u64) {
     if is_log {
         (calls, u64::MAX)
     } else {

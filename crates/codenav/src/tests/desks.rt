@@ -14,6 +14,7 @@ use desk::{
     Command, Desk, DocUri, Key, PlainDesk, ProjectName, Query, Reply, Request, RunFault, TableDesk,
     answer_law, judgement_law, read_number, reply_law, retry_law, run,
 };
+use dump::RequestKind;
 use lsif::Profile;
 use positions::Position;
 use samples::dump_text;
@@ -107,18 +108,26 @@ fn query_at(alloc: Global, verb: &str, rest: &'static str) -> Result<Query, Fail
     let line = read_number(line).ok_or("no line")?;
     let character = read_number(character).ok_or("no character")?;
     let at = Position::new(line, character).ok_or("no position")?;
-    let declaration = choice != "no";
-    Ok(match verb {
-        "definition" => Query::Definition { project, uri, at },
-        "references" => Query::References {
+    let kind = match verb {
+        "definition" => RequestKind::Definition,
+        "references" => RequestKind::References,
+        "hover" => RequestKind::Hover,
+        "declaration" => RequestKind::Declaration,
+        _ => RequestKind::Implementation,
+    };
+    Ok(match choice {
+        "" => Query::At {
+            kind,
             project,
             uri,
             at,
-            declaration,
         },
-        "hover" => Query::Hover { project, uri, at },
-        "declaration" => Query::Declaration { project, uri, at },
-        _ => Query::Implementation { project, uri, at },
+        _ => Query::References {
+            project,
+            uri,
+            at,
+            declaration: choice != "no",
+        },
     })
 }
 

@@ -2,6 +2,7 @@
 ghost use Rattle.std.specs.Prelude.{◌≡◌, is_err, true};
 
 use super::samples::{Slow, slow_writer};
+use dump::RequestKind;
 use http_edge::serve_stream;
 use lsif::Counted;
 use machine::{Change, Command, Desk, DocUri, ProjectName, Query, Reply, Upload};
@@ -174,16 +175,26 @@ fn of_tags(
     format!(in alloc; "{name} {text} in {project}")
 }
 
+/// The word of a kind of requests.
+fn word(kind: RequestKind) -> &'static str {
+    match kind {
+        RequestKind::Definition => "definition",
+        RequestKind::References => "references",
+        RequestKind::Hover => "hover",
+        RequestKind::Declaration => "declaration",
+        RequestKind::Implementation => "implementation",
+    }
+}
+
 /// A query, as tables write it.
 fn query_text(alloc: Global, query: &Query) -> Result<String, AllocError> {
     match query {
-        Query::Definition { project, uri, at } => at_position(
-            alloc,
-            "definition",
+        Query::At {
+            kind,
             project,
             uri,
             at,
-        ),
+        } => at_position(alloc, word(*kind), project, uri, at),
         Query::References {
             project,
             uri,
@@ -197,17 +208,6 @@ fn query_text(alloc: Global, query: &Query) -> Result<String, AllocError> {
                 " without the declaration"
             })?;
             Ok(text)
-        }
-        Query::Hover { project, uri, at } => at_position(alloc, "hover", project, uri, at),
-        Query::Declaration { project, uri, at } => at_position(
-            alloc,
-            "declaration",
-            project,
-            uri,
-            at,
-        ),
-        Query::Implementation { project, uri, at } => {
-            at_position(alloc, "implementation", project, uri, at)
         }
         Query::Names { name, project } => of_tags(alloc, "names", name.as_str(), project),
         Query::Prefix { prefix, project } => of_tags(alloc, "prefix", prefix.as_str(), project),

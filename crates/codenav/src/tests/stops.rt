@@ -1,11 +1,12 @@
 //! Stores that stop at a call in the midst of two uploads: what is answered, what a new start finds, and what comes of the uploads sent again.
+use super::databases::{connected, files_of, fuses, opened, reopened};
 use super::replay::exchange;
 use super::samples::{Slow, in_pieces, slow_writer};
 use crate::replay::replay;
 use desk::TableDesk;
 use lsif::Counted;
-use sqlite::{Alter, Connection, FileStore, Files, Options};
-use sqlite_disk::{Crash, Fuse, Memory};
+use sqlite::{Alter, Connection, Files};
+use sqlite_disk::{Fuse, Memory};
 use std::alloc::Global;
 use std::test::Fail;
 use tables::Tables;
@@ -144,64 +145,27 @@ fn goes_on<S: Alter + Drop>(
     conn: Connection<S>,
     reached: Reached,
 ) -> Result<bool, Fail> {
-    if !conn.is_autocommit() {
-        return Err("in a transaction")?;
-    }
-    match Tables::open(conn) {
-        Ok(tables) => {
-            let mut desk = TableDesk::new(alloc, tables);
-            Ok(is_left(alloc, &mut desk, reached)? && is_mended(alloc, &mut desk, reached)?)
-        }
-        Err(_) => Ok(false),
-    }
+    let mut desk = TableDesk::new(alloc, opened(conn)?);
+    Ok(is_left(alloc, &mut desk, reached)? && is_mended(alloc, &mut desk, reached)?)
 }
 
 /// A life over new files in memory that stop after so many calls of the log and of the other; and the files.
 fn stopped(alloc: Global, log: u64, db: u64) -> Result<(Reached, Files<Fuse<Memory>>), Fail> {
-    let files = Files {
-        log: Fuse::new(Memory::new(alloc), log),
-        db: Fuse::new(Memory::new(alloc), db),
-    };
-    match Connection::open_files(alloc, files, Options::new(1)) {
+    match connected(alloc, log, db) {
         Ok(conn) => {
             let (reached, conn) = uploaded_over(alloc, conn)?;
             Ok((reached, files_of(conn)))
         }
-        Err((_, left)) => Ok((Reached::Nothing, left.into_files())),
+        Err(files) => Ok((Reached::Nothing, files)),
     }
 }
 
-fn files_of(conn: Connection<FileStore<Fuse<Memory>>>) -> Files<Fuse<Memory>> {
-    match conn.close_files() {
-        Ok(files) => files,
-        Err((_, store)) => store.close(),
-    }
-}
-
-/// Whether the next start goes on over what a crash left of the files.
-fn goes_on_after(
-    alloc: Global,
-    files: Files<Fuse<Memory>>,
-    reached: Reached,
-) -> Result<bool, Fail> {
-    let Files { mut log, mut db } = files;
-    log.crash();
-    db.crash();
-    match Connection::open_files(alloc, Files { log, db }, Options::new(1)) {
-        Ok(conn) => goes_on(alloc, conn, reached),
-        Err(_) => Ok(false),
-    }
-}
-
-/// How far the life comes whose log, or whose other file, stops after so many calls, and whether the next goes on.
+/// How far the life comes whose log, or whose other file, stops after so many calls, and whether the next goes on over what a crash left.
 fn lived(alloc: Global, is_log: bool, calls: u64) -> Result<(Reached, bool), Fail> {
-    let (log, db) = if is_log {
-        (calls, u64::MAX)
-    } else {
-        (u64::MAX, calls)
-    };
+    let (log, db) = fuses(is_log, calls);
     let (reached, files) = stopped(alloc, log, db)?;
-    Ok((reached, goes_on_after(alloc, files, reached)?))
+    let goes_on = goes_on(alloc, reopened(alloc, files)?, reached)?;
+    Ok((reached, goes_on))
 }
 
 #[test]

@@ -5,9 +5,9 @@ use Rattle.std.specs.declared.cmp.Ordering.{Ordering}
 use Rattle.tags.specs.Judging.{lines_rise}
 use Rattle.tags.specs.Values.{TagValue}
 use Rattle.machine.specs.FoundTags.{FoundTag}
-use Rattle.tables.specs.Names.{tag_found}
+use Rattle.machine.specs.Found.{tag_found}
 use Rattle.machine.specs.Projects.{ProjectValue}
-use Rattle.tables.specs.declared.found_tags.FoundTag as program
+use Rattle.machine.specs.declared.found.FoundTag as program
 use Rattle.desk.specs.declared.listed.Wanted.{Wanted}
 use Rattle.desk.specs.declared.listed.Wanted.TheVariants.{Name, Prefix}
 use Rattle.desk.specs.declared.project.Project.{Project}

@@ -26,5 +26,5 @@ HasContentsOf m (Some j) contents = FindsHover m j.project j.number contents
 -- the contents of the range's own first result; and where it has none, of that of the first vertex that is joined
 abbrev pub RowHovers : State → List ℕ → RangeFound → Option (List ℕ) → Type 0
 RowHovers m own row contents =
-    ((n : ℕ) × (row.results.hover ≡ Some n) × FindsHover m own n contents)
-    ⊎ ((row.results.hover ≡ None) × ((least : Option JoinedValue) × IsLeast (IsRowJoined m Hover own row) least × HasContentsOf m least contents))
+    ((n : ℕ) × (row.result ≡ Some n) × FindsHover m own n contents)
+    ⊎ ((row.result ≡ None) × ((least : Option JoinedValue) × IsLeast (IsRowJoined m Hover own row) least × HasContentsOf m least contents))

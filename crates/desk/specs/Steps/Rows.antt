@@ -36,16 +36,16 @@ IsRowKey m request project line text = (mark : MarkText) × HasMark m project li
 
 -- the range has a result, or such a key
 abbrev pub RowSpeaks : State → RequestKind → List ℕ → RangeFound → Type 0
-RowSpeaks m request project row = (is_some (result_for request row.results) ≡ true) ⊎ ((text : List ℕ) × IsRowKey m request project row.line text)
+RowSpeaks m request project row = (is_some row.result ≡ true) ⊎ ((text : List ℕ) × IsRowKey m request project row.line text)
 
 -- the range of the dump has this row
-abbrev pub HasRow : List ElementValue → RangeValue → RangeFound → Type 0
-HasRow elements r row = (vertex_at elements r.id ≡ Some (range r.span)) × IsRangeFound elements r row
+abbrev pub HasRow : RequestKind → List ElementValue → RangeValue → RangeFound → Type 0
+HasRow request elements r row = (vertex_at elements r.id ≡ Some (range r.span)) × IsRangeFound request elements r row
 
 -- a request at the position is asked of the range of this row, or of none
 abbrev pub PicksRow : DumpValue → RequestKind → List ℕ → PositionValue → Option RangeFound → Type 0
 PicksRow dump request uri at None = Pick request dump.elements uri at None
-PicksRow dump request uri at (Some row) = (r : RangeValue) × Pick request dump.elements uri at (Some r) × HasRow dump.elements r row
+PicksRow dump request uri at (Some row) = (r : RangeValue) × Pick request dump.elements uri at (Some r) × HasRow request dump.elements r row
 
 -- the texts are those of the keys of these marks by which the request goes on to other projects
 abbrev pub AreFollowed : RequestKind → List MarkText → List (List ℕ) → Type 0
@@ -116,12 +116,12 @@ abbrev pub result_of_joined : JoinedValue → ProjectResultValue
 result_of_joined j = record { project = j.project; number = j.number }
 
 -- the range's own first result
-abbrev pub IsOwnResult : RequestKind → List ℕ → RangeFound → ProjectResultValue → Type 0
-IsOwnResult request own row t = (t.project ≡ own) × (result_for request row.results ≡ Some t.number)
+abbrev pub IsOwnResult : List ℕ → RangeFound → ProjectResultValue → Type 0
+IsOwnResult own row t = (t.project ≡ own) × (row.result ≡ Some t.number)
 
 -- the first result of the range, or of a vertex that is joined to it
 abbrev pub IsAnsweringResult : State → RequestKind → List ℕ → RangeFound → ProjectResultValue → Type 0
-IsAnsweringResult m request own row t = IsOwnResult request own row t ⊎ ((j : JoinedValue) × IsRowJoined m request own row j × (result_of_joined j ≡ t))
+IsAnsweringResult m request own row t = IsOwnResult own row t ⊎ ((j : JoinedValue) × IsRowJoined m request own row j × (result_of_joined j ≡ t))
 
 -- a place of the result in this role, in the result's project
 abbrev pub IsRolePlace : State → Role → ProjectResultValue → FoundPlace → Type 0

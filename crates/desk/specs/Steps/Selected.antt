@@ -8,6 +8,7 @@ use Rattle.std.specs.Ordering.{nat_cmp, ordering_then}
 use Rattle.positions.specs.Position.{PositionValue}
 use Rattle.positions.specs.Span.{covers}
 use Rattle.lsif.specs.Element.{ElementValue}
+use Rattle.dump.specs.declared.request_kind.RequestKind.{RequestKind}
 use Rattle.dump.specs.declared.role.Role.{Role}
 use Rattle.dump.specs.Places.{IsListing, PlaceValue}
 use Rattle.dump.specs.Progress.{DumpValue}
@@ -79,8 +80,8 @@ range_wanted uri at row = if bytes_eq row.place.uri uri && covers row.place.span
 abbrev pub by_span : RangeRow → RangeRow → Ordering
 by_span a b = inner_order a.span.now b.span.now
 
-abbrev pub range_found_of : RangeRow → RangeFound
-range_found_of r = row_found (range_value r)
+abbrev pub range_found_of : RequestKind → RangeRow → RangeFound
+range_found_of request r = row_found request (range_value r)
 
 -- ---- bearers in all projects
 

@@ -43,7 +43,7 @@ fn contents_at<I: Index>(
     ensures reads_only { I.is_reliable index.new → ReadsOnly I.stands I.may_leave index.old index.new }
     ensures refused { IfErr result (λ fault. fault ≡ Refused → I.may_refuse ≡ true) }
 {
-    if let Some(number) = range.hover {
+    if let Some(number) = range.result {
         return index.hover(own, number);
     }
     let mut found = joined_bearers(alloc, index, RequestKind::Hover, own, keys)?;

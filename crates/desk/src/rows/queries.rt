@@ -1,12 +1,9 @@
 //! The replies to queries, each made of what the selections of an index find.
 ghost use Rattle.std.specs.Prelude.{◌≡◌, ◌≢◌, IfOk, List, map, option_map, IfErr, true};
 ghost use Rattle.dump.specs.declared.request_kind.RequestKind.TheVariants as requests;
-ghost use Rattle.tables.specs.Names.{tag_found as row_found};
-ghost use Rattle.tables.specs.Selections as selections;
 ghost use Rattle.machine.specs.State.{State};
 ghost use Rattle.desk.specs.Indexes.{ReadsOnly};
-ghost use Rattle.machine.specs.Answers.{Answers, AnswersAt, AnswersPlaces, reference_roles};
-ghost use Rattle.machine.specs.Found.{project_found, tag_found};
+ghost use Rattle.machine.specs.Answers.{Answers, AnswersAt, AnswersKind, AnswersPlaces, reference_roles, roles_of};
 ghost use Rattle.machine.specs.Requests.{at_value, query_value};
 ghost use Rattle.machine.specs.Requests as queries;
 ghost use Rattle.desk.specs.declared.index.IndexFault.TheVariants.{Refused};
@@ -18,12 +15,11 @@ use crate::rows::ranges::{Picked, pick};
 use crate::rows::results::answering_results;
 use dump::{RequestKind, Role};
 use machine::{
-    Code, DocUri, FoundProject, FoundTag, ProjectName, Query, Reply, places_found, profile_found,
-    projects_found, tags_found,
+    Code, DocUri, ProjectName, Query, Reply, places_found, profile_found, projects_found,
+    tags_found,
 };
 use positions::Position;
 use std::alloc::{AllocError, Global};
-use tables::ProjectRow;
 
 /// The roles of the places that a references query asks for.
 fn reference_roles(declaration: bool) -> &'static [Role]
@@ -65,23 +61,6 @@ pub(crate) fn places<I: Index>(
     }
 }
 
-/// The tags, as they are written into a reply.
-fn lent_tags<'a>(
-    alloc: Global,
-    tags: &'a [tables::FoundTag],
-) -> Result<Vec<FoundTag<'a>>, AllocError>
-    ensures { IfOk result (λ lent. map tag_found lent.items ≡ map row_found tags.now) }
-{
-    let mut lent = Vec::new(alloc);
-    for found in tags {
-        lent.push(FoundTag {
-            project: found.project.as_str(),
-            tag: &found.tag,
-        })?;
-    }
-    Ok(lent)
-}
-
 /// The name of the project that is asked for, where it is one.
 fn name_of(project: &Option<ProjectName>) -> Option<&str>
     ensures { option_map (λ p. p.now) result ≡ project.now }
@@ -105,8 +84,7 @@ pub(crate) fn names<I: Index>(
     ensures refused { IfErr result (λ fault. fault ≡ Refused → I.may_refuse ≡ true) }
 {
     let found = index.names_exact(alloc, name, name_of(project))?;
-    let lent = lent_tags(alloc, &found)?;
-    Ok(tags_found(alloc, &lent)?)
+    Ok(tags_found(alloc, &found)?)
 }
 
 /// Answers a query for the tags whose names begin so.
@@ -122,26 +100,7 @@ pub(crate) fn prefix<I: Index>(
     ensures refused { IfErr result (λ fault. fault ≡ Refused → I.may_refuse ≡ true) }
 {
     let found = index.names_prefix(alloc, prefix, name_of(project))?;
-    let lent = lent_tags(alloc, &found)?;
-    Ok(tags_found(alloc, &lent)?)
-}
-
-/// The projects, as they are written into a reply.
-fn lent_projects<'a>(
-    alloc: Global,
-    projects: &'a [ProjectRow],
-) -> Result<Vec<FoundProject<'a>>, AllocError>
-    ensures { IfOk result (λ lent. map project_found lent.items ≡ map selections.project_found projects.now) }
-{
-    let mut lent = Vec::new(alloc);
-    for found in projects {
-        lent.push(FoundProject {
-            name: found.name.as_str(),
-            dump: found.dump,
-            tags: found.tags,
-        })?;
-    }
-    Ok(lent)
+    Ok(tags_found(alloc, &found)?)
 }
 
 /// Answers the query for the projects.
@@ -152,8 +111,7 @@ pub(crate) fn projects<I: Index>(alloc: Global, index: &mut I) -> Result<Reply, 
     ensures refused { IfErr result (λ fault. fault ≡ Refused → I.may_refuse ≡ true) }
 {
     let found = index.projects(alloc)?;
-    let lent = lent_projects(alloc, &found)?;
-    Ok(projects_found(alloc, &lent)?)
+    Ok(projects_found(alloc, &found)?)
 }
 
 /// Answers the query for the profile of a project's dump.
@@ -173,6 +131,42 @@ pub(crate) fn profile<I: Index>(
     }
 }
 
+/// The roles of the places that a request of this kind asks for.
+fn roles_of(kind: RequestKind) -> &'static [Role]
+    ensures { result.now ≡ roles_of kind }
+{
+    match kind {
+        RequestKind::References => &[Role::Definitions, Role::References],
+        _ => &[Role::Definitions],
+    }
+}
+
+/// Answers a query at a position.
+fn answer_at<I: Index>(
+    alloc: Global,
+    index: &mut I,
+    kind: RequestKind,
+    project: &ProjectName,
+    uri: &DocUri,
+    at: Position,
+) -> Result<Reply, IndexFault>
+    ensures reliable { I.is_reliable index.new → I.is_reliable index.old }
+    ensures found { I.is_reliable index.new → (m : State) → I.stands index.old m
+        → IfOk result (λ r. AnswersAt m (at_value project.now uri.now at) (AnswersKind m kind (at_value project.now uri.now at)) r) }
+    ensures reads_only { I.is_reliable index.new → ReadsOnly I.stands I.may_leave index.old index.new }
+    ensures refused { IfErr result (λ fault. fault ≡ Refused → I.may_refuse ≡ true) }
+{
+    match kind {
+        RequestKind::Hover => hover(alloc, index, project, uri, at),
+        RequestKind::Definition
+        | RequestKind::References
+        | RequestKind::Declaration
+        | RequestKind::Implementation => {
+            places(alloc, index, kind, roles_of(kind), project, uri, at)
+        }
+    }
+}
+
 /// Answers a query.
 pub(crate) fn answer<I: Index>(
     alloc: Global,
@@ -185,48 +179,29 @@ pub(crate) fn answer<I: Index>(
     ensures refused { IfErr result (λ fault. fault ≡ Refused → I.may_refuse ≡ true) }
 {
     match query {
-        Query::Definition { project, uri, at } => places(
-            alloc,
-            index,
-            RequestKind::Definition,
-            &[Role::Definitions],
+        Query::At {
+            kind,
             project,
             uri,
-            *at,
-        ),
+            at,
+        } => answer_at(alloc, index, *kind, project, uri, *at),
         Query::References {
             project,
             uri,
             at,
             declaration,
-        } => places(
-            alloc,
-            index,
-            RequestKind::References,
-            reference_roles(*declaration),
-            project,
-            uri,
-            *at,
-        ),
-        Query::Hover { project, uri, at } => hover(alloc, index, project, uri, *at),
-        Query::Declaration { project, uri, at } => places(
-            alloc,
-            index,
-            RequestKind::Declaration,
-            &[Role::Definitions],
-            project,
-            uri,
-            *at,
-        ),
-        Query::Implementation { project, uri, at } => places(
-            alloc,
-            index,
-            RequestKind::Implementation,
-            &[Role::Definitions],
-            project,
-            uri,
-            *at,
-        ),
+        } => {
+            let roles = reference_roles(*declaration);
+            places(
+                alloc,
+                index,
+                RequestKind::References,
+                roles,
+                project,
+                uri,
+                *at,
+            )
+        }
         Query::Names { name, project } => names(alloc, index, name.as_str(), project),
         Query::Prefix {
             prefix: start,

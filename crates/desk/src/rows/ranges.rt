@@ -2,7 +2,6 @@
 //! projects (`Pick` of the crate dump). It is found by the rows of the ranges and of their marks.
 ghost use Rattle.std.specs.Prelude.{◌≡◌, IfOk, IfErr, IfSome, OnOk, map, option_map, string_bytes, true};
 ghost use Rattle.dump.specs.Requests.{IsFirst, follows};
-ghost use Rattle.flatten.specs.Flat.{result_for};
 ghost use Rattle.tables.specs.Selections.{mark_found, range_found};
 ghost use Rattle.machine.specs.State.{State};
 ghost use Rattle.desk.specs.Indexes.{AreFaultless, ReadsOnly};
@@ -27,19 +26,6 @@ pub(crate) enum Picked {
     NoRange,
     /// The row of the range, and the texts of the keys of its marks by which the request goes on to other projects.
     Range(FoundRange, Vec<String>),
-}
-
-/// The number of the range's first result for the request.
-pub(crate) fn result_of(range: &FoundRange, request: RequestKind) -> Option<u32>
-    ensures { result ≡ result_for request (range_found range.now).results }
-{
-    match request {
-        RequestKind::Definition => range.def,
-        RequestKind::References => range.refs,
-        RequestKind::Hover => range.hover,
-        RequestKind::Declaration => range.decl,
-        RequestKind::Implementation => range.imp,
-    }
 }
 
 /// Whether a request goes on to other projects by marks of this kind.
@@ -107,7 +93,7 @@ fn first_speaking<I: Index>(
 {
     for range in ranges {
         let keys = keys_at(alloc, index, request, project, range.line)?;
-        if result_of(range, request).is_some() || !keys.is_empty() {
+        if range.result.is_some() || !keys.is_empty() {
             return Ok(Some((*range, keys)));
         }
     }
@@ -129,7 +115,7 @@ pub(crate) fn pick<I: Index>(
     ensures reads_only { I.is_reliable index.new → ReadsOnly I.stands I.may_leave index.old index.new }
     ensures refused { IfErr result (λ fault. fault ≡ Refused → I.may_refuse ≡ true) }
 {
-    match index.covering(alloc, project, uri, at)? {
+    match index.covering(alloc, request, project, uri, at)? {
         Covering::NoDump => Ok(Picked::NoDump),
         Covering::NoDocument => Ok(Picked::NoDocument),
         Covering::Ranges(ranges) => {

@@ -10,7 +10,6 @@ ghost use Rattle.desk.specs.declared.index.IndexFault.TheVariants.{Refused};
 
 use crate::index::{Index, IndexFault};
 use crate::rows::bearers::{JoinedBearer, joined_bearers};
-use crate::rows::ranges::result_of;
 use dump::RequestKind;
 use std::alloc::{AllocError, Global};
 use tables::FoundRange;
@@ -25,14 +24,13 @@ pub(crate) struct ProjectResult {
 /// The range's own first result, where it has one.
 fn own_result(
     alloc: Global,
-    request: RequestKind,
     own: &str,
     range: &FoundRange,
 ) -> Result<Vec<ProjectResult>, AllocError>
-    ensures { IfOk result (λ results. AreThose (IsOwnResult request own.now (range_found range.now)) (map project_result_value results.items)) }
+    ensures { IfOk result (λ results. AreThose (IsOwnResult own.now (range_found range.now)) (map project_result_value results.items)) }
 {
     let mut project_results = Vec::new(alloc);
-    if let Some(number) = result_of(range, request) {
+    if let Some(number) = range.result {
         let project = String::from_str(alloc, own)?;
         project_results.push(ProjectResult { project, number })?;
     }
@@ -81,7 +79,7 @@ pub(crate) fn answering_results<I: Index>(
     ensures refused { IfErr result (λ fault. fault ≡ Refused → I.may_refuse ≡ true) }
 {
     let joined = joined_bearers(alloc, index, request, own, keys)?;
-    let mut project_results = own_result(alloc, request, own, range)?;
+    let mut project_results = own_result(alloc, own, range)?;
     add_joined(&mut project_results, joined)?;
     list_results(&mut project_results);
     Ok(project_results)

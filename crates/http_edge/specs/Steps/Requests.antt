@@ -1,11 +1,9 @@
 -- What is asked as the program has it.
 use Rattle.std.specs.Prelude.{◌≡◌, ℕ, List, [], Option, Some, None, Result, Ok, Err, ⊤}
 use Rattle.std.specs.declared.alloc.AllocError.{AllocError}
-use Rattle.machine.specs.Requests.{DocumentPositionValue, QueryValue, RequestValue, command, definition, hover, declaration, implementation, at_value, request_value}
+use Rattle.machine.specs.Requests.{DocumentPositionValue, RequestValue, command, at_value, request_value}
 use Rattle.machine.specs.Uploads.{HasRead, UploadValue, command_of}
 use Rattle.http_edge.specs.declared.queries.DocumentPosition.{DocumentPosition}
-use Rattle.http_edge.specs.declared.queries.PositionQuery.{PositionQuery}
-use Rattle.http_edge.specs.declared.queries.PositionQuery.TheVariants as at_position
 use Rattle.http_edge.specs.declared.request.Asked.{Asked}
 use Rattle.http_edge.specs.declared.request.Asked.TheVariants.{Upload, Request, Refused}
 use Rattle.http_edge.specs.declared.refusal.Refusal.TheVariants.{BadParameter}
@@ -13,13 +11,6 @@ use Rattle.http_edge.specs.Requests.{request, refused, message_of}
 
 abbrev pub place_value : DocumentPosition → DocumentPositionValue
 place_value place = at_value place.project place.uri place.position
-
--- the query at a position
-abbrev pub query_at : PositionQuery → DocumentPositionValue → QueryValue
-query_at at_position.Definition = definition
-query_at at_position.Hover = hover
-query_at at_position.Declaration = declaration
-query_at at_position.Implementation = implementation
 
 -- the request that an upload is with a body
 abbrev pub upload_request : List ℕ → UploadValue → RequestValue

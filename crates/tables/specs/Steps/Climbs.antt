@@ -3,9 +3,10 @@ use Rattle.std.specs.Prelude.{◌≡◌, ◌⊎◌, ◌↔◌, ◌+◌, ◌*◌,
 use Rattle.std.specs.List.{AllByRecursion, AllZip}
 use Rattle.positions.specs.Position.{PositionValue, IsBefore, IsAtOrBefore, packed_of}
 use Rattle.positions.specs.Span.{SpanValue, Covers}
+use Rattle.dump.specs.declared.request_kind.RequestKind.{RequestKind}
 use Rattle.dump.specs.Progress.{DumpValue}
 use Rattle.dump.specs.Requests.{IsWithin}
-use Rattle.flatten.specs.Flat.{RangeRowValue, IsRangeRow}
+use Rattle.flatten.specs.Flat.{RangeRowValue, IsRangeRow, result_for}
 use Rattle.tables.specs.Selections.{RangeFound}
 use Rattle.tables.specs.declared.range_rows.SlotRange.{SlotRange}
 
@@ -65,6 +66,6 @@ pub record IsClimbed (dump : DumpValue) (uri : List ℕ) (position : PositionVal
   pub rises : AreWithin rows
   pub each : (r : RangeRowValue) → Contains rows r ↔ IsCoverRow dump uri position r
 
--- what is found of the range of this row
-abbrev pub row_found : RangeRowValue → RangeFound
-row_found r = record { line = r.line; span = r.place.span; results = r.results }
+-- what a request finds of the range of this row
+abbrev pub row_found : RequestKind → RangeRowValue → RangeFound
+row_found request r = record { line = r.line; span = r.place.span; result = result_for request r.results }

@@ -11,9 +11,9 @@ use Rattle.tags.specs.Values.{TagValue}
 use Rattle.tables.specs.Columns.{number, tag_columns}
 use Rattle.tables.specs.Contents.{slot_row}
 use Rattle.machine.specs.FoundTags.{FoundTag, IsTag, IsAsked}
-use Rattle.tables.specs.Names.{tag_found}
+use Rattle.machine.specs.Found.{tag_found}
 use Rattle.machine.specs.State.{State}
-use Rattle.tables.specs.declared.found_tags.FoundTag as declared
+use Rattle.machine.specs.declared.found.FoundTag as declared
 use Rattle.tables.specs.declared.found_tags.TagRow.{TagRow}
 
 -- what the row has behind the id of its slot

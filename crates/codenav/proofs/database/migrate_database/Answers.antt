@@ -2,7 +2,7 @@ use Rattle.std.proofs.Common.{◌≡◌, ◌∙◌, true, false, map, length, ar
 use Rattle.std.proofs.lemmas.List.{length-map}
 use Rattle.sqlite.specs.Held.{state}
 use Rattle.sqlite.specs.State.{HasCleanDisk}
-use Rattle.tables.specs.Selections.{project_found}
+use Rattle.machine.specs.Found.{project_found}
 use Rattle.tables.specs.Stands.{Rests}
 use Rattle.desk.proofs.TableStates.{rests_on}
 use Rattle.codenav.proofs.database.migrate_database.Goals as goal

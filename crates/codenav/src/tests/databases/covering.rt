@@ -1,6 +1,7 @@
 //! Which ranges cover a position, as rows of ranges say it, and which rows are refused.
 use super::opened;
 use super::selections::filled;
+use dump::RequestKind;
 use flatten::{DocRow, RangeRow, Rows};
 use lsif::Profile;
 use positions::{Position, Span};
@@ -192,13 +193,6 @@ const ROWS: &[Row] = &[
         at: (0, 2),
         found: "refused",
     },
-    Row {
-        change: "UPDATE more SET imp = -1 WHERE slot = 1 AND line = 4",
-        project: "n",
-        uri: "n.ts",
-        at: (0, 6),
-        found: "refused",
-    },
 ];
 
 fn position(line: u32, character: u32) -> Result<Position, Fail> {
@@ -229,7 +223,7 @@ fn text_of(alloc: Global, found: Result<Covering, TablesFault>) -> Result<String
 fn found_at(alloc: Global, row: &Row) -> Result<String, Fail> {
     let mut tables = filled(alloc, PARTS, row.change)?;
     let at = position(row.at.0, row.at.1)?;
-    let found = tables.covering(alloc, row.project, row.uri, at);
+    let found = tables.covering(alloc, RequestKind::Definition, row.project, row.uri, at);
     text_of(alloc, found)
 }
 
@@ -242,16 +236,69 @@ fn climb(rt: HostRuntime) -> Result<(), Fail> {
     Ok(())
 }
 
+/// A statement behind those of the parts, a request, and of each range that covers 0:6 of `n.ts` its line, the characters of its span and its result for the
+/// request; or what else is found. Declarations and implementations alone are looked for in `more`.
+const RESULTS: &[(&str, RequestKind, &str)] = &[
+    (
+        "",
+        RequestKind::Definition,
+        "[(4, 5, 8, None), (3, 0, 20, Some(5))]",
+    ),
+    (
+        "",
+        RequestKind::References,
+        "[(4, 5, 8, Some(7)), (3, 0, 20, None)]",
+    ),
+    (
+        "",
+        RequestKind::Hover,
+        "[(4, 5, 8, None), (3, 0, 20, Some(6))]",
+    ),
+    (
+        "",
+        RequestKind::Declaration,
+        "[(4, 5, 8, None), (3, 0, 20, Some(9))]",
+    ),
+    (
+        "",
+        RequestKind::Implementation,
+        "[(4, 5, 8, Some(10)), (3, 0, 20, None)]",
+    ),
+    (
+        "UPDATE more SET imp = -1",
+        RequestKind::Hover,
+        "[(4, 5, 8, None), (3, 0, 20, Some(6))]",
+    ),
+    (
+        "UPDATE more SET imp = -1",
+        RequestKind::Implementation,
+        "refused",
+    ),
+];
+
+/// What a request finds of the ranges, as it's printed.
+fn results_of(alloc: Global, ranges: &[FoundRange]) -> Result<String, Fail> {
+    let mut results = Vec::new(alloc);
+    for range in ranges {
+        let (start, end) = (range.span.start(), range.span.end());
+        results.push((range.line, start.character(), end.character(), range.result))?;
+    }
+    Ok(format!(in alloc; "{results:?}")?)
+}
+
 #[test]
-fn whole_ranges(rt: HostRuntime) -> Result<(), Fail> {
-    let mut tables = filled(rt.alloc(), PARTS, "")?;
-    let Covering::Ranges(found) = tables.covering(rt.alloc(), "n", "n.ts", position(0, 6)?)? else {
-        return Err("no ranges")?;
-    };
-    let text = format!(in rt.alloc(); "{found:?}")?;
-    let expected =
-        "[FoundRange { line: 4, span: Span { start: Position { line: 0, character: 5 }, end: Position { line: 0, character: 8 } }, def: None, refs: Some(7), hover: None, decl: None, imp: Some(10) }, FoundRange { line: 3, span: Span { start: Position { line: 0, character: 0 }, end: Position { line: 0, character: 20 } }, def: Some(5), refs: None, hover: Some(6), decl: Some(9), imp: None }]";
-    assert_eq!(rt; text.as_str(), expected);
+fn results_by_request(rt: HostRuntime) -> Result<(), Fail> {
+    for (change, request, expected) in RESULTS {
+        let mut tables = filled(rt.alloc(), PARTS, change)?;
+        let found = match tables.covering(rt.alloc(), *request, "n", "n.ts", position(0, 6)?) {
+            Ok(Covering::Ranges(ranges)) => results_of(rt.alloc(), &ranges)?,
+            found => text_of(rt.alloc(), found)?,
+        };
+        assert_eq!(rt;
+            (*change, *request, found.as_str()),
+            (*change, *request, *expected)
+        );
+    }
     Ok(())
 }
 
@@ -313,7 +360,14 @@ fn deep(alloc: Global) -> Result<Tables<MemStore>, Fail> {
 fn many_levels(rt: HostRuntime) -> Result<(), Fail> {
     let mut tables = deep(rt.alloc())?;
     let at = position(0, 9_999)?;
-    let Covering::Ranges(found) = tables.covering(rt.alloc(), "deep", "a.ts", at)? else {
+    let Covering::Ranges(found) = tables.covering(
+        rt.alloc(),
+        RequestKind::Hover,
+        "deep",
+        "a.ts",
+        at,
+    )?
+    else {
         return Err("no ranges")?;
     };
     assert_eq!(rt; found.len(), 10_000);

@@ -79,7 +79,7 @@ const ROWS: &[Row] = &[
         change: "",
         ask: Ask::Projects,
         found: Some(
-            "[ProjectRow { name: \"app\", dump: true, tags: false }, ProjectRow { name: \"lib\", dump: true, tags: true }, ProjectRow { name: \"tagged\", dump: false, tags: true }]",
+            "[FoundProject { name: \"app\", dump: true, tags: false }, FoundProject { name: \"lib\", dump: true, tags: true }, FoundProject { name: \"tagged\", dump: false, tags: true }]",
         ),
     },
     Row {

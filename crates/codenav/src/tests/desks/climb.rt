@@ -1,12 +1,13 @@
 //! Ranges around ranges, and a row that isn't one of this product's.
+use super::super::databases::opened;
 use super::{project, reply_to, text_of};
 use desk::{Command, Desk, DocUri, Key, Query, TableDesk};
+use dump::RequestKind;
 use lsif::Profile;
 use positions::Position;
 use sqlite::{Alter, Connection};
 use std::alloc::Global;
 use std::test::Fail;
-use tables::Tables;
 
 /// Rows that ask a desk over tables, what the store's rows are then changed to, where they are, and the status and the body of the reply.
 const ROWS: &[(&str, &str, &str)] = &[
@@ -41,17 +42,6 @@ const ROWS: &[(&str, &str, &str)] = &[
         r#"503 {"fault":"S01","text":"store refused"}"#,
     ),
 ];
-
-/// The tables that a connection shows.
-fn opened<S: Alter + Drop>(conn: Connection<S>) -> Result<Tables<S>, Fail> {
-    if !conn.is_autocommit() {
-        return Err("in a transaction")?;
-    }
-    match Tables::open(conn) {
-        Ok(tables) => Ok(tables),
-        Err(_) => Err("not opened")?,
-    }
-}
 
 /// The desk over the tables in which this statement was run.
 fn changed<S: Alter + Drop>(
@@ -133,7 +123,8 @@ fn put(alloc: Global, dump: &str) -> Result<Command<'_>, Fail> {
 /// The query for the definition at the innermost range of the dump.
 fn innermost(alloc: Global) -> Result<Query, Fail> {
     let at = Position::new(0, LEVELS.saturating_sub(1)).ok_or("no position")?;
-    Ok(Query::Definition {
+    Ok(Query::At {
+        kind: RequestKind::Definition,
         project: project(alloc, "app")?,
         uri: DocUri::read(alloc, "file:///d.ts")?.ok_or("no URL")?,
         at,

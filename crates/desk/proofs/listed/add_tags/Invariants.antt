@@ -1,6 +1,6 @@
 use Rattle.std.proofs.Common.{◌≡◌, ◌++◌, map, drop}
 use Rattle.tags.specs.Views.{tag_value}
-use Rattle.tables.specs.Names.{tag_found}
+use Rattle.machine.specs.Found.{tag_found}
 use Rattle.desk.specs.Steps.Listed.{is_wanted, tags_so}
 use Rattle.desk.proofs.listed.add_tags.Given as goal
 

@@ -2,7 +2,7 @@ use Rattle.std.proofs.Common.{◌≡◌, rules}
 use Rattle.std.specs.Ordering.{is_lt}
 use Rattle.std.proofs.lemmas.List.Sorted.{ranks_by, answers_always}
 use Rattle.machine.specs.FoundTags.{name_cmp}
-use Rattle.tables.specs.Names.{tag_found}
+use Rattle.machine.specs.Found.{tag_found}
 use Rattle.desk.specs.Steps.Listed.{by_value}
 use Rattle.machine.proofs.OneReplies.{name_total}
 use Rattle.desk.proofs.listed.list_by_name.Goals as goal

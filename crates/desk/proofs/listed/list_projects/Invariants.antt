@@ -1,5 +1,5 @@
 use Rattle.std.proofs.Common.{◌≡◌, ◌++◌, map}
-use Rattle.tables.specs.Selections.{project_found}
+use Rattle.machine.specs.Found.{project_found}
 use Rattle.desk.specs.Steps.Listed.{projects_of}
 use Rattle.desk.proofs.listed.list_projects.Given as goal
 

@@ -1,6 +1,6 @@
 use Rattle.std.proofs.Common.{◌≡◌, ◌++◌, map}
 use Rattle.std.specs.Prelude.{option_map}
-use Rattle.tables.specs.Names.{tag_found}
+use Rattle.machine.specs.Found.{tag_found}
 use Rattle.desk.specs.Steps.Listed.{is_wanted, tags_of, AllRise}
 use Rattle.desk.proofs.listed.list_tags.Given as goal
 

@@ -19,7 +19,7 @@ returns c =
     let flat = c.in_ok-rows.ensures.rows in
     let chosen = c.in_ok-covering.ensures ∙ ap (λ xs. filter_map (range_wanted uri at) (map range_value xs)) c.deref.ensures.value in
     let listed = subst (IsListing by_line (IsCoverRow dump uri at)) (sym chosen) (ranges_wanted dump uri at _ flat.ranges) in
-    let all = c.in_ok-found_ranges.ensures ∙ ap (map range_found_of) c.deref-2.ensures.value ∙ rows_told c.list_rows.new.rows.items in
-    subst (FindsCover dump.elements uri at) (sym all)
+    let all = c.in_ok-found_ranges.ensures ∙ ap (map (range_found_of c.args.request)) c.deref-2.ensures.value ∙ rows_told c.args.request c.list_rows.new.rows.items in
+    subst (FindsCover c.args.request dump.elements uri at) (sym all)
     (rows_cover dump uri at (c.nesting_law.ensures dump.elements free) (c.uri_law.ensures dump.elements free) c.in_ok-covering.covering.items c.list_rows.new.rows.items listed c.list_rows.ensures.rises c.list_rows.ensures.from
-    c.list_rows.ensures.each free (rows_value c.in_ok-rows.rows) flat)
+    c.list_rows.ensures.each c.args.request free (rows_value c.in_ok-rows.rows) flat)

@@ -4,4 +4,4 @@ use Rattle.desk.specs.Steps.Selected.{range_found_of}
 use Rattle.desk.proofs.selected.found_ranges.Given as goal
 
 abbrev pub invariant-loop-row : goal.invariant-loop-row
-invariant-loop-row l = map range_found l.found.items ++ map range_found_of (drop l.row-index l.rows) ≡ map range_found_of l.rows
+invariant-loop-row l = map range_found l.found.items ++ map (range_found_of l.request) (drop l.row-index l.rows) ≡ map (range_found_of l.request) l.rows

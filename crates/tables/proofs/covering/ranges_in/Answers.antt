@@ -44,10 +44,10 @@ loop-row-preserved g c = rw (to_z-of_z c.ranges.slot) (
           let it = told_at c.deref-row-items.result.now rows c.loop-row.row-index c.row-item.result told (omega (arith, c.loop-row-test.true)) in
           let r = it.0 in
           let tells : TellsRange c.row-item.result r = subst (λ x. TellsRange x r) (sym c.row-item.is) it.2 in
-          let whole = still old mid new (λ db. StandsFor db m × Has (db 1) (slot_row c.args.slot project (pos 1))) (λ db. range_found range ≡ row_found r) was.kept c.complete.ensures.looks
+          let whole = still old mid new (λ db. StandsFor db m × Has (db 1) (slot_row c.args.slot project (pos 1))) (λ db. range_found range ≡ row_found c.args.request r) was.kept c.complete.ensures.looks
           (λ cleaner schema known. (rw (to_z-of_z c.ranges.slot) at c.in_ok-range.ensures.whole) cleaner schema m known.0 project dump known.1 is r (of_all _ rows r are it.1) tells) clean has (s, slot) in
           let before = (rw (to_z-of_z c.ranges.slot) at was.found) (survives_clean mid new c.complete.ensures.looks clean) has m s project dump slot is rows told are in
-          ap (map range_found) pushed ∙ told_next c.loop-row.found.items range rows r c.loop-row.row-index before whole it.3;
+          ap (map range_found) pushed ∙ told_next c.args.request c.loop-row.found.items range rows r c.loop-row.row-index before whole it.3;
     })
 
 pub returns-clause-found : goal.returns-clause-found
@@ -60,4 +60,4 @@ returns-clause-found g c clean has m s project dump slot is =
     let told = subst (λ l. AllZip TellsRange l climbed.rows) (sym c.deref-row-items.ensures.value) climbed.told in
     let found = (rw (to_z-of_z c.ranges.slot) at was.found) clean has m s project dump slot is climbed.rows told (rows_are dump uri c.args.at items climbed) in
     let all = taken_all c.deref-row-items.result.now climbed.rows c.loop-row.row-index told (omega (arith, c.loop-row-test.false)) in
-    subst (FindsCover dump.elements uri c.args.at) (sym (found ∙ ap (map row_found) all)) (covers_all dump uri c.args.at d.faultless d.flat d.is_flat items climbed)
+    subst (FindsCover c.args.request dump.elements uri c.args.at) (sym (found ∙ ap (map (row_found c.args.request)) all)) (covers_all dump uri c.args.at d.faultless d.flat d.is_flat c.args.request items climbed)

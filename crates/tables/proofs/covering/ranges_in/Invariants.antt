@@ -24,5 +24,5 @@ invariant-loop-row g l =
       cleans : HasCleanDisk now → HasCleanDisk (state g.S.Store l.initial.conn);
       mode : l.fn.conn.in_transaction ≡ false → l.conn.in_transaction ≡ false;
       found : HasCleanDisk now → old.now.schema ≡ schema_two → (m : State) → StandsFor old.now.trees m → (project : List ℕ) (dump : DumpValue) → Has (old.now.trees 1) (slot_row l.fn.slot project (pos 1)) → m.dump project ≡ Some dump
-          → (rows : List RangeRowValue) → AllZip TellsRange l.row-items rows → AllByRecursion (IsRangeRow dump.elements) rows → map range_found l.found.items ≡ map row_found (take l.row-index rows);
+          → (rows : List RangeRowValue) → AllZip TellsRange l.row-items rows → AllByRecursion (IsRangeRow dump.elements) rows → map range_found l.found.items ≡ map (row_found l.fn.request) (take l.row-index rows);
     }

@@ -2,7 +2,7 @@ use Rattle.std.proofs.Common.{◌≡◌, ◌++◌, [], ◌∷◌, map, option_ma
 use Rattle.sqlite.specs.Held.{state}
 use Rattle.flatten.proofs.Members.{nil_of}
 use Rattle.tables.specs.Stands.{StandsFor}
-use Rattle.tables.specs.Names.{tag_found}
+use Rattle.machine.specs.Found.{tag_found}
 use Rattle.tables.specs.Steps.TagRows.{IsFoundIf, TellsTag}
 use Rattle.tables.proofs.Looking.{looks_then, kept_on, still, survives_clean}
 use Rattle.tables.proofs.ToldTags.{finds_one, finds_all}

@@ -4,7 +4,7 @@ use Rattle.sqlite.specs.Held.{state}
 use Rattle.tables.specs.Schema.{schema_two}
 use Rattle.machine.specs.State.{State}
 use Rattle.tables.specs.Stands.{IsAsBefore, StandsFor}
-use Rattle.tables.specs.Names.{tag_found}
+use Rattle.machine.specs.Found.{tag_found}
 use Rattle.tables.specs.Steps.Selected.{Looks}
 use Rattle.tables.specs.Steps.TagRows.{AllTell, FindsTags}
 use Rattle.tables.proofs.found_tags.complete_all.Given as goal

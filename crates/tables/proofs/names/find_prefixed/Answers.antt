@@ -3,7 +3,7 @@ use Rattle.sqlite.specs.Held.{state}
 use Rattle.flatten.proofs.Listing.{same_listing}
 use Rattle.tables.specs.Stands.{StandsFor}
 use Rattle.machine.specs.FoundTags.{FoundTag, BeginsWith, IsAsked, name_cmp}
-use Rattle.tables.specs.Names.{tag_found}
+use Rattle.machine.specs.Found.{tag_found}
 use Rattle.tables.specs.Steps.TagRows.{AllTell, IsTold}
 use Rattle.tables.proofs.Looking.{looks_then, still, survives_clean}
 use Rattle.tables.proofs.ToldTags.{all_tell, named_are, one_told}

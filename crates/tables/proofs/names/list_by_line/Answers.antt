@@ -4,7 +4,7 @@ use Rattle.std.specs.Ordering.{is_lt}
 use Rattle.std.proofs.lemmas.List.Sorted.{answers_always}
 use Rattle.flatten.proofs.Listing.{under}
 use Rattle.machine.specs.FoundTags.{line_cmp}
-use Rattle.tables.specs.Names.{tag_found}
+use Rattle.machine.specs.Found.{tag_found}
 use Rattle.tables.proofs.TagOrder.{line_total, listed}
 use Rattle.tables.proofs.names.list_by_line.Goals as goal
 

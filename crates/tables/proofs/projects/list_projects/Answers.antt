@@ -6,8 +6,8 @@ use Rattle.dump.specs.Places.{IsListing}
 use Rattle.flatten.proofs.Members.{nil_of}
 use Rattle.tables.specs.Stands.{StandsFor}
 use Rattle.machine.specs.Projects.{text_cmp}
-use Rattle.tables.specs.Selections.{project_found}
-use Rattle.tables.specs.declared.projects.ProjectRow.{ProjectRow}
+use Rattle.machine.specs.Found.{project_found}
+use Rattle.machine.specs.declared.found.FoundProject.{FoundProject}
 use Rattle.tables.specs.Steps.Slots.{HasPart, IsTold}
 use Rattle.tables.proofs.Looking.{looks_then, kept_on, still, survives_clean}
 use Rattle.tables.proofs.Popping.{all_left, one_less}
@@ -42,7 +42,7 @@ loop-name-preserved g c =
     let pushed : c.push.new.self.items ≡ c.loop-name.found.items ++ project ∷ [] = search rules in
     let popped : c.loop-name.left.items ≡ c.pop.new.self.items ++ c.in-Some.name ∷ [] = search rules in
     let more : names_of c.push.new.self.items ≡ names_of c.loop-name.found.items ++ text_of c.in-Some.name ∷ [] =
-    ap names_of pushed ∙ (map-append (λ (p : ProjectRow). string_bytes p.name) c.loop-name.found.items (project ∷ []) ∙ ap (λ (n : List ℕ). names_of c.loop-name.found.items ++ n ∷ []) c.in_ok-project.ensures.name) in
+    ap names_of pushed ∙ (map-append (λ (p : FoundProject). string_bytes p.name) c.loop-name.found.items (project ∷ []) ∙ ap (λ (n : List ℕ). names_of c.loop-name.found.items ++ n ∷ []) c.in_ok-project.ensures.name) in
     let kept_mid = c.loop-name.invariant.kept in
     record {
       looks = looks_then old mid new was.looks was.kept c.project_of.ensures.looks;

@@ -8,7 +8,7 @@ use Rattle.tables.specs.Contents.{Contents, Replies, Keeps}
 use Rattle.machine.specs.State.{State}
 use Rattle.tables.specs.Stands.{IsAsBefore, StandsFor}
 use Rattle.machine.specs.Projects.{text_cmp}
-use Rattle.tables.specs.Selections.{project_found}
+use Rattle.machine.specs.Found.{project_found}
 use Rattle.tables.specs.Steps.Selected.{Looks}
 use Rattle.tables.specs.Steps.Slots.{HasPart, IsTold}
 use Rattle.tables.proofs.ProjectNames.{names_of}

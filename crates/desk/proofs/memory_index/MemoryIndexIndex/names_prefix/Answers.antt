@@ -3,7 +3,7 @@ use Rattle.std.specs.Prelude.{nat_eq, option_map, Contains, ◌↔◌}
 use Rattle.std.specs.List.{starts_with}
 use Rattle.std.specs.List.Sorted.{IsStrictlySortedBy}
 use Rattle.machine.specs.FoundTags.{IsTag, BeginsWith, line_cmp, FoundTag}
-use Rattle.tables.specs.Names.{tag_found}
+use Rattle.machine.specs.Found.{tag_found}
 use Rattle.desk.specs.Steps.Listed.{tags_of}
 use Rattle.machine.proofs.Prefixes.{begins, begun}
 use Rattle.desk.proofs.TagLists.{each_tag, by_line, by_name, unmapped}

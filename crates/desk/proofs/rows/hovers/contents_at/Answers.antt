@@ -15,7 +15,7 @@ pub returns-in-Some-first-clause-found : goal.returns-in-Some-first-clause-found
 returns-in-Some-first-clause-found g c = λ s m stood keyed.
     let row = range_found c.args.range.now in
     let own = c.args.own.now in
-    let none : row.results.hover ≡ None = search rules in
+    let none : row.result ≡ None = search rules in
     let back = c.hover-in-Some-first.ensures.reliable s in
     let mid = (c.in_ok-found.ensures.reads_only back).state m stood in
     let items = c.list_bearers.new.found.items in
@@ -31,7 +31,7 @@ pub returns-clause-found : goal.returns-clause-found
 returns-clause-found g c = λ s m stood keyed.
     let row = range_found c.args.range.now in
     let own = c.args.own.now in
-    let none : row.results.hover ≡ None = search rules in
+    let none : row.result ≡ None = search rules in
     let items = c.list_bearers.new.found.items in
     let empty : length c.deref.result.now ≡ 0 = search rules in
     let listing = relisted joined_cmp _ (IsRowJoined m requests.Hover own row) (map joined_value items) (row_joined m requests.Hover own row (map string_bytes c.args.keys.now) keyed (c.in_ok-found.ensures.found s m stood)) c.list_bearers.ensures in

@@ -1,7 +1,6 @@
 use Rattle.std.proofs.Common.{Global, ◌≡◌, ◌∙◌, ◌≤◌, inl, inr, ⊎_elim, ℕ, List, [], ◌∷◌, length, map, true, false, sym, subst, string_bytes, rules, arith}
 use Rattle.std.specs.Prelude.{Contains, Some, None, String, is_some}
 use Rattle.dump.specs.Requests.{IsFirst, here, later, nobody}
-use Rattle.flatten.specs.Flat.{result_for}
 use Rattle.flatten.proofs.Members.{nil_of}
 use Rattle.tables.specs.Selections.{range_found}
 use Rattle.desk.specs.Steps.Rows.{IsRowKey, RowSpeaks}
@@ -26,7 +25,7 @@ returns-then-is_some-clause-first g c = λ s m stood.
     let back = e.reliable s in
     let split = drop_next ranges c.loop-range.range-index range c.loop-range-test.true c.range-item.is in
     let speaks : RowSpeaks m request own (range_found range) = elim c.then-is_some.branch [
-      | then-is_some-via-then-is_some w ↦ let some : is_some (result_for request (range_found range).results) ≡ true = search rules in inl some
+      | then-is_some-via-then-is_some w ↦ let some : is_some (range_found range).result ≡ true = search rules in inl some
       | then-is_some-via-else-is_some+then-not-is_empty w ↦
           let more : 1 ≤ length c.in_ok-keys.keys.items = search rules in
           let t = some_text c.in_ok-keys.keys.items more in
@@ -46,14 +45,14 @@ loop-range-preserved g c =
     let request = c.args.request in
     let own = c.args.project.now in
     let split = drop_next ranges c.loop-range.range-index range c.loop-range-test.true c.range-item.is in
-    let none : is_some (result_for request (range_found range).results) ≡ false = search rules in
+    let none : is_some (range_found range).result ≡ false = search rules in
     let empty : length c.in_ok-keys.keys.items ≡ 0 = search rules in
     record {
       reliable = λ s. was.reliable (e.reliable s);
       reads_only = λ s. reads_then (was.reads_only (e.reliable s)) (e.reads_only s);
       first = λ s m stood o rest.
           let silent : RowSpeaks m request own (range_found range) → ⊥ = λ speaks. ⊎_elim
-          (λ (some : is_some (result_for request (range_found range).results) ≡ true). let clash : false ≡ true = sym none ∙ some in cc)
+          (λ (some : is_some (range_found range).result ≡ true). let clash : false ≡ true = sym none ∙ some in cc)
           (λ (key : (text : List ℕ) × IsRowKey m request own range.line text).
           not_in_nil key.0 (subst (λ (l : List (String Global)). Contains (map string_bytes l) key.0) (nil_of c.in_ok-keys.keys.items empty) ((e.found s m ((was.reads_only (e.reliable s)).state m stood) key.0).1 key.1)))
           speaks in
