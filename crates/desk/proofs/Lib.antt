@@ -7,6 +7,7 @@ pub mod KeyBearers
 pub mod LeastRows
 pub mod ListedRows
 pub mod MemoryStates
+pub mod MemoryTags
 pub mod NewReplies
 pub mod Popped
 pub mod ProjectLists
@@ -19,5 +20,6 @@ pub mod RowLists
 pub mod RowWalks
 pub mod Serving
 pub mod TableStates
+pub mod TagAnswers
 pub mod TagLists
 pub mod WantedRows

@@ -2,7 +2,11 @@
 use Rattle.std.specs.Prelude.{◌≡◌, ◌++◌, [], ◌∷◌, ℕ, List, map, Option, Some, Result, Ok, OnOk, OnErr, option_map}
 use Rattle.dump.specs.Fault.{IsFaultless}
 use Rattle.dump.specs.Progress.{DumpValue}
+use Rattle.machine.specs.FoundTags.{FoundTag}
 use Rattle.machine.specs.State.{State, accepted_text}
+use Rattle.tables.specs.Names.{FindsNamed, FindsPrefixed}
+use Rattle.desk.specs.declared.index.Wanted.{Wanted}
+use Rattle.desk.specs.declared.index.Wanted.TheVariants.{Name, Prefix}
 
 -- the text of the reply that is kept for the project under the key
 abbrev pub kept_text : State → List ℕ → List ℕ → Option (List ℕ)
@@ -11,6 +15,11 @@ kept_text m project key = option_map accepted_text (m.kept project key)
 -- no dump of the state has a fault
 abbrev pub AreFaultless : State → Type 0
 AreFaultless m = (project : List ℕ) (dump : DumpValue) → m.dump project ≡ Some dump → IsFaultless (map Ok dump.elements)
+
+-- the tags of this name, or those whose names begin with this text: of the project that is asked for, where one is, and else of all
+abbrev pub FindsTags : State → Option (List ℕ) → Wanted → List FoundTag → Type 0
+FindsTags m asked (Name name) = FindsNamed m asked name.now
+FindsTags m asked (Prefix prefix) = FindsPrefixed m asked prefix.now
 
 module _ {I : Type 0} (stands : I → State → Type 0) (may_leave : I → List State → Type 0) where
   -- a call that changes nothing: the index stands for what it stood for, and a stop leaves what it would have left

@@ -50,17 +50,23 @@ impl From<TablesFault> for IndexFault {
     }
 }
 
+/// Which names of tags are asked for: those that are equal to a text, or that begin with it.
+#[derive(Clone, Copy)]
+pub enum Wanted<'a> {
+    Name(&'a str),
+    Prefix(&'a str),
+}
+
 /// Keeps of each project its dump and its tags, where it has them, and the replies of accepted commands under their keys. It stands for states of
 /// the abstract machine; what is said of a call holds where the index is reliable after it. A call that refuses changes nothing.
 pub trait Index {
     ghost use Rattle.std.specs.Prelude.{◌≡◌, Bool, true, ◌||◌, ◌∷◌, [], ◌++◌, List, None, IfOk, IfErr, OnOk, is_some, map, option_map, string_bytes};
     ghost use Rattle.machine.specs.Found.{tag_found};
-    ghost use Rattle.tables.specs.Names.{FindsNamed, FindsPrefixed};
     ghost use Rattle.tables.specs.Stands.{IsNew};
     ghost use Rattle.machine.specs.State.{State, changed, clear, set_dump, set_tags};
     ghost use Rattle.machine.specs.Found.{project_found};
     ghost use Rattle.tables.specs.Selections.{FindsBearers, FindsCovering, FindsHover, FindsItems, FindsMarks, FindsProjects, bearer_found, item_found, mark_found};
-    ghost use Rattle.desk.specs.Indexes.{AreFaultless, Changes, ReadsOnly, kept_text};
+    ghost use Rattle.desk.specs.Indexes.{AreFaultless, Changes, FindsTags, ReadsOnly, kept_text};
     ghost use Rattle.desk.specs.declared.index.IndexFault.TheVariants.{Refused};
 
     /// The states that it stands for: every state where it serves no more.
@@ -83,7 +89,8 @@ pub trait Index {
         ensures reads_only { is_reliable self.new → ReadsOnly stands may_leave self.old self.new }
         ensures refused { IfErr result (λ fault. fault ≡ Refused → may_refuse ≡ true) };
 
-    /// The ranges of the document of this URL that cover the position, the smallest first, with their results for the request. A dump that answers has no fault.
+    /// The ranges of the document of this URL that cover the position, the smallest first, with their results for the request. A dump that answers
+    /// has no fault.
     fn covering(
         &mut self,
         alloc: Global,
@@ -140,29 +147,16 @@ pub trait Index {
         ensures reads_only { is_reliable self.new → ReadsOnly stands may_leave self.old self.new }
         ensures refused { IfErr result (λ fault. fault ≡ Refused → may_refuse ≡ true) };
 
-    /// The tags of this name, of all projects or of one.
-    fn names_exact(
+    /// The tags with the names that are asked for, of all projects or of one.
+    fn tags(
         &mut self,
         alloc: Global,
-        name: &str,
+        wanted: Wanted<'_>,
         project: Option<&str>,
     ) -> Result<Vec<FoundTag>, IndexFault>
         ensures reliable { is_reliable self.new → is_reliable self.old }
         ensures found { is_reliable self.new → (m : State) → stands self.old m
-            → IfOk result (λ found. FindsNamed m (option_map (λ p. p.now) project.entry) name.now (map tag_found found.items)) }
-        ensures reads_only { is_reliable self.new → ReadsOnly stands may_leave self.old self.new }
-        ensures refused { IfErr result (λ fault. fault ≡ Refused → may_refuse ≡ true) };
-
-    /// The tags whose names begin with the text, of all projects or of one.
-    fn names_prefix(
-        &mut self,
-        alloc: Global,
-        prefix: &str,
-        project: Option<&str>,
-    ) -> Result<Vec<FoundTag>, IndexFault>
-        ensures reliable { is_reliable self.new → is_reliable self.old }
-        ensures found { is_reliable self.new → (m : State) → stands self.old m
-            → IfOk result (λ found. FindsPrefixed m (option_map (λ p. p.now) project.entry) prefix.now (map tag_found found.items)) }
+            → IfOk result (λ found. FindsTags m (option_map (λ p. p.now) project.entry) wanted.entry (map tag_found found.items)) }
         ensures reads_only { is_reliable self.new → ReadsOnly stands may_leave self.old self.new }
         ensures refused { IfErr result (λ fault. fault ≡ Refused → may_refuse ≡ true) };
 

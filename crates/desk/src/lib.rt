@@ -15,7 +15,7 @@ mod selected;
 mod table_desk;
 mod table_index;
 
-pub use index::{Index, IndexFault};
+pub use index::{Index, IndexFault, Wanted};
 pub use index_desk::IndexDesk;
 pub use machine::{
     Code, Command, Desk, DocUri, Key, ProjectName, Query, Reply, Request, RunFault, Upload,

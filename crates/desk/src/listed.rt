@@ -2,25 +2,18 @@
 ghost use Rattle.std.specs.Prelude.{◌≡◌, ◌++◌, IfOk, OnOk, map, option_map, string_bytes};
 ghost use Rattle.std.specs.BTreeMap.{IsOrdered};
 ghost use Rattle.std.specs.String.{string_cmp};
-ghost use Rattle.std.specs.List.Sorted.{IsPermutation, IsSorted};
 ghost use Rattle.tags.specs.Views.{field_value, tag_value};
 ghost use Rattle.machine.specs.FoundTags.{name_cmp};
 ghost use Rattle.machine.specs.Found.{project_found, tag_found};
-ghost use Rattle.desk.specs.Steps.Listed.{is_asked, is_wanted, by_value, project_tags, projects_of, tags_of, tags_so, AllRise, TagsRise};
+ghost use Rattle.desk.specs.Steps.Listed.{is_asked, is_wanted, by_value, project_tags, projects_of, tags_of, tags_so, AllRise, AreOrdered, TagsRise};
 
+use crate::index::Wanted;
 use crate::project::Project;
 use machine::{FoundProject, FoundTag};
 use std::alloc::{AllocError, Global};
 use std::cmp::Ordering;
 use std::collections::BTreeMap;
 use tags::Tag;
-
-/// Which names of tags are asked for: those that are equal to a text, or that begin with it.
-#[derive(Clone, Copy)]
-pub(crate) enum Wanted<'a> {
-    Name(&'a str),
-    Prefix(&'a str),
-}
 
 fn is_wanted(wanted: Wanted<'_>, name: &str) -> bool
     ensures { result ≡ is_wanted wanted.entry name.now }
@@ -117,12 +110,13 @@ fn by_name(a: &FoundTag, b: &FoundTag) -> Ordering
     names.then(projects.then(lines))
 }
 
-/// Puts tags in the order of names, projects and lines.
-pub(crate) fn list_by_name(found: &mut Vec<FoundTag>)
-    ensures permutation { IsPermutation found.old.items found.new.items }
-    ensures sorted { IsSorted (by_value name_cmp) found.new.items }
+/// Puts tags that stand in the order of projects and lines in that in which they are asked for: those of a prefix by their names before.
+pub(crate) fn order_tags(found: &mut Vec<FoundTag>, wanted: Wanted<'_>)
+    ensures { AreOrdered wanted.entry found.old.items found.new.items }
 {
-    found.sort_unstable_by(|a, b| by_name(a, b));
+    if let Wanted::Prefix(_) = wanted {
+        found.sort_unstable_by(|a, b| by_name(a, b));
+    }
 }
 
 /// The projects that have a dump or tags, in the order of their names.

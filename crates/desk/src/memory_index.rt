@@ -5,9 +5,9 @@ ghost use Rattle.machine.specs.State.{State, changed, nothing, text_after};
 ghost use Rattle.machine.specs.Steps.Changes.{change_value};
 ghost use Rattle.desk.specs.Steps.Plain.{Stands};
 
-use crate::index::{Index, IndexFault};
+use crate::index::{Index, IndexFault, Wanted};
 use crate::kept::{change, dump_in, has_part, kept_in};
-use crate::listed::{Wanted, list_by_name, list_projects, list_tags};
+use crate::listed::{list_projects, list_tags, order_tags};
 use crate::project::Project;
 use crate::selected::{bearers_in, covering_of, hover_of, items_of, marks_of};
 use dump::{CheckedDump, RequestKind, Role};
@@ -129,23 +129,14 @@ impl Index for MemoryIndex {
         Ok(bearers_in(alloc, &self.projects, key)?)
     }
 
-    fn names_exact(
+    fn tags(
         &mut self,
         alloc: Global,
-        name: &str,
+        wanted: Wanted<'_>,
         project: Option<&str>,
     ) -> Result<Vec<FoundTag>, IndexFault> {
-        Ok(list_tags(alloc, &self.projects, Wanted::Name(name), project)?)
-    }
-
-    fn names_prefix(
-        &mut self,
-        alloc: Global,
-        prefix: &str,
-        project: Option<&str>,
-    ) -> Result<Vec<FoundTag>, IndexFault> {
-        let mut found = list_tags(alloc, &self.projects, Wanted::Prefix(prefix), project)?;
-        list_by_name(&mut found);
+        let mut found = list_tags(alloc, &self.projects, wanted, project)?;
+        order_tags(&mut found, wanted);
         Ok(found)
     }
 

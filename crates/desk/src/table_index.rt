@@ -5,7 +5,7 @@ ghost use Rattle.flatten.specs.Rows.{rows_value};
 ghost use Rattle.tables.specs.Columns.{dump_rows};
 ghost use Rattle.tables.specs.Stands.{IsDump};
 
-use crate::index::{Index, IndexFault};
+use crate::index::{Index, IndexFault, Wanted};
 use dump::{CheckedDump, RequestKind, Role};
 use flatten::{FlattenFault, Rows, flatten};
 use lsif::Profile;
@@ -85,24 +85,17 @@ impl<S: Alter> Index for Tables<S> {
         Ok(Tables::hover(self, project, result_number)?)
     }
 
-    fn names_exact(
+    fn tags(
         &mut self,
         alloc: Global,
-        name: &str,
+        wanted: Wanted<'_>,
         project: Option<&str>,
     ) -> Result<Vec<FoundTag>, IndexFault> {
         self.check()?;
-        Ok(Tables::names_exact(self, alloc, name, project)?)
-    }
-
-    fn names_prefix(
-        &mut self,
-        alloc: Global,
-        prefix: &str,
-        project: Option<&str>,
-    ) -> Result<Vec<FoundTag>, IndexFault> {
-        self.check()?;
-        Ok(Tables::names_prefix(self, alloc, prefix, project)?)
+        match wanted {
+            Wanted::Name(name) => Ok(self.names_exact(alloc, name, project)?),
+            Wanted::Prefix(prefix) => Ok(self.names_prefix(alloc, prefix, project)?),
+        }
     }
 
     fn projects(&mut self, alloc: Global) -> Result<Vec<FoundProject>, IndexFault> {

@@ -9,6 +9,8 @@ use Rattle.lsif.specs.declared.element.MonikerKind.TheVariants as kinds
 use Rattle.lsif.specs.Element.{IdValue, ElementValue}
 use Rattle.dump.specs.declared.request_kind.RequestKind.{RequestKind}
 use Rattle.dump.specs.declared.request_kind.RequestKind.TheVariants as requests
+use Rattle.dump.specs.declared.role.Role.{Role}
+use Rattle.dump.specs.declared.role.Role.TheVariants as roles
 use Rattle.dump.specs.declared.single.SingleLabel.{SingleLabel}
 use Rattle.dump.specs.declared.single.SingleLabel.TheVariants as labels
 use Rattle.dump.specs.Monikers.{MarkValue, Marks}
@@ -49,6 +51,11 @@ follows request kind = is_import kind
 abbrev pub finds : RequestKind → MonikerKind → Bool
 finds requests.References kind = is_import kind || is_export kind
 finds request kind = is_export kind
+
+-- the roles of the places that it asks for
+abbrev pub roles_of : RequestKind → List Role
+roles_of requests.References = roles.Definitions ∷ roles.References ∷ []
+roles_of request = roles.Definitions ∷ []
 
 -- the vertex has a result for the request, or a mark by which it goes on to other projects
 abbrev pub Speaks : RequestKind → List ElementValue → IdValue → Type 0

@@ -1,9 +1,9 @@
 -- The orders of rows, and when rows are one.
 use Rattle.std.proofs.Common.{◌≡◌, ◌∙◌, arith, Bool, true, false, List, [], ◌∷◌, nat_eq, refl}
-use Rattle.std.specs.Prelude.{ℕ, ◌==◌, ◌&&◌, string_bytes}
+use Rattle.std.specs.Prelude.{ℕ, ◌==◌, ◌&&◌}
+use Rattle.std.specs.Rc.{rc_str_bytes}
 use Rattle.std.specs.Cmp.{IsTotalOrder, back_total, both_tied, first_so, second_so, then_total, on_total, nat_cmp_total, unsigned_ties}
 use Rattle.std.specs.Cmp.Lexicographic.{on_texts, texts_ties, pointwise, slice_cmp}
-use Rattle.std.specs.String.{string_eq}
 use Rattle.std.specs.Ordering.{eq_by_cmp, is_eq, nat_cmp, ordering_then}
 use Rattle.lsif.specs.contracts.element.MonikerKindPartialEq.TheImpl as kind_eq
 use Rattle.lsif.specs.declared.element.MonikerKind.{MonikerKind}
@@ -18,7 +18,7 @@ use Rattle.dump.proofs.OnePicks.{place_total}
 use Rattle.flatten.specs.declared.parents.Interval.{Interval}
 use Rattle.flatten.specs.declared.rows.DocRow.{DocRow}
 use Rattle.flatten.specs.declared.rows.MarkRow.{MarkRow}
-use Rattle.flatten.specs.Flat.{ItemRowValue, item_cmp, kind_index, mark_cmp, role_index}
+use Rattle.flatten.specs.Flat.{MarkRowValue, ItemRowValue, item_cmp, kind_index, mark_cmp, role_index}
 use Rattle.flatten.specs.Rows.{document_value, mark_value}
 use Rattle.flatten.specs.Steps.Parents.{interval_cmp, interval_value}
 use Rattle.flatten.proofs.Listing.{eq_of, under}
@@ -146,27 +146,32 @@ kind_same Local Export e = cc
 kind_same Local Local e = refl
 
 abbrev pub same_mark : MarkRow → MarkRow → Bool
-same_mark a b = (a.range == b.range) && (same_kind a.kind b.kind && string_eq a.key b.key)
+same_mark a b = (a.range == b.range) && (same_kind a.kind b.kind && pointwise nat_eq (rc_str_bytes a.key) (rc_str_bytes b.key))
 
 pub mark_total : IsTotalOrder (under mark_value mark_cmp)
-mark_total = then_total (on_total (λ (r : MarkRow). r.range) nat_cmp_total) (then_total (on_total (λ (r : MarkRow). kind_index r.kind) nat_cmp_total) (on_texts (λ (r : MarkRow). string_bytes r.key)))
+mark_total = then_total (on_total (λ (r : MarkRow). r.range) nat_cmp_total) (then_total (on_total (λ (r : MarkRow). kind_index r.kind) nat_cmp_total) (on_texts (λ (r : MarkRow). rc_str_bytes r.key)))
+
+-- marks of two numbers, by their parts
+pub parts_tie : (a b : ℕ) (j k : MonikerKind) (s t : List ℕ)
+    → ((a == b) && (same_kind j k && pointwise nat_eq s t)) ≡ is_eq (ordering_then (nat_cmp a b) (ordering_then (nat_cmp (kind_index j) (kind_index k)) (slice_cmp nat_cmp s t)))
+parts_tie a b j k s t =
+    both_tied (a == b) (same_kind j k && pointwise nat_eq s t) (nat_cmp a b) (ordering_then (nat_cmp (kind_index j) (kind_index k)) (slice_cmp nat_cmp s t)) (unsigned_ties a b)
+    (both_tied (same_kind j k) (pointwise nat_eq s t) (nat_cmp (kind_index j) (kind_index k)) (slice_cmp nat_cmp s t) (kind_ties j k) (texts_ties s t))
+
+pub parts_same : (a b : ℕ) (j k : MonikerKind) (s t : List ℕ) → ((a == b) && (same_kind j k && pointwise nat_eq s t)) ≡ true
+    → ◌≡◌ {A = MarkRowValue} (record { range = a; kind = j; key = s }) (record { range = b; kind = k; key = t })
+parts_same a b j k s t e =
+    let numbers = eq_of a b (first_so (a == b) (same_kind j k && pointwise nat_eq s t) e) in
+    let f = second_so (a == b) (same_kind j k && pointwise nat_eq s t) e in
+    let kinds = kind_same j k (first_so (same_kind j k) (pointwise nat_eq s t) f) in
+    let texts = text_eq s t (second_so (same_kind j k) (pointwise nat_eq s t) f) in
+    λ i. record { range = numbers i; kind = kinds i; key = texts i }
 
 pub mark_ties : (x y : MarkRow) → same_mark x y ≡ eq_by_cmp (under mark_value mark_cmp) x y
-mark_ties x y =
-    let s = string_bytes x.key in
-    let t = string_bytes y.key in
-    both_tied (x.range == y.range) (same_kind x.kind y.kind && pointwise nat_eq s t) (nat_cmp x.range y.range) (ordering_then (nat_cmp (kind_index x.kind) (kind_index y.kind)) (slice_cmp nat_cmp s t)) (unsigned_ties x.range y.range)
-    (both_tied (same_kind x.kind y.kind) (pointwise nat_eq s t) (nat_cmp (kind_index x.kind) (kind_index y.kind)) (slice_cmp nat_cmp s t) (kind_ties x.kind y.kind) (texts_ties s t))
+mark_ties x y = parts_tie x.range y.range x.kind y.kind (rc_str_bytes x.key) (rc_str_bytes y.key)
 
 pub mark_same : (x y : MarkRow) → same_mark x y ≡ true → mark_value x ≡ mark_value y
-mark_same x y e =
-    let s = string_bytes x.key in
-    let t = string_bytes y.key in
-    let a = eq_of x.range y.range (first_so (x.range == y.range) (same_kind x.kind y.kind && pointwise nat_eq s t) e) in
-    let f = second_so (x.range == y.range) (same_kind x.kind y.kind && pointwise nat_eq s t) e in
-    let b = kind_same x.kind y.kind (first_so (same_kind x.kind y.kind) (pointwise nat_eq s t) f) in
-    let c = text_eq s t (second_so (same_kind x.kind y.kind) (pointwise nat_eq s t) f) in
-    λ i. record { range = a i; kind = b i; key = c i }
+mark_same x y = parts_same x.range y.range x.kind y.kind (rc_str_bytes x.key) (rc_str_bytes y.key)
 
 -- ---- intervals
 

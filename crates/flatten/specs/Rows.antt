@@ -1,5 +1,6 @@
 -- The rows without where they lie in memory.
-use Rattle.std.specs.Prelude.{map, List, ℕ, string_bytes}
+use Rattle.std.specs.Prelude.{map, List, ℕ}
+use Rattle.std.specs.Rc.{rc_str_bytes}
 use Rattle.flatten.specs.declared.rows.DocRow.{DocRow}
 use Rattle.flatten.specs.declared.rows.RangeRow.{RangeRow}
 use Rattle.flatten.specs.declared.rows.ItemRow.{ItemRow}
@@ -31,12 +32,12 @@ abbrev pub hover_value : HoverRow → HoverRowValue
 hover_value r = record { result = r.result; contents = r.contents.now }
 
 abbrev pub mark_value : MarkRow → MarkRowValue
-mark_value r = record { range = r.range; kind = r.kind; key = string_bytes r.key }
+mark_value r = record { range = r.range; kind = r.kind; key = rc_str_bytes r.key }
 
 abbrev pub bearer_value : BearerRow → BearerRowValue
 bearer_value r = record {
   line = r.line;
-  key = string_bytes r.key;
+  key = rc_str_bytes r.key;
   kind = r.kind;
   results = record { definition = r.def; references = r.refs; hover = r.hover; declaration = r.decl; implementation = r.imp };
 }

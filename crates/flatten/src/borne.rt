@@ -1,23 +1,25 @@
 //! The monikers that vertices bear themselves, over `attach` edges, and their marks. What a range's chain bears is gathered in `marks.rt`.
-ghost use Rattle.std.specs.Prelude.{◌≡◌, ◌↔◌, ◌++◌, ℕ, IfOk, OnOk, Contains, map, get_or, option_map, string_bytes};
+ghost use Rattle.std.specs.Prelude.{◌≡◌, ◌↔◌, ◌++◌, ℕ, IfOk, OnOk, Contains, None, map, get_or, option_map};
 ghost use Rattle.std.specs.List.Sorted.{IsNonDecreasingBy};
 ghost use Rattle.lsif.specs.Element.{id_value, element_value, moniker_value, package_value};
 ghost use Rattle.dump.specs.Monikers.{attach_pairs_of, package_of};
 ghost use Rattle.flatten.specs.KeyTexts.{key_text, moniker_key};
-ghost use Rattle.flatten.specs.Steps.Borne.{IsBorne, IsBorneBy, mark_text, mark_value, text_of};
+ghost use Rattle.flatten.specs.Steps.Borne.{IsBorne, IsBorneBy, mark_text, mark_value, mark_values, text_of};
+ghost use Rattle.flatten.specs.Steps.Marks.{marks_in};
 ghost use Rattle.flatten.specs.Steps.Kinds.{AreKinds};
 ghost use Rattle.flatten.specs.Steps.Numbers.{pairs_in, pairs_of};
-ghost use Rattle.flatten.specs.Steps.Tables.{Adds, table_of};
+ghost use Rattle.flatten.specs.Steps.Tables.{Adds};
 
 use crate::budget::Budgets;
 use crate::closure::{by_source, closed};
 use crate::fault::FlattenFault;
 use crate::keys::key_text;
 use crate::kinds::Kinds;
-use crate::numbers::{element_at, number_pair};
+use crate::numbers::number_pair;
 use dump::{CheckedDump, ends_law, line_law};
 use lsif::{Edge, Element, Id, Moniker, MonikerKind, Package, Vertex};
 use std::alloc::{AllocError, Global};
+use std::rc::RcStr;
 
 /// Adds the numbers of the two monikers that the element, where it's an `attach` edge, joins: both ways.
 fn add_attached(
@@ -115,11 +117,11 @@ pub(crate) fn borne(
     Ok(by_source(alloc, &pairs)?)
 }
 
-/// The kind of a moniker, and the text of its key.
+/// The kind of a moniker, and the text of its key, which its rows share.
 #[derive(Drop)]
 pub(crate) struct Mark {
     pub(crate) kind: MonikerKind,
-    pub(crate) key: String,
+    pub(crate) key: RcStr,
 }
 
 /// The package that the moniker's `packageInformation` edge names.
@@ -144,7 +146,7 @@ fn mark_of(
     let key = key_text(alloc, moniker, package_of(dump, id))?;
     Ok(Mark {
         kind: moniker.kind,
-        key,
+        key: RcStr::from_string(key)?,
     })
 }
 
@@ -164,16 +166,30 @@ fn mark_in(
     }
 }
 
-/// The mark of the moniker of this number.
-pub(crate) fn mark_at(
+/// The marks of a dump's monikers, each at its element's number, and none at the others'. So the text of each key is made once.
+pub(crate) fn moniker_marks(
     alloc: Global,
     dump: &CheckedDump,
-    number: u32,
-) -> Result<Option<Mark>, FlattenFault>
-    ensures { IfOk result (λ mark. option_map mark_value mark ≡ get_or (table_of (mark_text dump.now.elements) dump.now.elements) number None) }
+) -> Result<Vec<Option<Mark>>, FlattenFault>
+    ensures { IfOk result (λ marks. mark_values marks.items ≡ marks_in dump.now.elements) }
 {
-    match element_at(dump, number) {
-        Some(element) => mark_in(alloc, dump, element),
-        None => Ok(None),
+    let mut marks = Vec::new(alloc);
+    marks.push(None)?;
+    for element in dump.elements() {
+        marks.push(mark_in(alloc, dump, element)?)?;
+    }
+    Ok(marks)
+}
+
+/// The mark of this number, which shares its key's text.
+pub(crate) fn mark_at(marks: &[Option<Mark>], number: u32) -> Result<Option<Mark>, AllocError>
+    ensures { IfOk result (λ mark. option_map mark_value mark ≡ get_or (mark_values marks.now) number None) }
+{
+    match marks.get(number as usize) {
+        Some(Some(mark)) => Ok(Some(Mark {
+            kind: mark.kind,
+            key: mark.key.clone()?,
+        })),
+        _ => Ok(None),
     }
 }

@@ -3,7 +3,7 @@ ghost use Rattle.std.specs.Prelude.{◌≡◌, IfOk};
 ghost use Rattle.flatten.specs.Flat.{HasPositions, IsFlat};
 ghost use Rattle.flatten.specs.Rows.{rows_value};
 
-use crate::borne::borne;
+use crate::borne::{borne, moniker_marks};
 use crate::budget::Budget;
 use crate::chains::Chains;
 use crate::documents::document_rows;
@@ -50,8 +50,9 @@ pub fn flatten_within<'a>(
     let ranges = range_rows(alloc, dump, ranges, intervals)?;
     take_uris(&ranges, limit)?;
     let mut chains = Chains::new(alloc, dump, borne(alloc, &kinds, limit)?)?;
-    let marks = mark_rows(alloc, &mut chains, &kinds.ranges, limit)?;
-    let bearers = bearer_rows(alloc, &mut chains, limit)?;
+    let borne_marks = moniker_marks(alloc, dump)?;
+    let marks = mark_rows(alloc, &borne_marks, &mut chains, &kinds.ranges, limit)?;
+    let bearers = bearer_rows(alloc, &borne_marks, &mut chains, limit)?;
     let items = item_rows(alloc, &mut kinds, limit)?;
     Ok(Rows {
         profile: dump.profile(),

@@ -7,7 +7,7 @@ ghost use Rattle.dump.specs.Fault.{IsFaultless};
 ghost use Rattle.dump.specs.Places.{IsListing};
 ghost use Rattle.flatten.specs.Flat.{IsBearerRow, IsMarkRow, bearer_cmp, kind_index, mark_cmp};
 ghost use Rattle.flatten.specs.Rows.{bearer_value, mark_value as mark_row_value};
-ghost use Rattle.flatten.specs.Steps.Borne.{mark_value};
+ghost use Rattle.flatten.specs.Steps.Borne.{mark_value, mark_values};
 ghost use Rattle.flatten.specs.Steps.Chains.{AreChains};
 ghost use Rattle.flatten.specs.Steps.Kinds.{AreThose, is_range};
 ghost use Rattle.flatten.specs.Steps.Marks.{AreBorne, IsBorneMark, IsBorneRow, IsMarkAlong, IsMarkOfRange, IsMarkOfVertex, IsNextBearer, bearer_mark, mark_of, marks_in, marks_of};
@@ -20,7 +20,7 @@ use crate::closure::pairs_from;
 use crate::fault::FlattenFault;
 use crate::numbers::{id_of, number_of};
 use crate::rows::{BearerRow, MarkRow};
-use dump::{CheckedDump, chain_law, ends_law, line_law, pick_law, vertex_law};
+use dump::{chain_law, ends_law, line_law, pick_law, vertex_law};
 use lsif::{Element, Id, MonikerKind, Vertex};
 use std::alloc::{AllocError, Global};
 use std::cmp::Ordering;
@@ -47,25 +47,24 @@ fn add_mark(
 
 /// Adds the rows of the number for the marks of the monikers that the pairs lead to.
 fn add_targets(
-    alloc: Global,
     rows: &mut Vec<MarkRow>,
-    dump: &CheckedDump,
+    marks: &[Option<Mark>],
     number: u32,
     pairs: &[(u32, u32)],
     budget: &mut Budget,
 ) -> Result<(), FlattenFault>
-    ensures { OnOk result (map mark_row_value rows.new.items ≡ map mark_row_value rows.old.items ++ marks_of number (marks_in dump.now.elements) pairs.now) }
+    ensures { OnOk result (map mark_row_value rows.new.items ≡ map mark_row_value rows.old.items ++ marks_of number (mark_values marks.now) pairs.now) }
 {
     for pair in pairs {
-        add_mark(rows, number, mark_at(alloc, dump, pair.1)?, budget)?;
+        add_mark(rows, number, mark_at(marks, pair.1)?, budget)?;
     }
     Ok(())
 }
 
 /// Adds the rows of the number for the marks that the vertex bears itself. Each is taken from the budget, with its text.
 fn add_member(
-    alloc: Global,
     rows: &mut Vec<MarkRow>,
+    marks: &[Option<Mark>],
     chains: &Chains<'_>,
     number: u32,
     member: &Id,
@@ -73,13 +72,13 @@ fn add_member(
 ) -> Result<(), FlattenFault>
     requires { AreChains chains.now }
     ensures { OnOk result (Adds (map mark_row_value rows.old.items)
-        (IsMarkOfVertex chains.now.dump.now.elements chains.now.borne.items (marks_in chains.now.dump.now.elements) number (id_value member.now))
+        (IsMarkOfVertex chains.now.dump.now.elements chains.now.borne.items (mark_values marks.now) number (id_value member.now))
         (map mark_row_value rows.new.items)) }
 {
     if let Some(vertex) = number_of(chains.dump, member) {
         let pairs = pairs_from(&chains.borne, vertex);
         budget.take(pairs.len())?;
-        add_targets(alloc, rows, chains.dump, number, pairs, budget)?;
+        add_targets(rows, marks, number, pairs, budget)?;
     }
     Ok(())
 }
@@ -107,6 +106,7 @@ fn next_bearer<'a>(
 fn add_chain<'a>(
     alloc: Global,
     rows: &mut Vec<MarkRow>,
+    marks: &[Option<Mark>],
     chains: &mut Chains<'a>,
     number: u32,
     range: &'a Id,
@@ -114,7 +114,7 @@ fn add_chain<'a>(
 ) -> Result<(), FlattenFault>
     requires { AreChains chains.old }
     ensures rows { OnOk result (Adds (map mark_row_value rows.old.items)
-        (IsMarkAlong chains.old.dump.now.elements chains.old.borne.items (marks_in chains.old.dump.now.elements) number (id_value range.now))
+        (IsMarkAlong chains.old.dump.now.elements chains.old.borne.items (mark_values marks.now) number (id_value range.now))
         (map mark_row_value rows.new.items)) }
     ensures chains { OnOk result (AreChains chains.new) }
     ensures dump { chains.new.dump ≡ chains.old.dump }
@@ -127,7 +127,7 @@ fn add_chain<'a>(
         let Some(member) = bearer else {
             return Ok(());
         };
-        add_member(alloc, rows, chains, number, member, budget)?;
+        add_member(rows, marks, chains, number, member, budget)?;
         bearer = next_bearer(alloc, chains, member)?;
     }
     Ok(())
@@ -137,13 +137,14 @@ fn add_chain<'a>(
 fn add_range<'a>(
     alloc: Global,
     rows: &mut Vec<MarkRow>,
+    marks: &[Option<Mark>],
     chains: &mut Chains<'a>,
     element: &'a Element,
     budget: &mut Budget,
 ) -> Result<(), FlattenFault>
     requires { AreChains chains.old }
     ensures rows { OnOk result (Adds (map mark_row_value rows.old.items)
-        (IsMarkOfRange chains.old.dump.now.elements chains.old.borne.items (marks_in chains.old.dump.now.elements) (element_value element.now))
+        (IsMarkOfRange chains.old.dump.now.elements chains.old.borne.items (mark_values marks.now) (element_value element.now))
         (map mark_row_value rows.new.items)) }
     ensures chains { OnOk result (AreChains chains.new) }
     ensures dump { chains.new.dump ≡ chains.old.dump }
@@ -153,7 +154,7 @@ fn add_range<'a>(
         return Ok(());
     };
     match number_of(chains.dump, id) {
-        Some(number) => add_chain(alloc, rows, chains, number, id, budget),
+        Some(number) => add_chain(alloc, rows, marks, chains, number, id, budget),
         None => Ok(()),
     }
 }
@@ -190,10 +191,12 @@ fn list_rows(rows: &mut Vec<MarkRow>)
 /// The rows of the marks of ranges: in order, each once. Where no vertex bears a moniker there are none.
 pub(crate) fn mark_rows<'a>(
     alloc: Global,
+    marks: &[Option<Mark>],
     chains: &mut Chains<'a>,
     ranges: &[&'a Element],
     limit: usize,
 ) -> Result<Vec<MarkRow>, FlattenFault>
+    requires marks { mark_values marks.now ≡ marks_in chains.old.dump.now.elements }
     requires chains { AreChains chains.old }
     requires borne { AreBorne chains.old.dump.now.elements chains.old.borne.items }
     requires ranges { AreThose is_range chains.old.dump.now.elements ranges.now }
@@ -212,7 +215,7 @@ pub(crate) fn mark_rows<'a>(
     let mut budget = Budget::new(limit);
     let mut rows = Vec::new(alloc);
     for element in ranges {
-        add_range(alloc, &mut rows, chains, element, &mut budget)?;
+        add_range(alloc, &mut rows, marks, chains, element, &mut budget)?;
     }
     list_rows(&mut rows);
     Ok(rows)
@@ -221,17 +224,17 @@ pub(crate) fn mark_rows<'a>(
 /// The marks that vertices bear themselves, as rows of the vertices' numbers: in order, each once.
 fn borne_marks(
     alloc: Global,
-    dump: &CheckedDump,
+    marks: &[Option<Mark>],
     pairs: &[(u32, u32)],
     limit: usize,
 ) -> Result<Vec<MarkRow>, FlattenFault>
-    ensures { IfOk result (λ rows. IsListing mark_cmp (IsBorneMark pairs.now (marks_in dump.now.elements)) (map mark_row_value rows.items)) }
+    ensures { IfOk result (λ rows. IsListing mark_cmp (IsBorneMark pairs.now (mark_values marks.now)) (map mark_row_value rows.items)) }
 {
     let mut budget = Budget::new(limit);
     budget.take(pairs.len())?;
     let mut rows = Vec::new(alloc);
     for pair in pairs {
-        let mark = mark_at(alloc, dump, pair.1)?;
+        let mark = mark_at(marks, pair.1)?;
         add_mark(&mut rows, pair.0, mark, &mut budget)?;
     }
     list_rows(&mut rows);
@@ -279,9 +282,11 @@ fn add_bearer<'a>(
 /// The rows of bearers: in order, each once.
 pub(crate) fn bearer_rows<'a>(
     alloc: Global,
+    marks: &[Option<Mark>],
     chains: &mut Chains<'a>,
     limit: usize,
 ) -> Result<Vec<BearerRow>, FlattenFault>
+    requires marks { mark_values marks.now ≡ marks_in chains.old.dump.now.elements }
     requires chains { AreChains chains.old }
     requires borne { AreBorne chains.old.dump.now.elements chains.old.borne.items }
     requires faultless { IsFaultless (map Ok chains.old.dump.now.elements) }
@@ -291,7 +296,7 @@ pub(crate) fn bearer_rows<'a>(
     line_law();
     pick_law();
     vertex_law();
-    let mut left = borne_marks(alloc, chains.dump, &chains.borne, limit)?;
+    let mut left = borne_marks(alloc, marks, &chains.borne, limit)?;
     left.reverse();
     let mut rows = Vec::new(alloc);
     while let Some(mark) = left.pop() {

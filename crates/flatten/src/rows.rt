@@ -2,6 +2,7 @@
 use dump::Role;
 use lsif::{MonikerKind, Profile};
 use positions::Span;
+use std::rc::RcStr;
 
 /// A document.
 #[derive(Clone, Copy, Debug, PartialEq, Eq, PartialOrd, Ord)]
@@ -57,8 +58,8 @@ pub struct MarkRow {
     /// The range's line, counted from 1.
     pub range: u32,
     pub kind: MonikerKind,
-    /// As `key_text` makes it.
-    pub key: String,
+    /// As `key_text` makes it, shared among the rows of a moniker.
+    pub key: RcStr,
 }
 
 /// A mark that a vertex bears itself, with the first results of the vertex.
@@ -66,8 +67,8 @@ pub struct MarkRow {
 pub struct BearerRow {
     /// The vertex's line, counted from 1.
     pub line: u32,
-    /// As `key_text` makes it.
-    pub key: String,
+    /// As `key_text` makes it, shared among the rows of a moniker.
+    pub key: RcStr,
     pub kind: MonikerKind,
     /// The numbers of its first results, as those of a range.
     pub def: Option<u32>,

@@ -7,9 +7,9 @@ use Rattle.dump.specs.declared.role.Role.{Role}
 use Rattle.dump.specs.Fault.{IsFaultless}
 use Rattle.dump.specs.Places.{HasDocument}
 use Rattle.dump.specs.Progress.{DumpValue}
-use Rattle.dump.specs.Requests.{Pick, RangeValue}
+use Rattle.dump.specs.Requests.{Pick, RangeValue, roles_of}
 use Rattle.machine.specs.State.{State}
-use Rattle.machine.specs.Answers.{AnswersKind, roles_of, Answers, AnswersAt, AnswersHover, AnswersPlaces, no_dump, no_such_document, answered, picked, picked_hover, unpicked, unpicked_hover, profile_reply, reference_roles}
+use Rattle.machine.specs.Answers.{AnswersKind, Answers, AnswersAt, AnswersHover, AnswersPlaces, no_dump, no_such_document, answered, picked, picked_hover, unpicked, unpicked_hover, profile_reply, reference_roles}
 use Rattle.machine.specs.Moments.{IsIndex}
 use Rattle.machine.specs.Reply.{ReplyValue, hover_found, places_found, projects_found, refused, tags_found}
 use Rattle.machine.specs.Requests.{DocumentPositionValue, QueryValue, position_query, references, names, prefix, projects, profile}

@@ -11,7 +11,7 @@ use Rattle.dump.specs.declared.role.Role.TheVariants as roles
 use Rattle.dump.specs.Graph.{vertex_at}
 use Rattle.dump.specs.Places.{PlaceValue, HasDocument, IsListing, Places, place_cmp}
 use Rattle.dump.specs.Progress.{DumpValue}
-use Rattle.dump.specs.Requests.{First, Pick, RangeValue}
+use Rattle.dump.specs.Requests.{First, Pick, RangeValue, roles_of}
 use Rattle.machine.specs.declared.code.Code.TheVariants.{D01, D02}
 use Rattle.machine.specs.Joins.{IsJoined}
 use Rattle.machine.specs.State.{State}
@@ -87,11 +87,6 @@ pub data AnswersAt (m : State) (target : DocumentPositionValue) (Answers : DumpV
       → AnswersAt m target Answers r
 
 -- ---- queries
-
--- the roles of the places that a request of a kind asks for
-abbrev pub roles_of : RequestKind → List Role
-roles_of requests.References = roles.Definitions ∷ roles.References ∷ []
-roles_of kind = roles.Definitions ∷ []
 
 -- what answers it at a position of a dump
 abbrev pub AnswersKind : State → RequestKind → DocumentPositionValue → DumpValue → ReplyValue → Type 0

@@ -22,7 +22,7 @@ use Rattle.dump.specs.Places.{IsListing}
 use Rattle.dump.specs.Progress.{DumpValue}
 use Rattle.flatten.specs.Flat.{RowsValue, IsFlat, MarkRowValue, IsMarkRow, kind_index}
 use Rattle.flatten.proofs.Listing.{under, same_listing}
-use Rattle.flatten.proofs.RowOrders.{mark_ties, mark_same}
+use Rattle.flatten.proofs.RowOrders.{parts_tie, parts_same}
 use Rattle.tables.specs.Schema.{schema_two}
 use Rattle.tables.specs.Columns.{number, dump_rows, mark_columns}
 use Rattle.tables.specs.Contents.{owned, slot_row}
@@ -55,10 +55,10 @@ pub mark_total : IsTotalOrder (under mark_found mark_text_cmp)
 mark_total = then_total (on_total (λ (r : FoundMark). kind_index r.kind) nat_cmp_total) (on_texts (λ (r : FoundMark). string_bytes r.key))
 
 pub mark_tie : (x y : FoundMark) → same_mark x y ≡ eq_by_cmp (under mark_found mark_text_cmp) x y
-mark_tie x y = mark_ties (record { range = 0; kind = x.kind; key = x.key }) (record { range = 0; kind = y.kind; key = y.key })
+mark_tie x y = parts_tie 0 0 x.kind y.kind (string_bytes x.key) (string_bytes y.key)
 
 pub mark_one : (x y : FoundMark) → same_mark x y ≡ true → mark_found x ≡ mark_found y
-mark_one x y e = ap (λ (v : MarkRowValue). record { kind = v.kind; key = v.key }) (mark_same (record { range = 0; kind = x.kind; key = x.key }) (record { range = 0; kind = y.kind; key = y.key }) e)
+mark_one x y e = ap (λ (v : MarkRowValue). record { kind = v.kind; key = v.key }) (parts_same 0 0 x.kind y.kind (string_bytes x.key) (string_bytes y.key) e)
 
 pub one_kind : (j k : MonikerKind) → number (kind_index j) ≡ number (kind_index k) → j ≡ k
 one_kind Import Import e = refl

@@ -13,6 +13,7 @@ use Rattle.serde_json.specs.Written.{compact_text}
 use Rattle.tags.specs.Values.{FieldValue, TagValue}
 use Rattle.machine.specs.Reply.{field_data, profile_number}
 use Rattle.flatten.specs.Flat.{RangeRowValue, ItemRowValue, HoverRowValue, MarkRowValue, BearerRowValue, RowsValue, role_index, kind_index}
+use Rattle.tables.specs.TableTrees.{bearer_tree, document_tree, hover_tree, item_tree, mark_tree, more_tree, part_profile_tree, range_row_tree, tag_tree}
 
 abbrev pub number : ℕ → Value
 number n = Int (pos n)
@@ -77,9 +78,10 @@ nowhere t = []
 -- those of a dump: of `document`, `range_row`, `item`, `hover`, `mark`, `bearer`, `part_profile` and `more`
 abbrev pub dump_rows : Profile → RowsValue → ℕ → List Row
 dump_rows profile flat =
-    laid 24 (more_rows flat) (laid 22 (profile_columns profile ∷ []) (laid 15 (map bearer_columns flat.bearers) (laid 13 (map mark_columns flat.marks)
-    (laid 11 (map hover_columns flat.hovers) (laid 9 (map item_columns flat.items)
-    (laid 7 (map range_columns flat.ranges) (laid 5 (map document_columns flat.documents) nowhere)))))))
+    laid more_tree (more_rows flat) (laid part_profile_tree (profile_columns profile ∷ []) (laid bearer_tree (map bearer_columns flat.bearers)
+    (laid mark_tree (map mark_columns flat.marks)
+    (laid hover_tree (map hover_columns flat.hovers) (laid item_tree (map item_columns flat.items)
+    (laid range_row_tree (map range_columns flat.ranges) (laid document_tree (map document_columns flat.documents) nowhere)))))))
 
 -- ---- tags
 
@@ -95,4 +97,4 @@ tag_columns t = number t.line ∷ Text t.name ∷ Text t.file ∷ Text t.address
 
 -- the rows of tags, all in `tag`
 abbrev pub tag_rows : List TagValue → ℕ → List Row
-tag_rows tags = laid 17 (map tag_columns tags) nowhere
+tag_rows tags = laid tag_tree (map tag_columns tags) nowhere

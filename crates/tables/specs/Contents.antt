@@ -9,6 +9,9 @@ use Rattle.sqlite_rules.specs.Lists.{Has}
 use Rattle.sqlite_schema.specs.declared.schema.Schema.{Schema}
 use Rattle.tables.specs.Schema.{schema_one, schema_two}
 use Rattle.tables.specs.Databases.{Holds, AllOrdered}
+use Rattle.tables.specs.Parts.{part_number}
+use Rattle.tables.specs.TableTrees.{format_tree, slot_tree, keyed_tree, document_tree, range_row_tree, item_tree, hover_tree, mark_tree, bearer_tree, tag_tree, part_profile_tree, more_tree}
+use Rattle.tables.specs.declared.slots.Part.{Part}
 
 -- for each project and kind of part (1 is a dump, 2 tags) nothing, or for each table the part's rows without the id of its slot
 abbrev pub Contents : Type 0
@@ -21,6 +24,10 @@ Replies = List ℕ → List ℕ → Option (List ℕ)
 -- a key's own column is kept as NULL
 abbrev pub slot_row : ℤ → List ℕ → ℤ → Row
 slot_row id project part = Int id ∷ Null ∷ Text project ∷ Int part ∷ []
+
+-- the part of the project has the slot of this id
+abbrev pub HasSlot : Trees → ℤ → List ℕ → Part → Type 0
+HasSlot db id project part = Has (db slot_tree) (slot_row id project (part_number part))
 
 -- the row is the slot of a part that is there
 pub record IsSlot (parts : Contents) (row : Row) : Type 0 where
@@ -38,7 +45,7 @@ pub record IsOwned (db : Trees) (parts : Contents) (tree : ℕ) (row : Row) : Ty
   pub part : ℤ
   pub rows : ℕ → List Row
   pub values : Row
-  pub slot : Has (db 1) (slot_row id project part)
+  pub slot : Has (db slot_tree) (slot_row id project part)
   pub has : parts project part ≡ Some rows
   pub listed : Has (rows tree) values
   pub is : row ≡ Int id ∷ values
@@ -52,21 +59,21 @@ pub record IsReply (replies : Replies) (row : Row) : Type 0 where
 
 -- the tables whose rows belong to a slot, in format 2
 abbrev pub owned : List ℕ
-owned = 5 ∷ 7 ∷ 9 ∷ 11 ∷ 13 ∷ 15 ∷ 17 ∷ 22 ∷ 24 ∷ []
+owned = document_tree ∷ range_row_tree ∷ item_tree ∷ hover_tree ∷ mark_tree ∷ bearer_tree ∷ tag_tree ∷ part_profile_tree ∷ more_tree ∷ []
 
 -- those of format 1
 abbrev pub owned_one : List ℕ
-owned_one = 5 ∷ 7 ∷ 9 ∷ 11 ∷ 13 ∷ 15 ∷ 17 ∷ []
+owned_one = document_tree ∷ range_row_tree ∷ item_tree ∷ hover_tree ∷ mark_tree ∷ bearer_tree ∷ tag_tree ∷ []
 
 -- The tables are of the format of this schema and number: they have one slot for each part that is there, in each other table the rows of the
 -- parts and no more, and the kept replies.
 pub record KeepsIn (schema : Schema) (number : ℕ) (owners : List ℕ) (db : Trees) (parts : Contents) (replies : Replies) : Type 0 where
   pub ordered : AllOrdered schema db
-  pub version : (row : Row) → Has (db 0) row ↔ (row ≡ Int (pos number) ∷ Null ∷ [])
-  pub slots : (row : Row) → Has (db 1) row → IsSlot parts row
-  pub there : (project : List ℕ) (part : ℤ) (rows : ℕ → List Row) → parts project part ≡ Some rows → (id : ℤ) × Has (db 1) (slot_row id project part)
-  pub single : (a b : ℤ) (project : List ℕ) (part : ℤ) → Has (db 1) (slot_row a project part) → Has (db 1) (slot_row b project part) → a ≡ b
-  pub keyed : (row : Row) → Holds db 3 row ↔ IsReply replies row
+  pub version : (row : Row) → Has (db format_tree) row ↔ (row ≡ Int (pos number) ∷ Null ∷ [])
+  pub slots : (row : Row) → Has (db slot_tree) row → IsSlot parts row
+  pub there : (project : List ℕ) (part : ℤ) (rows : ℕ → List Row) → parts project part ≡ Some rows → (id : ℤ) × Has (db slot_tree) (slot_row id project part)
+  pub single : (a b : ℤ) (project : List ℕ) (part : ℤ) → Has (db slot_tree) (slot_row a project part) → Has (db slot_tree) (slot_row b project part) → a ≡ b
+  pub keyed : (row : Row) → Holds db keyed_tree row ↔ IsReply replies row
   pub children : (tree : ℕ) → Has owners tree → (row : Row) → Holds db tree row ↔ IsOwned db parts tree row
 
 abbrev pub Keeps : Trees → Contents → Replies → Type 0

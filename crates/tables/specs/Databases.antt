@@ -16,6 +16,7 @@ use Rattle.sqlite_trees.specs.Tree.{Trees, IsTable, rowid}
 use Rattle.sqlite_trees.specs.Objects.{catalog_tree}
 use Rattle.sqlite_catalog.specs.Listing.{Lists}
 use Rattle.tables.specs.Schema.{schema_one, schema_two}
+use Rattle.tables.specs.TableTrees.{format_tree}
 
 -- the rows that pass the tests, and what is shown of each
 abbrev pub chosen : List Term → List Term → Row → List Row → List Row
@@ -32,18 +33,18 @@ IsListed schema db = Lists (db catalog_tree) schema
 -- the tables of format 2, of which `format` alone has a row
 pub record IsMade (db : Database) : Type 0 where
   pub schema_is : db.schema ≡ schema_two
-  pub version : db.trees 0 ≡ version_row 2
-  pub others : AllByRecursion (λ t. t.tree ≢ 0 → db.trees t.tree ≡ []) schema_two.tables
+  pub version : db.trees format_tree ≡ version_row 2
+  pub others : AllByRecursion (λ t. t.tree ≢ format_tree → db.trees t.tree ≡ []) schema_two.tables
   pub listed : IsListed schema_two db.trees
 
 -- the tables of format 1, or 2, with one row of that version
 pub record IsFormatOne (db : Database) : Type 0 where
   pub schema_is : db.schema ≡ schema_one
-  pub version : db.trees 0 ≡ version_row 1
+  pub version : db.trees format_tree ≡ version_row 1
 
 pub record IsFormatTwo (db : Database) : Type 0 where
   pub schema_is : db.schema ≡ schema_two
-  pub version : db.trees 0 ≡ version_row 2
+  pub version : db.trees format_tree ≡ version_row 2
 
 -- the table in this tree has a row with these columns
 abbrev pub Holds : Trees → ℕ → Row → Type 0
@@ -77,7 +78,7 @@ profile_shown = col 1 0 ∷ lit (Int (pos 1)) ∷ []
 -- `SELECT id, 1 FROM slot WHERE part = 1`, so each dump has profile 1; and `more` has no row.
 pub record WasUpgraded (old new : Trees) : Type 0 where
   pub version : new 0 ≡ version_row 2
-  pub others : AllByRecursion (λ t. t.tree ≢ 0 → new t.tree ≡ old t.tree) schema_one.tables
+  pub others : AllByRecursion (λ t. t.tree ≢ format_tree → new t.tree ≡ old t.tree) schema_one.tables
   pub profiles : AreNumbered (old 1) → (row : Row) → Holds new 22 row ↔ Has (chosen dump_tests profile_shown [] (old 1)) row
   pub ordered : AreNumbered (old 1) → IsOrdered (new 22)
   pub more : new 24 ≡ []
@@ -89,4 +90,4 @@ pub record IsUpgraded (old new : Database) : Type 0 where
 
 -- a database that `make` made, as a crash finds it
 abbrev pub WasMade : Trees → Type 0
-WasMade db = (db 0 ≡ version_row 2) × AllByRecursion (λ t. t.tree ≢ 0 → db t.tree ≡ []) schema_two.tables × IsListed schema_two db
+WasMade db = (db format_tree ≡ version_row 2) × AllByRecursion (λ t. t.tree ≢ format_tree → db t.tree ≡ []) schema_two.tables × IsListed schema_two db

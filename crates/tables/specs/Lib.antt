@@ -9,4 +9,5 @@ pub mod Parts
 pub mod Schema
 pub mod Selections
 pub mod Stands
+pub mod TableTrees
 pub mod Steps

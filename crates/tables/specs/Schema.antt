@@ -1,5 +1,6 @@
 -- The schemas of formats 1 and 2.
 use Rattle.std.specs.Prelude.{ℕ, suc, Bool, true, false, List, [], ◌∷◌, codes, Some, None}
+use Rattle.tables.specs.TableTrees.{format_tree, slot_tree, keyed_tree, document_tree, range_row_tree, item_tree, hover_tree, mark_tree, bearer_tree, tag_tree, part_profile_tree, more_tree}
 use Rattle.sqlite_value.specs.declared.value.Value.TheVariants.{Null}
 use Rattle.sqlite_value.specs.declared.keys.Collation.TheVariants.{Binary}
 use Rattle.sqlite_value.specs.declared.keys.Order.{Order}
@@ -64,7 +65,7 @@ abbrev pub format_at : ℕ → Table
 format_at tree = by_rowid (codes "format") tree (integer_column (codes "version") false ∷ []) ([]) ([])
 
 abbrev pub format : Table
-format = format_at 0
+format = format_at format_tree
 
 abbrev pub slot_at : ℕ → Table
 slot_at tree =
@@ -72,7 +73,7 @@ slot_at tree =
     ((2 ∷ 3 ∷ []) ∷ []) (plain ∷ [])
 
 abbrev pub slot : Table
-slot = slot_at 1
+slot = slot_at slot_tree
 
 abbrev pub keyed_at : ℕ → Table
 keyed_at tree =
@@ -80,13 +81,13 @@ keyed_at tree =
     ([])
 
 abbrev pub keyed : Table
-keyed = keyed_at 3
+keyed = keyed_at keyed_tree
 
 abbrev pub document_at : ℕ → Table
 document_at tree = keyed_by (codes "document") tree (integer_column (codes "slot") true ∷ text_column (codes "uri") true ∷ []) (1 ∷ 2 ∷ []) (to_slot ∷ [])
 
 abbrev pub document : Table
-document = document_at 5
+document = document_at document_tree
 
 abbrev pub range_row_at : ℕ → Table
 range_row_at tree =
@@ -95,7 +96,7 @@ range_row_at tree =
     ∷ integer_column (codes "refs") false ∷ integer_column (codes "hover") false ∷ []) (1 ∷ 2 ∷ []) (to_slot ∷ [])
 
 abbrev pub range_row : Table
-range_row = range_row_at 7
+range_row = range_row_at range_row_tree
 
 abbrev pub item_at : ℕ → Table
 item_at tree =
@@ -104,7 +105,7 @@ item_at tree =
     (to_slot ∷ [])
 
 abbrev pub item : Table
-item = item_at 9
+item = item_at item_tree
 
 abbrev pub hover_at : ℕ → Table
 hover_at tree =
@@ -112,7 +113,7 @@ hover_at tree =
     (1 ∷ 2 ∷ []) (to_slot ∷ [])
 
 abbrev pub hover : Table
-hover = hover_at 11
+hover = hover_at hover_tree
 
 abbrev pub mark_at : ℕ → Table
 mark_at tree =
@@ -120,7 +121,7 @@ mark_at tree =
     ∷ text_column (codes "keytext") true ∷ []) (1 ∷ 2 ∷ 3 ∷ 4 ∷ []) (to_slot ∷ [])
 
 abbrev pub mark : Table
-mark = mark_at 13
+mark = mark_at mark_tree
 
 abbrev pub bearer_at : ℕ → Table
 bearer_at tree =
@@ -129,7 +130,7 @@ bearer_at tree =
     (1 ∷ 2 ∷ 3 ∷ 4 ∷ []) (to_slot ∷ [])
 
 abbrev pub bearer : Table
-bearer = bearer_at 15
+bearer = bearer_at bearer_tree
 
 abbrev pub tag_at : ℕ → Table
 tag_at tree =
@@ -138,7 +139,7 @@ tag_at tree =
     (1 ∷ 2 ∷ []) (to_slot ∷ [])
 
 abbrev pub tag : Table
-tag = tag_at 17
+tag = tag_at tag_tree
 
 abbrev pub part_profile_at : ℕ → Table
 part_profile_at tree =
@@ -146,7 +147,7 @@ part_profile_at tree =
     (to_slot ∷ [])) { primary = [] }
 
 abbrev pub part_profile : Table
-part_profile = part_profile_at 22
+part_profile = part_profile_at part_profile_tree
 
 abbrev pub more_at : ℕ → Table
 more_at tree =
@@ -154,7 +155,7 @@ more_at tree =
     ∷ integer_column (codes "imp") false ∷ []) (1 ∷ 2 ∷ []) (to_slot ∷ [])
 
 abbrev pub more : Table
-more = more_at 24
+more = more_at more_tree
 
 abbrev pub range_by_start_on : ℕ → ℕ → Index
 range_by_start_on tree on =
@@ -172,11 +173,11 @@ tag_by_name_on tree on =
 abbrev pub schema_one : Schema
 schema_one = record {
   tables = format ∷ slot ∷ keyed ∷ document ∷ range_row ∷ item ∷ hover ∷ mark ∷ bearer ∷ tag ∷ [];
-  indexes = key_of (codes "sqlite_autoindex_slot_1") 1 (2 ∷ 3 ∷ []) ∷ key_of (codes "sqlite_autoindex_keyed_1") 3 (1 ∷ 2 ∷ [])
-      ∷ key_of (codes "sqlite_autoindex_document_1") 5 (1 ∷ 2 ∷ []) ∷ key_of (codes "sqlite_autoindex_range_row_1") 7 (1 ∷ 2 ∷ [])
-      ∷ key_of (codes "sqlite_autoindex_item_1") 9 (1 ∷ 2 ∷ 3 ∷ 4 ∷ 5 ∷ 6 ∷ []) ∷ key_of (codes "sqlite_autoindex_hover_1") 11 (1 ∷ 2 ∷ [])
-      ∷ key_of (codes "sqlite_autoindex_mark_1") 13 (1 ∷ 2 ∷ 3 ∷ 4 ∷ []) ∷ key_of (codes "sqlite_autoindex_bearer_1") 15 (1 ∷ 2 ∷ 3 ∷ 4 ∷ [])
-      ∷ key_of (codes "sqlite_autoindex_tag_1") 17 (1 ∷ 2 ∷ []) ∷ [];
+  indexes = key_of (codes "sqlite_autoindex_slot_1") slot_tree (2 ∷ 3 ∷ []) ∷ key_of (codes "sqlite_autoindex_keyed_1") keyed_tree (1 ∷ 2 ∷ [])
+      ∷ key_of (codes "sqlite_autoindex_document_1") document_tree (1 ∷ 2 ∷ []) ∷ key_of (codes "sqlite_autoindex_range_row_1") range_row_tree (1 ∷ 2 ∷ [])
+      ∷ key_of (codes "sqlite_autoindex_item_1") item_tree (1 ∷ 2 ∷ 3 ∷ 4 ∷ 5 ∷ 6 ∷ []) ∷ key_of (codes "sqlite_autoindex_hover_1") hover_tree (1 ∷ 2 ∷ [])
+      ∷ key_of (codes "sqlite_autoindex_mark_1") mark_tree (1 ∷ 2 ∷ 3 ∷ 4 ∷ []) ∷ key_of (codes "sqlite_autoindex_bearer_1") bearer_tree (1 ∷ 2 ∷ 3 ∷ 4 ∷ [])
+      ∷ key_of (codes "sqlite_autoindex_tag_1") tag_tree (1 ∷ 2 ∷ []) ∷ [];
   views = [];
 }
 
@@ -184,11 +185,11 @@ schema_one = record {
 abbrev pub schema_two : Schema
 schema_two = record {
   tables = format ∷ slot ∷ keyed ∷ document ∷ range_row ∷ item ∷ hover ∷ mark ∷ bearer ∷ tag ∷ part_profile ∷ more ∷ [];
-  indexes = key_of (codes "sqlite_autoindex_slot_1") 1 (2 ∷ 3 ∷ []) ∷ key_of (codes "sqlite_autoindex_keyed_1") 3 (1 ∷ 2 ∷ [])
-      ∷ key_of (codes "sqlite_autoindex_document_1") 5 (1 ∷ 2 ∷ []) ∷ key_of (codes "sqlite_autoindex_range_row_1") 7 (1 ∷ 2 ∷ [])
-      ∷ key_of (codes "sqlite_autoindex_item_1") 9 (1 ∷ 2 ∷ 3 ∷ 4 ∷ 5 ∷ 6 ∷ []) ∷ key_of (codes "sqlite_autoindex_hover_1") 11 (1 ∷ 2 ∷ [])
-      ∷ key_of (codes "sqlite_autoindex_mark_1") 13 (1 ∷ 2 ∷ 3 ∷ 4 ∷ []) ∷ key_of (codes "sqlite_autoindex_bearer_1") 15 (1 ∷ 2 ∷ 3 ∷ 4 ∷ [])
-      ∷ key_of (codes "sqlite_autoindex_tag_1") 17 (1 ∷ 2 ∷ []) ∷ range_by_start_on 19 7 ∷ bearer_by_key_on 20 15 ∷ tag_by_name_on 21 17
-      ∷ key_of (codes "sqlite_autoindex_part_profile_1") 22 (1 ∷ []) ∷ key_of (codes "sqlite_autoindex_more_1") 24 (1 ∷ 2 ∷ []) ∷ [];
+  indexes = key_of (codes "sqlite_autoindex_slot_1") slot_tree (2 ∷ 3 ∷ []) ∷ key_of (codes "sqlite_autoindex_keyed_1") keyed_tree (1 ∷ 2 ∷ [])
+      ∷ key_of (codes "sqlite_autoindex_document_1") document_tree (1 ∷ 2 ∷ []) ∷ key_of (codes "sqlite_autoindex_range_row_1") range_row_tree (1 ∷ 2 ∷ [])
+      ∷ key_of (codes "sqlite_autoindex_item_1") item_tree (1 ∷ 2 ∷ 3 ∷ 4 ∷ 5 ∷ 6 ∷ []) ∷ key_of (codes "sqlite_autoindex_hover_1") hover_tree (1 ∷ 2 ∷ [])
+      ∷ key_of (codes "sqlite_autoindex_mark_1") mark_tree (1 ∷ 2 ∷ 3 ∷ 4 ∷ []) ∷ key_of (codes "sqlite_autoindex_bearer_1") bearer_tree (1 ∷ 2 ∷ 3 ∷ 4 ∷ [])
+      ∷ key_of (codes "sqlite_autoindex_tag_1") tag_tree (1 ∷ 2 ∷ []) ∷ range_by_start_on 19 range_row_tree ∷ bearer_by_key_on 20 bearer_tree ∷ tag_by_name_on 21 tag_tree
+      ∷ key_of (codes "sqlite_autoindex_part_profile_1") part_profile_tree (1 ∷ []) ∷ key_of (codes "sqlite_autoindex_more_1") more_tree (1 ∷ 2 ∷ []) ∷ [];
   views = [];
 }

@@ -97,14 +97,16 @@ pub record IsRangeFound (request : RequestKind) (elements : List ElementValue) (
 
 -- the ranges of the document of this uri that cover the position, the smallest first, with their results for the request
 abbrev pub FindsCover : RequestKind → List ElementValue → List ℕ → PositionValue → List RangeFound → Type 0
-FindsCover request elements uri position found = (ranges : List RangeValue) × Cover elements uri position ranges × AllZip (IsRangeFound request elements) ranges found
+FindsCover request elements uri position found =
+    (ranges : List RangeValue) × Cover elements uri position ranges × AllZip (IsRangeFound request elements) ranges found
 
 -- the project has no dump, or its dump no document of this uri, or these ranges of it cover the position
 abbrev pub FindsCovering : State → RequestKind → List ℕ → List ℕ → PositionValue → Covering → Type 0
 FindsCovering m request project uri position NoDump = m.dump project ≡ None
 FindsCovering m request project uri position NoDocument = (dump : DumpValue) × (m.dump project ≡ Some dump) × (HasDocument dump.elements uri → ⊥)
 FindsCovering m request project uri position (Ranges found) =
-    (dump : DumpValue) × (m.dump project ≡ Some dump) × HasDocument dump.elements uri × FindsCover request dump.elements uri position (map range_found found.items)
+    (dump : DumpValue) × (m.dump project ≡ Some dump) × HasDocument dump.elements uri
+    × FindsCover request dump.elements uri position (map range_found found.items)
 
 -- ---- bearers
 

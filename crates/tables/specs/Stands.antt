@@ -18,6 +18,7 @@ use Rattle.tables.specs.Contents.{Contents, Replies, Keeps, KeepsOne}
 use Rattle.tables.specs.Databases.{IsListed}
 use Rattle.tables.specs.Schema.{schema_one, schema_two}
 use Rattle.machine.specs.State.{State, Change, accepted_text, text_after}
+use Rattle.tables.specs.TableTrees.{more_tree}
 
 -- the dump has no fault, its ranges have positions within their bounds, and these are the rows that its walks lead to
 pub record IsDump (dump : DumpValue) (rows : ℕ → List Row) : Type 0 where
@@ -75,7 +76,7 @@ pub record Finds (s : sqlite.State) (m : State) : Type 0 where
 pub record IsDumpOne (dump : DumpValue) (rows : ℕ → List Row) : Type 0 where
   pub is_dump : IsDump dump rows
   pub by_one : dump.profile ≡ One
-  pub none_more : rows 24 ≡ []
+  pub none_more : rows more_tree ≡ []
 
 abbrev pub StandsForOne : Trees → State → Type 0
 StandsForOne = StandsIn schema_one KeepsOne IsDumpOne

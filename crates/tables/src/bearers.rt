@@ -1,5 +1,5 @@
 //! The bearers of a moniker key in all projects, as they are selected, in order. `FindsBearers` in `specs/Selections`.
-ghost use Rattle.std.specs.Prelude.{◌≡◌, ◌∷◌, [], List, ℕ, ℤ, Contains, Some, map, string_bytes, pos, false, IsTrue, IfOk, OnOk, IfErr};
+ghost use Rattle.std.specs.Prelude.{◌≡◌, ◌∷◌, [], List, ℕ, ℤ, Contains, Some, map, string_bytes, false, IsTrue, IfOk, IfErr};
 ghost use Rattle.std.specs.declared.cmp.Ordering.TheVariants.{Equal};
 ghost use Rattle.std.specs.List.{AllByRecursion};
 ghost use Rattle.sqlite_value.specs.declared.value.Value.TheVariants.{Int};
@@ -7,18 +7,18 @@ ghost use Rattle.sqlite_rules.specs.Lists.{Has};
 ghost use Rattle.sqlite.specs.State.{HasCleanDisk, Survives};
 ghost use Rattle.sqlite.specs.Held.{state};
 ghost use Rattle.dump.specs.Places.{IsListing};
-ghost use Rattle.dump.specs.Progress.{DumpValue};
 ghost use Rattle.flatten.specs.Flat.{ResultsValue, kind_index};
 ghost use Rattle.tables.specs.Schema.{schema_two};
 ghost use Rattle.tables.specs.Columns.{number, optional};
 ghost use Rattle.tables.specs.Contents.{Contents, Replies, Keeps, slot_row};
 ghost use Rattle.machine.specs.State.{State};
 ghost use Rattle.tables.specs.Fault.{IsStoreFault};
-ghost use Rattle.tables.specs.Stands.{IsAsBefore, StandsFor, Rests};
+ghost use Rattle.tables.specs.Stands.{IsAsBefore, Rests};
 ghost use Rattle.tables.specs.Selections.{BearerFound, Bears, FindsBearers, bearer_found, bearer_found_cmp};
 ghost use Rattle.tables.specs.declared.bearers.SlotBearer.{SlotBearer};
 ghost use Rattle.tables.specs.Steps.Selected.{Looks};
 ghost use Rattle.tables.specs.Steps.Known.{IsKnown, TellsBearer};
+ghost use Rattle.tables.specs.Steps.Clauses.{OfDump, OfState, StaysAsBefore};
 
 use crate::columns::{column, kind_of};
 use crate::dump_rows::kind_number;
@@ -96,12 +96,9 @@ pub(crate) fn more_of<S: Alter>(
     slot: i64,
     line: u32,
 ) -> Result<LineMore, Refusal>
-    ensures more { HasCleanDisk (state S.Store conn.new) → (state S.Store conn.old).now.schema ≡ schema_two → (m : State)
-        → StandsFor (state S.Store conn.old).now.trees m
-        → (project : List ℕ) (dump : DumpValue) → Has ((state S.Store conn.old).now.trees 1) (slot_row slot project (pos 1)) → m.dump project ≡ Some dump
-        → (results : ResultsValue) → IsKnown dump line results → IfOk result (λ more. (more.decl ≡ results.declaration) × (more.imp ≡ results.implementation)) }
-    ensures kept { HasCleanDisk (state S.Store conn.new) → (state S.Store conn.old).now.schema ≡ schema_two
-        → OnOk result (IsAsBefore (state S.Store conn.old) (state S.Store conn.new)) }
+    ensures more { OfDump (state S.Store conn.old) (state S.Store conn.new) slot (λ dump. (results : ResultsValue) → IsKnown dump line results
+        → IfOk result (λ more. (more.decl ≡ results.declaration) × (more.imp ≡ results.implementation))) }
+    ensures kept { StaysAsBefore result (state S.Store conn.old) (state S.Store conn.new) }
     ensures looks { Looks (state S.Store conn.old) (state S.Store conn.new) }
     ensures mode { conn.old.in_transaction ≡ false → conn.new.in_transaction ≡ false }
 {
@@ -125,8 +122,7 @@ pub(crate) fn slot_project<S: Alter>(conn: &mut Connection<S>, slot: i64) -> Res
         → Keeps (state S.Store conn.old).now.trees parts replies
         → (project : List ℕ) (part : ℤ) → Has ((state S.Store conn.old).now.trees 1) (slot_row slot project part)
         → IfOk result (λ found. string_bytes found ≡ project) }
-    ensures kept { HasCleanDisk (state S.Store conn.new) → (state S.Store conn.old).now.schema ≡ schema_two
-        → OnOk result (IsAsBefore (state S.Store conn.old) (state S.Store conn.new)) }
+    ensures kept { StaysAsBefore result (state S.Store conn.old) (state S.Store conn.new) }
     ensures looks { Looks (state S.Store conn.old) (state S.Store conn.new) }
     ensures mode { conn.old.in_transaction ≡ false → conn.new.in_transaction ≡ false }
 {
@@ -140,11 +136,9 @@ pub(crate) fn slot_project<S: Alter>(conn: &mut Connection<S>, slot: i64) -> Res
 
 /// The bearer that a row tells, with its project, its declaration and its implementation.
 fn complete<S: Alter>(conn: &mut Connection<S>, row: SlotBearer) -> Result<FoundBearer, Refusal>
-    ensures whole { HasCleanDisk (state S.Store conn.new) → (state S.Store conn.old).now.schema ≡ schema_two → (m : State)
-        → StandsFor (state S.Store conn.old).now.trees m
-        → (key : List ℕ) (v : BearerFound) → TellsBearer (state S.Store conn.old).now.trees m key row v → IfOk result (λ found. bearer_found found ≡ v) }
-    ensures kept { HasCleanDisk (state S.Store conn.new) → (state S.Store conn.old).now.schema ≡ schema_two
-        → OnOk result (IsAsBefore (state S.Store conn.old) (state S.Store conn.new)) }
+    ensures whole { OfState (state S.Store conn.old) (state S.Store conn.new) (λ m. (key : List ℕ) (v : BearerFound)
+        → TellsBearer (state S.Store conn.old).now.trees m key row v → IfOk result (λ found. bearer_found found ≡ v)) }
+    ensures kept { StaysAsBefore result (state S.Store conn.old) (state S.Store conn.new) }
     ensures looks { Looks (state S.Store conn.old) (state S.Store conn.new) }
     ensures mode { conn.old.in_transaction ≡ false → conn.new.in_transaction ≡ false }
 {
@@ -168,15 +162,11 @@ fn select_bearers<S: Alter>(
     conn: &mut Connection<S>,
     key: &str,
 ) -> Result<Vec<SlotBearer>, Refusal>
-    ensures each { HasCleanDisk (state S.Store conn.new) → (state S.Store conn.old).now.schema ≡ schema_two → (m : State)
-        → StandsFor (state S.Store conn.old).now.trees m
-        → IfOk result (λ rows. AllByRecursion (λ x. (v : BearerFound) × TellsBearer (state S.Store conn.old).now.trees m key.now x v) rows.items) }
-    ensures all { HasCleanDisk (state S.Store conn.new) → (state S.Store conn.old).now.schema ≡ schema_two → (m : State)
-        → StandsFor (state S.Store conn.old).now.trees m
-        → IfOk result (λ rows. (v : BearerFound) → Bears m key.now v → (x : SlotBearer) × Has rows.items x
-        × TellsBearer (state S.Store conn.old).now.trees m key.now x v) }
-    ensures kept { HasCleanDisk (state S.Store conn.new) → (state S.Store conn.old).now.schema ≡ schema_two
-        → OnOk result (IsAsBefore (state S.Store conn.old) (state S.Store conn.new)) }
+    ensures each { OfState (state S.Store conn.old) (state S.Store conn.new) (λ m. IfOk result (λ rows. AllByRecursion (λ x. (v : BearerFound)
+        × TellsBearer (state S.Store conn.old).now.trees m key.now x v) rows.items)) }
+    ensures all { OfState (state S.Store conn.old) (state S.Store conn.new) (λ m. IfOk result (λ rows. (v : BearerFound) → Bears m key.now v
+        → (x : SlotBearer) × Has rows.items x × TellsBearer (state S.Store conn.old).now.trees m key.now x v)) }
+    ensures kept { StaysAsBefore result (state S.Store conn.old) (state S.Store conn.new) }
     ensures looks { Looks (state S.Store conn.old) (state S.Store conn.new) }
     ensures mode { conn.old.in_transaction ≡ false → conn.new.in_transaction ≡ false }
 {
@@ -215,8 +205,8 @@ fn find_bearers<S: Alter>(
     conn: &mut Connection<S>,
     key: &str,
 ) -> Result<Vec<FoundBearer>, Refusal>
-    ensures found { HasCleanDisk (state S.Store conn.new) → (state S.Store conn.old).now.schema ≡ schema_two → (m : State)
-        → StandsFor (state S.Store conn.old).now.trees m → IfOk result (λ found. FindsBearers m key.now (map bearer_found found.items)) }
+    ensures found { OfState (state S.Store conn.old) (state S.Store conn.new) (λ m. IfOk result
+        (λ found. FindsBearers m key.now (map bearer_found found.items))) }
     ensures looks { Looks (state S.Store conn.old) (state S.Store conn.new) }
     ensures mode { conn.old.in_transaction ≡ false → conn.new.in_transaction ≡ false }
 {

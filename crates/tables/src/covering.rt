@@ -1,18 +1,17 @@
 //! The ranges that cover a position, as they are selected: a climb from the one that starts last at the position or before, by the parents.
-ghost use Rattle.std.specs.Prelude.{◌≡◌, List, ℕ, Some, map, pos, false, IsTrue, IfOk, OnOk, IfErr};
-ghost use Rattle.sqlite_rules.specs.Lists.{Has};
+ghost use Rattle.std.specs.Prelude.{◌≡◌, List, ℕ, Some, map, false, IsTrue, IfOk, IfErr};
 ghost use Rattle.sqlite.specs.State.{HasCleanDisk, Survives};
 ghost use Rattle.sqlite.specs.Held.{state};
-ghost use Rattle.dump.specs.Progress.{DumpValue};
 ghost use Rattle.flatten.specs.Flat.{RangeRowValue, IsRangeRow, result_for};
-ghost use Rattle.tables.specs.Schema.{schema_two};
-ghost use Rattle.tables.specs.Contents.{slot_row};
+ghost use Rattle.tables.specs.Contents.{HasSlot};
 ghost use Rattle.machine.specs.State.{State};
 ghost use Rattle.tables.specs.Fault.{IsStoreFault};
-ghost use Rattle.tables.specs.Stands.{IsAsBefore, StandsFor, Rests};
+ghost use Rattle.tables.specs.Stands.{IsAsBefore, Rests};
 ghost use Rattle.tables.specs.Selections.{FindsCover, FindsCovering, range_found};
 ghost use Rattle.tables.specs.Steps.Selected.{Looks};
 ghost use Rattle.tables.specs.Steps.Climbs.{IsClimbed, TellsRange, row_found};
+ghost use Rattle.tables.specs.declared.slots.Part.TheVariants.{Dump};
+ghost use Rattle.tables.specs.Steps.Clauses.{OfDump, OfState, StaysAsBefore};
 
 use crate::bearers::more_of;
 use crate::documents::has_document;
@@ -56,12 +55,8 @@ fn climb<S: Alter>(
     uri: &str,
     at: Position,
 ) -> Result<Vec<SlotRange>, Refusal>
-    ensures climbed { HasCleanDisk (state S.Store conn.new) → (state S.Store conn.old).now.schema ≡ schema_two → (m : State)
-        → StandsFor (state S.Store conn.old).now.trees m
-        → (project : List ℕ) (dump : DumpValue) → Has ((state S.Store conn.old).now.trees 1) (slot_row slot project (pos 1)) → m.dump project ≡ Some dump
-        → IfOk result (λ found. IsClimbed dump uri.now at found.items) }
-    ensures kept { HasCleanDisk (state S.Store conn.new) → (state S.Store conn.old).now.schema ≡ schema_two
-        → OnOk result (IsAsBefore (state S.Store conn.old) (state S.Store conn.new)) }
+    ensures climbed { OfDump (state S.Store conn.old) (state S.Store conn.new) slot (λ dump. IfOk result (λ found. IsClimbed dump uri.now at found.items)) }
+    ensures kept { StaysAsBefore result (state S.Store conn.old) (state S.Store conn.new) }
     ensures looks { Looks (state S.Store conn.old) (state S.Store conn.new) }
     ensures mode { conn.old.in_transaction ≡ false → conn.new.in_transaction ≡ false }
 {
@@ -83,12 +78,9 @@ fn result_of<S: Alter>(
     request: RequestKind,
     row: &SlotRange,
 ) -> Result<Option<u32>, Refusal>
-    ensures result { HasCleanDisk (state S.Store conn.new) → (state S.Store conn.old).now.schema ≡ schema_two → (m : State)
-        → StandsFor (state S.Store conn.old).now.trees m
-        → (project : List ℕ) (dump : DumpValue) → Has ((state S.Store conn.old).now.trees 1) (slot_row slot project (pos 1)) → m.dump project ≡ Some dump
-        → (r : RangeRowValue) → IsRangeRow dump.elements r → TellsRange row.now r → IfOk result (λ number. number ≡ result_for request r.results) }
-    ensures kept { HasCleanDisk (state S.Store conn.new) → (state S.Store conn.old).now.schema ≡ schema_two
-        → OnOk result (IsAsBefore (state S.Store conn.old) (state S.Store conn.new)) }
+    ensures result { OfDump (state S.Store conn.old) (state S.Store conn.new) slot (λ dump. (r : RangeRowValue) → IsRangeRow dump.elements r
+        → TellsRange row.now r → IfOk result (λ number. number ≡ result_for request r.results)) }
+    ensures kept { StaysAsBefore result (state S.Store conn.old) (state S.Store conn.new) }
     ensures looks { Looks (state S.Store conn.old) (state S.Store conn.new) }
     ensures mode { conn.old.in_transaction ≡ false → conn.new.in_transaction ≡ false }
 {
@@ -108,12 +100,9 @@ fn complete<S: Alter>(
     request: RequestKind,
     row: &SlotRange,
 ) -> Result<FoundRange, Refusal>
-    ensures whole { HasCleanDisk (state S.Store conn.new) → (state S.Store conn.old).now.schema ≡ schema_two → (m : State)
-        → StandsFor (state S.Store conn.old).now.trees m
-        → (project : List ℕ) (dump : DumpValue) → Has ((state S.Store conn.old).now.trees 1) (slot_row slot project (pos 1)) → m.dump project ≡ Some dump
-        → (r : RangeRowValue) → IsRangeRow dump.elements r → TellsRange row.now r → IfOk result (λ found. range_found found ≡ row_found request r) }
-    ensures kept { HasCleanDisk (state S.Store conn.new) → (state S.Store conn.old).now.schema ≡ schema_two
-        → OnOk result (IsAsBefore (state S.Store conn.old) (state S.Store conn.new)) }
+    ensures whole { OfDump (state S.Store conn.old) (state S.Store conn.new) slot (λ dump. (r : RangeRowValue) → IsRangeRow dump.elements r
+        → TellsRange row.now r → IfOk result (λ found. range_found found ≡ row_found request r)) }
+    ensures kept { StaysAsBefore result (state S.Store conn.old) (state S.Store conn.new) }
     ensures looks { Looks (state S.Store conn.old) (state S.Store conn.new) }
     ensures mode { conn.old.in_transaction ≡ false → conn.new.in_transaction ≡ false }
 {
@@ -134,10 +123,8 @@ fn ranges_in<S: Alter>(
     uri: &str,
     at: Position,
 ) -> Result<Vec<FoundRange>, Refusal>
-    ensures found { HasCleanDisk (state S.Store conn.new) → (state S.Store conn.old).now.schema ≡ schema_two → (m : State)
-        → StandsFor (state S.Store conn.old).now.trees m
-        → (project : List ℕ) (dump : DumpValue) → Has ((state S.Store conn.old).now.trees 1) (slot_row slot project (pos 1)) → m.dump project ≡ Some dump
-        → IfOk result (λ found. FindsCover request dump.elements uri.now at (map range_found found.items)) }
+    ensures found { OfDump (state S.Store conn.old) (state S.Store conn.new) slot (λ dump. IfOk result
+        (λ found. FindsCover request dump.elements uri.now at (map range_found found.items))) }
     ensures looks { Looks (state S.Store conn.old) (state S.Store conn.new) }
     ensures mode { conn.old.in_transaction ≡ false → conn.new.in_transaction ≡ false }
 {
@@ -161,9 +148,8 @@ fn covering_in<S: Alter>(
     uri: &str,
     at: Position,
 ) -> Result<Covering, Refusal>
-    ensures found { HasCleanDisk (state S.Store conn.new) → (state S.Store conn.old).now.schema ≡ schema_two → (m : State)
-        → StandsFor (state S.Store conn.old).now.trees m
-        → (project : List ℕ) → Has ((state S.Store conn.old).now.trees 1) (slot_row slot project (pos 1)) → IfOk result (FindsCovering m request project uri.now at) }
+    ensures found { OfState (state S.Store conn.old) (state S.Store conn.new) (λ m. (project : List ℕ)
+        → HasSlot (state S.Store conn.old).now.trees slot project Dump → IfOk result (FindsCovering m request project uri.now at)) }
     ensures looks { Looks (state S.Store conn.old) (state S.Store conn.new) }
     ensures mode { conn.old.in_transaction ≡ false → conn.new.in_transaction ≡ false }
 {
@@ -183,8 +169,7 @@ fn find_covering<S: Alter>(
     uri: &str,
     at: Position,
 ) -> Result<Covering, Refusal>
-    ensures found { HasCleanDisk (state S.Store conn.new) → (state S.Store conn.old).now.schema ≡ schema_two → (m : State)
-        → StandsFor (state S.Store conn.old).now.trees m → IfOk result (FindsCovering m request project.now uri.now at) }
+    ensures found { OfState (state S.Store conn.old) (state S.Store conn.new) (λ m. IfOk result (FindsCovering m request project.now uri.now at)) }
     ensures looks { Looks (state S.Store conn.old) (state S.Store conn.new) }
     ensures mode { conn.old.in_transaction ≡ false → conn.new.in_transaction ≡ false }
 {
@@ -195,8 +180,8 @@ fn find_covering<S: Alter>(
 }
 
 impl<S: Alter> Tables<S> {
-    /// The ranges of a document of the project's dump that cover the position, the smallest first, with their results for the request; or that the project has no dump, or the dump no
-    /// document of this serialized URL. It's `Refused` where the store refuses, or where a row isn't one of this product's, and `Memory` where memory
+    /// The ranges of a document of the project's dump that cover the position, the smallest first, with their results for the request; or that the
+    /// project has no dump, or the dump no document of this serialized URL. It's `Refused` where the store refuses, or where a row isn't one of this product's, and `Memory` where memory
     /// is refused, also to a database in memory (`in_memory`).
     pub fn covering(
         &mut self,

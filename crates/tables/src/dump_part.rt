@@ -1,14 +1,16 @@
 //! The rows of a dump, put under a slot of its own, table by table. The rows are made by the crate `flatten`.
-ghost use Rattle.std.specs.Prelude.{◌≡◌, ◌∷◌, [], ℕ, pos, map, Some, None, IsTrue, IfOk, OnOk, OnErr};
+ghost use Rattle.std.specs.Prelude.{◌≡◌, ◌∷◌, [], pos, map, Some, None, IsTrue, OnOk};
 ghost use Rattle.sqlite_value.specs.declared.value.Value.TheVariants.{Int};
 ghost use Rattle.sqlite.specs.State.{HasCleanDisk, Survives, KeepsCommit};
 ghost use Rattle.sqlite.specs.Held.{state};
 ghost use Rattle.flatten.specs.Rows.{rows_value};
 ghost use Rattle.tables.specs.Schema.{schema_two};
 ghost use Rattle.machine.specs.Reply.{profile_number};
-ghost use Rattle.tables.specs.Columns.{document_columns, range_columns, item_columns, hover_columns, mark_columns, bearer_columns, profile_columns, more_rows, dump_rows};
+ghost use Rattle.tables.specs.Columns.{document_columns, range_columns, item_columns, hover_columns, mark_columns, bearer_columns, profile_columns, dump_rows};
 ghost use Rattle.tables.specs.Contents.{Contents, Replies, Keeps, changed, kept};
-ghost use Rattle.tables.specs.Steps.Puts.{PutsAll, Steps, Then, GoesOn};
+ghost use Rattle.tables.specs.Steps.Puts.{PutsAll, Then, GoesOn};
+ghost use Rattle.tables.specs.Steps.Clauses.{Edits};
+ghost use Rattle.tables.specs.TableTrees.{bearer_tree, document_tree, hover_tree, item_tree, mark_tree, part_profile_tree, range_row_tree};
 
 use crate::more::insert_more;
 use crate::part_rows::insert_all;
@@ -24,11 +26,10 @@ fn insert_places<S: Alter>(
     rows: &Rows<'_>,
 ) -> Result<(), Error>
     ensures same_reference { tx.new.conn.ghost_name ≡ tx.old.conn.ghost_name }
-    ensures put { HasCleanDisk (state S.Store tx.new.conn.now) → IsTrue tx.old.conn.now.in_transaction → (state S.Store tx.old.conn.now).now.schema ≡ schema_two
-        → OnOk result (Steps (Then (PutsAll 5 (map (λ columns. Int slot ∷ columns) (map document_columns (rows_value rows.now).documents)))
-        (Then (PutsAll 7 (map (λ columns. Int slot ∷ columns) (map range_columns (rows_value rows.now).ranges)))
-        (PutsAll 9 (map (λ columns. Int slot ∷ columns) (map item_columns (rows_value rows.now).items))))) (state S.Store tx.old.conn.now)
-        (state S.Store tx.new.conn.now)) }
+    ensures put { Edits result tx.old.conn.now.in_transaction (state S.Store tx.old.conn.now) (state S.Store tx.new.conn.now) (Then
+        (PutsAll document_tree (map (λ columns. Int slot ∷ columns) (map document_columns (rows_value rows.now).documents))) (Then
+        (PutsAll range_row_tree (map (λ columns. Int slot ∷ columns) (map range_columns (rows_value rows.now).ranges)))
+        (PutsAll item_tree (map (λ columns. Int slot ∷ columns) (map item_columns (rows_value rows.now).items))))) }
     ensures kept { HasCleanDisk (state S.Store tx.new.conn.now) → KeepsCommit (state S.Store tx.old.conn.now) (state S.Store tx.new.conn.now) }
     ensures survives { Survives (state S.Store tx.old.conn.now) (state S.Store tx.new.conn.now) (λ _. ⊥) }
 {
@@ -44,11 +45,10 @@ fn insert_contents<S: Alter>(
     rows: &Rows<'_>,
 ) -> Result<(), Error>
     ensures same_reference { tx.new.conn.ghost_name ≡ tx.old.conn.ghost_name }
-    ensures put { HasCleanDisk (state S.Store tx.new.conn.now) → IsTrue tx.old.conn.now.in_transaction → (state S.Store tx.old.conn.now).now.schema ≡ schema_two
-        → OnOk result (Steps (Then (PutsAll 11 (map (λ columns. Int slot ∷ columns) (map hover_columns (rows_value rows.now).hovers)))
-        (Then (PutsAll 13 (map (λ columns. Int slot ∷ columns) (map mark_columns (rows_value rows.now).marks)))
-        (PutsAll 15 (map (λ columns. Int slot ∷ columns) (map bearer_columns (rows_value rows.now).bearers))))) (state S.Store tx.old.conn.now)
-        (state S.Store tx.new.conn.now)) }
+    ensures put { Edits result tx.old.conn.now.in_transaction (state S.Store tx.old.conn.now) (state S.Store tx.new.conn.now) (Then
+        (PutsAll hover_tree (map (λ columns. Int slot ∷ columns) (map hover_columns (rows_value rows.now).hovers))) (Then
+        (PutsAll mark_tree (map (λ columns. Int slot ∷ columns) (map mark_columns (rows_value rows.now).marks)))
+        (PutsAll bearer_tree (map (λ columns. Int slot ∷ columns) (map bearer_columns (rows_value rows.now).bearers))))) }
     ensures kept { HasCleanDisk (state S.Store tx.new.conn.now) → KeepsCommit (state S.Store tx.old.conn.now) (state S.Store tx.new.conn.now) }
     ensures survives { Survives (state S.Store tx.old.conn.now) (state S.Store tx.new.conn.now) (λ _. ⊥) }
 {
@@ -73,8 +73,8 @@ fn insert_profile<S: Alter>(
     profile: Profile,
 ) -> Result<usize, Error>
     ensures same_reference { tx.new.conn.ghost_name ≡ tx.old.conn.ghost_name }
-    ensures put { HasCleanDisk (state S.Store tx.new.conn.now) → IsTrue tx.old.conn.now.in_transaction → (state S.Store tx.old.conn.now).now.schema ≡ schema_two
-        → OnOk result (Steps (PutsAll 22 ((Int slot ∷ profile_columns profile) ∷ [])) (state S.Store tx.old.conn.now) (state S.Store tx.new.conn.now)) }
+    ensures put { Edits result tx.old.conn.now.in_transaction (state S.Store tx.old.conn.now) (state S.Store tx.new.conn.now)
+        (PutsAll part_profile_tree ((Int slot ∷ profile_columns profile) ∷ [])) }
     ensures kept { HasCleanDisk (state S.Store tx.new.conn.now) → KeepsCommit (state S.Store tx.old.conn.now) (state S.Store tx.new.conn.now) }
     ensures survives { Survives (state S.Store tx.old.conn.now) (state S.Store tx.new.conn.now) (λ _. ⊥) }
 {

@@ -3,6 +3,7 @@ ghost use Rattle.std.specs.Prelude.{◌≡◌};
 ghost use Rattle.flatten.specs.Flat.{role_index, kind_index};
 ghost use Rattle.flatten.specs.Rows.{document_value, range_value, item_value, hover_value, mark_value, bearer_value};
 ghost use Rattle.tables.specs.Columns.{document_columns, range_columns, item_columns, hover_columns, mark_columns, bearer_columns};
+ghost use Rattle.tables.specs.TableTrees.{document_tree, range_row_tree, item_tree, hover_tree, mark_tree, bearer_tree};
 
 use crate::part_rows::PartRow;
 use dump::Role;
@@ -32,7 +33,7 @@ pub(crate) fn kind_number(kind: MonikerKind) -> u32
 }
 
 impl PartRow for DocRow<'_> {
-    ghost tree = { 5 };
+    ghost tree = { document_tree };
 
     ghost columns = { λ row. document_columns (document_value row) };
 
@@ -45,7 +46,7 @@ impl PartRow for DocRow<'_> {
 }
 
 impl PartRow for RangeRow<'_> {
-    ghost tree = { 7 };
+    ghost tree = { range_row_tree };
 
     ghost columns = { λ row. range_columns (range_value row) };
 
@@ -70,7 +71,7 @@ impl PartRow for RangeRow<'_> {
 }
 
 impl PartRow for ItemRow<'_> {
-    ghost tree = { 9 };
+    ghost tree = { item_tree };
 
     ghost columns = { λ row. item_columns (item_value row) };
 
@@ -86,7 +87,7 @@ impl PartRow for ItemRow<'_> {
 }
 
 impl PartRow for HoverRow<'_> {
-    ghost tree = { 11 };
+    ghost tree = { hover_tree };
 
     ghost columns = { λ row. hover_columns (hover_value row) };
 
@@ -99,7 +100,7 @@ impl PartRow for HoverRow<'_> {
 }
 
 impl PartRow for MarkRow {
-    ghost tree = { 13 };
+    ghost tree = { mark_tree };
 
     ghost columns = { λ row. mark_columns (mark_value row) };
 
@@ -107,23 +108,21 @@ impl PartRow for MarkRow {
         let kind = kind_number(self.kind);
         tx.execute(
             "INSERT INTO mark (slot, line, kind, keytext) VALUES (?1, ?2, ?3, ?4)",
-            params![slot, self.range, kind, &self.key],
+            params![slot, self.range, kind, self.key.as_str()],
         )
     }
 }
 
 impl PartRow for BearerRow {
-    ghost tree = { 15 };
+    ghost tree = { bearer_tree };
 
     ghost columns = { λ row. bearer_columns (bearer_value row) };
 
     fn insert<S: Alter>(&self, tx: &mut Transaction<'_, S>, slot: i64) -> Result<usize, Error> {
-        let kind = kind_number(self.kind);
+        let (kind, key) = (kind_number(self.kind), self.key.as_str());
         tx.execute(
             "INSERT INTO bearer (slot, line, keytext, kind, def, refs, hover) VALUES (?1, ?2, ?3, ?4, ?5, ?6, ?7)",
-            params![
-                slot, self.line, &self.key, kind, self.def, self.refs, self.hover
-            ],
+            params![slot, self.line, key, kind, self.def, self.refs, self.hover],
         )
     }
 }

@@ -1,21 +1,18 @@
 //! Tags with their projects, made of the rows that are selected (`names.rt`); the fields are read from their JSON.
 ghost use Rattle.std.specs.Prelude.{◌≡◌, ◌↔◌, List, ℕ, Contains, Some, map, option_map, string_bytes, false, IsTrue, IfOk, OnOk};
-ghost use Rattle.sqlite.specs.State.{HasCleanDisk};
 ghost use Rattle.sqlite.specs.Held.{state};
 ghost use Rattle.serde_json.specs.Data.{string};
 ghost use Rattle.serde_json.specs.Read.{read as read_text};
 ghost use Rattle.serde_json.specs.View.{view};
 ghost use Rattle.tags.specs.Values.{FieldValue, TagValue};
 ghost use Rattle.tags.specs.Views.{field_value, tag_value};
-ghost use Rattle.tables.specs.Schema.{schema_two};
 ghost use Rattle.machine.specs.Reply.{field_data};
 ghost use Rattle.tables.specs.Columns.{fields_text, tag_columns};
-ghost use Rattle.machine.specs.State.{State};
-ghost use Rattle.tables.specs.Stands.{IsAsBefore, StandsFor};
 ghost use Rattle.machine.specs.FoundTags.{FoundTag as FoundTagValue, IsAsked};
 ghost use Rattle.machine.specs.Found.{tag_found};
 ghost use Rattle.tables.specs.Steps.Selected.{Looks};
 ghost use Rattle.tables.specs.Steps.TagRows.{AllTell, Grows, IsFoundIf, IsTold, TellsTag, columns_of, tag_row_columns};
+ghost use Rattle.tables.specs.Steps.Clauses.{OfState, StaysAsBefore};
 
 use crate::bearers::slot_project;
 use crate::columns::column;
@@ -149,11 +146,9 @@ fn complete<S: Alter>(
     row: TagRow,
     asked: Option<&str>,
 ) -> Result<Option<FoundTag>, Refusal>
-    ensures whole { HasCleanDisk (state S.Store conn.new) → (state S.Store conn.old).now.schema ≡ schema_two → (m : State)
-        → StandsFor (state S.Store conn.old).now.trees m
-        → (v : FoundTagValue) → TellsTag (state S.Store conn.old).now.trees m row v → IfOk result (IsFoundIf (option_map (λ p. p.now) asked.entry) v) }
-    ensures kept { HasCleanDisk (state S.Store conn.new) → (state S.Store conn.old).now.schema ≡ schema_two
-        → OnOk result (IsAsBefore (state S.Store conn.old) (state S.Store conn.new)) }
+    ensures whole { OfState (state S.Store conn.old) (state S.Store conn.new) (λ m. (v : FoundTagValue) → TellsTag (state S.Store conn.old).now.trees m row v
+        → IfOk result (IsFoundIf (option_map (λ p. p.now) asked.entry) v)) }
+    ensures kept { StaysAsBefore result (state S.Store conn.old) (state S.Store conn.new) }
     ensures looks { Looks (state S.Store conn.old) (state S.Store conn.new) }
     ensures mode { conn.old.in_transaction ≡ false → conn.new.in_transaction ≡ false }
 {
@@ -185,14 +180,11 @@ pub(crate) fn complete_all<S: Alter>(
     rows: Vec<TagRow>,
     asked: Option<&str>,
 ) -> Result<Vec<FoundTag>, Refusal>
-    ensures found { HasCleanDisk (state S.Store conn.new) → (state S.Store conn.old).now.schema ≡ schema_two → (m : State)
-        → StandsFor (state S.Store conn.old).now.trees m
-        → AllTell (state S.Store conn.old).now.trees m rows.items
+    ensures found { OfState (state S.Store conn.old) (state S.Store conn.new) (λ m. AllTell (state S.Store conn.old).now.trees m rows.items
         → IfOk result (λ found. (v : FoundTagValue)
         → Contains (map tag_found found.items) v ↔ (IsTold (state S.Store conn.old).now.trees m rows.items v
-        × IsAsked (option_map (λ p. p.now) asked.entry) v.project)) }
-    ensures kept { HasCleanDisk (state S.Store conn.new) → (state S.Store conn.old).now.schema ≡ schema_two
-        → OnOk result (IsAsBefore (state S.Store conn.old) (state S.Store conn.new)) }
+        × IsAsked (option_map (λ p. p.now) asked.entry) v.project))) }
+    ensures kept { StaysAsBefore result (state S.Store conn.old) (state S.Store conn.new) }
     ensures looks { Looks (state S.Store conn.old) (state S.Store conn.new) }
     ensures mode { conn.old.in_transaction ≡ false → conn.new.in_transaction ≡ false }
 {

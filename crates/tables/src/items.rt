@@ -1,20 +1,20 @@
 //! The items of results, as they are selected: the places of a result in a role, in order. `FindsItems` in `specs/Selections`.
-ghost use Rattle.std.specs.Prelude.{◌≡◌, ◌∷◌, [], List, ℕ, Contains, map, pos, false, IsTrue, IfOk, IfErr};
+ghost use Rattle.std.specs.Prelude.{◌≡◌, ◌∷◌, [], List, ℕ, Contains, map, false, IsTrue, IfOk, IfErr};
 ghost use Rattle.std.specs.Rc.{rc_str_bytes};
 ghost use Rattle.sqlite_value.specs.declared.value.Value.TheVariants.{Text};
-ghost use Rattle.sqlite_rules.specs.Lists.{Has};
 ghost use Rattle.sqlite.specs.State.{HasCleanDisk, Survives};
 ghost use Rattle.sqlite.specs.Held.{state};
 ghost use Rattle.positions.specs.Position.{IsPosition};
 ghost use Rattle.dump.specs.Places.{IsListing, place_cmp};
-ghost use Rattle.tables.specs.Schema.{schema_two};
 ghost use Rattle.tables.specs.Columns.{position};
-ghost use Rattle.tables.specs.Contents.{slot_row};
+ghost use Rattle.tables.specs.Contents.{HasSlot};
 ghost use Rattle.machine.specs.State.{State};
 ghost use Rattle.tables.specs.Fault.{IsStoreFault};
-ghost use Rattle.tables.specs.Stands.{IsAsBefore, StandsFor, Rests};
+ghost use Rattle.tables.specs.Stands.{IsAsBefore, Rests};
 ghost use Rattle.tables.specs.Selections.{FindsItems, item_found};
 ghost use Rattle.tables.specs.Steps.Selected.{Looks};
+ghost use Rattle.tables.specs.declared.slots.Part.TheVariants.{Dump};
+ghost use Rattle.tables.specs.Steps.Clauses.{OfState};
 
 use crate::columns::{column, span_of};
 use crate::dump_rows::role_number;
@@ -87,10 +87,9 @@ fn items_in<S: Alter>(
     result_number: u32,
     role: Role,
 ) -> Result<Vec<FoundItem>, Refusal>
-    ensures found { HasCleanDisk (state S.Store conn.new) → (state S.Store conn.old).now.schema ≡ schema_two → (m : State)
-        → StandsFor (state S.Store conn.old).now.trees m
-        → (project : List ℕ) → Has ((state S.Store conn.old).now.trees 1) (slot_row slot project (pos 1))
-        → IfOk result (λ found. FindsItems m project result_number role (map item_found found.items)) }
+    ensures found { OfState (state S.Store conn.old) (state S.Store conn.new) (λ m. (project : List ℕ)
+        → HasSlot (state S.Store conn.old).now.trees slot project Dump
+        → IfOk result (λ found. FindsItems m project result_number role (map item_found found.items))) }
     ensures looks { Looks (state S.Store conn.old) (state S.Store conn.new) }
     ensures mode { conn.old.in_transaction ≡ false → conn.new.in_transaction ≡ false }
 {
@@ -113,8 +112,8 @@ fn find_items<S: Alter>(
     result_number: u32,
     role: Role,
 ) -> Result<Vec<FoundItem>, Refusal>
-    ensures found { HasCleanDisk (state S.Store conn.new) → (state S.Store conn.old).now.schema ≡ schema_two → (m : State)
-        → StandsFor (state S.Store conn.old).now.trees m → IfOk result (λ found. FindsItems m project.now result_number role (map item_found found.items)) }
+    ensures found { OfState (state S.Store conn.old) (state S.Store conn.new) (λ m. IfOk result
+        (λ found. FindsItems m project.now result_number role (map item_found found.items))) }
     ensures looks { Looks (state S.Store conn.old) (state S.Store conn.new) }
     ensures mode { conn.old.in_transaction ≡ false → conn.new.in_transaction ≡ false }
 {

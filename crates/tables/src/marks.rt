@@ -1,19 +1,19 @@
 //! Marks, as they are selected: those of a range, by kind and key. `FindsMarks` in `specs/Selections`.
-ghost use Rattle.std.specs.Prelude.{◌≡◌, ◌∷◌, [], List, ℕ, Contains, map, string_bytes, pos, false, IsTrue, IfOk, IfErr};
+ghost use Rattle.std.specs.Prelude.{◌≡◌, ◌∷◌, [], List, ℕ, Contains, map, string_bytes, false, IsTrue, IfOk, IfErr};
 ghost use Rattle.sqlite_value.specs.declared.value.Value.TheVariants.{Text};
-ghost use Rattle.sqlite_rules.specs.Lists.{Has};
 ghost use Rattle.sqlite.specs.State.{HasCleanDisk, Survives};
 ghost use Rattle.sqlite.specs.Held.{state};
 ghost use Rattle.dump.specs.Places.{IsListing};
 ghost use Rattle.flatten.specs.Flat.{kind_index};
-ghost use Rattle.tables.specs.Schema.{schema_two};
 ghost use Rattle.tables.specs.Columns.{number};
-ghost use Rattle.tables.specs.Contents.{slot_row};
+ghost use Rattle.tables.specs.Contents.{HasSlot};
 ghost use Rattle.machine.specs.State.{State};
 ghost use Rattle.tables.specs.Fault.{IsStoreFault};
-ghost use Rattle.tables.specs.Stands.{IsAsBefore, StandsFor, Rests};
+ghost use Rattle.tables.specs.Stands.{IsAsBefore, Rests};
 ghost use Rattle.tables.specs.Selections.{FindsMarks, mark_text_cmp, mark_found};
 ghost use Rattle.tables.specs.Steps.Selected.{Looks};
+ghost use Rattle.tables.specs.declared.slots.Part.TheVariants.{Dump};
+ghost use Rattle.tables.specs.Steps.Clauses.{OfState};
 
 use crate::columns::{column, kind_of};
 use crate::dump_rows::kind_number;
@@ -71,10 +71,8 @@ fn marks_in<S: Alter>(
     slot: i64,
     line: u32,
 ) -> Result<Vec<FoundMark>, Refusal>
-    ensures found { HasCleanDisk (state S.Store conn.new) → (state S.Store conn.old).now.schema ≡ schema_two → (m : State)
-        → StandsFor (state S.Store conn.old).now.trees m
-        → (project : List ℕ) → Has ((state S.Store conn.old).now.trees 1) (slot_row slot project (pos 1))
-        → IfOk result (λ found. FindsMarks m project line (map mark_found found.items)) }
+    ensures found { OfState (state S.Store conn.old) (state S.Store conn.new) (λ m. (project : List ℕ)
+        → HasSlot (state S.Store conn.old).now.trees slot project Dump → IfOk result (λ found. FindsMarks m project line (map mark_found found.items))) }
     ensures looks { Looks (state S.Store conn.old) (state S.Store conn.new) }
     ensures mode { conn.old.in_transaction ≡ false → conn.new.in_transaction ≡ false }
 {
@@ -95,8 +93,8 @@ fn find_marks<S: Alter>(
     project: &str,
     line: u32,
 ) -> Result<Vec<FoundMark>, Refusal>
-    ensures found { HasCleanDisk (state S.Store conn.new) → (state S.Store conn.old).now.schema ≡ schema_two → (m : State)
-        → StandsFor (state S.Store conn.old).now.trees m → IfOk result (λ found. FindsMarks m project.now line (map mark_found found.items)) }
+    ensures found { OfState (state S.Store conn.old) (state S.Store conn.new) (λ m. IfOk result
+        (λ found. FindsMarks m project.now line (map mark_found found.items))) }
     ensures looks { Looks (state S.Store conn.old) (state S.Store conn.new) }
     ensures mode { conn.old.in_transaction ≡ false → conn.new.in_transaction ≡ false }
 {

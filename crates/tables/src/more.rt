@@ -11,6 +11,8 @@ ghost use Rattle.tables.specs.Schema.{schema_two};
 ghost use Rattle.tables.specs.Databases.{Holds};
 ghost use Rattle.tables.specs.Columns.{number, optional, more_columns, more_rows, range_more, bearer_more};
 ghost use Rattle.tables.specs.Steps.Puts.{PutsAll, Steps};
+ghost use Rattle.tables.specs.Steps.Clauses.{Edits};
+ghost use Rattle.tables.specs.TableTrees.{more_tree};
 
 use flatten::{BearerRow, RangeRow, Rows};
 use sqlite::{Alter, Error, Transaction, params};
@@ -24,9 +26,8 @@ fn insert_row<S: Alter>(
     imp: Option<u32>,
 ) -> Result<usize, Error>
     ensures same_reference { tx.new.conn.ghost_name ≡ tx.old.conn.ghost_name }
-    ensures put { HasCleanDisk (state S.Store tx.new.conn.now) → IsTrue tx.old.conn.now.in_transaction → (state S.Store tx.old.conn.now).now.schema ≡ schema_two
-        → OnOk result (Steps (PutsAll 24 ((Int slot ∷ number line ∷ optional decl ∷ optional imp ∷ []) ∷ [])) (state S.Store tx.old.conn.now)
-        (state S.Store tx.new.conn.now)) }
+    ensures put { Edits result tx.old.conn.now.in_transaction (state S.Store tx.old.conn.now) (state S.Store tx.new.conn.now)
+        (PutsAll more_tree ((Int slot ∷ number line ∷ optional decl ∷ optional imp ∷ []) ∷ [])) }
     ensures kept { HasCleanDisk (state S.Store tx.new.conn.now) → KeepsCommit (state S.Store tx.old.conn.now) (state S.Store tx.new.conn.now) }
     ensures survives { Survives (state S.Store tx.old.conn.now) (state S.Store tx.new.conn.now) (λ _. ⊥) }
 {
@@ -45,9 +46,8 @@ fn insert_line<S: Alter>(
     imp: Option<u32>,
 ) -> Result<(), Error>
     ensures same_reference { tx.new.conn.ghost_name ≡ tx.old.conn.ghost_name }
-    ensures put { HasCleanDisk (state S.Store tx.new.conn.now) → IsTrue tx.old.conn.now.in_transaction → (state S.Store tx.old.conn.now).now.schema ≡ schema_two
-        → OnOk result (Steps (PutsAll 24 (map (λ columns. Int slot ∷ columns) (more_columns line decl imp))) (state S.Store tx.old.conn.now)
-        (state S.Store tx.new.conn.now)) }
+    ensures put { Edits result tx.old.conn.now.in_transaction (state S.Store tx.old.conn.now) (state S.Store tx.new.conn.now)
+        (PutsAll more_tree (map (λ columns. Int slot ∷ columns) (more_columns line decl imp))) }
     ensures kept { HasCleanDisk (state S.Store tx.new.conn.now) → KeepsCommit (state S.Store tx.old.conn.now) (state S.Store tx.new.conn.now) }
     ensures survives { Survives (state S.Store tx.old.conn.now) (state S.Store tx.new.conn.now) (λ _. ⊥) }
 {
@@ -65,9 +65,8 @@ fn insert_ranges<S: Alter>(
     ranges: &[RangeRow<'_>],
 ) -> Result<(), Error>
     ensures same_reference { tx.new.conn.ghost_name ≡ tx.old.conn.ghost_name }
-    ensures put { HasCleanDisk (state S.Store tx.new.conn.now) → IsTrue tx.old.conn.now.in_transaction → (state S.Store tx.old.conn.now).now.schema ≡ schema_two
-        → OnOk result (Steps (PutsAll 24 (flat_map (λ row. map (λ columns. Int slot ∷ columns) (range_more (range_value row))) ranges.now))
-        (state S.Store tx.old.conn.now) (state S.Store tx.new.conn.now)) }
+    ensures put { Edits result tx.old.conn.now.in_transaction (state S.Store tx.old.conn.now) (state S.Store tx.new.conn.now)
+        (PutsAll more_tree (flat_map (λ row. map (λ columns. Int slot ∷ columns) (range_more (range_value row))) ranges.now)) }
     ensures kept { HasCleanDisk (state S.Store tx.new.conn.now) → KeepsCommit (state S.Store tx.old.conn.now) (state S.Store tx.new.conn.now) }
     ensures survives { Survives (state S.Store tx.old.conn.now) (state S.Store tx.new.conn.now) (λ _. ⊥) }
 {
@@ -118,13 +117,15 @@ fn insert_bearer<S: Alter>(
 ) -> Result<(), Error>
     requires { at ≤ length rows.now.bearers.items }
     ensures same_reference { tx.new.conn.ghost_name ≡ tx.old.conn.ghost_name }
-    ensures put { HasCleanDisk (state S.Store tx.new.conn.now) → IsTrue tx.old.conn.now.in_transaction → (state S.Store tx.old.conn.now).now.schema ≡ schema_two
-        → ((row : Columns) → Has (map (λ columns. Int slot ∷ columns) (flat_map (λ r. range_more (range_value r)) rows.now.ranges.items)) row
-        → Holds (state S.Store tx.old.conn.now).now.trees 24 row)
-        → ((row : Columns) → Has (map (λ columns. Int slot ∷ columns) (flat_map (λ b. bearer_more (bearer_value b)) (take at rows.now.bearers.items))) row
-        → Holds (state S.Store tx.old.conn.now).now.trees 24 row)
-        → OnOk result (Steps (PutsAll 24 (map (λ columns. Int slot ∷ columns) (bearer_more (bearer_value bearer.now)))) (state S.Store tx.old.conn.now)
-        (state S.Store tx.new.conn.now)) }
+    ensures put { HasCleanDisk (state S.Store tx.new.conn.now) → IsTrue tx.old.conn.now.in_transaction
+        → (state S.Store tx.old.conn.now).now.schema ≡ schema_two → ((row : Columns)
+        → Has (map (λ columns. Int slot ∷ columns) (flat_map (λ r. range_more (range_value r)) rows.now.ranges.items)) row
+        → Holds (state S.Store tx.old.conn.now).now.trees more_tree row) → ((row : Columns)
+        → Has (map (λ columns. Int slot ∷ columns) (flat_map (λ b. bearer_more (bearer_value b)) (take at rows.now.bearers.items))) row
+        → Holds (state S.Store tx.old.conn.now).now.trees more_tree row)
+        → OnOk result (Steps
+        (PutsAll more_tree
+        (map (λ columns. Int slot ∷ columns) (bearer_more (bearer_value bearer.now)))) (state S.Store tx.old.conn.now) (state S.Store tx.new.conn.now)) }
     ensures kept { HasCleanDisk (state S.Store tx.new.conn.now) → KeepsCommit (state S.Store tx.old.conn.now) (state S.Store tx.new.conn.now) }
     ensures survives { Survives (state S.Store tx.old.conn.now) (state S.Store tx.new.conn.now) (λ _. ⊥) }
 {
@@ -141,11 +142,14 @@ fn insert_bearers<S: Alter>(
     rows: &Rows<'_>,
 ) -> Result<(), Error>
     ensures same_reference { tx.new.conn.ghost_name ≡ tx.old.conn.ghost_name }
-    ensures put { HasCleanDisk (state S.Store tx.new.conn.now) → IsTrue tx.old.conn.now.in_transaction → (state S.Store tx.old.conn.now).now.schema ≡ schema_two
-        → ((row : Columns) → Has (map (λ columns. Int slot ∷ columns) (flat_map (λ r. range_more (range_value r)) rows.now.ranges.items)) row
-        → Holds (state S.Store tx.old.conn.now).now.trees 24 row)
-        → OnOk result (Steps (PutsAll 24 (flat_map (λ b. map (λ columns. Int slot ∷ columns) (bearer_more (bearer_value b))) rows.now.bearers.items))
-        (state S.Store tx.old.conn.now) (state S.Store tx.new.conn.now)) }
+    ensures put { HasCleanDisk (state S.Store tx.new.conn.now) → IsTrue tx.old.conn.now.in_transaction
+        → (state S.Store tx.old.conn.now).now.schema ≡ schema_two → ((row : Columns)
+        → Has (map (λ columns. Int slot ∷ columns) (flat_map (λ r. range_more (range_value r)) rows.now.ranges.items)) row
+        → Holds (state S.Store tx.old.conn.now).now.trees more_tree row)
+        → OnOk result (Steps
+        (PutsAll more_tree
+        (flat_map (λ b. map (λ columns. Int slot ∷ columns) (bearer_more (bearer_value b))) rows.now.bearers.items)) (state S.Store tx.old.conn.now)
+        (state S.Store tx.new.conn.now)) }
     ensures kept { HasCleanDisk (state S.Store tx.new.conn.now) → KeepsCommit (state S.Store tx.old.conn.now) (state S.Store tx.new.conn.now) }
     ensures survives { Survives (state S.Store tx.old.conn.now) (state S.Store tx.new.conn.now) (λ _. ⊥) }
 {
@@ -162,9 +166,8 @@ pub(crate) fn insert_more<S: Alter>(
     rows: &Rows<'_>,
 ) -> Result<(), Error>
     ensures same_reference { tx.new.conn.ghost_name ≡ tx.old.conn.ghost_name }
-    ensures put { HasCleanDisk (state S.Store tx.new.conn.now) → IsTrue tx.old.conn.now.in_transaction → (state S.Store tx.old.conn.now).now.schema ≡ schema_two
-        → OnOk result (Steps (PutsAll 24 (map (λ columns. Int slot ∷ columns) (more_rows (rows_value rows.now)))) (state S.Store tx.old.conn.now)
-        (state S.Store tx.new.conn.now)) }
+    ensures put { Edits result tx.old.conn.now.in_transaction (state S.Store tx.old.conn.now) (state S.Store tx.new.conn.now)
+        (PutsAll more_tree (map (λ columns. Int slot ∷ columns) (more_rows (rows_value rows.now)))) }
     ensures kept { HasCleanDisk (state S.Store tx.new.conn.now) → KeepsCommit (state S.Store tx.old.conn.now) (state S.Store tx.new.conn.now) }
     ensures survives { Survives (state S.Store tx.old.conn.now) (state S.Store tx.new.conn.now) (λ _. ⊥) }
 {

@@ -1,17 +1,17 @@
 //! Tags by their names, as they are selected: of one name, or of a prefix, from the first name on. `specs/Names`.
-ghost use Rattle.std.specs.Prelude.{◌≡◌, List, Contains, map, option_map, false, IsTrue, IfOk, OnOk, IfErr};
+ghost use Rattle.std.specs.Prelude.{◌≡◌, Contains, map, option_map, false, IsTrue, IfOk, OnOk, IfErr};
 ghost use Rattle.sqlite.specs.State.{HasCleanDisk, Survives};
 ghost use Rattle.sqlite.specs.Held.{state};
 ghost use Rattle.dump.specs.Places.{IsListing};
-ghost use Rattle.tables.specs.Schema.{schema_two};
 ghost use Rattle.machine.specs.State.{State};
 ghost use Rattle.tables.specs.Fault.{IsStoreFault};
-ghost use Rattle.tables.specs.Stands.{IsAsBefore, StandsFor, Rests};
+ghost use Rattle.tables.specs.Stands.{IsAsBefore, Rests};
 ghost use Rattle.machine.specs.FoundTags.{BeginsWith, line_cmp, name_cmp};
 ghost use Rattle.machine.specs.Found.{tag_found};
 ghost use Rattle.tables.specs.Names.{FindsNamed, FindsPrefixed};
 ghost use Rattle.tables.specs.Steps.Selected.{Looks};
 ghost use Rattle.tables.specs.Steps.TagRows.{TellNamed, with_prefix};
+ghost use Rattle.tables.specs.Steps.Clauses.{OfState, StaysAsBefore};
 
 use crate::fault::{Refusal, TablesFault};
 use crate::found_tags::{TagRow, complete_all};
@@ -69,11 +69,9 @@ fn select_named<S: Alter>(
     conn: &mut Connection<S>,
     name: &str,
 ) -> Result<Vec<TagRow>, Refusal>
-    ensures rows { HasCleanDisk (state S.Store conn.new) → (state S.Store conn.old).now.schema ≡ schema_two → (m : State)
-        → StandsFor (state S.Store conn.old).now.trees m
-        → IfOk result (λ rows. TellNamed (state S.Store conn.old).now.trees m (λ text. text ≡ name.now) rows.items) }
-    ensures kept { HasCleanDisk (state S.Store conn.new) → (state S.Store conn.old).now.schema ≡ schema_two
-        → OnOk result (IsAsBefore (state S.Store conn.old) (state S.Store conn.new)) }
+    ensures rows { OfState (state S.Store conn.old) (state S.Store conn.new) (λ m. IfOk result (λ rows. TellNamed (state S.Store conn.old).now.trees m
+        (λ text. text ≡ name.now) rows.items)) }
+    ensures kept { StaysAsBefore result (state S.Store conn.old) (state S.Store conn.new) }
     ensures looks { Looks (state S.Store conn.old) (state S.Store conn.new) }
     ensures mode { conn.old.in_transaction ≡ false → conn.new.in_transaction ≡ false }
 {
@@ -92,9 +90,8 @@ fn find_named<S: Alter>(
     name: &str,
     asked: Option<&str>,
 ) -> Result<Vec<FoundTag>, Refusal>
-    ensures found { HasCleanDisk (state S.Store conn.new) → (state S.Store conn.old).now.schema ≡ schema_two → (m : State)
-        → StandsFor (state S.Store conn.old).now.trees m
-        → IfOk result (λ found. FindsNamed m (option_map (λ p. p.now) asked.entry) name.now (map tag_found found.items)) }
+    ensures found { OfState (state S.Store conn.old) (state S.Store conn.new) (λ m. IfOk result (λ found. FindsNamed m (option_map
+        (λ p. p.now) asked.entry) name.now (map tag_found found.items))) }
     ensures looks { Looks (state S.Store conn.old) (state S.Store conn.new) }
     ensures mode { conn.old.in_transaction ≡ false → conn.new.in_transaction ≡ false }
 {
@@ -120,11 +117,9 @@ fn select_prefixed<S: Alter>(
     conn: &mut Connection<S>,
     prefix: &str,
 ) -> Result<Vec<TagRow>, Refusal>
-    ensures rows { HasCleanDisk (state S.Store conn.new) → (state S.Store conn.old).now.schema ≡ schema_two → (m : State)
-        → StandsFor (state S.Store conn.old).now.trees m
-        → IfOk result (λ rows. TellNamed (state S.Store conn.old).now.trees m (λ text. BeginsWith text prefix.now) rows.items) }
-    ensures kept { HasCleanDisk (state S.Store conn.new) → (state S.Store conn.old).now.schema ≡ schema_two
-        → OnOk result (IsAsBefore (state S.Store conn.old) (state S.Store conn.new)) }
+    ensures rows { OfState (state S.Store conn.old) (state S.Store conn.new) (λ m. IfOk result (λ rows. TellNamed (state S.Store conn.old).now.trees m
+        (λ text. BeginsWith text prefix.now) rows.items)) }
+    ensures kept { StaysAsBefore result (state S.Store conn.old) (state S.Store conn.new) }
     ensures looks { Looks (state S.Store conn.old) (state S.Store conn.new) }
     ensures mode { conn.old.in_transaction ≡ false → conn.new.in_transaction ≡ false }
 {
@@ -153,9 +148,8 @@ fn find_prefixed<S: Alter>(
     prefix: &str,
     asked: Option<&str>,
 ) -> Result<Vec<FoundTag>, Refusal>
-    ensures found { HasCleanDisk (state S.Store conn.new) → (state S.Store conn.old).now.schema ≡ schema_two → (m : State)
-        → StandsFor (state S.Store conn.old).now.trees m
-        → IfOk result (λ found. FindsPrefixed m (option_map (λ p. p.now) asked.entry) prefix.now (map tag_found found.items)) }
+    ensures found { OfState (state S.Store conn.old) (state S.Store conn.new) (λ m. IfOk result (λ found. FindsPrefixed m (option_map
+        (λ p. p.now) asked.entry) prefix.now (map tag_found found.items))) }
     ensures looks { Looks (state S.Store conn.old) (state S.Store conn.new) }
     ensures mode { conn.old.in_transaction ≡ false → conn.new.in_transaction ≡ false }
 {

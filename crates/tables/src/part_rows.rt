@@ -1,11 +1,11 @@
 //! The trait of the rows of a part, and how a list of them is put into its table.
-ghost use Rattle.std.specs.Prelude.{◌≡◌, ◌∷◌, [], ℕ, map, IsTrue, OnOk};
+ghost use Rattle.std.specs.Prelude.{◌≡◌, ◌∷◌, [], ℕ, map};
 ghost use Rattle.sqlite_value.specs.declared.value.Value.TheVariants.{Int};
 ghost use Rattle.sqlite_value.specs.Order.{Row as Columns};
 ghost use Rattle.sqlite.specs.State.{HasCleanDisk, Survives, KeepsCommit};
 ghost use Rattle.sqlite.specs.Held.{state};
-ghost use Rattle.tables.specs.Schema.{schema_two};
-ghost use Rattle.tables.specs.Steps.Puts.{PutsAll, Steps};
+ghost use Rattle.tables.specs.Steps.Puts.{PutsAll};
+ghost use Rattle.tables.specs.Steps.Clauses.{Edits};
 
 use sqlite::{Alter, Error, Transaction};
 
@@ -20,9 +20,8 @@ pub(crate) trait PartRow {
     /// Puts the row into its table, under this slot.
     fn insert<S: Alter>(&self, tx: &mut Transaction<'_, S>, slot: i64) -> Result<usize, Error>
         ensures same_reference { tx.new.conn.ghost_name ≡ tx.old.conn.ghost_name }
-        ensures put { HasCleanDisk (state S.Store tx.new.conn.now) → IsTrue tx.old.conn.now.in_transaction
-            → (state S.Store tx.old.conn.now).now.schema ≡ schema_two
-            → OnOk result (Steps (PutsAll tree ((Int slot ∷ columns self.now) ∷ [])) (state S.Store tx.old.conn.now) (state S.Store tx.new.conn.now)) }
+        ensures put { Edits result tx.old.conn.now.in_transaction (state S.Store tx.old.conn.now) (state S.Store tx.new.conn.now)
+            (PutsAll tree ((Int slot ∷ columns self.now) ∷ [])) }
         ensures kept { HasCleanDisk (state S.Store tx.new.conn.now) → KeepsCommit (state S.Store tx.old.conn.now) (state S.Store tx.new.conn.now) }
         ensures survives { Survives (state S.Store tx.old.conn.now) (state S.Store tx.new.conn.now) (λ _. ⊥) };
 }
@@ -34,9 +33,8 @@ pub(crate) fn insert_all<S: Alter, R: PartRow>(
     rows: &[R],
 ) -> Result<(), Error>
     ensures same_reference { tx.new.conn.ghost_name ≡ tx.old.conn.ghost_name }
-    ensures put { HasCleanDisk (state S.Store tx.new.conn.now) → IsTrue tx.old.conn.now.in_transaction → (state S.Store tx.old.conn.now).now.schema ≡ schema_two
-        → OnOk result (Steps (PutsAll R.tree (map (λ row. Int slot ∷ R.columns row) rows.now)) (state S.Store tx.old.conn.now)
-        (state S.Store tx.new.conn.now)) }
+    ensures put { Edits result tx.old.conn.now.in_transaction (state S.Store tx.old.conn.now) (state S.Store tx.new.conn.now)
+        (PutsAll R.tree (map (λ row. Int slot ∷ R.columns row) rows.now)) }
     ensures kept { HasCleanDisk (state S.Store tx.new.conn.now) → KeepsCommit (state S.Store tx.old.conn.now) (state S.Store tx.new.conn.now) }
     ensures survives { Survives (state S.Store tx.old.conn.now) (state S.Store tx.new.conn.now) (λ _. ⊥) }
 {

@@ -1,18 +1,18 @@
 //! The parts of projects, as they are selected: the slot of a part, and the profile of a dump.
-ghost use Rattle.std.specs.Prelude.{◌≡◌, List, ℕ, Some, option_map, pos, false, IsTrue, IfOk, OnOk, IfErr};
-ghost use Rattle.sqlite_rules.specs.Lists.{Has};
+ghost use Rattle.std.specs.Prelude.{◌≡◌, Some, option_map, false, IsTrue, IfOk, IfErr};
 ghost use Rattle.sqlite.specs.State.{HasCleanDisk, Survives};
 ghost use Rattle.sqlite.specs.Held.{state};
-ghost use Rattle.dump.specs.Progress.{DumpValue};
 ghost use Rattle.tables.specs.Schema.{schema_two};
 ghost use Rattle.tables.specs.Columns.{profile_columns};
-ghost use Rattle.tables.specs.Contents.{Contents, Replies, Keeps, slot_row};
+ghost use Rattle.tables.specs.Contents.{Contents, Replies, Keeps};
 ghost use Rattle.tables.specs.Parts.{part_number};
 ghost use Rattle.machine.specs.State.{State};
 ghost use Rattle.tables.specs.Fault.{IsStoreFault};
-ghost use Rattle.tables.specs.Stands.{IsAsBefore, StandsFor, Rests};
+ghost use Rattle.tables.specs.Stands.{IsAsBefore, Rests};
 ghost use Rattle.tables.specs.Steps.Selected.{Looks};
 ghost use Rattle.tables.specs.Steps.Slots.{IsSlotOf};
+ghost use Rattle.tables.specs.declared.slots.Part.TheVariants.{Dump};
+ghost use Rattle.tables.specs.Steps.Clauses.{OfDump, OfState, StaysAsBefore};
 
 use crate::columns::column;
 use crate::fault::{Refusal, TablesFault};
@@ -31,8 +31,7 @@ pub(crate) fn find_slot<S: Alter>(
     ensures slot { HasCleanDisk (state S.Store conn.new) → (state S.Store conn.old).now.schema ≡ schema_two → (parts : Contents) (replies : Replies)
         → Keeps (state S.Store conn.old).now.trees parts replies
         → IfOk result (IsSlotOf (state S.Store conn.old).now.trees parts project.now (part_number part)) }
-    ensures kept { HasCleanDisk (state S.Store conn.new) → (state S.Store conn.old).now.schema ≡ schema_two
-        → OnOk result (IsAsBefore (state S.Store conn.old) (state S.Store conn.new)) }
+    ensures kept { StaysAsBefore result (state S.Store conn.old) (state S.Store conn.new) }
     ensures looks { Looks (state S.Store conn.old) (state S.Store conn.new) }
     ensures mode { conn.old.in_transaction ≡ false → conn.new.in_transaction ≡ false }
 {
@@ -59,10 +58,7 @@ impl Listed for Profile {
 
 /// The profile of the dump that has this slot.
 fn profile_in<S: Alter>(conn: &mut Connection<S>, slot: i64) -> Result<Profile, Refusal>
-    ensures profile { HasCleanDisk (state S.Store conn.new) → (state S.Store conn.old).now.schema ≡ schema_two → (m : State)
-        → StandsFor (state S.Store conn.old).now.trees m
-        → (project : List ℕ) (dump : DumpValue) → Has ((state S.Store conn.old).now.trees 1) (slot_row slot project (pos 1)) → m.dump project ≡ Some dump
-        → IfOk result (λ profile. profile ≡ dump.profile) }
+    ensures profile { OfDump (state S.Store conn.old) (state S.Store conn.new) slot (λ dump. IfOk result (λ profile. profile ≡ dump.profile)) }
     ensures looks { Looks (state S.Store conn.old) (state S.Store conn.new) }
     ensures mode { conn.old.in_transaction ≡ false → conn.new.in_transaction ≡ false }
 {
@@ -79,8 +75,8 @@ fn find_profile<S: Alter>(
     conn: &mut Connection<S>,
     project: &str,
 ) -> Result<Option<Profile>, Refusal>
-    ensures found { HasCleanDisk (state S.Store conn.new) → (state S.Store conn.old).now.schema ≡ schema_two → (m : State)
-        → StandsFor (state S.Store conn.old).now.trees m → IfOk result (λ found. found ≡ option_map (λ d. d.profile) (m.dump project.now)) }
+    ensures found { OfState (state S.Store conn.old) (state S.Store conn.new) (λ m. IfOk result (λ found. found ≡ option_map
+        (λ d. d.profile) (m.dump project.now))) }
     ensures looks { Looks (state S.Store conn.old) (state S.Store conn.new) }
     ensures mode { conn.old.in_transaction ≡ false → conn.new.in_transaction ≡ false }
 {

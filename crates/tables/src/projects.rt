@@ -1,5 +1,5 @@
 //! The projects with a part, as they are selected, by name. `FindsProjects` in `specs/Selections`.
-ghost use Rattle.std.specs.Prelude.{◌≡◌, Contains, is_some, map, string_bytes, false, IsTrue, IfOk, OnOk, IfErr};
+ghost use Rattle.std.specs.Prelude.{◌≡◌, Contains, is_some, map, string_bytes, false, IsTrue, IfOk, IfErr};
 ghost use Rattle.sqlite.specs.State.{HasCleanDisk, Survives};
 ghost use Rattle.sqlite.specs.Held.{state};
 ghost use Rattle.dump.specs.Places.{IsListing};
@@ -8,12 +8,13 @@ ghost use Rattle.tables.specs.Contents.{Contents, Replies, Keeps};
 ghost use Rattle.tables.specs.Parts.{part_number};
 ghost use Rattle.machine.specs.State.{State};
 ghost use Rattle.tables.specs.Fault.{IsStoreFault};
-ghost use Rattle.tables.specs.Stands.{IsAsBefore, StandsFor, Rests};
+ghost use Rattle.tables.specs.Stands.{IsAsBefore, Rests};
 ghost use Rattle.machine.specs.Projects.{text_cmp};
 ghost use Rattle.machine.specs.Found.{project_found};
 ghost use Rattle.tables.specs.Selections.{FindsProjects};
 ghost use Rattle.tables.specs.Steps.Selected.{Looks};
 ghost use Rattle.tables.specs.Steps.Slots.{HasPart, IsTold};
+ghost use Rattle.tables.specs.Steps.Clauses.{OfState, StaysAsBefore};
 
 use crate::fault::{Refusal, TablesFault};
 use crate::parts::find_slot;
@@ -29,8 +30,7 @@ fn has_part<S: Alter>(conn: &mut Connection<S>, project: &str, part: Part) -> Re
     ensures part { HasCleanDisk (state S.Store conn.new) → (state S.Store conn.old).now.schema ≡ schema_two → (parts : Contents) (replies : Replies)
         → Keeps (state S.Store conn.old).now.trees parts replies
         → IfOk result (λ has. has ≡ is_some (parts project.now (part_number part))) }
-    ensures kept { HasCleanDisk (state S.Store conn.new) → (state S.Store conn.old).now.schema ≡ schema_two
-        → OnOk result (IsAsBefore (state S.Store conn.old) (state S.Store conn.new)) }
+    ensures kept { StaysAsBefore result (state S.Store conn.old) (state S.Store conn.new) }
     ensures looks { Looks (state S.Store conn.old) (state S.Store conn.new) }
     ensures mode { conn.old.in_transaction ≡ false → conn.new.in_transaction ≡ false }
 {
@@ -41,10 +41,8 @@ fn has_part<S: Alter>(conn: &mut Connection<S>, project: &str, part: Part) -> Re
 /// The project of this name, and which parts it has. It's `Row` where it has neither: the row of a slot that named it is of another part.
 fn project_of<S: Alter>(conn: &mut Connection<S>, name: String) -> Result<FoundProject, Refusal>
     ensures name { IfOk result (λ project. string_bytes project.name ≡ string_bytes name) }
-    ensures told { HasCleanDisk (state S.Store conn.new) → (state S.Store conn.old).now.schema ≡ schema_two → (m : State)
-        → StandsFor (state S.Store conn.old).now.trees m → IfOk result (λ project. IsTold m (project_found project)) }
-    ensures kept { HasCleanDisk (state S.Store conn.new) → (state S.Store conn.old).now.schema ≡ schema_two
-        → OnOk result (IsAsBefore (state S.Store conn.old) (state S.Store conn.new)) }
+    ensures told { OfState (state S.Store conn.old) (state S.Store conn.new) (λ m. IfOk result (λ project. IsTold m (project_found project))) }
+    ensures kept { StaysAsBefore result (state S.Store conn.old) (state S.Store conn.new) }
     ensures looks { Looks (state S.Store conn.old) (state S.Store conn.new) }
     ensures mode { conn.old.in_transaction ≡ false → conn.new.in_transaction ≡ false }
 {
@@ -69,8 +67,7 @@ fn select_names<S: Alter>(alloc: Global, conn: &mut Connection<S>) -> Result<Vec
     ensures names { HasCleanDisk (state S.Store conn.new) → (state S.Store conn.old).now.schema ≡ schema_two → (parts : Contents) (replies : Replies)
         → Keeps (state S.Store conn.old).now.trees parts replies
         → IfOk result (λ names. IsListing text_cmp (HasPart parts) (map string_bytes names.items)) }
-    ensures kept { HasCleanDisk (state S.Store conn.new) → (state S.Store conn.old).now.schema ≡ schema_two
-        → OnOk result (IsAsBefore (state S.Store conn.old) (state S.Store conn.new)) }
+    ensures kept { StaysAsBefore result (state S.Store conn.old) (state S.Store conn.new) }
     ensures looks { Looks (state S.Store conn.old) (state S.Store conn.new) }
     ensures mode { conn.old.in_transaction ≡ false → conn.new.in_transaction ≡ false }
 {
@@ -84,8 +81,7 @@ fn list_projects<S: Alter>(
     alloc: Global,
     conn: &mut Connection<S>,
 ) -> Result<Vec<FoundProject>, Refusal>
-    ensures found { HasCleanDisk (state S.Store conn.new) → (state S.Store conn.old).now.schema ≡ schema_two → (m : State)
-        → StandsFor (state S.Store conn.old).now.trees m → IfOk result (λ found. FindsProjects m (map project_found found.items)) }
+    ensures found { OfState (state S.Store conn.old) (state S.Store conn.new) (λ m. IfOk result (λ found. FindsProjects m (map project_found found.items))) }
     ensures looks { Looks (state S.Store conn.old) (state S.Store conn.new) }
     ensures mode { conn.old.in_transaction ≡ false → conn.new.in_transaction ≡ false }
 {

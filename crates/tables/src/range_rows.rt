@@ -1,17 +1,11 @@
 //! The rows of ranges, as they are selected: the one from which a climb starts, and that of the parent of each.
-ghost use Rattle.std.specs.Prelude.{◌≡◌, ◌<◌, ◌∷◌, [], List, ℕ, Some, pos, false, IsTrue, IfOk, OnOk};
-ghost use Rattle.sqlite_rules.specs.Lists.{Has};
-ghost use Rattle.sqlite.specs.State.{HasCleanDisk};
+ghost use Rattle.std.specs.Prelude.{◌≡◌, ◌<◌, ◌∷◌, [], Some, false, IsTrue, IfOk};
 ghost use Rattle.sqlite.specs.Held.{state};
 ghost use Rattle.positions.specs.Position.{IsPosition};
-ghost use Rattle.dump.specs.Progress.{DumpValue};
-ghost use Rattle.tables.specs.Schema.{schema_two};
 ghost use Rattle.tables.specs.Columns.{number, optional, position};
-ghost use Rattle.tables.specs.Contents.{slot_row};
-ghost use Rattle.machine.specs.State.{State};
-ghost use Rattle.tables.specs.Stands.{IsAsBefore, StandsFor};
 ghost use Rattle.tables.specs.Steps.Selected.{Looks};
 ghost use Rattle.tables.specs.Steps.Climbs.{IsStart, IsNamed, weight};
+ghost use Rattle.tables.specs.Steps.Clauses.{OfDump, StaysAsBefore};
 
 use crate::columns::{column, span_of};
 use crate::fault::Refusal;
@@ -57,12 +51,8 @@ pub(crate) fn start_of<S: Alter>(
     uri: &str,
     at: Position,
 ) -> Result<Option<SlotRange>, Refusal>
-    ensures start { HasCleanDisk (state S.Store conn.new) → (state S.Store conn.old).now.schema ≡ schema_two → (m : State)
-        → StandsFor (state S.Store conn.old).now.trees m
-        → (project : List ℕ) (dump : DumpValue) → Has ((state S.Store conn.old).now.trees 1) (slot_row slot project (pos 1)) → m.dump project ≡ Some dump
-        → IfOk result (IsStart dump uri.now at) }
-    ensures kept { HasCleanDisk (state S.Store conn.new) → (state S.Store conn.old).now.schema ≡ schema_two
-        → OnOk result (IsAsBefore (state S.Store conn.old) (state S.Store conn.new)) }
+    ensures start { OfDump (state S.Store conn.old) (state S.Store conn.new) slot (λ dump. IfOk result (IsStart dump uri.now at)) }
+    ensures kept { StaysAsBefore result (state S.Store conn.old) (state S.Store conn.new) }
     ensures looks { Looks (state S.Store conn.old) (state S.Store conn.new) }
     ensures mode { conn.old.in_transaction ≡ false → conn.new.in_transaction ≡ false }
 {
@@ -91,13 +81,9 @@ pub(crate) fn parent_of<S: Alter>(
     uri: &str,
     child: &SlotRange,
 ) -> Result<Option<SlotRange>, Refusal>
-    ensures named { HasCleanDisk (state S.Store conn.new) → (state S.Store conn.old).now.schema ≡ schema_two → (m : State)
-        → StandsFor (state S.Store conn.old).now.trees m
-        → (project : List ℕ) (dump : DumpValue) → Has ((state S.Store conn.old).now.trees 1) (slot_row slot project (pos 1)) → m.dump project ≡ Some dump
-        → IfOk result (IsNamed dump uri.now child.now) }
+    ensures named { OfDump (state S.Store conn.old) (state S.Store conn.new) slot (λ dump. IfOk result (IsNamed dump uri.now child.now)) }
     ensures lighter { IfOk result (λ parent. weight parent < weight (Some child.now)) }
-    ensures kept { HasCleanDisk (state S.Store conn.new) → (state S.Store conn.old).now.schema ≡ schema_two
-        → OnOk result (IsAsBefore (state S.Store conn.old) (state S.Store conn.new)) }
+    ensures kept { StaysAsBefore result (state S.Store conn.old) (state S.Store conn.new) }
     ensures looks { Looks (state S.Store conn.old) (state S.Store conn.new) }
     ensures mode { conn.old.in_transaction ≡ false → conn.new.in_transaction ≡ false }
 {

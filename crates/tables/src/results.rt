@@ -1,16 +1,15 @@
 //! The contents of hover results, as they are selected. `FindsHover` in `specs/Selections`.
-ghost use Rattle.std.specs.Prelude.{◌≡◌, List, ℕ, Some, option_map, string_bytes, pos, false, IsTrue, IfOk, OnOk, IfErr};
-ghost use Rattle.sqlite_rules.specs.Lists.{Has};
+ghost use Rattle.std.specs.Prelude.{◌≡◌, List, ℕ, Some, option_map, string_bytes, false, IsTrue, IfOk, IfErr};
 ghost use Rattle.sqlite.specs.State.{HasCleanDisk, Survives};
 ghost use Rattle.sqlite.specs.Held.{state};
-ghost use Rattle.dump.specs.Progress.{DumpValue};
-ghost use Rattle.tables.specs.Schema.{schema_two};
-ghost use Rattle.tables.specs.Contents.{slot_row};
+ghost use Rattle.tables.specs.Contents.{HasSlot};
 ghost use Rattle.machine.specs.State.{State};
 ghost use Rattle.tables.specs.Fault.{IsStoreFault};
-ghost use Rattle.tables.specs.Stands.{IsAsBefore, StandsFor, Rests};
+ghost use Rattle.tables.specs.Stands.{IsAsBefore, Rests};
 ghost use Rattle.tables.specs.Selections.{FindsHover};
 ghost use Rattle.tables.specs.Steps.Selected.{Looks};
+ghost use Rattle.tables.specs.declared.slots.Part.TheVariants.{Dump};
+ghost use Rattle.tables.specs.Steps.Clauses.{OfState};
 
 use crate::fault::{Refusal, TablesFault};
 use crate::parts::find_slot;
@@ -25,10 +24,9 @@ fn hover_in<S: Alter>(
     slot: i64,
     result_number: u32,
 ) -> Result<Option<String>, Refusal>
-    ensures found { HasCleanDisk (state S.Store conn.new) → (state S.Store conn.old).now.schema ≡ schema_two → (m : State)
-        → StandsFor (state S.Store conn.old).now.trees m
-        → (project : List ℕ) → Has ((state S.Store conn.old).now.trees 1) (slot_row slot project (pos 1))
-        → IfOk result (λ found. FindsHover m project result_number (option_map string_bytes found)) }
+    ensures found { OfState (state S.Store conn.old) (state S.Store conn.new) (λ m. (project : List ℕ)
+        → HasSlot (state S.Store conn.old).now.trees slot project Dump
+        → IfOk result (λ found. FindsHover m project result_number (option_map string_bytes found))) }
     ensures looks { Looks (state S.Store conn.old) (state S.Store conn.new) }
     ensures mode { conn.old.in_transaction ≡ false → conn.new.in_transaction ≡ false }
 {
@@ -45,8 +43,8 @@ fn find_hover<S: Alter>(
     project: &str,
     result_number: u32,
 ) -> Result<Option<String>, Refusal>
-    ensures found { HasCleanDisk (state S.Store conn.new) → (state S.Store conn.old).now.schema ≡ schema_two → (m : State)
-        → StandsFor (state S.Store conn.old).now.trees m → IfOk result (λ found. FindsHover m project.now result_number (option_map string_bytes found)) }
+    ensures found { OfState (state S.Store conn.old) (state S.Store conn.new) (λ m. IfOk result
+        (λ found. FindsHover m project.now result_number (option_map string_bytes found))) }
     ensures looks { Looks (state S.Store conn.old) (state S.Store conn.new) }
     ensures mode { conn.old.in_transaction ≡ false → conn.new.in_transaction ≡ false }
 {

@@ -1,5 +1,5 @@
 //! The slots, of which each part of a project has one, and the kept replies: put and removed. `specs/Parts` has the parts' numbers.
-ghost use Rattle.std.specs.Prelude.{◌≡◌, ◌∷◌, [], ◌↔◌, ℕ, None, IsTrue, IfOk, OnOk};
+ghost use Rattle.std.specs.Prelude.{◌≡◌, ◌∷◌, [], ◌↔◌, None, IsTrue, IfOk, OnOk};
 ghost use Rattle.sqlite_value.specs.declared.value.Value.TheVariants.{Int, Text, Null};
 ghost use Rattle.sqlite.specs.State.{HasCleanDisk, Survives, KeepsCommit};
 ghost use Rattle.sqlite.specs.Held.{state};
@@ -8,6 +8,8 @@ ghost use Rattle.tables.specs.Contents.{Contents, Replies, Keeps, changed};
 ghost use Rattle.tables.specs.Databases.{IsListed};
 ghost use Rattle.tables.specs.Parts.{part_number};
 ghost use Rattle.tables.specs.Steps.Puts.{Puts, PutsAll, Steps, GoesOn};
+ghost use Rattle.tables.specs.Steps.Clauses.{Edits};
+ghost use Rattle.tables.specs.TableTrees.{keyed_tree, slot_tree};
 
 use sqlite::{Alter, Error, Transaction, params};
 
@@ -58,8 +60,9 @@ pub(crate) fn insert_slot<S: Alter>(
     part: Part,
 ) -> Result<i64, Error>
     ensures same_reference { tx.new.conn.ghost_name ≡ tx.old.conn.ghost_name }
-    ensures put { HasCleanDisk (state S.Store tx.new.conn.now) → IsTrue tx.old.conn.now.in_transaction → (state S.Store tx.old.conn.now).now.schema ≡ schema_two
-        → IfOk result (λ id. Steps (Puts 1 id (Null ∷ Text project.now ∷ Int (part_number part) ∷ [])) (state S.Store tx.old.conn.now)
+    ensures put { HasCleanDisk (state S.Store tx.new.conn.now) → IsTrue tx.old.conn.now.in_transaction
+        → (state S.Store tx.old.conn.now).now.schema ≡ schema_two
+        → IfOk result (λ id. Steps (Puts slot_tree id (Null ∷ Text project.now ∷ Int (part_number part) ∷ [])) (state S.Store tx.old.conn.now)
         (state S.Store tx.new.conn.now)) }
     ensures kept { HasCleanDisk (state S.Store tx.new.conn.now) → KeepsCommit (state S.Store tx.old.conn.now) (state S.Store tx.new.conn.now) }
     ensures survives { Survives (state S.Store tx.old.conn.now) (state S.Store tx.new.conn.now) (λ _. ⊥) }
@@ -80,9 +83,8 @@ pub(crate) fn insert_reply<S: Alter>(
     reply: &str,
 ) -> Result<usize, Error>
     ensures same_reference { tx.new.conn.ghost_name ≡ tx.old.conn.ghost_name }
-    ensures put { HasCleanDisk (state S.Store tx.new.conn.now) → IsTrue tx.old.conn.now.in_transaction → (state S.Store tx.old.conn.now).now.schema ≡ schema_two
-        → OnOk result (Steps (PutsAll 3 ((Text project.now ∷ Text key.now ∷ Text reply.now ∷ []) ∷ [])) (state S.Store tx.old.conn.now)
-        (state S.Store tx.new.conn.now)) }
+    ensures put { Edits result tx.old.conn.now.in_transaction (state S.Store tx.old.conn.now) (state S.Store tx.new.conn.now)
+        (PutsAll keyed_tree ((Text project.now ∷ Text key.now ∷ Text reply.now ∷ []) ∷ [])) }
     ensures listed { HasCleanDisk (state S.Store tx.new.conn.now) → IsTrue tx.old.conn.now.in_transaction
         → (state S.Store tx.old.conn.now).now.schema ≡ schema_two
         → OnOk result (IsListed schema_two (state S.Store tx.new.conn.now).now.trees) }

@@ -1,5 +1,5 @@
 //! The rows of tags, put under a slot of their own; the fields are written as JSON. A dump's rows are in `dump_part.rt`.
-ghost use Rattle.std.specs.Prelude.{◌≡◌, ◌∷◌, [], ◌++◌, ℕ, pos, map, option_map, string_bytes, Some, None, IsTrue, IfOk, OnOk};
+ghost use Rattle.std.specs.Prelude.{◌≡◌, ◌∷◌, [], pos, map, string_bytes, Some, None, IsTrue, IfOk, OnOk};
 ghost use Rattle.sqlite_value.specs.declared.value.Value.TheVariants.{Int};
 ghost use Rattle.sqlite.specs.State.{HasCleanDisk, Survives, KeepsCommit};
 ghost use Rattle.sqlite.specs.Held.{state};
@@ -7,7 +7,9 @@ ghost use Rattle.tags.specs.Views.{field_value, tag_value, tag_values};
 ghost use Rattle.tables.specs.Schema.{schema_two};
 ghost use Rattle.tables.specs.Columns.{fields_text, tag_columns, tag_rows};
 ghost use Rattle.tables.specs.Contents.{Contents, Replies, Keeps, changed};
-ghost use Rattle.tables.specs.Steps.Puts.{PutsAll, Steps, GoesOn};
+ghost use Rattle.tables.specs.Steps.Puts.{PutsAll, GoesOn};
+ghost use Rattle.tables.specs.Steps.Clauses.{Edits};
+ghost use Rattle.tables.specs.TableTrees.{tag_tree};
 
 use crate::slots::{Part, insert_slot};
 use machine::fields_value;
@@ -31,8 +33,8 @@ fn insert_row<S: Alter>(
 ) -> Result<usize, Error>
     requires { fields.now ≡ fields_text (tag_value tag.now).fields }
     ensures same_reference { tx.new.conn.ghost_name ≡ tx.old.conn.ghost_name }
-    ensures put { HasCleanDisk (state S.Store tx.new.conn.now) → IsTrue tx.old.conn.now.in_transaction → (state S.Store tx.old.conn.now).now.schema ≡ schema_two
-        → OnOk result (Steps (PutsAll 17 ((Int slot ∷ tag_columns (tag_value tag.now)) ∷ [])) (state S.Store tx.old.conn.now) (state S.Store tx.new.conn.now)) }
+    ensures put { Edits result tx.old.conn.now.in_transaction (state S.Store tx.old.conn.now) (state S.Store tx.new.conn.now)
+        (PutsAll tag_tree ((Int slot ∷ tag_columns (tag_value tag.now)) ∷ [])) }
     ensures kept { HasCleanDisk (state S.Store tx.new.conn.now) → KeepsCommit (state S.Store tx.old.conn.now) (state S.Store tx.new.conn.now) }
     ensures survives { Survives (state S.Store tx.old.conn.now) (state S.Store tx.new.conn.now) (λ _. ⊥) }
 {
@@ -58,8 +60,8 @@ fn insert_tag<S: Alter>(
     tag: &Tag,
 ) -> Result<(), Error>
     ensures same_reference { tx.new.conn.ghost_name ≡ tx.old.conn.ghost_name }
-    ensures put { HasCleanDisk (state S.Store tx.new.conn.now) → IsTrue tx.old.conn.now.in_transaction → (state S.Store tx.old.conn.now).now.schema ≡ schema_two
-        → OnOk result (Steps (PutsAll 17 ((Int slot ∷ tag_columns (tag_value tag.now)) ∷ [])) (state S.Store tx.old.conn.now) (state S.Store tx.new.conn.now)) }
+    ensures put { Edits result tx.old.conn.now.in_transaction (state S.Store tx.old.conn.now) (state S.Store tx.new.conn.now)
+        (PutsAll tag_tree ((Int slot ∷ tag_columns (tag_value tag.now)) ∷ [])) }
     ensures kept { HasCleanDisk (state S.Store tx.new.conn.now) → KeepsCommit (state S.Store tx.old.conn.now) (state S.Store tx.new.conn.now) }
     ensures survives { Survives (state S.Store tx.old.conn.now) (state S.Store tx.new.conn.now) (λ _. ⊥) }
 {
@@ -76,9 +78,8 @@ fn insert_all<S: Alter>(
     tags: &[Tag],
 ) -> Result<(), Error>
     ensures same_reference { tx.new.conn.ghost_name ≡ tx.old.conn.ghost_name }
-    ensures put { HasCleanDisk (state S.Store tx.new.conn.now) → IsTrue tx.old.conn.now.in_transaction → (state S.Store tx.old.conn.now).now.schema ≡ schema_two
-        → OnOk result (Steps (PutsAll 17 (map (λ tag. Int slot ∷ tag_columns (tag_value tag)) tags.now)) (state S.Store tx.old.conn.now)
-        (state S.Store tx.new.conn.now)) }
+    ensures put { Edits result tx.old.conn.now.in_transaction (state S.Store tx.old.conn.now) (state S.Store tx.new.conn.now)
+        (PutsAll tag_tree (map (λ tag. Int slot ∷ tag_columns (tag_value tag)) tags.now)) }
     ensures kept { HasCleanDisk (state S.Store tx.new.conn.now) → KeepsCommit (state S.Store tx.old.conn.now) (state S.Store tx.new.conn.now) }
     ensures survives { Survives (state S.Store tx.old.conn.now) (state S.Store tx.new.conn.now) (λ _. ⊥) }
 {

@@ -1,6 +1,7 @@
 //! Dumps that are fed or read, the faults that are answered for good, and what is asked of a checked dump.
 mod ids;
 mod profiles;
+mod requests;
 mod spans;
 
 use dump::{

@@ -1,5 +1,5 @@
 -- What answers queries at a position, by rows that selections give.
-use Rattle.std.specs.Prelude.{◌≡◌, ◌≢◌, ◌↔◌, ◌⊎◌, ℕ, true, List, map, Option, Some, None, Contains, is_some, string_bytes}
+use Rattle.std.specs.Prelude.{◌≡◌, ◌≢◌, ◌↔◌, ◌⊎◌, ℕ, true, List, Option, Some, None, Contains, is_some, string_bytes}
 use Rattle.std.specs.declared.cmp.Ordering.{Ordering}
 use Rattle.std.specs.Ordering.{nat_cmp, ordering_then}
 use Rattle.lsif.specs.Element.{range, ElementValue}
@@ -64,8 +64,7 @@ abbrev pub Picks : State → RequestKind → List ℕ → List ℕ → PositionV
 Picks m request project uri at picks.NoDump = m.dump project ≡ None
 Picks m request project uri at picks.NoDocument = (dump : DumpValue) × (m.dump project ≡ Some dump) × (HasDocument dump.elements uri → ⊥)
 Picks m request project uri at picks.NoRange = PicksIn m request project uri at None
-Picks m request project uri at (picks.Range row keys) =
-    PicksIn m request project uri at (Some (range_found row)) × AreKeys m request project row.line (map string_bytes keys.items)
+Picks m request project uri at (picks.Range row) = PicksIn m request project uri at (Some (range_found row))
 
 -- ---- what is joined
 

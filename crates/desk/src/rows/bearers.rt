@@ -1,7 +1,6 @@
 //! The vertices of other projects that are joined to a range: those that bear a moniker with one of its keys (`IsJoined` of `specs/Joins`). They are
 //! found by the rows of the bearers.
 ghost use Rattle.std.specs.Prelude.{◌≡◌, Contains, IfOk, IfErr, IfSome, IfNone, OnOk, map, string_bytes, true};
-ghost use Rattle.dump.specs.Requests.{finds};
 ghost use Rattle.flatten.specs.Flat.{result_for};
 ghost use Rattle.tables.specs.Selections.{BearerFound, bearer_found};
 ghost use Rattle.machine.specs.State.{State};
@@ -11,7 +10,6 @@ ghost use Rattle.desk.specs.declared.index.IndexFault.TheVariants.{Refused};
 
 use crate::index::{Index, IndexFault};
 use dump::RequestKind;
-use lsif::MonikerKind;
 use std::alloc::{AllocError, Global};
 use tables::FoundBearer;
 
@@ -38,23 +36,12 @@ fn result_of(bearer: &FoundBearer, request: RequestKind) -> Option<u32>
     }
 }
 
-/// Whether a request looks in other projects for marks of this kind.
-fn finds(request: RequestKind, kind: MonikerKind) -> bool
-    ensures { result ≡ finds request kind }
-{
-    match kind {
-        MonikerKind::Import => matches!(request, RequestKind::References),
-        MonikerKind::Export => true,
-        MonikerKind::Local => false,
-    }
-}
-
 /// What the row of a bearer tells, where it's of another project, and of a kind that the request looks for there, and has a result.
 fn joined_of(request: RequestKind, own: &str, bearer: FoundBearer) -> Option<JoinedBearer>
     ensures some { IfSome result (λ j. OfBearer request own.now (bearer_found bearer) (joined_value j)) }
     ensures none { IfNone result ((j : JoinedValue) → OfBearer request own.now (bearer_found bearer) j → ⊥) }
 {
-    if bearer.project.as_str() == own || !finds(request, bearer.kind) {
+    if bearer.project.as_str() == own || !request.finds(bearer.kind) {
         return None;
     }
     match result_of(&bearer, request) {

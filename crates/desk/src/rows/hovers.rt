@@ -1,7 +1,6 @@
 //! The contents that answer a hover query: those of the range's own result, and where it has none, those of the first vertex that is joined to it, by
 //! project and line (`HoversAt` of `specs/Answers`).
 ghost use Rattle.std.specs.Prelude.{◌≡◌, Contains, IfOk, IfErr, map, option_map, string_bytes, true};
-ghost use Rattle.dump.specs.declared.request_kind.RequestKind.TheVariants as requests;
 ghost use Rattle.dump.specs.Places.{IsListing};
 ghost use Rattle.tables.specs.Selections.{range_found};
 ghost use Rattle.machine.specs.State.{State};
@@ -9,12 +8,12 @@ ghost use Rattle.desk.specs.Indexes.{ReadsOnly};
 ghost use Rattle.machine.specs.Answers.{AnswersAt, AnswersHover};
 ghost use Rattle.machine.specs.Requests.{at_value};
 ghost use Rattle.desk.specs.Steps.RowHovers.{RowHovers, joined_cmp};
-ghost use Rattle.desk.specs.Steps.Rows.{AreKeys, joined_value};
+ghost use Rattle.desk.specs.Steps.Rows.{joined_value};
 ghost use Rattle.desk.specs.declared.index.IndexFault.TheVariants.{Refused};
 
 use crate::index::{Index, IndexFault};
 use crate::rows::bearers::{JoinedBearer, joined_bearers};
-use crate::rows::ranges::{Picked, pick};
+use crate::rows::ranges::{Picked, keys_at, pick};
 use dump::RequestKind;
 use machine::{Code, DocUri, ProjectName, Reply, hover_found};
 use positions::Position;
@@ -29,16 +28,15 @@ fn list_bearers(found: &mut Vec<JoinedBearer>)
     found.dedup();
 }
 
-/// The contents that answer a hover query at the range of this row, which has these keys.
+/// The contents that answer a hover query at the range of this row.
 fn contents_at<I: Index>(
     alloc: Global,
     index: &mut I,
     own: &str,
     range: &FoundRange,
-    keys: &[String],
 ) -> Result<Option<String>, IndexFault>
     ensures reliable { I.is_reliable index.new → I.is_reliable index.old }
-    ensures found { I.is_reliable index.new → (m : State) → I.stands index.old m → AreKeys m requests.Hover own.now range.now.line (map string_bytes keys.now)
+    ensures found { I.is_reliable index.new → (m : State) → I.stands index.old m
         → IfOk result (λ o. RowHovers m own.now (range_found range.now) (option_map string_bytes o)) }
     ensures reads_only { I.is_reliable index.new → ReadsOnly I.stands I.may_leave index.old index.new }
     ensures refused { IfErr result (λ fault. fault ≡ Refused → I.may_refuse ≡ true) }
@@ -46,7 +44,8 @@ fn contents_at<I: Index>(
     if let Some(number) = range.result {
         return index.hover(own, number);
     }
-    let mut found = joined_bearers(alloc, index, RequestKind::Hover, own, keys)?;
+    let keys = keys_at(alloc, index, RequestKind::Hover, own, range.line)?;
+    let mut found = joined_bearers(alloc, index, RequestKind::Hover, own, &keys)?;
     list_bearers(&mut found);
     match found.first() {
         Some(row) => index.hover(row.project.as_str(), row.number),
@@ -73,8 +72,8 @@ pub(crate) fn hover<I: Index>(
         Picked::NoDump => Ok(Reply::refused(Code::D01)),
         Picked::NoDocument => Ok(Reply::refused(Code::D02)),
         Picked::NoRange => Ok(hover_found(alloc, None)?),
-        Picked::Range(range, keys) => {
-            let found = contents_at(alloc, index, project, &range, &keys)?;
+        Picked::Range(range) => {
+            let found = contents_at(alloc, index, project, &range)?;
             Ok(hover_found(alloc, found.as_deref())?)
         }
     }

@@ -3,12 +3,13 @@ ghost use Rattle.std.specs.Prelude.{◌≡◌, ◌≢◌, IfOk, List, map, optio
 ghost use Rattle.dump.specs.declared.request_kind.RequestKind.TheVariants as requests;
 ghost use Rattle.machine.specs.State.{State};
 ghost use Rattle.desk.specs.Indexes.{ReadsOnly};
-ghost use Rattle.machine.specs.Answers.{Answers, AnswersAt, AnswersKind, AnswersPlaces, reference_roles, roles_of};
+ghost use Rattle.machine.specs.Answers.{Answers, AnswersAt, AnswersKind, AnswersPlaces, reference_roles};
 ghost use Rattle.machine.specs.Requests.{at_value, query_value};
 ghost use Rattle.machine.specs.Requests as queries;
+ghost use Rattle.desk.specs.Steps.Listed.{tags_query};
 ghost use Rattle.desk.specs.declared.index.IndexFault.TheVariants.{Refused};
 
-use crate::index::{Index, IndexFault};
+use crate::index::{Index, IndexFault, Wanted};
 use crate::rows::hovers::hover;
 use crate::rows::places::{places_of, places_reply};
 use crate::rows::ranges::{Picked, pick};
@@ -53,8 +54,8 @@ pub(crate) fn places<I: Index>(
         Picked::NoDump => Ok(Reply::refused(Code::D01)),
         Picked::NoDocument => Ok(Reply::refused(Code::D02)),
         Picked::NoRange => Ok(places_found(alloc, &[])?),
-        Picked::Range(range, keys) => {
-            let project_results = answering_results(alloc, index, request, project, &range, &keys)?;
+        Picked::Range(range) => {
+            let project_results = answering_results(alloc, index, request, project, &range)?;
             let found = places_of(alloc, index, &project_results, roles)?;
             Ok(places_reply(alloc, &found)?)
         }
@@ -71,35 +72,19 @@ fn name_of(project: &Option<ProjectName>) -> Option<&str>
     }
 }
 
-/// Answers a query for the tags of a name.
-pub(crate) fn names<I: Index>(
+/// Answers a query for tags.
+pub(crate) fn tags<I: Index>(
     alloc: Global,
     index: &mut I,
-    name: &str,
+    wanted: Wanted<'_>,
     project: &Option<ProjectName>,
 ) -> Result<Reply, IndexFault>
     ensures reliable { I.is_reliable index.new → I.is_reliable index.old }
-    ensures found { I.is_reliable index.new → (m : State) → I.stands index.old m → IfOk result (λ r. Answers m (queries.names name.now project.now) r) }
+    ensures found { I.is_reliable index.new → (m : State) → I.stands index.old m → IfOk result (λ r. Answers m (tags_query wanted.entry project.now) r) }
     ensures reads_only { I.is_reliable index.new → ReadsOnly I.stands I.may_leave index.old index.new }
     ensures refused { IfErr result (λ fault. fault ≡ Refused → I.may_refuse ≡ true) }
 {
-    let found = index.names_exact(alloc, name, name_of(project))?;
-    Ok(tags_found(alloc, &found)?)
-}
-
-/// Answers a query for the tags whose names begin so.
-pub(crate) fn prefix<I: Index>(
-    alloc: Global,
-    index: &mut I,
-    prefix: &str,
-    project: &Option<ProjectName>,
-) -> Result<Reply, IndexFault>
-    ensures reliable { I.is_reliable index.new → I.is_reliable index.old }
-    ensures found { I.is_reliable index.new → (m : State) → I.stands index.old m → IfOk result (λ r. Answers m (queries.prefix prefix.now project.now) r) }
-    ensures reads_only { I.is_reliable index.new → ReadsOnly I.stands I.may_leave index.old index.new }
-    ensures refused { IfErr result (λ fault. fault ≡ Refused → I.may_refuse ≡ true) }
-{
-    let found = index.names_prefix(alloc, prefix, name_of(project))?;
+    let found = index.tags(alloc, wanted, name_of(project))?;
     Ok(tags_found(alloc, &found)?)
 }
 
@@ -131,16 +116,6 @@ pub(crate) fn profile<I: Index>(
     }
 }
 
-/// The roles of the places that a request of this kind asks for.
-fn roles_of(kind: RequestKind) -> &'static [Role]
-    ensures { result.now ≡ roles_of kind }
-{
-    match kind {
-        RequestKind::References => &[Role::Definitions, Role::References],
-        _ => &[Role::Definitions],
-    }
-}
-
 /// Answers a query at a position.
 fn answer_at<I: Index>(
     alloc: Global,
@@ -162,7 +137,7 @@ fn answer_at<I: Index>(
         | RequestKind::References
         | RequestKind::Declaration
         | RequestKind::Implementation => {
-            places(alloc, index, kind, roles_of(kind), project, uri, at)
+            places(alloc, index, kind, kind.roles(), project, uri, at)
         }
     }
 }
@@ -202,11 +177,11 @@ pub(crate) fn answer<I: Index>(
                 *at,
             )
         }
-        Query::Names { name, project } => names(alloc, index, name.as_str(), project),
+        Query::Names { name, project } => tags(alloc, index, Wanted::Name(name.as_str()), project),
         Query::Prefix {
             prefix: start,
             project,
-        } => prefix(alloc, index, start.as_str(), project),
+        } => tags(alloc, index, Wanted::Prefix(start.as_str()), project),
         Query::Projects => projects(alloc, index),
         Query::Profile { project } => profile(alloc, index, project),
     }

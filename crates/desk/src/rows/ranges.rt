@@ -1,7 +1,7 @@
 //! The range that a request at a position is asked of: the smallest that covers it and has a result, or a key by which the request goes on to other
 //! projects (`Pick` of the crate dump). It is found by the rows of the ranges and of their marks.
-ghost use Rattle.std.specs.Prelude.{◌≡◌, IfOk, IfErr, IfSome, OnOk, map, option_map, string_bytes, true};
-ghost use Rattle.dump.specs.Requests.{IsFirst, follows};
+ghost use Rattle.std.specs.Prelude.{◌≡◌, ◌↔◌, IsTrue, IfOk, IfErr, OnOk, map, option_map, string_bytes, true};
+ghost use Rattle.dump.specs.Requests.{IsFirst};
 ghost use Rattle.tables.specs.Selections.{mark_found, range_found};
 ghost use Rattle.machine.specs.State.{State};
 ghost use Rattle.desk.specs.Indexes.{AreFaultless, ReadsOnly};
@@ -10,13 +10,12 @@ ghost use Rattle.desk.specs.declared.index.IndexFault.TheVariants.{Refused};
 
 use crate::index::{Index, IndexFault};
 use dump::RequestKind;
-use lsif::MonikerKind;
 use positions::Position;
 use std::alloc::{AllocError, Global};
 use tables::{Covering, FoundMark, FoundRange};
 
 /// What a request at a position is asked of.
-#[derive(Drop)]
+#[derive(Clone, Copy)]
 pub(crate) enum Picked {
     /// The project has no dump.
     NoDump,
@@ -24,19 +23,8 @@ pub(crate) enum Picked {
     NoDocument,
     /// No range that covers the position has a result or such a key.
     NoRange,
-    /// The row of the range, and the texts of the keys of its marks by which the request goes on to other projects.
-    Range(FoundRange, Vec<String>),
-}
-
-/// Whether a request goes on to other projects by marks of this kind.
-fn follows(request: RequestKind, kind: MonikerKind) -> bool
-    ensures { result ≡ follows request kind }
-{
-    match kind {
-        MonikerKind::Import => true,
-        MonikerKind::Export => matches!(request, RequestKind::References),
-        MonikerKind::Local => false,
-    }
+    /// The row of the range.
+    Range(FoundRange),
 }
 
 /// The texts of the keys of those marks by which the request goes on to other projects.
@@ -49,7 +37,7 @@ fn followed_keys(
 {
     let mut keys = Vec::new(alloc);
     while let Some(mark) = marks.pop() {
-        if follows(request, mark.kind) {
+        if request.follows(mark.kind) {
             keys.push(mark.key)?;
         }
     }
@@ -57,7 +45,7 @@ fn followed_keys(
 }
 
 /// The texts of the keys by which the request goes on to other projects from the range at this line (counted from 1) of the project's dump.
-fn keys_at<I: Index>(
+pub(crate) fn keys_at<I: Index>(
     alloc: Global,
     index: &mut I,
     request: RequestKind,
@@ -75,26 +63,44 @@ fn keys_at<I: Index>(
     Ok(keys)
 }
 
-/// The first of the ranges that has a result or a key by which the request goes on to other projects, with the texts of these keys.
+/// Whether the range has a result, or a key by which the request goes on to other projects. Its marks are asked for where it has no result alone.
+fn speaks<I: Index>(
+    alloc: Global,
+    index: &mut I,
+    request: RequestKind,
+    project: &str,
+    range: &FoundRange,
+) -> Result<bool, IndexFault>
+    ensures reliable { I.is_reliable index.new → I.is_reliable index.old }
+    ensures found { I.is_reliable index.new → (m : State) → I.stands index.old m
+        → IfOk result (λ speaks. IsTrue speaks ↔ RowSpeaks m request project.now (range_found range.now)) }
+    ensures reads_only { I.is_reliable index.new → ReadsOnly I.stands I.may_leave index.old index.new }
+    ensures refused { IfErr result (λ fault. fault ≡ Refused → I.may_refuse ≡ true) }
+{
+    if range.result.is_some() {
+        return Ok(true);
+    }
+    let keys = keys_at(alloc, index, request, project, range.line)?;
+    Ok(!keys.is_empty())
+}
+
+/// The first of the ranges that has a result or a key by which the request goes on to other projects.
 fn first_speaking<I: Index>(
     alloc: Global,
     index: &mut I,
     request: RequestKind,
     project: &str,
     ranges: &[FoundRange],
-) -> Result<Option<(FoundRange, Vec<String>)>, IndexFault>
+) -> Result<Option<FoundRange>, IndexFault>
     ensures reliable { I.is_reliable index.new → I.is_reliable index.old }
     ensures first { I.is_reliable index.new → (m : State) → I.stands index.old m
-        → IfOk result (λ o. IsFirst (RowSpeaks m request project.now) (map range_found ranges.now) (option_map (λ p. range_found p.0) o)) }
-    ensures keys { I.is_reliable index.new → (m : State) → I.stands index.old m
-        → IfOk result (λ o. IfSome o (λ p. AreKeys m request project.now p.0.line (map string_bytes p.1.items))) }
+        → IfOk result (λ o. IsFirst (RowSpeaks m request project.now) (map range_found ranges.now) (option_map range_found o)) }
     ensures reads_only { I.is_reliable index.new → ReadsOnly I.stands I.may_leave index.old index.new }
     ensures refused { IfErr result (λ fault. fault ≡ Refused → I.may_refuse ≡ true) }
 {
     for range in ranges {
-        let keys = keys_at(alloc, index, request, project, range.line)?;
-        if range.result.is_some() || !keys.is_empty() {
-            return Ok(Some((*range, keys)));
+        if speaks(alloc, index, request, project, range)? {
+            return Ok(Some(*range));
         }
     }
     Ok(None)
@@ -120,7 +126,7 @@ pub(crate) fn pick<I: Index>(
         Covering::NoDocument => Ok(Picked::NoDocument),
         Covering::Ranges(ranges) => {
             match first_speaking(alloc, index, request, project, &ranges)? {
-                Some((range, keys)) => Ok(Picked::Range(range, keys)),
+                Some(range) => Ok(Picked::Range(range)),
                 None => Ok(Picked::NoRange),
             }
         }

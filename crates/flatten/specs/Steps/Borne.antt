@@ -1,5 +1,6 @@
 -- The monikers that vertices bear, by numbers, and the texts of their marks.
-use Rattle.std.specs.Prelude.{◌≡◌, ℕ, List, Option, Some, None, Contains, string_bytes}
+use Rattle.std.specs.Prelude.{◌≡◌, ℕ, List, map, Option, Some, None, option_map, Contains}
+use Rattle.std.specs.Rc.{rc_str_bytes}
 use Rattle.lsif.specs.declared.element.MonikerKind.{MonikerKind}
 use Rattle.lsif.specs.Element.{IdValue, MonikerValue, moniker, moniker_edge, ElementValue, vertex, edge}
 use Rattle.dump.specs.Monikers.{Near, moniker_pairs, package_of}
@@ -14,7 +15,11 @@ pub record MarkText : Type 0 where
   pub key : List ℕ
 
 abbrev pub mark_value : Mark → MarkText
-mark_value m = record { kind = m.kind; key = string_bytes m.key }
+mark_value m = record { kind = m.kind; key = rc_str_bytes m.key }
+
+-- the marks that a table has
+abbrev pub mark_values : List (Option Mark) → List (Option MarkText)
+mark_values marks = map (option_map mark_value) marks
 
 abbrev pub text_of : List ElementValue → IdValue → MonikerValue → MarkText
 text_of elements i m = record { kind = m.kind; key = key_text (moniker_key m (package_of elements i)) }

@@ -1,5 +1,5 @@
 -- The rows of dumps as entries.
-use Rattle.std.specs.Prelude.{◌≡◌, ℤ, pos, List, ℕ, ◌∷◌, Option, Some, None}
+use Rattle.std.specs.Prelude.{◌≡◌, ℤ, List, ℕ, ◌∷◌, Option, Some, None}
 use Rattle.std.specs.List.{AllByRecursion}
 use Rattle.sqlite_value.specs.declared.value.Value.{Value}
 use Rattle.sqlite_value.specs.declared.value.Value.TheVariants.{Int}
@@ -7,8 +7,9 @@ use Rattle.sqlite_value.specs.Order.{Row}
 use Rattle.sqlite_trees.specs.Tree.{Trees}
 use Rattle.sqlite_rules.specs.Lists.{Has}
 use Rattle.dump.specs.Progress.{DumpValue}
-use Rattle.tables.specs.Contents.{slot_row}
+use Rattle.tables.specs.Contents.{HasSlot}
 use Rattle.machine.specs.State.{State}
+use Rattle.tables.specs.declared.slots.Part.TheVariants.{Dump}
 
 -- an entry under the slot of its dump
 pub record DumpEntry (E : Type 0) : Type 0 where
@@ -19,7 +20,7 @@ pub record DumpEntry (E : Type 0) : Type 0 where
 pub record IsOfDump {E : Type 0} (Of : DumpValue → E → Type 0) (db : Trees) (m : State) (e : DumpEntry E) : Type 0 where
   pub project : List ℕ
   pub dump : DumpValue
-  pub slot : Has (db 1) (slot_row e.slot project (pos 1))
+  pub slot : HasSlot db e.slot project Dump
   pub has : m.dump project ≡ Some dump
   pub is : Of dump e.value
 

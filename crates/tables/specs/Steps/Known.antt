@@ -1,5 +1,5 @@
 -- What is known of the results of a line, and what tells a bearer.
-use Rattle.std.specs.Prelude.{◌≡◌, ◌⊎◌, ◌||◌, ℕ, pos, true, List, [], ◌∷◌, Option, Some, is_some}
+use Rattle.std.specs.Prelude.{◌≡◌, ◌⊎◌, ◌||◌, ℕ, true, List, [], ◌∷◌, Option, Some, is_some}
 use Rattle.std.specs.List.{AllByRecursion}
 use Rattle.sqlite_value.specs.Order.{Row}
 use Rattle.sqlite_trees.specs.Tree.{Trees}
@@ -7,10 +7,11 @@ use Rattle.sqlite_rules.specs.Lists.{Has}
 use Rattle.dump.specs.Progress.{DumpValue}
 use Rattle.flatten.specs.Flat.{ResultsValue, RangeRowValue, BearerRowValue, IsRangeRow, IsBearerRow}
 use Rattle.tables.specs.Columns.{number, optional}
-use Rattle.tables.specs.Contents.{slot_row}
+use Rattle.tables.specs.Contents.{HasSlot}
 use Rattle.machine.specs.State.{State}
 use Rattle.tables.specs.Selections.{BearerFound, Bears, bearer_row}
 use Rattle.tables.specs.declared.bearers.SlotBearer.{SlotBearer}
+use Rattle.tables.specs.declared.slots.Part.TheVariants.{Dump}
 
 -- a range or a bearer of the dump, at this line, has these first results
 abbrev pub IsKnown : DumpValue → ℕ → ResultsValue → Type 0
@@ -38,7 +39,7 @@ more_values v = number v.line ∷ optional v.declaration ∷ optional v.implemen
 -- the row of a bearer tells this one, but for its declaration and its implementation
 pub record TellsBearer (db : Trees) (m : State) (key : List ℕ) (x : SlotBearer) (v : BearerFound) : Type 0 where
   pub dump : DumpValue
-  pub slot : Has (db 1) (slot_row x.slot v.project (pos 1))
+  pub slot : HasSlot db x.slot v.project Dump
   pub has : m.dump v.project ≡ Some dump
   pub is : IsBearerRow dump.elements (bearer_row key v)
   pub line : x.line ≡ v.line

@@ -6,11 +6,12 @@ use Rattle.sqlite_rules.specs.Lists.{Has}
 use Rattle.tables.specs.Contents.{Contents, slot_row}
 use Rattle.machine.specs.State.{State}
 use Rattle.machine.specs.Projects.{ProjectValue}
+use Rattle.tables.specs.TableTrees.{slot_tree}
 
 -- the slot of a part that is there, or none of one that isn't
 abbrev pub IsSlotOf : Trees → Contents → List ℕ → ℤ → Option ℤ → Type 0
 IsSlotOf db parts project part None = parts project part ≡ None
-IsSlotOf db parts project part (Some id) = Has (db 1) (slot_row id project part)
+IsSlotOf db parts project part (Some id) = Has (db slot_tree) (slot_row id project part)
 
 -- the project has some part
 abbrev pub HasPart : Contents → List ℕ → Type 0

@@ -1,5 +1,5 @@
 -- The rows of tags, as they are selected.
-use Rattle.std.specs.Prelude.{◌≡◌, ◌⊎◌, ◌++◌, eqb, ℕ, pos, Bool, false, List, [], ◌∷◌, Option, Some, None, Contains, string_bytes}
+use Rattle.std.specs.Prelude.{◌≡◌, ◌⊎◌, ◌++◌, eqb, ℕ, Bool, false, List, [], ◌∷◌, Option, Some, None, Contains, string_bytes}
 use Rattle.std.specs.List.{AllByRecursion, starts_with}
 use Rattle.sqlite_value.specs.declared.value.Value.{Value}
 use Rattle.sqlite_value.specs.declared.value.Value.TheVariants.{Null, Int, Real, Text, Blob}
@@ -9,12 +9,13 @@ use Rattle.sqlite_rules.specs.Lists.{Has}
 use Rattle.sqlite.specs.Values.{or_null}
 use Rattle.tags.specs.Values.{TagValue}
 use Rattle.tables.specs.Columns.{number, tag_columns}
-use Rattle.tables.specs.Contents.{slot_row}
+use Rattle.tables.specs.Contents.{HasSlot}
 use Rattle.machine.specs.FoundTags.{FoundTag, IsTag, IsAsked}
 use Rattle.machine.specs.Found.{tag_found}
 use Rattle.machine.specs.State.{State}
 use Rattle.machine.specs.declared.found.FoundTag as declared
 use Rattle.tables.specs.declared.found_tags.TagRow.{TagRow}
+use Rattle.tables.specs.declared.slots.Part.TheVariants.{Tags}
 
 -- what the row has behind the id of its slot
 abbrev pub columns_of : TagRow → Row
@@ -39,7 +40,7 @@ with_prefix prefix row = text_begins prefix (column row 2)
 -- the row tells this tag
 pub record TellsTag (db : Trees) (m : State) (x : TagRow) (v : FoundTag) : Type 0 where
   pub tags : List TagValue
-  pub slot : Has (db 1) (slot_row x.slot v.project (pos 2))
+  pub slot : HasSlot db x.slot v.project Tags
   pub has : m.tags v.project ≡ Some tags
   pub listed : Contains tags v.tag
   pub is : columns_of x ≡ tag_columns v.tag

@@ -4,6 +4,7 @@ use flatten::{BearerRow, DocRow, HoverRow, ItemRow, MarkRow, RangeRow, Rows, key
 use lsif::{Edge, Element, Id, MonikerKind, Package, Property, Vertex};
 use positions::Span;
 use std::alloc::{AllocError, Global};
+use std::rc::RcStr;
 use std::test::Fail;
 
 /// The line of the element of this id, counted from 1.
@@ -378,7 +379,7 @@ fn mark_rows(
                 rows.push(MarkRow {
                     range: range.line,
                     kind,
-                    key,
+                    key: RcStr::from_string(key)?,
                 })?;
             }
         }
@@ -398,7 +399,7 @@ fn add_bearers(
         for key in keys_of(alloc, elements, &[id], kind)? {
             rows.push(BearerRow {
                 line,
-                key,
+                key: RcStr::from_string(key)?,
                 kind,
                 def: first(elements, &members, RequestKind::Definition),
                 refs: first(elements, &members, RequestKind::References),

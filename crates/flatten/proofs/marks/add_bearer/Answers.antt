@@ -1,5 +1,5 @@
 use Rattle.std.proofs.Common.{◌≡◌, ◌∙◌, Option, Some, map, sym, ap, subst}
-use Rattle.std.specs.Prelude.{string_bytes}
+use Rattle.std.specs.Rc.{rc_str_bytes}
 use Rattle.std.specs.List.{All}
 use Rattle.std.proofs.lemmas.List.{map-append}
 use Rattle.std.proofs.lemmas.List.Elements.{All-push}
@@ -23,5 +23,5 @@ returns-clause-rows c =
     let same : id ≡ b.vertex = cc in
     let along_its = results_along d (c.ends_law.ensures d free) (vertex_numbers d (c.line_law.ensures.there d free)) c.args.chains.now.borne.items id along c.in_ok-along.ensures.along in
     let results = subst (λ x. AreResults d x (results_of along)) same along_its in
-    let here : IsBearerRow d (record { line = c.args.mark.range; key = string_bytes c.args.mark.key; kind = c.args.mark.kind; results = results_of along }) = record { vertex = b.vertex; mark = b.mark; at_line = b.at_line; bears = b.bears; is_kind = b.is_kind; is_key = b.is_key; are_results = results } in
+    let here : IsBearerRow d (record { line = c.args.mark.range; key = rc_str_bytes c.args.mark.key; kind = c.args.mark.kind; results = results_of along }) = record { vertex = b.vertex; mark = b.mark; at_line = b.at_line; bears = b.bears; is_kind = b.is_kind; is_key = b.is_key; are_results = results } in
     subst (All (IsBearerRow d)) (sym (ap (map bearer_value) c.in_ok-push.ensures.items ∙ map-append bearer_value old _)) (All-push (IsBearerRow d) (map bearer_value old) _ c.requires.rows here)

@@ -1,7 +1,8 @@
 use Rattle.std.proofs.Common.{◌≡◌, ◌==◌, ◌∙◌, ◌++◌, ℕ, map, filter, sym, ap}
 use Rattle.lsif.specs.Element.{id_value}
 use Rattle.flatten.specs.Rows.{mark_value as mark_row_value}
-use Rattle.flatten.specs.Steps.Marks.{IsMarkOfVertex, marks_of, marks_in}
+use Rattle.flatten.specs.Steps.Borne.{mark_values}
+use Rattle.flatten.specs.Steps.Marks.{IsMarkOfVertex, marks_of}
 use Rattle.flatten.proofs.Listing.{adds_list}
 use Rattle.flatten.proofs.MarkRows.{vertex_marks}
 use Rattle.flatten.proofs.marks.add_member.Goals as goal
@@ -10,7 +11,7 @@ pub returns-in_ok-add_targets : goal.returns-in_ok-add_targets
 returns-in_ok-add_targets c =
     let d = c.args.chains.now.dump.now.elements in
     let borne = c.args.chains.now.borne.items in
-    let marks = marks_in d in
+    let marks = mark_values c.args.marks.now in
     let number = c.args.number in
     let x = id_value c.args.member.now in
     let n = c.in-Some.vertex in

@@ -2,7 +2,8 @@ use Rattle.std.proofs.Common.{◌≡◌, map, rules, sym, subst}
 use Rattle.std.proofs.lemmas.Result.{on_ok_weaker}
 use Rattle.lsif.specs.Element.{id_value, range, ElementValue, vertex, element_value}
 use Rattle.flatten.specs.Rows.{mark_value as mark_row_value}
-use Rattle.flatten.specs.Steps.Marks.{IsMarkAlong, IsMarkOfRange, marks_in}
+use Rattle.flatten.specs.Steps.Borne.{mark_values}
+use Rattle.flatten.specs.Steps.Marks.{IsMarkAlong, IsMarkOfRange}
 use Rattle.flatten.specs.Steps.Tables.{Adds}
 use Rattle.flatten.proofs.Listing.{adds_same}
 use Rattle.flatten.proofs.MarkRows.{marks_of_range}
@@ -12,7 +13,7 @@ pub returns-in-Some-clause-rows : goal.returns-in-Some-clause-rows
 returns-in-Some-clause-rows c =
     let d = c.args.chains.now.dump.now.elements in
     let borne = c.args.chains.now.borne.items in
-    let marks = marks_in d in
+    let marks = mark_values c.args.marks.now in
     let number = c.in-Some.number in
     let i = id_value c.in-Vertex-default-Range.id in
     let old = map mark_row_value c.args.rows.now.items in

@@ -1,13 +1,14 @@
 use Rattle.std.proofs.Common.{Bor, ◌∙◌, ◌++◌, map, reverse, refl, sym, ap, subst, arith, append-nil}
-use Rattle.std.specs.Prelude.{Ok}
+use Rattle.std.specs.Prelude.{◌↔◌, List, Ok, Option}
 use Rattle.std.specs.List.{All}
 use Rattle.std.proofs.lemmas.List.Elements.{All-nil}
 use Rattle.dump.specs.Fault.{IsFaultless}
 use Rattle.dump.specs.Places.{IsListing}
 use Rattle.dump.specs.declared.checker.CheckedDump.{CheckedDump}
-use Rattle.flatten.specs.Flat.{IsBearerRow, mark_cmp}
+use Rattle.flatten.specs.Flat.{IsBearerRow, MarkRowValue, mark_cmp}
 use Rattle.flatten.specs.Rows.{bearer_value, mark_value as mark_row_value}
-use Rattle.flatten.specs.Steps.Marks.{IsBorneMark, IsBorneRow, bearer_mark, marks_in}
+use Rattle.flatten.specs.Steps.Borne.{MarkText, mark_values}
+use Rattle.flatten.specs.Steps.Marks.{IsBorneMark, IsBorneRow, bearer_mark}
 use Rattle.flatten.proofs.Listing.{same_listing}
 use Rattle.flatten.proofs.MarkRows.{all_left, bearer_listing, borne_rows, next_is, one_less}
 use Rattle.flatten.proofs.Members.{nil_of}
@@ -18,11 +19,12 @@ pub loop-mark-init : goal.loop-mark-init
 loop-mark-init c =
     let d = c.args.chains.now.dump.now.elements in
     let borne = c.args.chains.now.borne.items in
-    let marks = marks_in d in
+    let marks = mark_values c.args.marks.now in
     let found = map mark_row_value c.in_ok-left.left.items in
     let free = c.requires.faultless in
     let P = IsBorneRow d in
-    let rows_are = borne_rows d free (c.vertex_law.ensures d free) (number_ones d (c.line_law.ensures.one d)) (c.line_law.ensures.there d free) borne c.requires.borne (c.ends_law.ensures d free) in
+    let rows_are = subst (λ (ms : List (Option MarkText)). (row : MarkRowValue) → IsBorneMark borne ms row ↔ IsBorneRow d row) (sym c.requires.marks)
+    (borne_rows d free (c.vertex_law.ensures d free) (number_ones d (c.line_law.ensures.one d)) (c.line_law.ensures.there d free) borne c.requires.borne (c.ends_law.ensures d free)) in
     let listed = same_listing mark_cmp (IsBorneMark borne marks) P found rows_are (subst (λ ps. IsListing mark_cmp (IsBorneMark ps marks) found) c.deref.ensures.value c.in_ok-left.ensures) in
     let all = ap (λ xs. reverse (map mark_row_value xs)) c.reverse.ensures.items ∙ all_left mark_row_value c.in_ok-left.left.items in (
       subst (λ rs. IsListing mark_cmp P (map bearer_mark (map bearer_value rs) ++ reverse (map mark_row_value c.reverse.new.self.items))) (sym c.new-rows.ensures.items) (subst (IsListing mark_cmp P) (sym all) listed),

@@ -5,7 +5,8 @@ use Rattle.std.specs.List.{flat_map}
 use Rattle.dump.specs.Places.{IsListing}
 use Rattle.flatten.specs.Flat.{MarkRowValue, mark_cmp}
 use Rattle.flatten.specs.Rows.{mark_value as mark_row_value}
-use Rattle.flatten.specs.Steps.Marks.{IsBorneMark, mark_of, marks_in}
+use Rattle.flatten.specs.Steps.Borne.{mark_values}
+use Rattle.flatten.specs.Steps.Marks.{IsBorneMark, mark_of}
 use Rattle.flatten.proofs.Listing.{same_listing}
 use Rattle.flatten.proofs.Members.{flat_from, flat_of}
 use Rattle.flatten.proofs.marks.borne_marks.Goals as goal
@@ -13,7 +14,7 @@ use Rattle.flatten.proofs.marks.borne_marks.Goals as goal
 pub returns : goal.returns
 returns c =
     let pairs = c.args.pairs.now in
-    let marks = marks_in c.args.dump.now.elements in
+    let marks = mark_values c.args.marks.now in
     let say : ℕ × ℕ → List MarkRowValue = λ p. mark_of p.0 (get_or marks p.1 None) in
     let rows = map mark_row_value c.loop-pair.rows.items in
     let sorted = map mark_row_value c.list_rows.new.rows.items in

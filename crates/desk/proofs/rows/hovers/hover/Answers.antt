@@ -1,11 +1,11 @@
-use Rattle.std.proofs.Common.{Global, ◌≡◌, map, sym, subst, string_bytes, rules}
+use Rattle.std.proofs.Common.{Global, ◌≡◌, sym, subst, string_bytes, rules}
 use Rattle.std.specs.Prelude.{String, option_map}
 use Rattle.dump.specs.declared.request_kind.RequestKind.TheVariants as requests
 use Rattle.tables.specs.Selections.{range_found}
 use Rattle.machine.specs.Answers.{AnswersAt, AnswersHover, no_dump, no_such_document}
 use Rattle.machine.specs.Reply.{hover_found}
 use Rattle.machine.specs.Requests.{at_value}
-use Rattle.desk.specs.Steps.Rows.{AreKeys, Picks}
+use Rattle.desk.specs.Steps.Rows.{Picks}
 use Rattle.desk.proofs.RowAnswers.{no_range_hovers, renamed, row_hovers}
 use Rattle.desk.proofs.rows.hovers.hover.Goals as goal
 
@@ -40,9 +40,8 @@ returns-in_ok-hover_found-in-Range-clause-found g c = λ s m stood.
     let s1 = c.contents_at.ensures.reliable s in
     let p = subst (Picks m requests.Hover own uri at) c.in-Range.is (c.in_ok-pick.ensures.found s1 m stood) in
     let mid = (c.in_ok-pick.ensures.reads_only s1).state m stood in
-    let keyed = subst (λ l. AreKeys m requests.Hover own c.in-Range.range.line (map string_bytes l)) (sym c.deref.ensures.value) p.1 in
-    let is = c.in_ok-found-in-Range.ensures.found s m mid keyed in
-    let answer = row_hovers m (c.in_ok-pick.ensures.faultless s1 m stood) own uri at row p.0 _ is in
+    let is = c.in_ok-found-in-Range.ensures.found s m mid in
+    let answer = row_hovers m (c.in_ok-pick.ensures.faultless s1 m stood) own uri at row p _ is in
     let reply : c.in_ok-hover_found-in-Range.field-0 ≡ hover_found (option_map (λ (x : String Global). string_bytes x) c.in_ok-found-in-Range.found) = search rules in
     renamed (λ q u. AnswersAt m (at_value q u at) (AnswersHover m (at_value q u at)) c.in_ok-hover_found-in-Range.field-0) _ _ _ _ c.as_str-project.ensures.value c.as_str-uri.ensures.value
     (subst (AnswersAt m _ _) (sym reply) answer)

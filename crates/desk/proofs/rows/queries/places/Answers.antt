@@ -1,4 +1,4 @@
-use Rattle.std.proofs.Common.{◌∙◌, map, sym, ap, subst, string_bytes}
+use Rattle.std.proofs.Common.{◌∙◌, map, sym, ap, subst}
 use Rattle.std.specs.Prelude.{Contains}
 use Rattle.dump.specs.Places.{IsListing}
 use Rattle.tables.specs.Selections.{range_found}
@@ -6,7 +6,7 @@ use Rattle.machine.specs.Answers.{AnswersAt, AnswersPlaces, found_cmp, no_dump, 
 use Rattle.machine.specs.Reply.{places_found}
 use Rattle.machine.specs.Requests.{at_value}
 use Rattle.desk.specs.Steps.RowPlaces.{item_place}
-use Rattle.desk.specs.Steps.Rows.{AreKeys, IsAnsweringResult, IsPlaceOfOne, Picks, ProjectResultValue, project_result_value}
+use Rattle.desk.specs.Steps.Rows.{IsAnsweringResult, IsPlaceOfOne, Picks, ProjectResultValue, project_result_value}
 use Rattle.machine.proofs.Listing.{relisted}
 use Rattle.desk.proofs.RowAnswers.{no_range_places, renamed, row_places}
 use Rattle.desk.proofs.RowLists.{places_same}
@@ -47,11 +47,10 @@ returns-in_ok-places_reply-in-Range-clause-found g c = λ s m stood other.
     let p = subst (Picks m request own uri at) c.in-Range.is (c.in_ok-pick.ensures.found s1 m stood) in
     let stands1 = (c.in_ok-pick.ensures.reads_only s1).state m stood in
     let stands2 = (c.in_ok-project_results-in-Range.ensures.reads_only s2).state m stands1 in
-    let keyed = subst (λ l. AreKeys m request own c.in-Range.range.line (map string_bytes l)) (sym c.deref.ensures.value) p.1 in
-    let are = c.in_ok-project_results-in-Range.ensures.found s2 m stands1 keyed in
-    let listing = subst (λ l. IsListing found_cmp (IsPlaceOfOne m roles (λ (t : ProjectResultValue). Contains (map project_result_value l) t)) (map item_place c.in_ok-found-in-Range.found.items)) c.deref-in-Range.ensures.value (c.in_ok-found-in-Range.ensures.found s m stands2) in
+    let are = c.in_ok-project_results-in-Range.ensures.found s2 m stands1 in
+    let listing = subst (λ l. IsListing found_cmp (IsPlaceOfOne m roles (λ (t : ProjectResultValue). Contains (map project_result_value l) t)) (map item_place c.in_ok-found-in-Range.found.items)) c.deref.ensures.value (c.in_ok-found-in-Range.ensures.found s m stands2) in
     let same = relisted found_cmp _ (IsPlaceOfOne m roles (IsAnsweringResult m request own row)) (map item_place c.in_ok-found-in-Range.found.items) (λ place. places_same m roles _ (IsAnsweringResult m request own row) are place) listing in
-    let answer = row_places m (c.in_ok-pick.ensures.faultless s1 m stood) own uri at request roles other row p.0 (map item_place c.in_ok-found-in-Range.found.items) same in
-    let reply = c.in_ok-places_reply-in-Range.ensures ∙ ap places_found (ap (map item_place) c.deref-in-Range-2.ensures.value) in
+    let answer = row_places m (c.in_ok-pick.ensures.faultless s1 m stood) own uri at request roles other row p (map item_place c.in_ok-found-in-Range.found.items) same in
+    let reply = c.in_ok-places_reply-in-Range.ensures ∙ ap places_found (ap (map item_place) c.deref-in-Range.ensures.value) in
     renamed (λ q u. AnswersAt m (at_value q u at) (AnswersPlaces m request roles (at_value q u at)) c.in_ok-places_reply-in-Range.field-0) _ _ _ _ c.as_str-project.ensures.value c.as_str-uri.ensures.value
     (subst (AnswersAt m _ _) (sym reply) answer)

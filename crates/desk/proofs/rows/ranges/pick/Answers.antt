@@ -13,10 +13,9 @@ returns-in-Some-clause-found g c = λ s m stood.
     let e = c.first_speaking.ensures in
     let mid = (c.in_ok-covering.ensures.reads_only (e.reliable s)).state m stood in
     let f = subst (FindsCovering m request own c.args.uri.now c.args.at) c.in-Ranges.is (c.in_ok-covering.ensures.found (e.reliable s) m stood) in
-    let o : option_map (λ p. range_found p.0) c.in_ok-range-in-Ranges.field-0 ≡ Some (range_found c.in-Some.range) = search rules in
+    let o : option_map range_found c.in_ok-range-in-Ranges.field-0 ≡ Some (range_found c.in-Some.range) = search rules in
     let first = subst (λ l. IsFirst (RowSpeaks m request own) (map range_found l) (Some (range_found c.in-Some.range))) c.deref.ensures.value (subst (IsFirst (RowSpeaks m request own) (map range_found c.deref.result.now)) o (c.in_ok-range-in-Ranges.ensures.first s m mid)) in
-    let keyed = c.in_ok-range-in-Ranges.ensures.keys s m mid in
-    ((f.0, f.1, f.2, picked_row m (c.in_ok-covering.ensures.faultless (e.reliable s) m stood) request own f.0 f.1 c.args.uri.now c.args.at (map range_found c.in-Ranges.ranges.items) (Some (range_found c.in-Some.range)) f.3 first), rw c.in-Some.is at keyed)
+    (f.0, f.1, f.2, picked_row m (c.in_ok-covering.ensures.faultless (e.reliable s) m stood) request own f.0 f.1 c.args.uri.now c.args.at (map range_found c.in-Ranges.ranges.items) (Some (range_found c.in-Some.range)) f.3 first)
 
 pub returns-clause-found : goal.returns-clause-found
 returns-clause-found g c = λ s m stood.
@@ -25,7 +24,7 @@ returns-clause-found g c = λ s m stood.
     let e = c.first_speaking.ensures in
     let mid = (c.in_ok-covering.ensures.reads_only (e.reliable s)).state m stood in
     let f = subst (FindsCovering m request own c.args.uri.now c.args.at) c.in-Ranges.is (c.in_ok-covering.ensures.found (e.reliable s) m stood) in
-    let o : option_map (λ p. range_found p.0) c.in_ok-range-in-Ranges.field-0 ≡ None = search rules in
+    let o : option_map range_found c.in_ok-range-in-Ranges.field-0 ≡ None = search rules in
     let first = subst (λ l. IsFirst (RowSpeaks m request own) (map range_found l) None) c.deref.ensures.value (subst (IsFirst (RowSpeaks m request own) (map range_found c.deref.result.now)) o (c.in_ok-range-in-Ranges.ensures.first s m mid)) in
     (f.0, f.1, f.2, picked_row m (c.in_ok-covering.ensures.faultless (e.reliable s) m stood) request own f.0 f.1 c.args.uri.now c.args.at (map range_found c.in-Ranges.ranges.items) None f.3 first)
 
