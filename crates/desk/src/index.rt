@@ -61,10 +61,9 @@ pub enum Wanted<'a> {
 /// the abstract machine; what is said of a call holds where the index is reliable after it. A call that refuses changes nothing.
 pub trait Index {
     ghost use Rattle.std.specs.Prelude.{◌≡◌, Bool, true, ◌||◌, ◌∷◌, [], ◌++◌, List, None, IfOk, IfErr, OnOk, is_some, map, option_map, string_bytes};
-    ghost use Rattle.machine.specs.Found.{tag_found};
+    ghost use Rattle.machine.specs.Found.{project_found, tag_found};
     ghost use Rattle.tables.specs.Stands.{IsNew};
     ghost use Rattle.machine.specs.State.{State, changed, clear, set_dump, set_tags};
-    ghost use Rattle.machine.specs.Found.{project_found};
     ghost use Rattle.tables.specs.Selections.{FindsBearers, FindsCovering, FindsHover, FindsItems, FindsMarks, FindsProjects, bearer_found, item_found, mark_found};
     ghost use Rattle.desk.specs.Indexes.{AreFaultless, Changes, FindsTags, ReadsOnly, kept_text};
     ghost use Rattle.desk.specs.declared.index.IndexFault.TheVariants.{Refused};

@@ -43,14 +43,3 @@ all-miss p f xs k x whole lt e h inv = let now = rw (drop_next xs k x lt e) at i
 
 pub all-end : {A B : Type 0} (p : B → Bool) (f : A → B) (xs : List A) (k : ℕ) (whole : Bool) → length xs ≤ k → list_all p (map f (drop k xs)) ≡ whole → true ≡ whole
 all-end p f xs k whole le inv = rw (drop_end xs k le) at inv
-
--- ---- the first item that passes
-
-pub find-hit : {A B : Type 0} (p : B → Bool) (f : A → B) (xs : List A) (k : ℕ) (x : A) (whole : Option B) → k < length xs → x ≡ get_or xs k x → p (f x) ≡ true → find p (map f (drop k xs)) ≡ whole → Some (f x) ≡ whole
-find-hit p f xs k x whole lt e h inv = let now = rw (drop_next xs k x lt e, h) at inv in now
-
-pub find-miss : {A B : Type 0} (p : B → Bool) (f : A → B) (xs : List A) (k : ℕ) (x : A) (whole : Option B) → k < length xs → x ≡ get_or xs k x → p (f x) ≡ false → find p (map f (drop k xs)) ≡ whole → find p (map f (drop (k + 1) xs)) ≡ whole
-find-miss p f xs k x whole lt e h inv = let now = rw (drop_next xs k x lt e, h) at inv in now
-
-pub find-end : {A B : Type 0} (p : B → Bool) (f : A → B) (xs : List A) (k : ℕ) (whole : Option B) → length xs ≤ k → find p (map f (drop k xs)) ≡ whole → None ≡ whole
-find-end p f xs k whole le inv = rw (drop_end xs k le) at inv

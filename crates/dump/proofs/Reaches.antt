@@ -385,15 +385,6 @@ joined_more lists k n xs targets had now next lt is all more =
 
 -- ---- loops that look for a conflict
 
-pub any_at : {X : Type 0} (p : X → Bool) (xs : List X) (k : ℕ) (x : X) (whole : Bool) → k < length xs → x ≡ get_or xs k x → p x ≡ true → list_any p (drop k xs) ≡ whole → true ≡ whole
-any_at p xs k x whole lt is h inv = let now = rw (drop_next xs k x lt is, h) at inv in now
-
-pub any_after : {X : Type 0} (p : X → Bool) (xs : List X) (k : ℕ) (x : X) (whole : Bool) → k < length xs → x ≡ get_or xs k x → p x ≡ false → list_any p (drop k xs) ≡ whole → list_any p (drop (k + 1) xs) ≡ whole
-any_after p xs k x whole lt is h inv = let now = rw (drop_next xs k x lt is, h) at inv in now
-
-pub any_end : {X : Type 0} (p : X → Bool) (xs : List X) (k : ℕ) (whole : Bool) → length xs ≤ k → list_any p (drop k xs) ≡ whole → false ≡ whole
-any_end p xs k whole le inv = let now = rw (drop_end xs k le) at inv in now
-
 or_pairs : (a b c d : Bool) → ((a || b) || (c || d)) ≡ ((a || c) || (b || d))
 or_pairs true b c d = refl
 or_pairs false true true d = refl

@@ -219,7 +219,7 @@ fn has_used_uri(graph: &Graph, element: &Element) -> bool
 
 /// The least code whose condition holds of the element after those before it.
 #[tactic(auto, unfolding(crate::specs::Conditions::order_code))]
-pub(crate) fn order_code(graph: &Graph, element: &Element) -> Result<Option<Code>, AllocError>
+fn order_code(graph: &Graph, element: &Element) -> Result<Option<Code>, AllocError>
     requires { IsSound graph.now }
     ensures value { IfOk result (λ code. code ≡ order_code graph.now (element_value element.now)) }
     ensures room { IfOk result (λ code. IfNone code (length graph.now < most_elements)) }

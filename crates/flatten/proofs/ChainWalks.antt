@@ -115,9 +115,6 @@ walking_on elements from at next path steps w e =
       room = omega (arith, w.room, ap length r.2);
     }
 
-pub walking_full : (elements : List ElementValue) (from at : IdValue) (path : List IdValue) (steps : ℕ) → Walking elements from at path steps → length elements + 1 ≤ steps → ⊥
-walking_full elements from at path steps w le = omega (arith, w.room, le, some_member (next_pairs elements) at w.rest w.chain)
-
 -- ---- what is found
 
 pub found_first : (elements : List ElementValue) (borne : List (ℕ × ℕ)) → AreFound elements borne []

@@ -12,13 +12,6 @@ pub not_false : (b : Bool) → not b ≡ false → b ≡ true
 not_false true e = refl
 not_false false e = cc
 
-pub gains_none : (xs : List ℕ) → Gains xs [] xs
-gains_none xs = record {
-  more = [];
-  grown = sym (append-nil xs);
-  each = λ y. (λ at. inl at, λ either. ⊎_elim (λ (at : Contains xs y). at) (λ (n : Contains [] y). absurd (not_in_nil y n)) either);
-}
-
 -- first some, and then others
 pub gains_both : (old mid new xs ys : List ℕ) → Gains old xs mid → Gains mid ys new → Gains old (xs ++ ys) new
 gains_both old mid new xs ys g h = record {

@@ -19,9 +19,6 @@ use Rattle.flatten.proofs.Members.{contains_head, contains_map, map_source, not_
 
 -- ---- rows that are added
 
-pub adds_start : {X R : Type 0} (P : X → R → Type 0) (start : List R) → Adds start (OfOne P []) start
-adds_start P start row = (λ at. inl at, λ h. ⊎_elim (λ (a : Contains start row). a) (λ (o : OfOne P [] row). absurd (not_in_nil o.0 o.1)) h)
-
 -- those of one thing more
 pub adds_push : {X R : Type 0} (P : X → R → Type 0) (start mid new : List R) (xs : List X) (x : X) → Adds start (OfOne P xs) mid → Adds mid (P x) new → Adds start (OfOne P (xs ++ x ∷ [])) new
 adds_push {X} {R} P start mid new xs x a b row = (to, back)

@@ -1,6 +1,6 @@
 -- What a table has at a number.
 use Rattle.std.proofs.Common.{◌≡◌, ◌∙◌, ℕ, zero, suc, ◌+◌, ◌<◌, List, [], ◌∷◌, length, get_or, refl, sym, ap, arith}
-use Rattle.std.specs.Prelude.{Contains, Option, Some, None, Ok, map, option_and_then, option_map, slice_get}
+use Rattle.std.specs.Prelude.{Contains, Option, Some, None, Ok, map, option_map, slice_get}
 use Rattle.std.proofs.lemmas.List.Elements.{Contains-get_or}
 use Rattle.lsif.specs.Element.{IdValue, VertexValue, ElementValue, vertex, element_id}
 use Rattle.dump.specs.Fault.{IsFaultless}
@@ -41,13 +41,3 @@ table_from say d there i v n is at =
     let same : t.0 ≡ l.0 = cc in
     let next : suc t.0 ≡ n = omega (arith, same, l.2) in
     ap (λ m. get_or (table_of say d) m None) (sym next) ∙ index_at say d t.0 (vertex i v) t.2
-
-said_at : {X : Type 0} (say : ElementValue → Option X) (d : List ElementValue) (k : ℕ) → option_and_then say (get_or (map (λ e. Some e) d) k None) ≡ get_or (map say d) k None
-said_at say [] k = refl
-said_at say (x ∷ d) zero = refl
-said_at say (x ∷ d) (suc k) = said_at say d k
-
--- what the element of a number says
-pub table_at : {X : Type 0} (say : ElementValue → Option X) (d : List ElementValue) (n : ℕ) (o : Option ElementValue) → o ≡ get_or (table_of (λ e. Some e) d) n None → option_and_then say o ≡ get_or (table_of say d) n None
-table_at say d zero o e = ap (option_and_then say) e
-table_at say d (suc k) o e = ap (option_and_then say) e ∙ said_at say d k

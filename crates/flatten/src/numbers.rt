@@ -1,13 +1,11 @@
 //! Numbers of vertices: their lines in the dump, counted from 1, by which rows refer to them. `specs/Flat`.
-ghost use Rattle.std.specs.Prelude.{◌≡◌, Some, None, get_or, option_map};
+ghost use Rattle.std.specs.Prelude.{◌≡◌, Some, option_map};
 ghost use Rattle.lsif.specs.Element.{IdValue, id_value};
 ghost use Rattle.flatten.specs.Flat.{number_of};
-ghost use Rattle.flatten.specs.Steps.Kinds.{said};
 ghost use Rattle.flatten.specs.Steps.Numbers.{both_numbers};
-ghost use Rattle.flatten.specs.Steps.Tables.{table_of};
 
 use dump::CheckedDump;
-use lsif::{Element, Id};
+use lsif::Id;
 
 /// The number of a vertex: its line, counted from 1.
 pub(crate) fn number_of(dump: &CheckedDump, id: &Id) -> Option<u32>
@@ -28,13 +26,6 @@ pub(crate) fn number_pair(dump: &CheckedDump, from: &Id, to: &Id) -> Option<(u32
         (Some(from), Some(to)) => Some((from, to)),
         _ => None,
     }
-}
-
-/// The element of this number.
-pub(crate) fn element_at(dump: &CheckedDump, number: u32) -> Option<&Element>
-    ensures { option_map said result ≡ get_or (table_of Some dump.now.elements) number None }
-{
-    dump.elements().get((number as usize).checked_sub(1)?)
 }
 
 /// The id of the element of this number.

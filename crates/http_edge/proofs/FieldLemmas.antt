@@ -32,10 +32,6 @@ pub named_nil : (name : List ℕ) → field_values name [] ≡ []
 unfolding field_values
 named_nil name = refl
 
--- a decimal number grows by a digit
-pub small_more : (n i d : ℕ) → n < 10 ^ i → d ≤ 9 → n * 10 + d < 10 ^ (i + 1)
-small_more n i d lt le = let e : 10 ^ (i + 1) ≡ 10 ^ i * 10 = pow-add 10 i 1 in rw e (omega arith)
-
 pub small_fits : (n i len : ℕ) → n < 10 ^ i → i < len → len ≤ 19 → n * 10 + 9 < 2 ^ 64
 small_fits n i len lt below le =
     let p : 10 ^ i ≤ 10 ^ 18 = pow-le-pow_right {n = 10} (omega arith) {i = i} {j = 18} (omega arith) in

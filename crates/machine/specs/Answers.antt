@@ -95,7 +95,7 @@ AnswersKind m kind target = AnswersPlaces m kind (roles_of kind) target
 
 -- references with the declaration ask for definitions, too
 abbrev pub reference_roles : Bool → List Role
-reference_roles declared = if declared then roles.Definitions ∷ roles.References ∷ [] else roles.References ∷ []
+reference_roles declared = if declared then roles_of requests.References else roles.References ∷ []
 
 -- the profile of the project's dump
 abbrev pub profile_reply : Option DumpValue → ReplyValue

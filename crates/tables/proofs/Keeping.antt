@@ -323,18 +323,3 @@ keeps_reply parts replies project key reply old new is free puts =
                 (h.0, rw same h.1)),
           );
     }
-
--- contents that are equal everywhere are kept by the same tables
-pub keeps_same : (parts others : Contents) (replies : Replies) (db : Trees) → ((p : List ℕ) (k : ℤ) → parts p k ≡ others p k) → Keeps db parts replies → Keeps db others replies
-keeps_same parts others replies db same is = record {
-  ordered = is.ordered;
-  version = is.version;
-  slots = λ row h. let s = is.slots row h in record { id = s.id; project = s.project; part = s.part; rows = s.rows; has = sym (same s.project s.part) ∙ s.has; is = s.is };
-  there = λ p k rows has. is.there p k rows (same p k ∙ has);
-  single = is.single;
-  keyed = is.keyed;
-  children = λ t owns row. (
-    (λ h. let o = (is.children t owns row).0 h in record { id = o.id; project = o.project; part = o.part; rows = o.rows; values = o.values; slot = o.slot; has = sym (same o.project o.part) ∙ o.has; listed = o.listed; is = o.is }),
-    (λ (o : IsOwned db others t row). (is.children t owns row).1 (record { id = o.id; project = o.project; part = o.part; rows = o.rows; values = o.values; slot = o.slot; has = same o.project o.part ∙ o.has; listed = o.listed; is = o.is })),
-  );
-}

@@ -181,8 +181,8 @@ fn find_covering<S: Alter>(
 
 impl<S: Alter> Tables<S> {
     /// The ranges of a document of the project's dump that cover the position, the smallest first, with their results for the request; or that the
-    /// project has no dump, or the dump no document of this serialized URL. It's `Refused` where the store refuses, or where a row isn't one of this product's, and `Memory` where memory
-    /// is refused, also to a database in memory (`in_memory`).
+    /// project has no dump, or the dump no document of this serialized URL. It's `Refused` where the store refuses, or where a row isn't one of this
+    /// product's, and `Memory` where memory is refused, also to a database in memory (`in_memory`).
     pub fn covering(
         &mut self,
         alloc: Global,

@@ -36,9 +36,6 @@ pub ruleset digits = (digits_len-some, digits_len-none, digits_len-le-length)
 abbrev pub in_range_from : ℕ → List ℕ → Bool
 in_range_from value ds = list_all is_ascii_digit ds && nat_le (digits_value_after 10 value ds) greatest_number
 
-pub in_range_from-other : (value d : ℕ) (ds : List ℕ) → is_ascii_digit d ≡ false → in_range_from value (d ∷ ds) ≡ false
-in_range_from-other value d ds e = rw e refl
-
 pub in_range_from-digit : (value d : ℕ) (ds : List ℕ) → is_ascii_digit d ≡ true → in_range_from value (d ∷ ds) ≡ in_range_from (value * 10 + digit_value d) ds
 in_range_from-digit value d ds e = rw e refl
 
@@ -54,9 +51,6 @@ pub in_range_from-large : (value : ℕ) (ds : List ℕ) → greatest_number < va
 in_range_from-large value ds lt =
     let large : nat_le (digits_value_after 10 value ds) greatest_number ≡ false = grind (arith, nat_tests, le-digits_value_after value ds) in
     rw large (and_false (list_all is_ascii_digit ds))
-
-pub in_range_from-end : (value : ℕ) → value ≤ greatest_number → in_range_from value [] ≡ true
-in_range_from-end value le = grind (arith, nat_tests)
 
 pub digit_value-is : (d : ℕ) → is_ascii_digit d ≡ true → digit_value d ≡ d - 48
 digit_value-is d e = grind (arith, nat_tests)
@@ -106,6 +100,3 @@ closing_from-end d escaped bs k le = rw (drop_all k bs le, closing-nil) refl
 -- the number at a place of its digits
 pub in_range-next : (value d : ℕ) (ds : List ℕ) (k : ℕ) → k < length ds → d ≡ get_or ds k 0 → is_ascii_digit d ≡ true → in_range_from value (drop k ds) ≡ in_range_from (value * 10 + (d - 48)) (drop (k + 1) ds)
 in_range-next value d ds k lt e t = rw (at_more ds k d lt e, ← digit_value-is d t) (in_range_from-digit value d (drop (k + 1) ds) t)
-
-pub in_range-other : (value d : ℕ) (ds : List ℕ) (k : ℕ) → k < length ds → d ≡ get_or ds k 0 → is_ascii_digit d ≡ false → in_range_from value (drop k ds) ≡ false
-in_range-other value d ds k lt e t = rw (at_more ds k d lt e) (in_range_from-other value d (drop (k + 1) ds) t)

@@ -195,9 +195,6 @@ module _ (text : List ℕ) (ord : IsOrdinary text) where
   with_front None a = answered text (Err T04) (no_front_read text a) (inl (refl, inr (ord, front_of-HasFront text a)))
   with_front (Some f) a = with_name f (decoded f.name) a refl
 
-pub ordinary_later : (text : List ℕ) → IsOrdinary text → ReadsBy (TextCondition text) later_codes text (ordinary_of text)
-ordinary_later text ord = with_front text ord (front_of text) refl
-
 -- ---- pseudo-tags
 
 no_first : (text name value : List ℕ) → around tab text ≡ None → HasValue text name value → ⊥

@@ -7,9 +7,6 @@ tab = 9
 abbrev pub line_feed : ℕ
 line_feed = 10
 
-abbrev pub carriage_return : ℕ
-carriage_return = 13
-
 abbrev pub double_quote : ℕ
 double_quote = 34
 

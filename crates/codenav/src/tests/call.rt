@@ -104,7 +104,7 @@ fn read(alloc: Global, words: &[&str]) -> Result<String, Fail> {
 fn words_of<'a>(alloc: Global, short: &'a str) -> Result<Vec<&'a str>, Fail> {
     let mut words = Vec::new(alloc);
     words.push("codenav")?;
-    for word in short.split('|').filter(|word| !word.is_empty()) {
+    for word in short.split_terminator('|') {
         words.push(word)?;
     }
     Ok(words)

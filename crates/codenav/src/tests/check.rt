@@ -1,5 +1,6 @@
 //! Reports of dumps and of tags files: what the tables of other files are asserted by, and readers and writers that fail.
-use super::samples::{BASE, Pieces, Slow, changed, in_pieces, slow_writer, text_of};
+use super::samples::named::BASE;
+use super::samples::{Marks, Pieces, Slow, changed, in_pieces, slow_writer, text_of};
 use crate::check::check_lsif;
 use crate::check_tags::check_tags;
 use crate::report::{CheckFault, Status};
@@ -97,12 +98,12 @@ pub(crate) fn expect_text<R: AllocGlobal + Abort>(
 ) {
     let status = if wanted.starts_with("ok ") { 0 } else { 1 };
     let (answer, written) = checked(rt.alloc(), kind, in_pieces(bytes, most), 7, 0);
+    let found = match answer {
+        Ok(status) => Some(status.exit_code()),
+        Err(_) => None,
+    };
     assert_eq!(rt; written.as_slice(), wanted.as_bytes(), "{kind:?}: {wanted}");
-    assert_eq!(rt;
-        answer.map(|status| status.exit_code()),
-        Ok(status),
-        "{kind:?}: {wanted}"
-    );
+    assert_eq!(rt; found, Some(status), "{kind:?}: {wanted}");
 }
 
 /// Asserts the report, which a row begins with, of a dump that is read in pieces of 4,096 bytes, in both profiles.
@@ -115,18 +116,18 @@ pub(crate) fn expect_in<R: AllocGlobal + Abort>(rt: &R, text: &str, row: &str) -
 }
 
 /// Asserts a dump's report for each row: the report, and after ` | ` each change. The texts are read in pieces of each of
-/// these sizes, as each of these kinds, and their ids stand in these quotation marks, or in none.
+/// these sizes, as each of these kinds, and their ids stand between these marks.
 pub(crate) fn expect_rows<R: AllocGlobal + Abort>(
     rt: &R,
     kinds: &[Kind],
     dump: &'static str,
     rows: &'static str,
     sizes: &[usize],
-    around: &str,
+    marks: Marks,
 ) -> Result<(), Fail> {
     for row in rows.lines() {
         let (_, changes) = row.split_once(" | ").unwrap_or((row, ""));
-        let text = changed(rt.alloc(), dump, changes, around)?;
+        let text = changed(rt.alloc(), dump, changes, marks)?;
         let wanted = report(rt.alloc(), row)?;
         for kind in kinds {
             for most in sizes {

@@ -1,6 +1,7 @@
 //! Connections on loopback and clients that take their time, and what they're replied.
 use super::databases::opened;
-use super::samples::{BASE, reply, text_of};
+use super::replay::{NO_PROJECTS, PROJECTS, exchange};
+use super::samples::reply;
 use crate::database::connect_file;
 use crate::serve::{CountedListener, ServerFault, serve_connection, serve_in_memory};
 use crate::timed::Limits;
@@ -17,31 +18,11 @@ use std::process::Abort;
 use std::test::Fail;
 use std::time::{Clock, Duration};
 
-/// Requests without a body, each with the end of its reply's status line, the length of the reply's body and the body.
-/// They are asked of an index that has the base dump, in the project `app`.
-const ROWS: [(&str, &str, u32, &str); 3] = [
-    (
-        "GET /projects HTTP/1.1\r\n\r\n",
-        "200 OK",
-        54,
-        r#"{"projects":[{"dump":true,"name":"app","tags":false}]}"#,
-    ),
-    (
-        "GET /projects/app/definition?uri=file:///a.ts&line=2&character=1 HTTP/1.1\r\nHost: localhost\r\n\r\n",
-        "200 OK",
-        115,
-        r#"{"places":[{"end":{"character":7,"line":0},"project":"app","start":{"character":4,"line":0},"uri":"file:///a.ts"}]}"#,
-    ),
-    (
-        "DELETE /projects/app?key=k2 HTTP/1.1\r\nHost: localhost\r\n\r\n",
-        "200 OK",
-        16,
-        r#"{"removed":true}"#,
-    ),
-];
-
-/// The body of a list of no projects.
-const NO_PROJECTS: &str = r#"{"projects":[]}"#;
+/// Requests, one a connection, written as the streams of `replay.rt` are: the base dump, a list of projects, a definition and a removal.
+const ROWS: &str = r#"PUT /projects/app/lsif?key=k1 < base => 200 {"accepted":"lsif","count":11}
+GET /projects => 200 {"projects":[{"dump":true,"name":"app","tags":false}]}
+GET /projects/app/definition?uri=file:///a.ts&line=2&character=1 => 200 {"places":[{"end":{"character":7,"line":0},"project":"app","start":{"character":4,"line":0},"uri":"file:///a.ts"}]}
+DELETE /projects/app?key=k2 => 200 {"removed":true}"#;
 
 /// Limits of so many milliseconds.
 fn limits(wait: u64, whole: u64) -> Limits {
@@ -76,15 +57,6 @@ fn received(alloc: Global, client: TcpStream) -> Result<String, Fail> {
     Ok(text)
 }
 
-/// An upload of the base dump.
-fn upload(alloc: Global) -> Result<String, Fail> {
-    let dump = text_of(alloc, BASE)?;
-    Ok(format!(in alloc;
-        "PUT /projects/app/lsif?key=k1 HTTP/1.1\r\nContent-Length: {}\r\n\r\n{dump}",
-        dump.len()
-    )?)
-}
-
 /// What a client is sent for its request: it writes, then it's served, and then it reads.
 fn answer<D: Desk>(
     rt: &HostRuntime,
@@ -98,19 +70,13 @@ fn answer<D: Desk>(
     received(rt.alloc(), client)
 }
 
-/// The first of four connections, one request each, that isn't replied as it is to be: the base dump, a list of projects, a definition and a removal.
+/// What the first of the connections that isn't replied as it is to be is sent.
 fn first_other<D: Desk>(rt: &HostRuntime, desk: &mut D) -> Result<Option<String>, Fail> {
     let listener = listen(rt)?;
-    let upload = upload(rt.alloc())?;
-    let accepted = (
-        upload.as_str(),
-        "200 OK",
-        30,
-        r#"{"accepted":"lsif","count":11}"#,
-    );
-    for (request, status, length, body) in [accepted, ROWS[0], ROWS[1], ROWS[2]] {
-        let found = answer(rt, &listener, desk, request)?;
-        if found.as_str() != reply(rt.alloc(), status, length, body)?.as_str() {
+    for row in ROWS.lines() {
+        let (request, wanted) = exchange(rt.alloc(), row, 1)?;
+        let found = answer(rt, &listener, desk, request.as_str())?;
+        if found.as_str() != wanted.as_str() {
             return Ok(Some(found));
         }
     }
@@ -134,15 +100,6 @@ fn served(rt: HostRuntime) -> Result<(), Fail> {
         Err(fault) => return Err(fault.text())?,
     }
     Ok(())
-}
-
-/// A head that says no length, and 50,000 bytes behind it.
-fn without_length(alloc: Global) -> Result<String, Fail> {
-    let mut text = String::from_str(alloc, "PUT /projects/app/tags?key=k1 HTTP/1.1\r\n\r\n")?;
-    for _ in 0..5000 {
-        text.push_str("1234567890")?;
-    }
-    Ok(text)
 }
 
 /// How the service of so many connections ends over a database in memory that is empty at first.
@@ -171,20 +128,19 @@ fn clients(
 }
 
 /// A client that sends nothing and ends, one that sends nothing and stays, one that stops in its head, one whose head
-/// is refused before all that it sends is read, and one that is told that there's no project: each counts as one
-/// connection.
+/// says no length and is refused before the 50,000 bytes behind it are read, and one that is told that there's no project: each counts as one connection.
 #[test]
 fn counted(rt: HostRuntime) -> Result<(), Fail> {
     let listener = listen(&rt)?;
-    let long = without_length(rt.alloc())?;
+    let behind = "1234567890".repeat(rt.alloc(), 5000)?;
+    let long = format!(in rt.alloc(); "PUT /projects/app/tags?key=k1 HTTP/1.1\r\n\r\n{behind}")?;
     let refused = r#"{"fault":"H03","text":"length required"}"#;
     let refused = reply(rt.alloc(), "411 Length Required", 40, refused)?;
-    let listed = reply(rt.alloc(), "200 OK", 15, NO_PROJECTS)?;
     let rows = [
         ("", ""),
         ("GET /projects HTTP/1.1\r\nHost: ", ""),
         (long.as_str(), refused.as_str()),
-        ("GET /projects HTTP/1.1\r\n\r\n", listed.as_str()),
+        (PROJECTS, NO_PROJECTS),
     ];
     drop(client(&rt, &listener, "")?);
     let mut clients = clients(&rt, &listener, &rows)?;

@@ -45,7 +45,7 @@ const SHORT_PUT: &str =
     "PUT /projects/app/lsif?key=k1 HTTP/1.1\r\nContent-Length: 5\r\n\r\n{\"id\"";
 
 /// The reply to an upload and how many there are, where only so many bytes of it come.
-fn reply_to_cut(at: usize) -> (usize, &'static str) {
+fn reply_to_cut(at: usize) -> (u32, &'static str) {
     match at {
         0 => (0, ""),
         1..=60 => (1, r#"400 {"fault":"H01","text":"bad head"}"#),

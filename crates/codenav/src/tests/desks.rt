@@ -8,16 +8,15 @@ mod lists;
 mod pieces;
 mod profiles;
 mod queries;
-mod samples;
 
+use super::samples::dump_text;
 use desk::{
-    Command, Desk, DocUri, Key, PlainDesk, ProjectName, Query, Reply, Request, RunFault, TableDesk,
+    Command, Desk, DocUri, Key, PlainDesk, ProjectName, Query, Reply, Request, TableDesk,
     answer_law, judgement_law, read_number, reply_law, retry_law, run,
 };
 use dump::RequestKind;
 use lsif::Profile;
 use positions::Position;
-use samples::dump_text;
 use sqlite::Alter;
 use std::alloc::Global;
 use std::process::Abort;
@@ -241,22 +240,17 @@ fn requests<'a>(
     Ok(requests)
 }
 
-/// The replies' statuses and bodies, one a line.
-fn texts_of(alloc: Global, replies: &[Reply]) -> Result<String, Fail> {
+/// The statuses and the bodies of the replies of a new desk to these requests, which are run together, one a line.
+fn run_all(alloc: Global, requests: &[Request<'_>]) -> Result<String, Fail> {
+    let Ok(replies) = run(alloc, &mut PlainDesk::new(alloc), requests) else {
+        return Err(Fail::from("out of memory"));
+    };
     let mut texts = String::new(alloc);
-    for reply in replies {
+    for reply in &replies {
         texts.push_str(text_of(alloc, reply)?.as_str())?;
         texts.push('\n')?;
     }
     Ok(texts)
-}
-
-/// The replies of a new desk to these requests, which are run together.
-fn run_all(alloc: Global, requests: &[Request<'_>]) -> Result<String, Fail> {
-    match run(alloc, &mut PlainDesk::new(alloc), requests) {
-        Ok(replies) => texts_of(alloc, &replies),
-        Err(RunFault::Memory) => Err(Fail::from("out of memory")),
-    }
 }
 
 /// Commands, queries at positions, and queries that other projects answer, too.

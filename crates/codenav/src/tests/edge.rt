@@ -3,7 +3,6 @@
 //! of those below it. Each stream is of an index that is empty at first.
 use super::replay::expect;
 use http_edge::{phrase_law, requests_law, route_law, run_law};
-use std::alloc::{AllocError, Global};
 use std::process::Abort;
 use std::test::Fail;
 
@@ -145,25 +144,9 @@ fn expect_replies<R: AllocGlobal + Abort>(rt: &R, stream: &str, names: &str) -> 
         signs.push_str(reply(name).ok_or("no such reply")?)?;
     }
     let wanted = signs.replace(rt.alloc(), '|', "\r\n")?;
-    let count = names.split_whitespace().count();
+    let count = u32::try_from(names.split_whitespace().count())?;
     expect(rt, stream.as_bytes(), 1_000_000, count, wanted.as_str());
     Ok(())
-}
-
-/// A text so many times, between two others.
-fn repeated(
-    alloc: Global,
-    first: &str,
-    text: &str,
-    times: u32,
-    last: &str,
-) -> Result<String, AllocError> {
-    let mut stream = String::from_str(alloc, first)?;
-    for _ in 0..times {
-        stream.push_str(text)?;
-    }
-    stream.push_str(last)?;
-    Ok(stream)
 }
 
 /// The streams of the tables, whose rows have a text before them and one after them.
@@ -208,7 +191,8 @@ fn long_heads_and_bodies(rt: HostRuntime) -> Result<(), Fail> {
         (upload, "x\tf.c\t1\n", 2500, GET, "tags D01"),
         (query, "body ", 4000, GET, "none D01"),
     ] {
-        let stream = repeated(rt.alloc(), first, text, times, last)?;
+        let middle = text.repeat(rt.alloc(), times)?;
+        let stream = format!(in rt.alloc(); "{first}{middle}{last}")?;
         expect_replies(&rt, stream.as_str(), names)?;
     }
     Ok(())

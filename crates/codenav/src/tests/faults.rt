@@ -1,6 +1,7 @@
 //! Faults of dumps: each fault, each two of which one is reported, and the first of several faulty lines.
 use super::check::{BOTH, expect_in, expect_rows};
-use super::samples::{BASE, push_line, text_of};
+use super::samples::named::BASE;
+use super::samples::{GREAT_NUMBERS, NUMBERS, TEXTS, push_line, text_of};
 use std::test::Fail;
 
 /// The base dump with other lines.
@@ -203,20 +204,18 @@ fn check_first(rt: HostRuntime) -> Result<(), Fail> {
     text.pop();
     expect_in(&rt, text.as_str(), "ok 11")?;
     expect_in(&rt, "", "1 L06 of no line")?;
-    expect_rows(&rt, &BOTH, BASE, OF_BASE, &[1, 2, 7, 1_000_000], "")
+    expect_rows(&rt, &BOTH, BASE, OF_BASE, &[1, 2, 7, 1_000_000], NUMBERS)
 }
 
 /// Each fault, and each two of which one is reported. Faults of a line's shape are reported though the line isn't the metaData
 /// that is missing.
 #[test]
 fn check_all(rt: HostRuntime) -> Result<(), Fail> {
-    for (dump, rows) in [
-        (META_DATA, SHAPES),
-        ("", FIRST_LINES),
-        (OVERLAPPING, ORDERS),
-        (ENDS, OF_ENDS),
-    ] {
-        expect_rows(&rt, &BOTH, dump, rows, &[4096], "")?;
+    for (dump, rows) in [(META_DATA, SHAPES), ("", FIRST_LINES), (ENDS, OF_ENDS)] {
+        expect_rows(&rt, &BOTH, dump, rows, &[4096], NUMBERS)?;
+    }
+    for marks in [NUMBERS, GREAT_NUMBERS, TEXTS] {
+        expect_rows(&rt, &BOTH, OVERLAPPING, ORDERS, &[4096], marks)?;
     }
     for (dump, number, rows) in [
         ("", 1, EACH_SHAPE),
@@ -226,7 +225,7 @@ fn check_all(rt: HostRuntime) -> Result<(), Fail> {
         for row in rows.lines() {
             let (code, line) = row.split_once(' ').ok_or("no line")?;
             let mut text = text_of(rt.alloc(), dump)?;
-            push_line(&mut text, number, line, "")?;
+            push_line(&mut text, number, line, NUMBERS)?;
             let wanted = format!(in rt.alloc(); "{number} {code}")?;
             expect_in(&rt, text.as_str(), wanted.as_str())?;
         }

@@ -25,8 +25,8 @@ GET /projects/app/definition?uri=file:///a.ts&line=2&character=1 => 200 {"places
 
 /// Two projects, one of which imports what the other exports, and a third that is removed.
 const BEFORE: &str = r#"
-PUT /projects/app/lsif?key=k1 < importing => 200 {"accepted":"lsif","count":8}
-PUT /projects/lib/lsif?key=k1 < exporting => 200 {"accepted":"lsif","count":11}
+PUT /projects/app/lsif?key=k1 < import => 200 {"accepted":"lsif","count":8}
+PUT /projects/lib/lsif?key=k1 < export => 200 {"accepted":"lsif","count":11}
 PUT /projects/lib/tags?key=k2 < tags a>f.c>1 => 200 {"accepted":"tags","count":1}
 PUT /projects/old/tags?key=k1 < tags b>f.c>1 => 200 {"accepted":"tags","count":1}
 DELETE /projects/old?key=d1 => 200 {"removed":true}

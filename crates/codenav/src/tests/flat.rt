@@ -5,7 +5,7 @@ mod rows;
 
 use flatten::{key_law, key_text, reach};
 use lsif::{Moniker, MonikerKind, Package};
-use std::alloc::{AllocError, Global};
+use std::alloc::Global;
 use std::test::Fail;
 
 /// Starts and pairs, and what is reached.
@@ -108,23 +108,20 @@ const KEYS: [KeyRow; 12] = [
     ("1:a", "b", None, "3:1:a1:b0"),
 ];
 
-fn package(alloc: Global, parts: Parts) -> Result<Package, AllocError> {
-    Ok(Package {
-        manager: String::from_str(alloc, parts.0)?,
-        name: String::from_str(alloc, parts.1)?,
-        version: String::from_str(alloc, parts.2)?,
-    })
-}
-
 /// The text of the key of a moniker of this kind.
 fn text(alloc: Global, kind: MonikerKind, row: KeyRow) -> Result<String, Fail> {
+    let (scheme, identifier, parts, _) = row;
     let moniker = Moniker {
-        scheme: String::from_str(alloc, row.0)?,
-        identifier: String::from_str(alloc, row.1)?,
+        scheme: String::from_str(alloc, scheme)?,
+        identifier: String::from_str(alloc, identifier)?,
         kind,
     };
-    let package = match row.2 {
-        Some(parts) => Some(package(alloc, parts)?),
+    let package = match parts {
+        Some((manager, name, version)) => Some(Package {
+            manager: String::from_str(alloc, manager)?,
+            name: String::from_str(alloc, name)?,
+            version: String::from_str(alloc, version)?,
+        }),
         None => None,
     };
     Ok(key_text(alloc, &moniker, package.as_ref())?)

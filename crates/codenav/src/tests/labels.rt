@@ -1,50 +1,13 @@
-//! Reports of dumps with vertices and edges of each label, with ids that are numbers and with ids that are texts.
+//! Reports of dumps with vertices and edges of each label, with ids of each form.
 use super::check::{BOTH, Kind, expect_rows};
-use super::samples::BASE;
+use super::samples::named::{BASE, DECLARED, EXPORT, HOVERED, IMPORT, NESTED, RING, TOUCHING};
+use super::samples::{GREAT_NUMBERS, NUMBERS, TEXTS};
 use lsif::Profile;
 use std::test::Fail;
 
-/// A range in another one.
-const NESTED: &str = "metaData 0.6.0
-document file:///n.ts
-range 0:0 0:20
-range 0:5 0:8
-definitionResult
-textDocument/definition 3>5
-item 5>[3] @2
-contains 2>[4,3]";
-
-/// Ranges that touch, and an empty one.
-const TOUCHING: &str = "metaData 0.6.0
-document file:///u.ts
-range 0:0 0:5
-range 0:5 0:9
-range 0:5 0:5
-definitionResult
-definitionResult
-definitionResult
-textDocument/definition 3>6
-textDocument/definition 4>7
-textDocument/definition 5>8
-item 6>[3] @2
-item 7>[4] @2
-item 8>[5] @2
-contains 2>[3,4,5]";
-
-/// Reference results that name each other.
-const REFERENCES: &str = "metaData 0.6.0
-document file:///c.ts
-range 0:0 0:1
-range 1:0 1:1
-referenceResult
-referenceResult
-textDocument/references 4>6
-item 5>[6] referenceResults @2
-item 6>[5] referenceResults @2
-item 5>[3] definitions @2
-item 6>[4] references @2
-item 5>[4] references @2
-contains 2>[3,4]";
+const OF_BASE: &str = "ok 11
+12 L13 | 12 next 3>5
+12 L13 | 12 textDocument/definition 5>8";
 
 const OF_REFERENCES: &str = "ok 13
 8 L10 | 8 item 5>[3] referenceResults @2
@@ -77,14 +40,6 @@ const OF_SHARDS: &str = "ok 10
 9 E02 | 9 item 6>[5] references @4
 9 E02 | 9 item 6>[5] 'property':'definitions','document':<4>";
 
-/// A hover at a range.
-const HOVERS: &str = "metaData 0.6.0
-document file:///h.ts
-range 0:0 0:3
-hoverResult 'result':{'contents':[{'value':'f','language':'c','x':1},'d']}
-textDocument/hover 3>4
-contains 2>[3]";
-
 const OF_HOVERS: &str = "ok 6
 4 L07 | 4 hoverResult 'result':{'contents':{'kind':'html','value':'f'}}
 ok 6 | 4 hoverResult 'result':{'contents':{'kind':'markdown','value':'f'}}
@@ -97,16 +52,6 @@ ok 6 | 4 hoverResult 'result':{'contents':{'kind':'markdown','value':'f'}}
 6 L13 | 6 textDocument/hover 3>4
 5 L10 | 5 textDocument/definition 3>4
 ok 6 | 5 hover 2>3";
-
-/// A range with an import moniker.
-const IMPORT: &str = "metaData 0.6.0
-document file:///app.ts
-range 1:0 1:3
-moniker 'kind':'import','scheme':'npm','identifier':'lib::f'
-packageInformation 'manager':'npm','name':'lib','version':'1.0.0'
-moniker 3>4
-packageInformation 4>5
-contains 2>[3]";
 
 const OF_IMPORT: &str = r"ok 8
 ok 8 | 4 moniker 'scheme':'npm','identifier':'lib::f'
@@ -129,19 +74,6 @@ ok 8 | 6 attach 4>4
 ok 8 | 6 attach
 ok 8 | 6 range 5>4
 6 L10 | 6 item 4>[] @2";
-
-/// A range with an export moniker and a definition.
-const EXPORT: &str = "metaData 0.6.0
-document file:///lib.ts
-range 0:9 0:10
-moniker 'kind':'export','scheme':'npm','identifier':'lib::f'
-packageInformation 'manager':'npm','name':'lib','version':'1.0.0'
-moniker 3>4
-packageInformation 4>5
-definitionResult
-textDocument/definition 3>8
-item 8>[3] @2
-contains 2>[3]";
 
 /// A range named after its document ended.
 const ENDED: &str = "metaData 0.6.0
@@ -192,65 +124,99 @@ const OF_AFTER_THE_END: &str = "ok 11
 11 L18 | 11 item 9>[6] @4
 11 L16 | 11 item 9>[6] @6";
 
-/// A declaration and an implementation.
-const ADDED: &str = "metaData 0.6.0
-document file:///p.ts
-range 0:0 0:1
-range 1:0 1:1
-range 2:0 2:1
-declarationResult
-implementationResult
-textDocument/declaration 5>6
-textDocument/implementation 5>7
-item 6>[3] @2
-item 7>[4] @2
-contains 2>[3,4,5]";
-
-const OF_ADDED_IN_ONE: &str = "ok 12
+/// What declarations and implementations are in profile 1: vertices and edges of any label.
+const OF_DECLARED_IN_ONE: &str = "ok 12
+ok 12 | 8 textDocument/declaration 3>6
+7 L04 | 7 #6 implementationResult
+ok 12 | 8 textDocument/declaration 5>[6]
+ok 12 | 9 textDocument/implementation 5>[7]
+8 L09 | 8 textDocument/declaration 5>13
+9 L09 | 9 textDocument/implementation 13>7
+ok 12 | 8 textDocument/declaration 5>7
+ok 12 | 9 textDocument/implementation 5>6
+ok 12 | 8 textDocument/declaration 2>6
+ok 12 | 9 textDocument/implementation 6>7
+9 L10 | 9 textDocument/definition 5>6
+ok 12 | 10 item 6>[3] definitions @2
+ok 12 | 10 item 6>[3] references @2
+ok 12 | 10 item 6>[3] referenceResults @2
+ok 12 | 11 item 7>[4] definitions @2
+ok 12 | 11 item 7>[4] references @2
+ok 12 | 11 item 7>[7] referenceResults @2
+ok 12 | 10 item 6>[3,6] @2
+ok 12 | 11 item 7>[2] @2
+ok 12 | 10 item 6>[] @2
 ok 12 | 9 textDocument/declaration 5>6
-ok 12 | 10 item 6>[3] references @2";
+ok 12 | 8 textDocument/implementation 5>7
+ok 12 | 10 item 6>[3] @13
+ok 12 | 11 item 7>[4] @4
+ok 12 | 9 document file:///q.ts | 10 item 6>[3] @9
+ok 12 | 8 document file:///q.ts | 11 item 7>[4] @8
+ok 12 | 9 project | 10 item 6>[3] @9
+9 L18 | 4 $event begin 2 | 6 contains 2>[3,5] | 7 $event end 2 | 8 declarationResult | 9 textDocument/declaration 5>8";
 
-const OF_ADDED_IN_TWO: &str = "ok 12
-9 L13 | 9 textDocument/declaration 5>6
-13 L13 | 13 textDocument/implementation 5>7
-10 L10 | 10 item 6>[3] definitions @2
-10 L10 | 10 item 6>[3] references @2
-11 L10 | 11 item 7>[4] referenceResults @2
-10 L10 | 10 item 6>[7] @2
-10 L10 | 10 item 6>[] references @2
-ok 12 | 10 item 6>[3,4,5] @2
+/// What they are in profile 2.
+const OF_DECLARED_IN_TWO: &str = "ok 12
+ok 12 | 8 textDocument/declaration 3>6
+7 L04 | 7 #6 implementationResult
+8 L08 | 8 textDocument/declaration 5>[6]
+9 L08 | 9 textDocument/implementation 5>[7]
+8 L09 | 8 textDocument/declaration 5>13
+8 L09 | 8 textDocument/declaration 5>9
+9 L09 | 9 textDocument/implementation 13>7
 8 L10 | 8 textDocument/declaration 5>7
 9 L10 | 9 textDocument/implementation 5>6
 8 L10 | 8 textDocument/declaration 2>6
+9 L10 | 9 textDocument/implementation 6>7
+9 L10 | 9 textDocument/definition 5>6
 8 L10 | 8 textDocument/definition 5>6
-8 L09 | 8 textDocument/declaration 5>9
-8 L08 | 8 textDocument/declaration 5>[6]
+10 L10 | 10 item 6>[3] definitions @2
+10 L10 | 10 item 6>[3] references @2
+10 L10 | 10 item 6>[] references @2
+10 L10 | 10 item 6>[3] referenceResults @2
+11 L10 | 11 item 7>[4] definitions @2
+11 L10 | 11 item 7>[4] references @2
+11 L10 | 11 item 7>[4] referenceResults @2
+11 L10 | 11 item 7>[7] referenceResults @2
+10 L10 | 10 item 6>[3,6] @2
+10 L10 | 10 item 6>[7] @2
+11 L10 | 11 item 7>[2] @2
+ok 12 | 10 item 6>[] @2
+ok 12 | 10 item 6>[3,4,5] @2
+9 L13 | 9 textDocument/declaration 5>6
+9 L13 | 8 textDocument/implementation 5>7
+13 L13 | 13 textDocument/implementation 5>7
 10 L16 | 10 item 6>[3] @3
-10 E02 | 7 document file:///q.ts | 9 resultSet | 10 item 6>[3] @7 | 11 resultSet";
+10 L16 | 10 item 6>[3] @13
+11 L16 | 11 item 7>[4] @4
+10 E02 | 9 document file:///q.ts | 10 item 6>[3] @9
+10 E02 | 7 document file:///q.ts | 9 resultSet | 10 item 6>[3] @7 | 11 resultSet
+11 E02 | 8 document file:///q.ts | 11 item 7>[4] @8
+ok 12 | 9 project | 10 item 6>[3] @9
+9 L18 | 4 $event begin 2 | 6 contains 2>[3,5] | 7 $event end 2 | 8 declarationResult | 9 textDocument/declaration 5>8";
+
+/// By which profiles a dump is read, the dump, and its rows.
+const TABLES: &[(&[Kind], &str, &str)] = &[
+    (&BOTH, BASE, OF_BASE),
+    (&BOTH, NESTED, "ok 8"),
+    (&BOTH, TOUCHING, "ok 15"),
+    (&BOTH, RING, OF_REFERENCES),
+    (&BOTH, SHARDS, OF_SHARDS),
+    (&BOTH, HOVERED, OF_HOVERS),
+    (&BOTH, IMPORT, OF_IMPORT),
+    (&BOTH, EXPORT, "ok 11"),
+    (&BOTH, ENDED, OF_ENDED),
+    (&BOTH, AFTER_THE_END, OF_AFTER_THE_END),
+    (&[Kind::Dump(Profile::One)], DECLARED, OF_DECLARED_IN_ONE),
+    (&[Kind::Dump(Profile::Two)], DECLARED, OF_DECLARED_IN_TWO),
+];
 
 #[test]
 fn elements_of_each_label(rt: HostRuntime) -> Result<(), Fail> {
-    for (dump, rows) in [
-        (BASE, "ok 11"),
-        (NESTED, "ok 8"),
-        (TOUCHING, "ok 15"),
-        (REFERENCES, OF_REFERENCES),
-        (SHARDS, OF_SHARDS),
-        (HOVERS, OF_HOVERS),
-        (IMPORT, OF_IMPORT),
-        (EXPORT, "ok 11"),
-        (ENDED, OF_ENDED),
-        (AFTER_THE_END, OF_AFTER_THE_END),
-    ] {
-        expect_rows(&rt, &BOTH, dump, rows, &[4096], "")?;
-        expect_rows(&rt, &BOTH, dump, rows, &[4096], "\"")?;
-    }
-    for (profile, rows) in [
-        (Profile::One, OF_ADDED_IN_ONE),
-        (Profile::Two, OF_ADDED_IN_TWO),
-    ] {
-        expect_rows(&rt, &[Kind::Dump(profile)], ADDED, rows, &[4096], "")?;
-        expect_rows(&rt, &[Kind::Dump(profile)], ADDED, rows, &[4096], "\"")?;
+    for (kinds, dump, rows) in TABLES {
+        for marks in [NUMBERS, GREAT_NUMBERS, TEXTS] {
+            expect_rows(&rt, kinds, dump, rows, &[4096], marks)?;
+        }
     }
     Ok(())
 }

@@ -3,7 +3,8 @@
 use super::check::{Kind, expect_in, expect_text};
 use super::faults::{EACH_ORDER, EACH_SHAPE, META_DATA, OVERLAPPING};
 use super::replay::expect_places;
-use super::samples::{push_line, text_of};
+use super::samples::great::{contains, filled, long_chain, many_edges, ring, spaced};
+use super::samples::{NUMBERS, push_line, text_of};
 use std::alloc::Global;
 use std::process::Abort;
 use std::test::Fail;
@@ -11,12 +12,10 @@ use std::test::Fail;
 /// A dump and a further line, with so many spaces after it that it has this many bytes.
 fn padded(alloc: Global, dump: &str, line: &str, bytes: usize) -> Result<String, Fail> {
     let mut text = text_of(alloc, dump)?;
-    let start = text.len();
-    push_line(&mut text, dump.lines().count().saturating_add(1), line, "")?;
-    text.pop();
-    let length = text.len().saturating_sub(start);
-    let spaces = " ".repeat(alloc, bytes.saturating_sub(length))?;
-    text.push_str(spaces.as_str())?;
+    let mut last = String::new(alloc);
+    let number = dump.lines().count().saturating_add(1);
+    push_line(&mut last, number, line, NUMBERS)?;
+    text.push_str(spaced(alloc, last.as_str(), bytes)?.as_str())?;
     text.push('\n')?;
     Ok(text)
 }
@@ -49,15 +48,6 @@ fn long_lines<R: AllocGlobal + Abort>(rt: &R) -> Result<(), Fail> {
     Ok(())
 }
 
-/// The text of a dump, and of result sets after it up to line 100,000.
-fn filled(alloc: Global, dump: &str) -> Result<String, Fail> {
-    let mut text = text_of(alloc, dump)?;
-    for number in dump.lines().count()..100_000 {
-        push_line(&mut text, number + 1, "resultSet", "")?;
-    }
-    Ok(text)
-}
-
 /// Asserts the fault of line 100,001, which comes after this text.
 fn expect_after<R: AllocGlobal + Abort>(
     rt: &R,
@@ -66,7 +56,7 @@ fn expect_after<R: AllocGlobal + Abort>(
     line: &str,
 ) -> Result<(), Fail> {
     let mut text = text.clone()?;
-    push_line(&mut text, 100_001, line, "")?;
+    push_line(&mut text, 100_001, line, NUMBERS)?;
     let wanted = format!(in rt.alloc(); "100001 {code}")?;
     expect_in(rt, text.as_str(), wanted.as_str())
 }
@@ -74,11 +64,11 @@ fn expect_after<R: AllocGlobal + Abort>(
 /// A line beyond the greatest number is reported, unless it has another fault.
 #[test]
 fn lines_that_are_too_many(rt: HostRuntime) -> Result<(), Fail> {
-    let sound = filled(rt.alloc(), META_DATA)?;
+    let sound = filled(rt.alloc(), META_DATA, 100_000)?;
     expect_in(&rt, sound.as_str(), "ok 100000")?;
     expect_after(&rt, &sound, "L20", "resultSet")?;
     expect_after(&rt, &sound, "L03", "{}")?;
-    let overlapping = filled(rt.alloc(), OVERLAPPING)?;
+    let overlapping = filled(rt.alloc(), OVERLAPPING, 100_000)?;
     for row in EACH_ORDER.lines() {
         let (code, line) = row.split_once(' ').ok_or("no line")?;
         expect_after(&rt, &overlapping, code, line)?;
@@ -90,27 +80,16 @@ fn lines_that_are_too_many(rt: HostRuntime) -> Result<(), Fail> {
 fn closed_chain<R: AllocGlobal + Abort>(rt: &R) -> Result<(), Fail> {
     let mut text = text_of(rt.alloc(), META_DATA)?;
     for number in 2..50_000 {
-        push_line(&mut text, number, "resultSet", "")?;
+        push_line(&mut text, number, "resultSet", NUMBERS)?;
     }
     for source in 2..49_999 {
         let target = source + 1;
         let edge = format!(in rt.alloc(); "next {source}>{target}")?;
-        push_line(&mut text, 49_998 + source, edge.as_str(), "")?;
+        push_line(&mut text, 49_998 + source, edge.as_str(), NUMBERS)?;
     }
     expect_in(rt, text.as_str(), "ok 99996")?;
-    push_line(&mut text, 99_997, "next 49999>2", "")?;
+    push_line(&mut text, 99_997, "next 49999>2", NUMBERS)?;
     expect_in(rt, text.as_str(), "99997 L14")
-}
-
-/// A `contains` edge of the ranges from the first number to before the last.
-fn contains(alloc: Global, first: usize, last: usize) -> Result<String, Fail> {
-    let mut edge = String::from_str(alloc, "contains 2>[")?;
-    for number in first..last {
-        edge.push_str(format!(in alloc; "{number},")?.as_str())?;
-    }
-    edge.pop();
-    edge.push(']')?;
-    Ok(edge)
 }
 
 /// A `contains` edge of 10,000 ranges.
@@ -118,10 +97,10 @@ fn long_list<R: AllocGlobal + Abort>(rt: &R) -> Result<(), Fail> {
     let mut text = text_of(rt.alloc(), "metaData 0.6.0\ndocument file:///a.ts")?;
     for number in 3..10_003usize {
         let range = format!(in rt.alloc(); "range {number}:0 {number}:1")?;
-        push_line(&mut text, number, range.as_str(), "")?;
+        push_line(&mut text, number, range.as_str(), NUMBERS)?;
     }
     let edge = contains(rt.alloc(), 3, 10_003)?;
-    push_line(&mut text, 10_003, edge.as_str(), "")?;
+    push_line(&mut text, 10_003, edge.as_str(), NUMBERS)?;
     expect_in(rt, text.as_str(), "ok 10003")
 }
 
@@ -130,10 +109,10 @@ fn push_nested(text: &mut String, number: usize, depth: usize) -> Result<(), Fai
     let alloc = *text.allocator();
     let end = 40_000usize.saturating_sub(depth);
     let inner = format!(in alloc; "range {depth}:0 {end}:0")?;
-    push_line(text, number, inner.as_str(), "")?;
+    push_line(text, number, inner.as_str(), NUMBERS)?;
     let line = depth.saturating_add(50_000);
     let beside = format!(in alloc; "range {line}:0 {line}:1")?;
-    push_line(text, number.saturating_add(1), beside.as_str(), "")
+    push_line(text, number.saturating_add(1), beside.as_str(), NUMBERS)
 }
 
 /// 10,000 ranges that lie in each other, the outermost first or last, and as many beside them.
@@ -155,11 +134,11 @@ fn an_edge_each<R: AllocGlobal + Abort>(rt: &R, is_falling: bool) -> Result<(), 
     let mut text = nested(rt.alloc(), is_falling)?;
     for number in 3..20_003usize {
         let edge = format!(in rt.alloc(); "contains 2>[{number}]")?;
-        push_line(&mut text, number + 20_000, edge.as_str(), "")?;
+        push_line(&mut text, number + 20_000, edge.as_str(), NUMBERS)?;
     }
     expect_in(rt, text.as_str(), "ok 40002")?;
-    push_line(&mut text, 40_003, "range 10:1 45000:0", "")?;
-    push_line(&mut text, 40_004, "contains 2>[40003]", "")?;
+    push_line(&mut text, 40_003, "range 10:1 45000:0", NUMBERS)?;
+    push_line(&mut text, 40_004, "contains 2>[40003]", NUMBERS)?;
     expect_in(rt, text.as_str(), "40004 L12")
 }
 
@@ -167,72 +146,8 @@ fn an_edge_each<R: AllocGlobal + Abort>(rt: &R, is_falling: bool) -> Result<(), 
 fn one_edge<R: AllocGlobal + Abort>(rt: &R, is_falling: bool) -> Result<(), Fail> {
     let mut text = nested(rt.alloc(), is_falling)?;
     let edge = contains(rt.alloc(), 3, 20_003)?;
-    push_line(&mut text, 20_003, edge.as_str(), "")?;
+    push_line(&mut text, 20_003, edge.as_str(), NUMBERS)?;
     expect_in(rt, text.as_str(), "ok 20003")
-}
-
-/// One range, a chain of 49,996 result sets each made before the edge that leads to it, and a definition at the last.
-fn long_chain<R: AllocGlobal + Abort>(rt: &R) -> Result<(), Fail> {
-    let mut text = text_of(
-        rt.alloc(),
-        "metaData 0.6.0\ndocument file:///a.ts\nrange 0:0 0:1",
-    )?;
-    let mut last = 3usize;
-    for number in 0..49_996usize {
-        let made = 2 * number + 4;
-        push_line(&mut text, made, "resultSet", "")?;
-        let edge = format!(in rt.alloc(); "next {last}>{made}")?;
-        push_line(&mut text, made + 1, edge.as_str(), "")?;
-        last = made;
-    }
-    for (number, line) in [
-        (99_996, "definitionResult"),
-        (99_997, "textDocument/definition 99994>99996"),
-        (99_998, "item 99996>[3] @2"),
-        (99_999, "contains 2>[3]"),
-    ] {
-        push_line(&mut text, number, line, "")?;
-    }
-    expect_places(rt, text.as_str(), "definition", 99_999, 1)
-}
-
-/// 100 results of references in a ring, each with its own range.
-fn ring<R: AllocGlobal + Abort>(rt: &R) -> Result<(), Fail> {
-    let mut text = text_of(rt.alloc(), "metaData 0.6.0\ndocument file:///a.ts")?;
-    let mut contained = String::from_str(rt.alloc(), "contains 2>[")?;
-    for k in 0..100 {
-        let range = format!(in rt.alloc(); "range {k}:0 {k}:1")?;
-        push_line(&mut text, k + 3, range.as_str(), "")?;
-        push_line(&mut text, k + 1000, "referenceResult", "")?;
-        contained.push_str(format!(in rt.alloc(); "{},", k + 3)?.as_str())?;
-    }
-    for k in 0..100 {
-        let (range, result) = (k + 3, k + 1000);
-        let next = if k == 99 { 1000 } else { result + 1 };
-        let bound = format!(in rt.alloc(); "textDocument/references {range}>{result}")?;
-        let joined = format!(in rt.alloc(); "item {result}>[{next}] referenceResults @2")?;
-        let own = format!(in rt.alloc(); "item {result}>[{range}] references @2")?;
-        push_line(&mut text, k + 2000, bound.as_str(), "")?;
-        push_line(&mut text, k + 3000, joined.as_str(), "")?;
-        push_line(&mut text, k + 4000, own.as_str(), "")?;
-    }
-    contained.pop();
-    contained.push(']')?;
-    push_line(&mut text, 5000, contained.as_str(), "")?;
-    expect_places(rt, text.as_str(), "references", 503, 100)
-}
-
-/// A result of 10,000 `item` edges to one range.
-fn many_edges<R: AllocGlobal + Abort>(rt: &R) -> Result<(), Fail> {
-    let mut text = text_of(
-        rt.alloc(),
-        "metaData 0.6.0\ndocument file:///a.ts\nrange 0:0 0:1\ndefinitionResult\ntextDocument/definition 3>4",
-    )?;
-    for number in 6..10_006 {
-        push_line(&mut text, number, "item 4>[3] @2", "")?;
-    }
-    push_line(&mut text, 10_006, "contains 2>[3]", "")?;
-    expect_places(rt, text.as_str(), "definition", 10_006, 1)
 }
 
 #[test]
@@ -244,9 +159,21 @@ fn malicious(rt: HostRuntime) -> Result<(), Fail> {
         an_edge_each(&rt, is_falling)?;
         one_edge(&rt, is_falling)?;
     }
-    long_chain(&rt)?;
-    ring(&rt)?;
-    many_edges(&rt)?;
+    expect_places(
+        &rt,
+        long_chain(rt.alloc())?.as_str(),
+        "definition",
+        99_999,
+        1,
+    )?;
+    expect_places(&rt, ring(rt.alloc())?.as_str(), "references", 503, 100)?;
+    expect_places(
+        &rt,
+        many_edges(rt.alloc())?.as_str(),
+        "definition",
+        10_006,
+        1,
+    )?;
     for (line, wanted) in [
         ("a\\\tf.c\t1\n", "line 1: T05 bad escape\n"),
         ("a\tf\\x4\t1\n", "line 1: T05 bad escape\n"),

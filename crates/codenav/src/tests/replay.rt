@@ -1,95 +1,11 @@
 //! The bytes that are written for streams of requests that come whole. Streams that are cut, and readers and writers that fail, are in `cut.rt`.
-use super::samples::{BASE, Pieces, Slow, changed, in_pieces, reply, slow_writer};
+use super::samples::{Pieces, Slow, dump_text, in_pieces, reply, slow_writer};
 use crate::replay::replay_in_memory;
 use http_edge::ServeFault;
 use lsif::Counted;
 use std::alloc::{AllocError, Global};
 use std::process::Abort;
 use std::test::Fail;
-
-/// Dumps in short, by name.
-const DUMPS: [(&str, &str); 7] = [
-    ("base", BASE),
-    (
-        "nested",
-        "metaData 'version':'0.6.0','positionEncoding':'utf-16'
-document file:///n.ts
-range 0:0 0:20
-range 0:5 0:8
-definitionResult
-textDocument/definition 3>5
-item 5>[3] @2
-contains 2>[4,3]",
-    ),
-    (
-        "touching",
-        "metaData 'version':'0.6.0','positionEncoding':'utf-16'
-document file:///u.ts
-range 0:0 0:5
-range 0:5 0:9
-range 0:5 0:5
-definitionResult
-definitionResult
-definitionResult
-textDocument/definition 3>6
-textDocument/definition 4>7
-textDocument/definition 5>8
-item 6>[3] @2
-item 7>[4] @2
-item 8>[5] @2
-contains 2>[3,4,5]",
-    ),
-    (
-        "cycle",
-        "metaData 'version':'0.6.0','positionEncoding':'utf-16'
-document file:///c.ts
-range 0:0 0:1
-range 1:0 1:1
-referenceResult
-referenceResult
-textDocument/references 4>6
-item 5>[6] referenceResults @2
-item 6>[5] referenceResults @2
-item 5>[3] definitions @2
-item 6>[4] references @2
-item 5>[4] references @2
-contains 2>[3,4]",
-    ),
-    (
-        "importing",
-        "metaData 'version':'0.6.0','positionEncoding':'utf-16'
-document file:///app.ts
-range 1:0 1:3
-moniker 'kind':'import','scheme':'npm','identifier':'lib::f'
-packageInformation 'manager':'npm','name':'lib','version':'1.0.0'
-moniker 3>4
-packageInformation 4>5
-contains 2>[3]",
-    ),
-    (
-        "exporting",
-        "metaData 'version':'0.6.0','positionEncoding':'utf-16'
-document file:///lib.ts
-range 0:9 0:10
-moniker 'kind':'export','scheme':'npm','identifier':'lib::f'
-packageInformation 'manager':'npm','name':'lib','version':'1.0.0'
-moniker 3>4
-packageInformation 4>5
-definitionResult
-textDocument/definition 3>8
-item 8>[3] @2
-contains 2>[3]",
-    ),
-    (
-        "hovered",
-        "metaData 'version':'0.6.0','positionEncoding':'utf-16'
-document file:///h.ts
-range 0:0 0:3
-hoverResult 'result':{'contents':[{'value':'f','language':'c','x':1},'d']}
-textDocument/hover 3>4
-contains 2>[3]",
-    ),
-];
 
 /// Streams, parted by empty lines, each over an index that is empty at first: what is asked, what is uploaded after ` < `,
 /// and after ` => ` the status and the body of the reply. A dump has its name, and after ` | ` each line that is another, as in
@@ -110,10 +26,10 @@ PUT /projects/app/lsif?key=k1 < base | 8 #9 textDocument/definition 5>8 | 9 #8 d
 PUT /projects/app/lsif?key=k1 < base | 11 - => 422 {"fault":"E01","line":3,"text":"range in no document"}
 PUT /projects/app/lsif?key=k1 < base | 10 item 8>[3] x @2 | 11 - => 422 {"fault":"L15","line":10,"text":"bad item property or shard"}
 PUT /projects/app/lsif?key=k1 < base | 4 range 0:6 0:9 => 422 {"fault":"L12","line":11,"text":"range equal to or overlapping another"}
-PUT /projects/app/lsif?key=k1 < base | 1 #9007199254740992 metaData 'version':'0.6.0','positionEncoding':'utf-16' => 422 {"fault":"L03","line":1,"text":"no valid id"}
+PUT /projects/app/lsif?key=k1 < base | 1 #9007199254740992 metaData 0.6.0 utf-16 => 422 {"fault":"L03","line":1,"text":"no valid id"}
 PUT /projects/app/lsif?key=k1 < base | 7 next 5>5 => 422 {"fault":"L14","line":7,"text":"next closes a cycle"}
 GET /projects => 200 {"projects":[]}
-PUT /projects/app/lsif?key=k1 < base | 1 #9007199254740991 metaData 'version':'0.6.0','positionEncoding':'utf-16' => 200 {"accepted":"lsif","count":11}
+PUT /projects/app/lsif?key=k1 < base | 1 #9007199254740991 metaData 0.6.0 utf-16 => 200 {"accepted":"lsif","count":11}
 
 PUT /projects/app/lsif?key=k1 < nested => 200 {"accepted":"lsif","count":8}
 GET /projects/app/definition?uri=file:///n.ts&line=0&character=6 => 200 {"places":[{"end":{"character":20,"line":0},"project":"app","start":{"character":0,"line":0},"uri":"file:///n.ts"}]}
@@ -129,14 +45,14 @@ PUT /projects/app/lsif?key=k2 < base => 200 {"accepted":"lsif","count":11}
 
 /// Further streams, written in the same way: references, joins between projects, hovers, names and profiles.
 const FURTHER: &str = r#"
-PUT /projects/app/lsif?key=k1 < cycle => 200 {"accepted":"lsif","count":13}
+PUT /projects/app/lsif?key=k1 < ring => 200 {"accepted":"lsif","count":13}
 GET /projects/app/references?uri=file:///c.ts&line=1&character=0&declaration=yes => 200 {"places":[{"end":{"character":1,"line":0},"project":"app","start":{"character":0,"line":0},"uri":"file:///c.ts"},{"end":{"character":1,"line":1},"project":"app","start":{"character":0,"line":1},"uri":"file:///c.ts"}]}
 GET /projects/app/references?uri=file:///c.ts&line=1&character=0&declaration=no => 200 {"places":[{"end":{"character":1,"line":1},"project":"app","start":{"character":0,"line":1},"uri":"file:///c.ts"}]}
 
-PUT /projects/app/lsif?key=k1 < importing => 200 {"accepted":"lsif","count":8}
-PUT /projects/lib/lsif?key=k1 < exporting => 200 {"accepted":"lsif","count":11}
+PUT /projects/app/lsif?key=k1 < import => 200 {"accepted":"lsif","count":8}
+PUT /projects/lib/lsif?key=k1 < export => 200 {"accepted":"lsif","count":11}
 GET /projects/app/definition?uri=file:///app.ts&line=1&character=0 => 200 {"places":[{"end":{"character":10,"line":0},"project":"lib","start":{"character":9,"line":0},"uri":"file:///lib.ts"}]}
-PUT /projects/lib2/lsif?key=k1 < exporting => 200 {"accepted":"lsif","count":11}
+PUT /projects/lib2/lsif?key=k1 < export => 200 {"accepted":"lsif","count":11}
 GET /projects/app/definition?uri=file:///app.ts&line=1&character=0 => 200 {"places":[{"end":{"character":10,"line":0},"project":"lib","start":{"character":9,"line":0},"uri":"file:///lib.ts"},{"end":{"character":10,"line":0},"project":"lib2","start":{"character":9,"line":0},"uri":"file:///lib.ts"}]}
 DELETE /projects/lib2?key=d1 => 200 {"removed":true}
 DELETE /projects/lib?key=d1 => 200 {"removed":true}
@@ -144,17 +60,17 @@ GET /projects/app/definition?uri=file:///app.ts&line=1&character=0 => 200 {"plac
 DELETE /projects/lib?key=d2 => 200 {"removed":false}
 DELETE /projects/lib?key=d1 => 200 {"removed":true}
 
-PUT /projects/app/lsif?key=k1 < importing => 200 {"accepted":"lsif","count":8}
-PUT /projects/lib/lsif?key=k1 < exporting | 5 packageInformation 'manager':'npm','name':'lib','version':'1.0.1' => 200 {"accepted":"lsif","count":11}
+PUT /projects/app/lsif?key=k1 < import => 200 {"accepted":"lsif","count":8}
+PUT /projects/lib/lsif?key=k1 < export | 5 packageInformation 'manager':'npm','name':'lib','version':'1.0.1' => 200 {"accepted":"lsif","count":11}
 GET /projects/app/definition?uri=file:///app.ts&line=1&character=0 => 200 {"places":[]}
 
-PUT /projects/app/lsif?key=k1 < importing => 200 {"accepted":"lsif","count":8}
-PUT /projects/lib/lsif?key=k1&profile=2 < exporting | 8 declarationResult | 9 textDocument/declaration 3>8 => 200 {"accepted":"lsif","count":11}
+PUT /projects/app/lsif?key=k1 < import => 200 {"accepted":"lsif","count":8}
+PUT /projects/lib/lsif?key=k1&profile=2 < export | 8 declarationResult | 9 textDocument/declaration 3>8 => 200 {"accepted":"lsif","count":11}
 GET /projects/app/declaration?uri=file:///app.ts&line=1&character=0 => 200 {"places":[{"end":{"character":10,"line":0},"project":"lib","start":{"character":9,"line":0},"uri":"file:///lib.ts"}]}
 GET /projects/app/definition?uri=file:///app.ts&line=1&character=0 => 200 {"places":[]}
 GET /projects/app/implementation?uri=file:///app.ts&line=1&character=0 => 200 {"places":[]}
 GET /projects/lib/profile => 200 {"profile":2}
-PUT /projects/lib/lsif?key=k2&profile=3 < exporting => 400 {"fault":"D03","text":"bad parameter"}
+PUT /projects/lib/lsif?key=k2&profile=3 < export => 400 {"fault":"D03","text":"bad parameter"}
 
 PUT /projects/app/lsif?key=k1 < hovered => 200 {"accepted":"lsif","count":6}
 GET /projects/app/hover?uri=file:///h.ts&line=0&character=0 => 200 {"contents":[{"language":"c","value":"f"},"d"]}
@@ -220,13 +136,7 @@ fn body_of(alloc: Global, short: &'static str) -> Result<String, Fail> {
         text.push('\n')?;
         return Ok(text);
     }
-    let (name, changes) = short.split_once(" | ").unwrap_or((short, ""));
-    for (known, dump) in DUMPS {
-        if known == name {
-            return changed(alloc, dump, changes, "");
-        }
-    }
-    Err(Fail::from("no dump of this name"))
+    dump_text(alloc, short)
 }
 
 /// The text of a request that stands in a row before its reply.
@@ -296,7 +206,7 @@ pub(super) fn expect<R: AllocGlobal + Abort>(
     rt: &R,
     stream: &[u8],
     most: usize,
-    count: usize,
+    count: u32,
     wanted: &str,
 ) {
     let (answer, written, _) = replay_over(rt.alloc(), in_pieces(stream, most), most, 0);
@@ -305,7 +215,7 @@ pub(super) fn expect<R: AllocGlobal + Abort>(
         wanted,
         "{most}"
     );
-    assert_eq!(rt; answer.map(|served| served as usize), Ok(count), "{wanted}");
+    assert_eq!(rt; answer, Ok(count), "{wanted}");
 }
 
 /// The reply with the places of a request: the first character of so many lines of `file:///a.ts`.
@@ -351,7 +261,7 @@ pub(super) fn expect_places<R: AllocGlobal + Abort>(
 fn expect_streams<R: AllocGlobal + Abort>(rt: &R, streams: &'static str) -> Result<(), Fail> {
     for rows in streams.split("\n\n") {
         let (requests, replies) = exchange(rt.alloc(), rows, usize::MAX)?;
-        let count = rows.trim_matches('\n').lines().count();
+        let count = u32::try_from(rows.trim_matches('\n').lines().count())?;
         for most in [1, 7, 1_000_000] {
             expect(rt, requests.as_bytes(), most, count, replies.as_str());
         }

@@ -8,6 +8,7 @@ use lsif::Counted;
 use machine::{Change, Command, Desk, DocUri, ProjectName, Query, Reply, Upload};
 use positions::Position;
 use std::alloc::{AllocError, Global};
+use std::process::Abort;
 use std::test::Fail;
 
 /// Queries and removals, and what is refused before the desk.
@@ -301,58 +302,27 @@ fn asked(alloc: Global, line: &str) -> Result<String, Fail> {
     said(alloc, str::from_utf8(&taken).unwrap_or("not UTF-8"))
 }
 
-/// Adds a row's beginning and what came of it to the differences, unless that is as wanted.
-fn note(differences: &mut String, row: &str, text: &str, wanted: &str) -> Result<(), AllocError> {
-    if text == wanted {
-        return Ok(());
-    }
-    differences.push_str(row)?;
-    differences.push_str(" => ")?;
-    differences.push_str(text)?;
-    differences.push('\n')
-}
-
-/// What stands before and behind the part of a request line that a row has.
-type Around = (&'static str, &'static str);
-
-/// Adds to the differences what a row asks, which has these texts before and behind it.
-fn expect_row(
-    alloc: Global,
-    differences: &mut String,
-    (before, after): Around,
-    row: &str,
-) -> Result<(), Fail> {
-    let (part, wanted) = row.split_once(" => ").ok_or("no row")?;
-    let line = format!(in alloc; "{before}{part}{after}")?;
-    let text = asked(alloc, line.as_str())?;
-    Ok(note(differences, line.as_str(), text.as_str(), wanted)?)
-}
-
-/// Adds to the differences what the rows of a table ask, which have these texts before and behind them.
-fn expect_asked(
-    alloc: Global,
-    differences: &mut String,
-    around: Around,
+/// Asserts what the rows of a table ask, which have these texts before and behind them in the request line.
+fn expect_asked<R: AllocGlobal + Abort>(
+    rt: &R,
+    before: &str,
     table: &str,
+    behind: &str,
 ) -> Result<(), Fail> {
     for row in table.trim_matches('\n').lines() {
-        expect_row(alloc, differences, around, row)?;
+        let (part, wanted) = row.split_once(" => ").ok_or("no row")?;
+        let line = format!(in rt.alloc(); "{before}{part}{behind}")?;
+        let found = asked(rt.alloc(), line.as_str())?;
+        assert_eq!(rt; found.as_str(), wanted, "{line}");
     }
     Ok(())
 }
 
 #[test]
 fn requests(rt: HostRuntime) -> Result<(), Fail> {
-    let mut differences = String::new(rt.alloc());
-    for (around, table) in [
-        (("", ""), ASKED),
-        (("GET /projects/app/", ""), AT_POSITION),
-        (("GET /names?", ""), OF_TAGS),
-        (("", PARAMETERS), ROUTES),
-        (("POST ", PARAMETERS), METHODS),
-    ] {
-        expect_asked(rt.alloc(), &mut differences, around, table)?;
-    }
-    assert_eq!(rt; differences.as_str(), "");
-    Ok(())
+    expect_asked(&rt, "", ASKED, "")?;
+    expect_asked(&rt, "GET /projects/app/", AT_POSITION, "")?;
+    expect_asked(&rt, "GET /names?", OF_TAGS, "")?;
+    expect_asked(&rt, "", ROUTES, PARAMETERS)?;
+    expect_asked(&rt, "POST ", METHODS, PARAMETERS)
 }

@@ -1,21 +1,26 @@
 //! Dumps written in short, replies, and readers and writers that move so many bytes at a time, which the tests share.
+pub(crate) mod great;
+pub(crate) mod named;
+
+use dump::{CheckedDump, read_dump};
+use lsif::{Counted, Profile};
+use named::SAMPLES;
 use std::alloc::Global;
 use std::io;
 use std::io::{Read, Write};
 use std::test::Fail;
 
-/// A document with two ranges, both defined at the first by way of a result set.
-pub(crate) const BASE: &str = "metaData 'version':'0.6.0','positionEncoding':'utf-16'
-document file:///a.ts
-range 0:4 0:7
-range 2:0 2:3
-resultSet
-next 3>5
-next 4>5
-definitionResult
-textDocument/definition 5>8
-item 8>[3] @2
-contains 2>[3,4]";
+/// What stands before and behind an id.
+pub(crate) type Marks = (&'static str, &'static str);
+
+/// Ids that are numbers, which have a slot in the table of ids.
+pub(crate) const NUMBERS: Marks = ("", "");
+
+/// Ids that are greater numbers, which have none.
+pub(crate) const GREAT_NUMBERS: Marks = ("9007199254", "");
+
+/// Ids that are texts.
+pub(crate) const TEXTS: Marks = ("\"", "\"");
 
 /// A position that is given as `0:4`.
 fn position(alloc: Global, short: &str) -> Result<String, Fail> {
@@ -33,12 +38,22 @@ fn vertex_members(alloc: Global, label: &str, short: &str) -> Result<String, Fai
     }
     let (first, second) = short.split_once(' ').unwrap_or((short, ""));
     Ok(match label {
-        "metaData" => format!(in alloc; ",'version':'{short}'")?,
+        "metaData" if second.is_empty() => format!(in alloc; ",'version':'{first}'")?,
+        "metaData" => format!(in alloc; ",'version':'{first}','positionEncoding':'{second}'")?,
         "document" => format!(in alloc; ",'uri':'{short}'")?,
         "range" => {
             let start = position(alloc, first)?;
             let end = position(alloc, second)?;
             format!(in alloc; ",'start':{start},'end':{end}")?
+        }
+        "hoverResult" => format!(in alloc; ",'result':{{'contents':{short}}}")?,
+        "moniker" => {
+            let (scheme, identifier) = second.split_once(' ').ok_or("no identifier")?;
+            format!(in alloc; ",'kind':'{first}','scheme':'{scheme}','identifier':'{identifier}'")?
+        }
+        "packageInformation" => {
+            let (name, version) = second.split_once(' ').ok_or("no version")?;
+            format!(in alloc; ",'manager':'{first}','name':'{name}','version':'{version}'")?
         }
         "$event" => { format!(in alloc; ",'scope':'document','kind':'{first}','data':<{second}>")? }
         _ => return Err(Fail::from("no such members")),
@@ -94,15 +109,15 @@ fn element(alloc: Global, id: &str, short: &str) -> Result<String, Fail> {
     }
 }
 
-/// Adds the line of this number, written in short: `document file:///a.ts`, `range 0:0 0:4`, `$event begin 2`,
-/// `next 3>5`, `contains 2>[3,4]`, `item 5>[6] references @2`, where `@2` is the shard; or a label and all members, as
-/// `project 'name':'a'`. The id is the line's number, unless it stands before, as in `#3 resultSet`. A line that is empty
-/// or begins with `{` is written as it is, but for its marks. Ids stand in these quotation marks, or in none.
+/// Adds the line of this number, written in short: `document file:///a.ts`, `range 0:0 0:4`, `hoverResult "f"`, `moniker import npm f`,
+/// `packageInformation npm f 1.0`, `$event begin 2`, `next 3>5`, `contains 2>[3,4]`, `item 5>[6] references @2`, where `@2` is the shard; or a label and all
+/// members, as `project 'name':'a'`. The id is the line's number, unless it stands before, as in `#3 resultSet`. A line that is empty or begins with `{` is
+/// written as it is, but for its marks. Ids stand between these marks.
 pub(crate) fn push_line(
     text: &mut String,
     number: usize,
     short: &str,
-    around: &str,
+    (before, behind): Marks,
 ) -> Result<(), Fail> {
     let alloc = *text.allocator();
     let marked = if short.is_empty() || short.starts_with('{') {
@@ -116,7 +131,8 @@ pub(crate) fn push_line(
     for c in marked.chars() {
         match c {
             '\'' => text.push('"')?,
-            '<' | '>' => text.push_str(around)?,
+            '<' => text.push_str(before)?,
+            '>' => text.push_str(behind)?,
             _ => text.push(c)?,
         }
     }
@@ -127,7 +143,7 @@ pub(crate) fn push_line(
 pub(crate) fn text_of(alloc: Global, dump: &str) -> Result<String, Fail> {
     let mut text = String::new(alloc);
     for (k, line) in dump.lines().enumerate() {
-        push_line(&mut text, k.saturating_add(1), line, "")?;
+        push_line(&mut text, k.saturating_add(1), line, NUMBERS)?;
     }
     Ok(text)
 }
@@ -138,10 +154,10 @@ pub(crate) fn changed(
     alloc: Global,
     dump: &'static str,
     changes: &'static str,
-    around: &str,
+    marks: Marks,
 ) -> Result<String, Fail> {
     let mut lines: Vec<&str> = dump.lines().collect(alloc)?;
-    for change in changes.split(" | ").filter(|change| !change.is_empty()) {
+    for change in changes.split_terminator(" | ") {
         let (number, line) = change.split_once(' ').unwrap_or((change, ""));
         let place = number.parse::<usize>()?.checked_sub(1).ok_or("no line 0")?;
         match lines.get_mut(place) {
@@ -152,10 +168,29 @@ pub(crate) fn changed(
     let mut text = String::new(alloc);
     for (k, line) in lines.iter().enumerate() {
         if *line != "-" {
-            push_line(&mut text, k + 1, line, around)?;
+            push_line(&mut text, k + 1, line, marks)?;
         }
     }
     Ok(text)
+}
+
+/// The text of a dump that is given by its name, and after ` | ` by each line that is another.
+pub(crate) fn dump_text(alloc: Global, short: &'static str) -> Result<String, Fail> {
+    let (name, changes) = short.split_once(" | ").unwrap_or((short, ""));
+    for (known, dump) in SAMPLES {
+        if *known == name {
+            return changed(alloc, *dump, changes, NUMBERS);
+        }
+    }
+    Err(Fail::from("no dump of this name"))
+}
+
+/// The dump of this text, which has no fault.
+pub(crate) fn dump_of(alloc: Global, profile: Profile, text: &str) -> Result<CheckedDump, Fail> {
+    match read_dump(alloc, profile, &mut Counted::new(text.as_bytes())) {
+        Ok(dump) => Ok(dump),
+        Err(_) => Err("a fault")?,
+    }
 }
 
 /// The text of a reply with that status, so long a body and that body.

@@ -27,7 +27,7 @@ fn reference_roles(declaration: bool) -> &'static [Role]
     ensures { result.now ≡ reference_roles declaration }
 {
     if declaration {
-        &[Role::Definitions, Role::References]
+        RequestKind::References.roles()
     } else {
         &[Role::References]
     }

@@ -1,8 +1,8 @@
 //! Parts replaced and removed: what the tables hold then. Where the store stops is in `stops.rt`.
+use super::super::samples::{dump_of, text_of};
 use super::{opened, tags_of};
-use dump::{CheckedDump, Checker};
 use flatten::flatten;
-use lsif::{Element, Profile, ReadFault, read_element};
+use lsif::Profile;
 use sqlite::{Alter, Connection, MemStore};
 use std::alloc::Global;
 use std::process::Abort;
@@ -10,58 +10,35 @@ use std::test::Fail;
 use tables::{Tables, TablesFault};
 
 /// A dump that has a row in each of its tables.
-const FULL: [&str; 20] = [
-    r#"{"id":1,"type":"vertex","label":"metaData","version":"0.6.0"}"#,
-    r#"{"id":2,"type":"vertex","label":"document","uri":"file:///a.ts"}"#,
-    r#"{"id":3,"type":"vertex","label":"range","start":{"line":0,"character":0},"end":{"line":0,"character":9}}"#,
-    r#"{"id":4,"type":"vertex","label":"range","start":{"line":0,"character":2},"end":{"line":0,"character":5}}"#,
-    r#"{"id":5,"type":"vertex","label":"range","start":{"line":7,"character":0},"end":{"line":7,"character":0}}"#,
-    r#"{"id":6,"type":"vertex","label":"definitionResult"}"#,
-    r#"{"id":7,"type":"vertex","label":"declarationResult"}"#,
-    r#"{"id":8,"type":"vertex","label":"hoverResult","result":{"contents":"f"}}"#,
-    r#"{"id":9,"type":"vertex","label":"moniker","scheme":"npm","identifier":"f","kind":"export"}"#,
-    r#"{"id":10,"type":"vertex","label":"resultSet"}"#,
-    r#"{"id":11,"type":"edge","label":"next","outV":3,"inV":10}"#,
-    r#"{"id":12,"type":"edge","label":"next","outV":4,"inV":10}"#,
-    r#"{"id":13,"type":"edge","label":"textDocument/definition","outV":10,"inV":6}"#,
-    r#"{"id":14,"type":"edge","label":"textDocument/declaration","outV":10,"inV":7}"#,
-    r#"{"id":15,"type":"edge","label":"textDocument/hover","outV":3,"inV":8}"#,
-    r#"{"id":16,"type":"edge","label":"moniker","outV":10,"inV":9}"#,
-    r#"{"id":17,"type":"edge","label":"item","outV":6,"inVs":[3,4],"shard":2}"#,
-    r#"{"id":18,"type":"edge","label":"item","outV":7,"inVs":[4],"shard":2}"#,
-    r#"{"id":19,"type":"edge","label":"moniker","outV":3,"inV":9}"#,
-    r#"{"id":20,"type":"edge","label":"contains","outV":2,"inVs":[3,4,5]}"#,
-];
+const FULL: &str = r#"metaData 0.6.0
+document file:///a.ts
+range 0:0 0:9
+range 0:2 0:5
+range 7:0 7:0
+definitionResult
+declarationResult
+hoverResult "f"
+moniker export npm f
+resultSet
+next 3>10
+next 4>10
+textDocument/definition 10>6
+textDocument/declaration 10>7
+textDocument/hover 3>8
+moniker 10>9
+item 6>[3,4] @2
+item 7>[4] @2
+moniker 3>9
+contains 2>[3,4,5]"#;
 
 /// A dump of one range.
-const SMALL: [&str; 4] = [
-    r#"{"id":1,"type":"vertex","label":"metaData","version":"0.6.0"}"#,
-    r#"{"id":2,"type":"vertex","label":"document","uri":"file:///b.ts"}"#,
-    r#"{"id":3,"type":"vertex","label":"range","start":{"line":4,"character":1},"end":{"line":4,"character":2}}"#,
-    r#"{"id":4,"type":"edge","label":"contains","outV":2,"inVs":[3]}"#,
-];
+const SMALL: &str = "metaData 0.6.0
+document file:///b.ts
+range 4:1 4:2
+contains 2>[3]";
 
 /// Two tags, of which one has a field beside its kind.
 pub(super) const TAGS: &str = "a\tf.c\t1;\"\tf\tclass:B\\tC\nb\tf.c\t/x/\n";
-
-fn element(alloc: Global, profile: Profile, line: &str) -> Result<Element, Fail> {
-    match read_element(alloc, profile, line.as_bytes()) {
-        Ok(element) => Ok(element),
-        Err(ReadFault::Shape(_) | ReadFault::Memory) => Err("no element")?,
-    }
-}
-
-/// The dump of these lines, which has no fault.
-fn dump_of(alloc: Global, profile: Profile, lines: &[&str]) -> Result<CheckedDump, Fail> {
-    let mut checker = Checker::new(alloc, profile);
-    for line in lines {
-        checker.feed(Ok(element(alloc, profile, line)?))?;
-    }
-    match checker.finish() {
-        Ok(dump) => Ok(dump),
-        Err(_) => Err("a fault")?,
-    }
-}
 
 /// A change of the index, each under a key of its own.
 #[derive(Clone, Copy)]
@@ -74,17 +51,18 @@ pub(super) enum Step {
     Remove(&'static str),
 }
 
-/// Puts the dump of these lines.
-fn put_dump<S: Alter>(
+/// Puts the dump of this text.
+pub(super) fn put_dump<S: Alter>(
     alloc: Global,
     tables: &mut Tables<S>,
     project: &str,
     key: &str,
     profile: Profile,
-    lines: &[&str],
+    text: &str,
 ) -> Result<Result<(), TablesFault>, Fail> {
-    let dump = dump_of(alloc, profile, lines)?;
-    let reply = format!(in alloc; "{{\"accepted\":\"lsif\",\"count\":{}}}", lines.len())?;
+    let dump = dump_of(alloc, profile, text)?;
+    let count = dump.elements().len();
+    let reply = format!(in alloc; "{{\"accepted\":\"lsif\",\"count\":{count}}}")?;
     let rows = flatten(alloc, &dump)?;
     Ok(tables.replace_dump(project, key, &reply, &rows))
 }
@@ -110,12 +88,21 @@ pub(super) fn take<S: Alter>(
     key: &str,
 ) -> Result<Result<bool, TablesFault>, Fail> {
     let put = match step {
-        Step::Full(project) => put_dump(alloc, tables, project, key, Profile::Two, &FULL),
-        Step::Small(project) => put_dump(alloc, tables, project, key, Profile::One, &SMALL),
-        Step::Tags(project, text) => put_tags(alloc, tables, project, key, text),
+        Step::Full(project) => {
+            let text = text_of(alloc, FULL)?;
+            put_dump(alloc, tables, project, key, Profile::Two, text.as_str())?
+        }
+        Step::Small(project) => {
+            let text = text_of(alloc, SMALL)?;
+            put_dump(alloc, tables, project, key, Profile::One, text.as_str())?
+        }
+        Step::Tags(project, text) => put_tags(alloc, tables, project, key, text)?,
         Step::Remove(project) => return Ok(tables.remove(project, key)),
     };
-    Ok(put?.map(|()| true))
+    match put {
+        Ok(()) => Ok(Ok(true)),
+        Err(fault) => Ok(Err(fault)),
+    }
 }
 
 /// A step under a key, and how many rows the tables have before it.

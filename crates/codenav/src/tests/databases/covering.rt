@@ -1,14 +1,15 @@
 //! Which ranges cover a position, as rows of ranges say it, and which rows are refused.
+use super::super::samples::great::levels;
+use super::changes::put_dump;
 use super::opened;
 use super::selections::filled;
 use dump::RequestKind;
-use flatten::{DocRow, RangeRow, Rows};
 use lsif::Profile;
-use positions::{Position, Span};
-use sqlite::{Connection, MemStore};
+use positions::Position;
+use sqlite::Connection;
 use std::alloc::Global;
 use std::test::Fail;
-use tables::{Covering, FoundRange, Tables, TablesFault};
+use tables::{Covering, FoundRange, TablesFault};
 
 /// `n` has a range of 0:0 to 0:20, and in it one of 0:5 to 0:8; `u` a range up to 0:5, one from there, and an empty one at it; `b` a range of its line
 /// 0 and one of its line 2. `tagged` has tags alone.
@@ -20,11 +21,13 @@ const PARTS: &str =
     (3, 3, 'a.ts', 4, 7, NULL, 8, NULL, NULL), (3, 4, 'a.ts', 4294967296, 4294967299, NULL, 8, NULL, NULL);\
     INSERT INTO more (slot, line, decl, imp) VALUES (1, 3, 9, NULL), (1, 4, NULL, 10)";
 
-/// A position of a document, and the lines of the ranges that cover it, as they are printed; or what else is found.
-#[derive(Clone, Copy, Drop)]
+/// A position of a document, and of each range that covers it the line, the characters of its start and its end, and its result for the request; or what else
+/// is found. Declarations and implementations alone are looked for in `more`.
+#[derive(Drop)]
 struct Row {
     /// A statement behind those of the parts.
     change: &'static str,
+    request: RequestKind,
     project: &'static str,
     uri: &'static str,
     at: (u32, u32),
@@ -34,20 +37,23 @@ struct Row {
 const ROWS: &[Row] = &[
     Row {
         change: "",
+        request: RequestKind::Definition,
         project: "n",
         uri: "n.ts",
         at: (0, 6),
-        found: "[4, 3]",
+        found: "[(4, 5, 8, None), (3, 0, 20, Some(5))]",
     },
     Row {
         change: "",
+        request: RequestKind::Definition,
         project: "n",
         uri: "n.ts",
         at: (0, 10),
-        found: "[3]",
+        found: "[(3, 0, 20, Some(5))]",
     },
     Row {
         change: "",
+        request: RequestKind::Definition,
         project: "n",
         uri: "n.ts",
         at: (0, 30),
@@ -55,13 +61,15 @@ const ROWS: &[Row] = &[
     },
     Row {
         change: "",
+        request: RequestKind::Definition,
         project: "u",
         uri: "u.ts",
         at: (0, 5),
-        found: "[4]",
+        found: "[(4, 5, 9, Some(7))]",
     },
     Row {
         change: "",
+        request: RequestKind::Definition,
         project: "b",
         uri: "a.ts",
         at: (0, 3),
@@ -69,20 +77,23 @@ const ROWS: &[Row] = &[
     },
     Row {
         change: "",
+        request: RequestKind::Definition,
         project: "n",
         uri: "n.ts",
         at: (0, 5),
-        found: "[4, 3]",
+        found: "[(4, 5, 8, None), (3, 0, 20, Some(5))]",
     },
     Row {
         change: "",
+        request: RequestKind::Definition,
         project: "n",
         uri: "n.ts",
         at: (0, 8),
-        found: "[3]",
+        found: "[(3, 0, 20, Some(5))]",
     },
     Row {
         change: "",
+        request: RequestKind::Definition,
         project: "n",
         uri: "n.ts",
         at: (1, 0),
@@ -90,6 +101,7 @@ const ROWS: &[Row] = &[
     },
     Row {
         change: "",
+        request: RequestKind::Definition,
         project: "n",
         uri: "m.ts",
         at: (0, 6),
@@ -97,20 +109,23 @@ const ROWS: &[Row] = &[
     },
     Row {
         change: "",
+        request: RequestKind::Definition,
         project: "u",
         uri: "u.ts",
         at: (0, 4),
-        found: "[3]",
+        found: "[(3, 0, 5, Some(6))]",
     },
     Row {
         change: "",
+        request: RequestKind::Definition,
         project: "b",
         uri: "a.ts",
         at: (2, 2),
-        found: "[4]",
+        found: "[(4, 0, 3, Some(8))]",
     },
     Row {
         change: "",
+        request: RequestKind::Definition,
         project: "b",
         uri: "a.ts",
         at: (1, 5),
@@ -118,6 +133,7 @@ const ROWS: &[Row] = &[
     },
     Row {
         change: "",
+        request: RequestKind::Definition,
         project: "n",
         uri: "a.ts",
         at: (0, 6),
@@ -125,6 +141,7 @@ const ROWS: &[Row] = &[
     },
     Row {
         change: "",
+        request: RequestKind::Definition,
         project: "zed",
         uri: "n.ts",
         at: (0, 6),
@@ -132,6 +149,7 @@ const ROWS: &[Row] = &[
     },
     Row {
         change: "",
+        request: RequestKind::Definition,
         project: "tagged",
         uri: "n.ts",
         at: (0, 6),
@@ -139,13 +157,15 @@ const ROWS: &[Row] = &[
     },
     Row {
         change: "INSERT INTO range_row (slot, line, uri, first, last, parent) VALUES (1, 9, 'n.ts', 5, 6, 4)",
+        request: RequestKind::Definition,
         project: "n",
         uri: "n.ts",
         at: (0, 5),
-        found: "[9, 4, 3]",
+        found: "[(9, 5, 6, None), (4, 5, 8, None), (3, 0, 20, Some(5))]",
     },
     Row {
         change: "UPDATE range_row SET parent = 99 WHERE slot = 1 AND line = 4",
+        request: RequestKind::Definition,
         project: "n",
         uri: "n.ts",
         at: (0, 6),
@@ -153,13 +173,15 @@ const ROWS: &[Row] = &[
     },
     Row {
         change: "UPDATE range_row SET parent = 99 WHERE slot = 1 AND line = 4",
+        request: RequestKind::Definition,
         project: "n",
         uri: "n.ts",
         at: (0, 4),
-        found: "[3]",
+        found: "[(3, 0, 20, Some(5))]",
     },
     Row {
         change: "UPDATE range_row SET parent = 4 WHERE slot = 1",
+        request: RequestKind::Definition,
         project: "n",
         uri: "n.ts",
         at: (0, 6),
@@ -167,6 +189,7 @@ const ROWS: &[Row] = &[
     },
     Row {
         change: "UPDATE range_row SET parent = 4 WHERE slot = 1 AND line = 3",
+        request: RequestKind::Definition,
         project: "n",
         uri: "n.ts",
         at: (0, 6),
@@ -174,6 +197,7 @@ const ROWS: &[Row] = &[
     },
     Row {
         change: "UPDATE range_row SET uri = 'm.ts' WHERE slot = 1 AND line = 3",
+        request: RequestKind::Definition,
         project: "n",
         uri: "n.ts",
         at: (0, 6),
@@ -181,6 +205,7 @@ const ROWS: &[Row] = &[
     },
     Row {
         change: "UPDATE range_row SET first = -1 WHERE slot = 1 AND line = 3",
+        request: RequestKind::Definition,
         project: "n",
         uri: "n.ts",
         at: (0, 6),
@@ -188,95 +213,63 @@ const ROWS: &[Row] = &[
     },
     Row {
         change: "UPDATE range_row SET def = -1 WHERE slot = 1 AND line = 3",
+        request: RequestKind::Definition,
         project: "n",
         uri: "n.ts",
         at: (0, 2),
         found: "refused",
     },
+    Row {
+        change: "",
+        request: RequestKind::References,
+        project: "n",
+        uri: "n.ts",
+        at: (0, 6),
+        found: "[(4, 5, 8, Some(7)), (3, 0, 20, None)]",
+    },
+    Row {
+        change: "",
+        request: RequestKind::Hover,
+        project: "n",
+        uri: "n.ts",
+        at: (0, 6),
+        found: "[(4, 5, 8, None), (3, 0, 20, Some(6))]",
+    },
+    Row {
+        change: "",
+        request: RequestKind::Declaration,
+        project: "n",
+        uri: "n.ts",
+        at: (0, 6),
+        found: "[(4, 5, 8, None), (3, 0, 20, Some(9))]",
+    },
+    Row {
+        change: "",
+        request: RequestKind::Implementation,
+        project: "n",
+        uri: "n.ts",
+        at: (0, 6),
+        found: "[(4, 5, 8, Some(10)), (3, 0, 20, None)]",
+    },
+    Row {
+        change: "UPDATE more SET imp = -1",
+        request: RequestKind::Hover,
+        project: "n",
+        uri: "n.ts",
+        at: (0, 6),
+        found: "[(4, 5, 8, None), (3, 0, 20, Some(6))]",
+    },
+    Row {
+        change: "UPDATE more SET imp = -1",
+        request: RequestKind::Implementation,
+        project: "n",
+        uri: "n.ts",
+        at: (0, 6),
+        found: "refused",
+    },
 ];
 
-fn position(line: u32, character: u32) -> Result<Position, Fail> {
-    Ok(Position::new(line, character).ok_or("no position")?)
-}
-
-/// The lines of the ranges.
-fn lines_of(alloc: Global, ranges: &[FoundRange]) -> Result<String, Fail> {
-    let mut lines = Vec::new(alloc);
-    for range in ranges {
-        lines.push(range.line)?;
-    }
-    Ok(format!(in alloc; "{lines:?}")?)
-}
-
-fn text_of(alloc: Global, found: Result<Covering, TablesFault>) -> Result<String, Fail> {
-    let text = match found {
-        Ok(Covering::Ranges(ranges)) => return lines_of(alloc, &ranges),
-        Ok(Covering::NoDump) => "no dump",
-        Ok(Covering::NoDocument) => "no document",
-        Err(TablesFault::Refused) => "refused",
-        Err(_) => "another fault",
-    };
-    Ok(String::from_str(alloc, text)?)
-}
-
-/// What is found at the position of a row, as it's printed.
-fn found_at(alloc: Global, row: &Row) -> Result<String, Fail> {
-    let mut tables = filled(alloc, PARTS, row.change)?;
-    let at = position(row.at.0, row.at.1)?;
-    let found = tables.covering(alloc, RequestKind::Definition, row.project, row.uri, at);
-    text_of(alloc, found)
-}
-
-#[test]
-fn climb(rt: HostRuntime) -> Result<(), Fail> {
-    for row in ROWS {
-        let found = found_at(rt.alloc(), row)?;
-        assert_eq!(rt; (row.change, found.as_str()), (row.change, row.found));
-    }
-    Ok(())
-}
-
-/// A statement behind those of the parts, a request, and of each range that covers 0:6 of `n.ts` its line, the characters of its span and its result for the
-/// request; or what else is found. Declarations and implementations alone are looked for in `more`.
-const RESULTS: &[(&str, RequestKind, &str)] = &[
-    (
-        "",
-        RequestKind::Definition,
-        "[(4, 5, 8, None), (3, 0, 20, Some(5))]",
-    ),
-    (
-        "",
-        RequestKind::References,
-        "[(4, 5, 8, Some(7)), (3, 0, 20, None)]",
-    ),
-    (
-        "",
-        RequestKind::Hover,
-        "[(4, 5, 8, None), (3, 0, 20, Some(6))]",
-    ),
-    (
-        "",
-        RequestKind::Declaration,
-        "[(4, 5, 8, None), (3, 0, 20, Some(9))]",
-    ),
-    (
-        "",
-        RequestKind::Implementation,
-        "[(4, 5, 8, Some(10)), (3, 0, 20, None)]",
-    ),
-    (
-        "UPDATE more SET imp = -1",
-        RequestKind::Hover,
-        "[(4, 5, 8, None), (3, 0, 20, Some(6))]",
-    ),
-    (
-        "UPDATE more SET imp = -1",
-        RequestKind::Implementation,
-        "refused",
-    ),
-];
-
-/// What a request finds of the ranges, as it's printed.
+/// What is found of the ranges, as it's printed.
 fn results_of(alloc: Global, ranges: &[FoundRange]) -> Result<String, Fail> {
     let mut results = Vec::new(alloc);
     for range in ranges {
@@ -286,85 +279,51 @@ fn results_of(alloc: Global, ranges: &[FoundRange]) -> Result<String, Fail> {
     Ok(format!(in alloc; "{results:?}")?)
 }
 
+/// What is found at the position of a row, as it's printed.
+fn found_at(alloc: Global, row: &Row) -> Result<String, Fail> {
+    let mut tables = filled(alloc, PARTS, row.change)?;
+    let (line, character) = row.at;
+    let at = Position::new(line, character).ok_or("no position")?;
+    let text = match tables.covering(alloc, row.request, row.project, row.uri, at) {
+        Ok(Covering::Ranges(ranges)) => return results_of(alloc, &ranges),
+        Ok(Covering::NoDump) => "no dump",
+        Ok(Covering::NoDocument) => "no document",
+        Err(TablesFault::Refused) => "refused",
+        Err(_) => "another fault",
+    };
+    Ok(String::from_str(alloc, text)?)
+}
+
 #[test]
-fn results_by_request(rt: HostRuntime) -> Result<(), Fail> {
-    for (change, request, expected) in RESULTS {
-        let mut tables = filled(rt.alloc(), PARTS, change)?;
-        let found = match tables.covering(rt.alloc(), *request, "n", "n.ts", position(0, 6)?) {
-            Ok(Covering::Ranges(ranges)) => results_of(rt.alloc(), &ranges)?,
-            found => text_of(rt.alloc(), found)?,
-        };
+fn climb(rt: HostRuntime) -> Result<(), Fail> {
+    for row in ROWS {
+        let found = found_at(rt.alloc(), row)?;
         assert_eq!(rt;
-            (*change, *request, found.as_str()),
-            (*change, *request, *expected)
+            (row.change, row.request, found.as_str()),
+            (row.change, row.request, row.found)
         );
     }
     Ok(())
 }
 
-/// The spans of ranges of 10,000 levels, the outermost first.
-fn levels(alloc: Global) -> Result<Vec<Span>, Fail> {
-    let mut spans = Vec::new(alloc);
-    for level in 0..10_000 {
-        let span = Span::new(position(0, level)?, position(0, 20_000 - level)?);
-        spans.push(span.ok_or("no span")?)?;
-    }
-    Ok(spans)
-}
-
-/// The row of a range that lies in the one of the line before.
-fn row_of(line: u32, span: &Span) -> RangeRow<'_> {
-    RangeRow {
-        line,
-        uri: "a.ts",
-        span,
-        parent: (line > 3).then_some(line.saturating_sub(1)),
-        def: None,
-        refs: None,
-        hover: None,
-        decl: None,
-        imp: None,
-    }
-}
-
-/// The rows of ranges of these spans, each of which lies in the one before it.
-fn rows_of<'a>(alloc: Global, spans: &'a [Span]) -> Result<Rows<'a>, Fail> {
-    let mut ranges = Vec::new(alloc);
-    let mut line = 3;
-    for span in spans {
-        ranges.push(row_of(line, span))?;
-        line = line.saturating_add(1);
-    }
-    Ok(Rows {
-        profile: Profile::One,
-        documents: vec![in alloc; DocRow { uri: "a.ts" }]?,
-        ranges,
-        items: Vec::new(alloc),
-        hovers: Vec::new(alloc),
-        marks: Vec::new(alloc),
-        bearers: Vec::new(alloc),
-    })
-}
-
-/// Tables with a dump whose ranges are of so many levels.
-fn deep(alloc: Global) -> Result<Tables<MemStore>, Fail> {
-    let spans = levels(alloc)?;
-    let rows = rows_of(alloc, &spans)?;
-    let mut tables = opened(Connection::open_in_memory(alloc)?)?;
-    let reply = r#"{"accepted":"lsif","count":10003}"#;
-    tables.replace_dump("deep", "k", reply, &rows)?;
-    Ok(tables)
-}
-
 #[test]
 fn many_levels(rt: HostRuntime) -> Result<(), Fail> {
-    let mut tables = deep(rt.alloc())?;
-    let at = position(0, 9_999)?;
+    let text = levels(rt.alloc(), false)?;
+    let mut tables = opened(Connection::open_in_memory(rt.alloc())?)?;
+    put_dump(
+        rt.alloc(),
+        &mut tables,
+        "deep",
+        "k",
+        Profile::One,
+        text.as_str(),
+    )??;
+    let at = Position::new(0, 9_999).ok_or("no position")?;
     let Covering::Ranges(found) = tables.covering(
         rt.alloc(),
         RequestKind::Hover,
         "deep",
-        "a.ts",
+        "file:///a.ts",
         at,
     )?
     else {

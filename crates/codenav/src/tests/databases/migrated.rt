@@ -40,14 +40,6 @@ fn lost<S: Alter>(conn: &mut Connection<S>) -> Result<Option<&'static str>, Fail
     Ok(None)
 }
 
-/// A database of format 1 with these parts.
-fn old_database(alloc: Global) -> Result<Connection<MemStore>, Fail> {
-    let mut conn = Connection::open_in_memory(alloc)?;
-    conn.execute_batch(FORMAT_ONE)?;
-    conn.execute_batch(PARTS)?;
-    Ok(conn)
-}
-
 /// The connection that comes back where its opening is refused.
 fn refused(conn: Connection<MemStore>) -> Result<Connection<MemStore>, Fail> {
     if !conn.is_autocommit() {
@@ -72,7 +64,10 @@ fn migrated_once(conn: Connection<MemStore>) -> Result<(bool, Connection<MemStor
 
 #[test]
 fn migrated(rt: HostRuntime) -> Result<(), Fail> {
-    let conn = refused(old_database(rt.alloc())?)?;
+    let mut old = Connection::open_in_memory(rt.alloc())?;
+    old.execute_batch(FORMAT_ONE)?;
+    old.execute_batch(PARTS)?;
+    let conn = refused(old)?;
     let (first, conn) = migrated_once(conn)?;
     let (second, conn) = migrated_once(conn)?;
     assert!(rt; first && !second);
@@ -144,11 +139,6 @@ fn is_migrated<S: Alter + Drop>(conn: Connection<S>) -> Result<bool, Fail> {
     }
 }
 
-/// The same of the tables that a crash left.
-fn migrated_afterwards(alloc: Global, files: Files<Fuse<Memory>>) -> Result<bool, Fail> {
-    is_migrated(reopened(alloc, files)?)
-}
-
 /// Each call of one of the files stops the store in turn: a migration answers that the store refused, and leaves tables of format 1, or those of
 /// format 2, whole.
 #[test]
@@ -158,7 +148,7 @@ fn migration_stopped_at_each_call(rt: HostRuntime) -> Result<(), Fail> {
         for calls in 0..10000u64 {
             let (log, db) = fuses(is_log, calls);
             let (far, files) = migration_stopped(rt.alloc(), log, db)?;
-            let is_whole = migrated_afterwards(rt.alloc(), files)?;
+            let is_whole = is_migrated(reopened(rt.alloc(), files)?)?;
             assert!(rt; is_whole || far == Reached::Nothing);
             if let Reached::FormatOne(fault) = far {
                 assert_eq!(rt; (calls, fault), (calls, TablesFault::Refused));

@@ -131,14 +131,9 @@ fn objects<S: Alter + Drop>(conn: Connection<S>) -> Result<usize, Fail> {
     Ok(conn.query_all("SELECT name FROM sqlite_schema", &[])?.len())
 }
 
-/// The same of tables over files in memory.
-fn objects_in_memory(alloc: Global) -> Result<usize, Fail> {
-    objects(in_memory_files(alloc)?)
-}
-
 /// There are 12 tables, 11 keys and 3 indexes.
 #[test]
 fn in_memory(rt: HostRuntime) -> Result<(), Fail> {
-    assert_eq!(rt; objects_in_memory(rt.alloc())?, 26);
+    assert_eq!(rt; objects(in_memory_files(rt.alloc())?)?, 26);
     Ok(())
 }

@@ -1,11 +1,9 @@
 //! Ranges around ranges, and a row that isn't one of this product's.
 use super::super::databases::opened;
-use super::{project, reply_to, text_of};
-use desk::{Command, Desk, DocUri, Key, Query, TableDesk};
-use dump::RequestKind;
-use lsif::Profile;
-use positions::Position;
-use sqlite::{Alter, Connection};
+use super::super::samples::great::levels;
+use super::{command, reply_to, text_of};
+use desk::{Desk, TableDesk};
+use sqlite::Alter;
 use std::alloc::Global;
 use std::test::Fail;
 
@@ -81,72 +79,21 @@ fn climb(rt: HostRuntime) -> Result<(), Fail> {
     Ok(())
 }
 
-/// How many ranges lie in one another.
-const LEVELS: u32 = 10_000;
-
-/// A dump of ranges that lie in one another, of which the outermost alone has a definition, its own place.
-fn levels(alloc: Global) -> Result<String, Fail> {
-    let mut text = String::from_str(
-        alloc,
-        "{\"id\":1,\"type\":\"vertex\",\"label\":\"metaData\",\"version\":\"0.6.0\",\"positionEncoding\":\"utf-16\"}\n",
-    )?;
-    text.push_str(
-        "{\"id\":2,\"type\":\"vertex\",\"label\":\"document\",\"uri\":\"file:///d.ts\"}\n",
-    )?;
-    let mut ids = String::new(alloc);
-    for level in 0..LEVELS {
-        let (id, end) = (level.saturating_add(3), 20_000u32.saturating_sub(level));
-        let range = format!(in alloc;
-            "{{\"id\":{id},\"type\":\"vertex\",\"label\":\"range\",\"start\":{{\"line\":0,\"character\":{level}}},\"end\":{{\"line\":0,\"character\":{end}}}}}\n"
-        )?;
-        text.push_str(range.as_str())?;
-        let next = format!(in alloc; "{}{id}", if level == 0 { "" } else { "," })?;
-        ids.push_str(next.as_str())?;
-    }
-    let rest = format!(in alloc;
-        "{{\"id\":\"d\",\"type\":\"vertex\",\"label\":\"definitionResult\"}}\n{{\"id\":\"e\",\"type\":\"edge\",\"label\":\"textDocument/definition\",\"outV\":3,\"inV\":\"d\"}}\n{{\"id\":\"i\",\"type\":\"edge\",\"label\":\"item\",\"outV\":\"d\",\"inVs\":[3],\"shard\":2}}\n{{\"id\":\"c\",\"type\":\"edge\",\"label\":\"contains\",\"outV\":2,\"inVs\":[{ids}]}}\n"
-    )?;
-    text.push_str(rest.as_str())?;
-    Ok(text)
-}
-
-/// The upload of a dump.
-fn put(alloc: Global, dump: &str) -> Result<Command<'_>, Fail> {
-    Ok(Command::PutDump {
-        project: project(alloc, "app")?,
-        key: Key::read(alloc, "k1")?.ok_or("no key")?,
-        profile: Profile::One,
-        body: dump.as_bytes(),
-    })
-}
-
-/// The query for the definition at the innermost range of the dump.
-fn innermost(alloc: Global) -> Result<Query, Fail> {
-    let at = Position::new(0, LEVELS.saturating_sub(1)).ok_or("no position")?;
-    Ok(Query::At {
-        kind: RequestKind::Definition,
-        project: project(alloc, "app")?,
-        uri: DocUri::read(alloc, "file:///d.ts")?.ok_or("no URL")?,
-        at,
-    })
-}
-
-/// The reply to that query, where the desk is given the dump first.
+/// The reply to a query for the definition at the innermost range of a dump, where the desk is given the dump first.
 fn deepest<S: Alter>(alloc: Global, desk: &mut TableDesk<S>, dump: &str) -> Result<String, Fail> {
-    let upload = put(alloc, dump)?;
-    let query = innermost(alloc)?;
+    let upload = command(alloc, "put", "app k1 1", dump.as_bytes())?;
     let accepted = desk.apply(&upload);
     if accepted.status() != 200 {
         return text_of(alloc, &accepted);
     }
-    text_of(alloc, &desk.ask(&query))
+    reply_to(alloc, desk, "definition app file:///a.ts 0:9999")
 }
 
 #[test]
 fn ten_thousand_levels(rt: HostRuntime) -> Result<(), Fail> {
-    let dump = levels(rt.alloc())?;
+    let dump = levels(rt.alloc(), false)?;
     let wanted =
-        r#"200 {"places":[{"end":{"character":20000,"line":0},"project":"app","start":{"character":0,"line":0},"uri":"file:///d.ts"}]}"#;
+        r#"200 {"places":[{"end":{"character":20000,"line":0},"project":"app","start":{"character":0,"line":0},"uri":"file:///a.ts"}]}"#;
     let mut desk = TableDesk::open_in_memory(rt.alloc())?;
     let found = deepest(rt.alloc(), &mut desk, dump.as_str())?;
     assert_eq!(rt; found.as_str(), wanted);

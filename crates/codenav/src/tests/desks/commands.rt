@@ -6,7 +6,7 @@ pub(super) const SCENARIOS: [&str; 10] = [
     // another.
     r#"put app k1 1 base
 200 {"accepted":"lsif","count":11}
-put app k2 1 base | 3 range 0 5 0 7
+put app k2 1 base | 3 range 0:5 0:7
 200 {"accepted":"lsif","count":11}
 put app k1 1 base
 200 {"accepted":"lsif","count":11}
@@ -29,7 +29,7 @@ definition app file:///a.ts 2:1
 200 {"places":[{"end":{"character":7,"line":0},"project":"app","start":{"character":4,"line":0},"uri":"file:///a.ts"}]}
 put app k3 1 base | 11 -
 422 {"fault":"E01","line":3,"text":"range in no document"}
-put app k3 1 base | 3 range 0 5 0 7
+put app k3 1 base | 3 range 0:5 0:7
 200 {"accepted":"lsif","count":11}
 definition app file:///a.ts 2:1
 200 {"places":[{"end":{"character":7,"line":0},"project":"app","start":{"character":5,"line":0},"uri":"file:///a.ts"}]}"#,

@@ -4,27 +4,17 @@ use desk::{Code, Command, DocUri, Key, ProjectName, Reply, read_number};
 use std::alloc::Global;
 use std::test::Fail;
 
-/// The status of a code, and the reply that it refuses with.
-fn code_text(alloc: Global, code: Code) -> Result<String, Fail> {
-    let reply = text_of(alloc, &Reply::refused(code))?;
-    Ok(format!(in alloc; "{}, {reply}\n", code.status())?)
-}
-
-/// The project and the key of a command.
-fn command_text(alloc: Global) -> Result<String, Fail> {
+/// The project and the key of a command, and the statuses of the codes and the replies that they refuse with.
+fn found_texts(alloc: Global) -> Result<String, Fail> {
     let command = Command::Remove {
         project: project(alloc, "app")?,
         key: Key::read(alloc, "K-1")?.ok_or("no key")?,
     };
     let (project, key) = (command.project().as_str(), command.key().as_str());
-    Ok(format!(in alloc; "{project} {key}\n")?)
-}
-
-/// What a command is of, and the replies of the codes.
-fn found_texts(alloc: Global) -> Result<String, Fail> {
-    let mut found = command_text(alloc)?;
+    let mut found = format!(in alloc; "{project} {key}\n")?;
     for code in [Code::D01, Code::D02, Code::D03, Code::S01, Code::S02] {
-        found.push_str(code_text(alloc, code)?.as_str())?;
+        let reply = text_of(alloc, &Reply::refused(code))?;
+        found.push_str(format!(in alloc; "{}, {reply}\n", code.status())?.as_str())?;
     }
     found.push_str(text_of(alloc, &Reply::out_of_memory())?.as_str())?;
     Ok(found)
@@ -76,37 +66,29 @@ number 2147483648 => -
 number 4294967296 => -
 ";
 
-fn read_project(alloc: Global, text: &str) -> Result<String, Fail> {
-    match ProjectName::read(alloc, text)? {
-        Some(name) => Ok(String::from_str(alloc, name.as_str())?),
-        None => Ok(String::from_str(alloc, "-")?),
-    }
-}
-
-fn read_key(alloc: Global, text: &str) -> Result<String, Fail> {
-    match Key::read(alloc, text)? {
-        Some(key) => Ok(String::from_str(alloc, key.as_str())?),
-        None => Ok(String::from_str(alloc, "-")?),
-    }
-}
-
-fn read_url(alloc: Global, text: &str) -> Result<String, Fail> {
-    match DocUri::read(alloc, text)? {
-        Some(uri) => Ok(String::from_str(alloc, uri.as_str())?),
-        None => Ok(String::from_str(alloc, "-")?),
-    }
-}
-
 /// What a text of this kind is read as.
 fn read_as(alloc: Global, kind: &str, text: &str) -> Result<String, Fail> {
-    match kind {
-        "project" => read_project(alloc, text),
-        "key" => read_key(alloc, text),
-        "url" => read_url(alloc, text),
-        _ => match read_number(text) {
-            Some(number) => Ok(format!(in alloc; "{number}")?),
-            None => Ok(String::from_str(alloc, "-")?),
+    let read = match kind {
+        "project" => match ProjectName::read(alloc, text)? {
+            Some(name) => Some(String::from_str(alloc, name.as_str())?),
+            None => None,
         },
+        "key" => match Key::read(alloc, text)? {
+            Some(key) => Some(String::from_str(alloc, key.as_str())?),
+            None => None,
+        },
+        "url" => match DocUri::read(alloc, text)? {
+            Some(uri) => Some(String::from_str(alloc, uri.as_str())?),
+            None => None,
+        },
+        _ => match read_number(text) {
+            Some(number) => Some(format!(in alloc; "{number}")?),
+            None => None,
+        },
+    };
+    match read {
+        Some(read) => Ok(read),
+        None => Ok(String::from_str(alloc, "-")?),
     }
 }
 

@@ -16,7 +16,7 @@ put lib2 k1 1 export
 200 {"accepted":"lsif","count":11}
 definition app file:///app.ts 1:0
 200 {"places":[{"end":{"character":10,"line":0},"project":"lib","start":{"character":9,"line":0},"uri":"file:///lib.ts"},{"end":{"character":10,"line":0},"project":"lib2","start":{"character":9,"line":0},"uri":"file:///lib.ts"}]}
-put zed k1 1 import | 8 definitionResult | 9 definition 3 8 | 10 item 8 3 2 | 11 contains 2 3
+put zed k1 1 import | 8 definitionResult | 9 textDocument/definition 3>8 | 10 item 8>[3] @2 | 11 contains 2>[3]
 200 {"accepted":"lsif","count":11}
 definition zed file:///app.ts 1:0
 200 {"places":[{"end":{"character":10,"line":0},"project":"lib","start":{"character":9,"line":0},"uri":"file:///lib.ts"},{"end":{"character":10,"line":0},"project":"lib2","start":{"character":9,"line":0},"uri":"file:///lib.ts"},{"end":{"character":3,"line":1},"project":"zed","start":{"character":0,"line":1},"uri":"file:///app.ts"}]}
@@ -43,15 +43,15 @@ definition app file:///app.ts 1:0
     // a missing one is the empty text. All of it is compared.
     r#"put app k1 1 import
 200 {"accepted":"lsif","count":8}
-put lib k1 1 export | 5 package npm lib 1.0.1
+put lib k1 1 export | 5 packageInformation npm lib 1.0.1
 200 {"accepted":"lsif","count":11}
 definition app file:///app.ts 1:0
 200 {"places":[]}
-put lib k2 1 export | 5 package npm lic 1.0.0
+put lib k2 1 export | 5 packageInformation npm lic 1.0.0
 200 {"accepted":"lsif","count":11}
 definition app file:///app.ts 1:0
 200 {"places":[]}
-put lib k3 1 export | 5 package cargo lib 1.0.0
+put lib k3 1 export | 5 packageInformation cargo lib 1.0.0
 200 {"accepted":"lsif","count":11}
 definition app file:///app.ts 1:0
 200 {"places":[]}
@@ -59,11 +59,11 @@ put lib k4 1 export | 7 note
 200 {"accepted":"lsif","count":11}
 definition app file:///app.ts 1:0
 200 {"places":[]}
-put lib k5 1 export | 4 export npm lib::g
+put lib k5 1 export | 4 moniker export npm lib::g
 200 {"accepted":"lsif","count":11}
 definition app file:///app.ts 1:0
 200 {"places":[]}
-put lib k6 1 export | 4 export tsc lib::f
+put lib k6 1 export | 4 moniker export tsc lib::f
 200 {"accepted":"lsif","count":11}
 definition app file:///app.ts 1:0
 200 {"places":[]}
@@ -75,11 +75,11 @@ put lib k7 1 export | 7 note
 200 {"accepted":"lsif","count":11}
 definition app file:///app.ts 1:0
 200 {"places":[{"end":{"character":10,"line":0},"project":"lib","start":{"character":9,"line":0},"uri":"file:///lib.ts"}]}
-put app k3 1 import | 5 {"id":5,"type":"vertex","label":"packageInformation","manager":"npm","name":"lib"}
+put app k3 1 import | 5 packageInformation 'manager':'npm','name':'lib'
 200 {"accepted":"lsif","count":8}
 definition app file:///app.ts 1:0
 200 {"places":[]}
-put lib k8 1 export | 5 {"id":5,"type":"vertex","label":"packageInformation","manager":"npm","name":"lib","version":""}
+put lib k8 1 export | 5 packageInformation 'manager':'npm','name':'lib','version':''
 200 {"accepted":"lsif","count":11}
 definition app file:///app.ts 1:0
 200 {"places":[{"end":{"character":10,"line":0},"project":"lib","start":{"character":9,"line":0},"uri":"file:///lib.ts"}]}"#,
@@ -148,15 +148,15 @@ references lib file:///lib.ts 4:0
     // two results along it the first.
     r#"put app k1 1 import
 200 {"accepted":"lsif","count":8}
-put lib k1 1 export | 6 note | 8 resultSet | 9 definitionResult | 10 next 3 8 | 12 definition 3 9 | 13 item 9 3 2 | 14 moniker 8 4
+put lib k1 1 export | 6 note | 8 resultSet | 9 definitionResult | 10 next 3>8 | 12 textDocument/definition 3>9 | 13 item 9>[3] @2 | 14 moniker 8>4
 200 {"accepted":"lsif","count":14}
 definition app file:///app.ts 1:0
 200 {"places":[]}
-put lib k2 1 export | 8 resultSet | 9 definitionResult | 10 next 3 8 | 12 definition 8 9 | 13 item 9 3 2
+put lib k2 1 export | 8 resultSet | 9 definitionResult | 10 next 3>8 | 12 textDocument/definition 8>9 | 13 item 9>[3] @2
 200 {"accepted":"lsif","count":13}
 definition app file:///app.ts 1:0
 200 {"places":[{"end":{"character":10,"line":0},"project":"lib","start":{"character":9,"line":0},"uri":"file:///lib.ts"}]}
-put lib k3 1 export | 10 note | 12 resultSet | 13 next 3 12 | 14 definitionResult | 15 definition 12 14 | 16 item 14 3 2
+put lib k3 1 export | 10 note | 12 resultSet | 13 next 3>12 | 14 definitionResult | 15 textDocument/definition 12>14 | 16 item 14>[3] @2
 200 {"accepted":"lsif","count":16}
 definition app file:///app.ts 1:0
 200 {"places":[]}"#,
@@ -164,18 +164,18 @@ definition app file:///app.ts 1:0
     // another local one.
     r#"put app k1 1 import
 200 {"accepted":"lsif","count":8}
-put lib k1 1 export | 12 local tsc a | 13 local tsc b | 6 note | 14 moniker 3 12 | 15 attach 13 12 | 16 attach 13 4
+put lib k1 1 export | 12 moniker local tsc a | 13 moniker local tsc b | 6 note | 14 moniker 3>12 | 15 attach 13>12 | 16 attach 13>4
 200 {"accepted":"lsif","count":16}
 definition app file:///app.ts 1:0
 200 {"places":[{"end":{"character":10,"line":0},"project":"lib","start":{"character":9,"line":0},"uri":"file:///lib.ts"}]}
-put lib k2 1 export | 12 local tsc a | 13 local tsc b | 6 note | 14 moniker 3 12 | 15 attach 13 12
+put lib k2 1 export | 12 moniker local tsc a | 13 moniker local tsc b | 6 note | 14 moniker 3>12 | 15 attach 13>12
 200 {"accepted":"lsif","count":15}
 definition app file:///app.ts 1:0
 200 {"places":[]}"#,
     // A joined reference result is closed over the results that it names.
     r#"put app k1 1 import
 200 {"accepted":"lsif","count":8}
-put lib k1 1 levels | 21 import npm lib::f | 22 package npm lib 1.0.0 | 23 packageInformation 21 22 | 24 moniker 4 21 | 25 references 4 8
+put lib k1 1 levels | 21 moniker import npm lib::f | 22 packageInformation npm lib 1.0.0 | 23 packageInformation 21>22 | 24 moniker 4>21 | 25 textDocument/references 4>8
 200 {"accepted":"lsif","count":25}
 references app file:///app.ts 1:0 yes
 200 {"places":[{"end":{"character":1,"line":0},"project":"lib","start":{"character":0,"line":0},"uri":"file:///r.ts"},{"end":{"character":1,"line":1},"project":"lib","start":{"character":0,"line":1},"uri":"file:///r.ts"},{"end":{"character":1,"line":2},"project":"lib","start":{"character":0,"line":2},"uri":"file:///r.ts"}]}
@@ -205,16 +205,16 @@ put mid k2 1 contents | 15 note
 200 {"accepted":"lsif","count":15}
 hover app file:///app.ts 1:0
 200 {"contents":"second"}
-put app k2 1 import | 9 hoverResult "own" | 10 hover 3 9
+put app k2 1 import | 9 hoverResult "own" | 10 textDocument/hover 3>9
 200 {"accepted":"lsif","count":10}
 hover app file:///app.ts 1:0
 200 {"contents":"own"}
-put app k3 1 import | 9 hoverResult [] | 10 hover 3 9
+put app k3 1 import | 9 hoverResult [] | 10 textDocument/hover 3>9
 200 {"accepted":"lsif","count":10}
 hover app file:///app.ts 1:0
 200 {"contents":[]}"#,
     // An export of the range isn't joined for contents, nor is an import of the other project.
-    r#"put app k1 1 import | 4 export npm lib::f
+    r#"put app k1 1 import | 4 moniker export npm lib::f
 200 {"accepted":"lsif","count":8}
 put lib k1 1 contents
 200 {"accepted":"lsif","count":15}
@@ -224,12 +224,12 @@ put app k2 1 import
 200 {"accepted":"lsif","count":8}
 hover app file:///app.ts 1:0
 200 {"contents":"first"}
-put lib k2 1 contents | 6 import npm lib::f
+put lib k2 1 contents | 6 moniker import npm lib::f
 200 {"accepted":"lsif","count":15}
 hover app file:///app.ts 1:0
 200 {"contents":null}"#,
     // A range with an empty result of its own joins too.
-    r#"put app k1 1 import | 9 definitionResult | 10 definition 3 9
+    r#"put app k1 1 import | 9 definitionResult | 10 textDocument/definition 3>9
 200 {"accepted":"lsif","count":10}
 put lib k1 1 export
 200 {"accepted":"lsif","count":11}

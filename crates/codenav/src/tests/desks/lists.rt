@@ -165,41 +165,25 @@ fn expect_lists<R: AllocGlobal + Abort>(rt: &R, first: usize) -> Result<(), Fail
 // All lists in one would take longer than a test may.
 #[test]
 fn two_desks_from_a_dump(rt: HostRuntime) -> Result<(), Fail> {
-    expect_lists(&rt, 0)
-}
-
-#[test]
-fn two_desks_from_a_dump_of_the_other_key(rt: HostRuntime) -> Result<(), Fail> {
+    expect_lists(&rt, 0)?;
     expect_lists(&rt, 1)
 }
 
 #[test]
 fn two_desks_from_a_refused_dump(rt: HostRuntime) -> Result<(), Fail> {
-    expect_lists(&rt, 2)
-}
-
-#[test]
-fn two_desks_from_a_refused_dump_of_the_other_key(rt: HostRuntime) -> Result<(), Fail> {
+    expect_lists(&rt, 2)?;
     expect_lists(&rt, 3)
 }
 
 #[test]
 fn two_desks_from_tags(rt: HostRuntime) -> Result<(), Fail> {
-    expect_lists(&rt, 4)
-}
-
-#[test]
-fn two_desks_from_tags_of_the_other_key(rt: HostRuntime) -> Result<(), Fail> {
+    expect_lists(&rt, 4)?;
     expect_lists(&rt, 5)
 }
 
 #[test]
 fn two_desks_from_a_removal(rt: HostRuntime) -> Result<(), Fail> {
-    expect_lists(&rt, 6)
-}
-
-#[test]
-fn two_desks_from_a_removal_of_the_other_key(rt: HostRuntime) -> Result<(), Fail> {
+    expect_lists(&rt, 6)?;
     expect_lists(&rt, 7)
 }
 

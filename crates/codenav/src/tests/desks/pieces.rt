@@ -1,5 +1,5 @@
 //! Uploads whose bodies come in pieces.
-use super::samples::dump_text;
+use super::super::samples::great::{filled, spaced};
 use super::{cut, project, reply_to, text_of, upload};
 use desk::{Desk, Key, PlainDesk, Upload, UploadFault};
 use lsif::Profile;
@@ -75,7 +75,7 @@ const ROWS: [(&str, &str); 14] = [
         r#"422 {"fault":"E01","line":3,"text":"range in no document"}"#,
     ),
     (
-        "put app k1 1 base | 3 { | 4 metaData",
+        "put app k1 1 base | 3 { | 4 metaData 0.6.0 utf-16",
         r#"422 {"fault":"L02","line":3,"text":"not JSON"}"#,
     ),
     ("put app k1 2 ring", r#"200 {"accepted":"lsif","count":13}"#),
@@ -105,7 +105,7 @@ const ROWS: [(&str, &str); 14] = [
     ),
     ("tags app k1 -", r#"200 {"accepted":"tags","count":0}"#),
     (
-        "put app ABCDEFGHIJKLMNOPQRSTUVWXYZ0123456789_-ABCDEFGHIJKLMNOPQRSTUVWXY1 1 nothing | 1 metaData",
+        "put app ABCDEFGHIJKLMNOPQRSTUVWXYZ0123456789_-ABCDEFGHIJKLMNOPQRSTUVWXY1 1 nothing | 1 metaData 0.6.0 utf-16",
         r#"200 {"accepted":"lsif","count":1}"#,
     ),
     (
@@ -187,27 +187,6 @@ fn held_bytes_and_kept_keys(rt: HostRuntime) -> Result<(), Fail> {
     expect_kept(&rt)
 }
 
-/// A dump of so many elements.
-fn large_dump(alloc: Global, count: usize) -> Result<String, Fail> {
-    let mut text = dump_text(alloc, "nothing | 1 metaData")?;
-    for id in 2..=count {
-        let line = format!(in alloc;
-            "{{\"id\":{id},\"type\":\"vertex\",\"label\":\"resultSet\"}}\n"
-        )?;
-        text.push_str(line.as_str())?;
-    }
-    Ok(text)
-}
-
-/// A text that is filled with spaces up to so many bytes.
-fn filled(alloc: Global, text: &str, len: usize) -> Result<String, Fail> {
-    let mut filled = String::from_str(alloc, text.trim_end())?;
-    for _ in filled.len()..len {
-        filled.push(' ')?;
-    }
-    Ok(filled)
-}
-
 /// Asserts the reply of a new desk to a large body that comes in pieces of 8,192 bytes: a text, and what is behind it.
 fn expect_large<R: AllocGlobal + Abort>(
     rt: &R,
@@ -228,10 +207,10 @@ fn expect_large<R: AllocGlobal + Abort>(
 
 #[test]
 fn large_dumps(rt: HostRuntime) -> Result<(), Fail> {
-    let dump = large_dump(rt.alloc(), 40000)?;
+    let dump = filled(rt.alloc(), "metaData 0.6.0", 40000)?;
     let wanted = r#"200 {"accepted":"lsif","count":40000}"#;
     expect_large(&rt, "put app k1 1", dump.as_str(), "", wanted)?;
-    let line = dump_text(rt.alloc(), "nothing | 1 metaData")?;
+    let line = filled(rt.alloc(), "metaData 0.6.0", 1)?;
     let accepted = r#"200 {"accepted":"lsif","count":1}"#;
     let refused = r#"422 {"fault":"L01","line":1,"text":"line too long"}"#;
     for (len, last, wanted) in [
@@ -240,7 +219,7 @@ fn large_dumps(rt: HostRuntime) -> Result<(), Fail> {
         (1048577, "", refused),
         (1048576, "\r\n", refused),
     ] {
-        let text = filled(rt.alloc(), line.as_str(), len)?;
+        let text = spaced(rt.alloc(), line.as_str(), len)?;
         expect_large(&rt, "put app k1 1", text.as_str(), last, wanted)?;
     }
     Ok(())
@@ -256,7 +235,7 @@ fn large_tags(rt: HostRuntime) -> Result<(), Fail> {
         (65536, "/", refused),
         (65535, "/\r\n", refused),
     ] {
-        let text = filled(rt.alloc(), "x\tf.c\t/", len)?;
+        let text = spaced(rt.alloc(), "x\tf.c\t/", len)?;
         expect_large(&rt, "tags app k1", text.as_str(), last, wanted)?;
     }
     Ok(())

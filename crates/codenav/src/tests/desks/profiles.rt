@@ -30,20 +30,20 @@ references app file:///p.ts 2:0
 hover app file:///p.ts 2:0
 200 {"contents":null}"#,
     // What is a fault in profile 2 alone.
-    r#"put app k1 2 declared | 9 declaration 5 6
+    r#"put app k1 2 declared | 9 textDocument/declaration 5>6
 422 {"fault":"L13","line":9,"text":"second edge of a single kind"}
-put app k1 2 declared | 10 itemAs 6 3 2 references
+put app k1 2 declared | 10 item 6>[3] references @2
 422 {"fault":"L10","line":10,"text":"edge may not join these"}
-put app k1 1 declared | 9 declaration 5 6
+put app k1 1 declared | 9 textDocument/declaration 5>6
 200 {"accepted":"lsif","count":12}
-put app k2 1 declared | 10 itemAs 6 3 2 references
+put app k2 1 declared | 10 item 6>[3] references @2
 200 {"accepted":"lsif","count":12}
 profile app
 200 {"profile":1}"#,
     // An import in profile 1 joins a declaration in profile 2.
     r#"put app k1 1 import
 200 {"accepted":"lsif","count":8}
-put lib k1 2 export | 8 declarationResult | 9 declaration 3 8
+put lib k1 2 export | 8 declarationResult | 9 textDocument/declaration 3>8
 200 {"accepted":"lsif","count":11}
 declaration app file:///app.ts 1:0
 200 {"places":[{"end":{"character":10,"line":0},"project":"lib","start":{"character":9,"line":0},"uri":"file:///lib.ts"}]}
@@ -51,13 +51,13 @@ definition app file:///app.ts 1:0
 200 {"places":[]}
 implementation app file:///app.ts 1:0
 200 {"places":[]}
-put lib k2 2 export | 8 implementationResult | 9 implementation 3 8
+put lib k2 2 export | 8 implementationResult | 9 textDocument/implementation 3>8
 200 {"accepted":"lsif","count":11}
 declaration app file:///app.ts 1:0
 200 {"places":[]}
 implementation app file:///app.ts 1:0
 200 {"places":[{"end":{"character":10,"line":0},"project":"lib","start":{"character":9,"line":0},"uri":"file:///lib.ts"}]}
-put lib k3 1 export | 8 declarationResult | 9 declaration 3 8
+put lib k3 1 export | 8 declarationResult | 9 textDocument/declaration 3>8
 200 {"accepted":"lsif","count":11}
 declaration app file:///app.ts 1:0
 200 {"places":[]}"#,

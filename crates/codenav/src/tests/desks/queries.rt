@@ -6,23 +6,23 @@ pub(super) const SCENARIOS: [&str; 13] = [
     // whole dump.
     r#"put app k1 1 nothing
 422 {"fault":"L06","line":1,"text":"metaData missing, wrong or repeated"}
-put app k1 1 base | 8 {"id":9,"type":"edge","label":"textDocument/definition","outV":5,"inV":8} | 9 {"id":8,"type":"vertex","label":"definitionResult"}
+put app k1 1 base | 8 #9 textDocument/definition 5>8 | 9 #8 definitionResult
 422 {"fault":"L09","line":8,"text":"vertex not emitted before"}
 put app k1 1 base | 11 -
 422 {"fault":"E01","line":3,"text":"range in no document"}
-put app k1 1 base | 10 itemAs 8 3 2 x
+put app k1 1 base | 10 item 8>[3] x @2
 422 {"fault":"L15","line":10,"text":"bad item property or shard"}
-put app k1 1 base | 10 itemAs 8 3 2 x | 11 -
+put app k1 1 base | 10 item 8>[3] x @2 | 11 -
 422 {"fault":"L15","line":10,"text":"bad item property or shard"}
-put app k1 1 base | 4 range 0 6 0 9
+put app k1 1 base | 4 range 0:6 0:9
 422 {"fault":"L12","line":11,"text":"range equal to or overlapping another"}
-put app k1 1 base | 7 next 5 5
+put app k1 1 base | 7 next 5>5
 422 {"fault":"L14","line":7,"text":"next closes a cycle"}
-put app k1 1 base | 1 {"id":9007199254740992,"type":"vertex","label":"metaData","version":"0.6.0"}
+put app k1 1 base | 1 #9007199254740992 metaData 0.6.0
 422 {"fault":"L03","line":1,"text":"no valid id"}
 definition app file:///a.ts 2:1
 404 {"fault":"D01","text":"project has no dump"}
-put app k1 1 base | 1 {"id":9007199254740991,"type":"vertex","label":"metaData","version":"0.6.0"}
+put app k1 1 base | 1 #9007199254740991 metaData 0.6.0
 200 {"accepted":"lsif","count":11}"#,
     // Both ranges are defined at the first, by way of a result set. An end is exclusive, and positions go up to the
     // greatest number.
@@ -97,7 +97,7 @@ put app k2 1 chained | 11 note
 200 {"accepted":"lsif","count":18}
 definition app file:///c.ts 0:3
 200 {"places":[{"end":{"character":4,"line":0},"project":"app","start":{"character":2,"line":0},"uri":"file:///c.ts"}]}
-put app k3 1 chained | 12 definition 3 10
+put app k3 1 chained | 12 textDocument/definition 3>10
 200 {"accepted":"lsif","count":18}
 definition app file:///c.ts 0:0
 200 {"places":[{"end":{"character":4,"line":0},"project":"app","start":{"character":2,"line":0},"uri":"file:///c.ts"}]}"#,

@@ -1,60 +1,31 @@
 //! The conflicts of spans with others and with each other.
 ghost use Rattle.std.specs.Prelude.{◌<◌};
 
-use dump::{Checker, FeedFault};
-use lsif::{Code, Edge, Element, Id, Profile, Vertex};
-use positions::{Position, Span};
+use super::super::samples::{NUMBERS, push_line, text_of};
+use dump::{DumpFault, LineFault, read_dump};
+use lsif::{Code, Counted, Profile};
 use std::alloc::Global;
 use std::test::Fail;
 
 /// From a line and a character up to a line and a character.
 type Ends = (u32, u32, u32, u32);
 
-fn span((line, from, last_line, to): Ends) -> Result<Span, &'static str> {
-    let start = Position::new(line, from).ok_or("no position")?;
-    let end = Position::new(last_line, to).ok_or("no position")?;
-    Span::new(start, end).ok_or("no span")
-}
-
-/// A checker of a dump with one document, whose id is 2, and the number of the last range.
-#[derive(Drop)]
-struct Made {
-    checker: Checker,
-    last: u64,
-}
-
-impl Made {
-    fn new(alloc: Global) -> Result<Made, Fail> {
-        let mut checker = Checker::new(alloc, Profile::One);
-        checker.feed(Ok(Element::Vertex(Id::Number(1), Vertex::MetaData(true))))?;
-        let uri = String::from_str(alloc, "file:///a.ts")?;
-        checker.feed(Ok(Element::Vertex(Id::Number(2), Vertex::Document(uri))))?;
-        Ok(Made { checker, last: 2 })
+/// Adds ranges behind the line of this number, and an edge by which the document contains them. The number of that edge.
+fn push_contained(text: &mut String, last: usize, ranges: &[Ends]) -> Result<usize, Fail> {
+    let alloc = *text.allocator();
+    let mut number = last;
+    let mut contained = String::new(alloc);
+    for (line, from, last_line, to) in ranges {
+        number = number.saturating_add(1);
+        let range = format!(in alloc; "range {line}:{from} {last_line}:{to}")?;
+        push_line(text, number, range.as_str(), NUMBERS)?;
+        contained.push_str(format!(in alloc; "{number},")?.as_str())?;
     }
-
-    fn next_id(&mut self) -> u64 {
-        self.last = self.last.wrapping_add(1);
-        self.last
-    }
-
-    /// Adds ranges, and an edge by which the document contains them. The code of the edge.
-    fn contain(&mut self, alloc: Global, all: &[Ends]) -> Result<Option<Code>, Fail> {
-        let mut ranges = Vec::new(alloc);
-        for ends in all {
-            let id = self.next_id();
-            let range = Vertex::Range(span(*ends)?);
-            self.checker
-                .feed(Ok(Element::Vertex(Id::Number(id), range)))?;
-            ranges.push(Id::Number(id))?;
-        }
-        let id = Id::Number(self.next_id());
-        let edge = Element::Edge(id, Edge::Contains(Id::Number(2), ranges));
-        match self.checker.feed(Ok(edge)) {
-            Ok(()) => Ok(None),
-            Err(FeedFault::Line(fault)) => Ok(Some(fault.code)),
-            Err(FeedFault::Memory) => Err("memory was refused")?,
-        }
-    }
+    contained.pop();
+    number = number.saturating_add(1);
+    let edge = format!(in alloc; "contains 2>[{contained}]")?;
+    push_line(text, number, edge.as_str(), NUMBERS)?;
+    Ok(number)
 }
 
 /// Whether the targets of a `contains` edge conflict with the others, which so many edges before it name at once, or
@@ -67,16 +38,17 @@ fn conflict_where(
 ) -> Result<bool, Fail>
     requires { 0 < at_once }
 {
-    let mut made = Made::new(alloc)?;
+    let mut text = text_of(alloc, "metaData 0.6.0\ndocument file:///a.ts")?;
+    let mut last = 2;
     for part in others.chunks(at_once) {
-        if made.contain(alloc, part)?.is_some() {
-            Err("the others conflict")?
-        }
+        last = push_contained(&mut text, last, part)?;
     }
-    match made.contain(alloc, targets)? {
-        None => Ok(false),
-        Some(Code::L12) => Ok(true),
-        Some(_) => Err("another fault")?,
+    last = push_contained(&mut text, last, targets)?;
+    match read_dump(alloc, Profile::One, &mut Counted::new(text.as_bytes())) {
+        Ok(_) => Ok(false),
+        Err(DumpFault::Line(LineFault { line, code }))
+            if line as usize == last && code == Code::L12 => { Ok(true) }
+        Err(_) => Err("another fault")?,
     }
 }
 

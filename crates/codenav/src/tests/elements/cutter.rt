@@ -39,9 +39,10 @@ fn row(alloc: Global, text: &str, most: usize) -> Result<String, Fail> {
             break;
         }
     }
-    let rest = cutter
-        .rest()
-        .map(|rest| str::from_utf8(rest).unwrap_or("no text"));
+    let rest = match cutter.rest() {
+        Some(rest) => Some(str::from_utf8(rest).unwrap_or("no text")),
+        None => None,
+    };
     found.push_str(format!(in alloc; " {rest:?}\n")?.as_str())?;
     Ok(found)
 }

@@ -1,57 +1,67 @@
-//! The ends of edges: the source and the targets, whatever the label.
-use lsif::{Element, Id, Profile, read_element};
+//! The ids of elements, and the ends of edges: the source and the targets, whatever the label.
+use lsif::{Element, Profile, read_element};
 use std::alloc::Global;
 use std::test::Fail;
 
-/// Edges of each label, and their ends as they are found: the source, and behind `>` the targets.
+/// Elements behind their ids, and what is read of them: the id, and of an edge the source, and behind `>` the targets.
 const ENDS: &str = r#"
-"contains","outV":1,"inVs":[2,3] => 1 > 2 3
-"next","outV":1,"inV":2 => 1 > 2
-"textDocument/definition","outV":1,"inV":2 => 1 > 2
-"textDocument/references","outV":1,"inV":2 => 1 > 2
-"textDocument/declaration","outV":1,"inV":2 => 1 > 2
-"textDocument/implementation","outV":1,"inV":2 => 1 > 2
-"textDocument/hover","outV":1,"inV":2 => 1 > 2
-"moniker","outV":1,"inV":2 => 1 > 2
-"packageInformation","outV":1,"inV":2 => 1 > 2
-"attach","outV":1,"inV":2 => 1 > 2
-"item","outV":1,"inVs":[2,3],"shard":4 => 1 > 2 3
-"note","outV":1,"inV":2 => 1 > 2
-"note","outV":1,"inVs":[2,3] => 1 > 2 3
+7,"type":"edge","label":"contains","outV":1,"inVs":[2,3] => Number(7): Number(1) > [Number(2), Number(3)]
+7,"type":"edge","label":"contains","outV":1,"inVs":[0,1,"2"] => Number(7): Number(1) > [Number(0), Number(1), Text("2")]
+7,"type":"edge","label":"next","outV":1,"inV":2 => Number(7): Number(1) > [Number(2)]
+"7","type":"edge","label":"next","outV":"1","inV":"2" => Text("7"): Text("1") > [Text("2")]
+7,"type":"edge","label":"textDocument/definition","outV":1,"inV":2 => Number(7): Number(1) > [Number(2)]
+7,"type":"edge","label":"textDocument/references","outV":1,"inV":2 => Number(7): Number(1) > [Number(2)]
+7,"type":"edge","label":"textDocument/declaration","outV":1,"inV":2 => Number(7): Number(1) > [Number(2)]
+7,"type":"edge","label":"textDocument/implementation","outV":1,"inV":2 => Number(7): Number(1) > [Number(2)]
+7,"type":"edge","label":"textDocument/hover","outV":1,"inV":2 => Number(7): Number(1) > [Number(2)]
+7,"type":"edge","label":"moniker","outV":1,"inV":2 => Number(7): Number(1) > [Number(2)]
+7,"type":"edge","label":"packageInformation","outV":1,"inV":2 => Number(7): Number(1) > [Number(2)]
+7,"type":"edge","label":"attach","outV":1,"inV":2 => Number(7): Number(1) > [Number(2)]
+7,"type":"edge","label":"item","outV":1,"inVs":[2,3],"shard":4 => Number(7): Number(1) > [Number(2), Number(3)]
+7,"type":"edge","label":"note","outV":1,"inV":2 => Number(7): Number(1) > [Number(2)]
+7,"type":"edge","label":"note","outV":1,"inVs":[2,3] => Number(7): Number(1) > [Number(2), Number(3)]
+1,"type":"vertex","label":"document","uri":"FILE:///a.ts" => Number(1)
+"1","type":"vertex","label":"document","uri":"FILE:///a.ts" => Text("1")
 "#;
 
-/// Adds an id that is a number, behind a text.
-fn push_id(text: &mut String, before: &str, id: &Id) -> Result<(), Fail> {
-    let alloc = *text.allocator();
-    match id {
-        Id::Number(number) => Ok(text.push_str(format!(in alloc; "{before}{number}")?.as_str())?),
-        Id::Text(_) => Err("no number")?,
+/// The id and the ends of the element that a line spells in profile 2.
+fn ends_text(alloc: Global, line: &str) -> Result<String, Fail> {
+    match read_element(alloc, Profile::Two, line.as_bytes()) {
+        Ok(Element::Vertex(id, _)) => Ok(format!(in alloc; "{id:?}")?),
+        Ok(Element::Edge(id, edge)) => {
+            let (source, targets) = edge.ends();
+            Ok(format!(in alloc; "{id:?}: {source:?} > {targets:?}")?)
+        }
+        Err(_) => Err("no element")?,
     }
 }
 
-/// The ends of the edge that a line spells in profile 2.
-fn ends_text(alloc: Global, line: &[u8]) -> Result<String, Fail> {
-    let mut text = String::new(alloc);
-    if let Ok(Element::Edge(_, edge)) = read_element(alloc, Profile::Two, line) {
-        let (source, targets) = edge.ends();
-        push_id(&mut text, "", source)?;
-        text.push_str(" >")?;
-        for target in targets {
-            push_id(&mut text, " ", target)?;
-        }
+/// An edge whose targets are the numbers below 10,000, and what is read of it.
+fn many_targets(alloc: Global) -> Result<(String, String), Fail> {
+    let mut line = String::from_str(
+        alloc,
+        r#"{"id":1,"type":"edge","label":"contains","outV":1,"inVs":[0"#,
+    )?;
+    let mut wanted = String::from_str(alloc, "Number(1): Number(1) > [Number(0)")?;
+    for number in 1..10000 {
+        line.push_str(format!(in alloc; ",{number}")?.as_str())?;
+        wanted.push_str(format!(in alloc; ", Number({number})")?.as_str())?;
     }
-    Ok(text)
+    line.push_str("]}")?;
+    wanted.push(']')?;
+    Ok((line, wanted))
 }
 
 #[test]
 fn ends_of_edges(rt: HostRuntime) -> Result<(), Fail> {
-    let mut found = String::from_str(rt.alloc(), "\n")?;
-    for wanted in ENDS.trim_matches('\n').lines() {
-        let (part, _) = wanted.split_once(" => ").ok_or("no row")?;
-        let line = format!(in rt.alloc(); "{{\"id\":7,\"type\":\"edge\",\"label\":{part}}}")?;
-        let ends = ends_text(rt.alloc(), line.as_bytes())?;
-        found.push_str(format!(in rt.alloc(); "{part} => {ends}\n")?.as_str())?;
+    for row in ENDS.trim_matches('\n').lines() {
+        let (part, wanted) = row.split_once(" => ").ok_or("no row")?;
+        let line = format!(in rt.alloc(); "{{\"id\":{part}}}")?;
+        let found = ends_text(rt.alloc(), line.as_str())?;
+        assert_eq!(rt; (part, found.as_str()), (part, wanted));
     }
-    assert_eq!(rt; found.as_str(), ENDS);
+    let (line, wanted) = many_targets(rt.alloc())?;
+    let found = ends_text(rt.alloc(), line.as_str())?;
+    assert_eq!(rt; found.as_str(), wanted.as_str());
     Ok(())
 }

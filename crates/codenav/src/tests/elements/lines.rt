@@ -3,42 +3,10 @@ ghost use Rattle.std.specs.Prelude.{◌≡◌, ◌+◌, ◌-◌, ◌^◌, ◌<�
 ghost use Rattle.lsif.specs.Buffered.{unread};
 ghost use Rattle.lsif.specs.Lines.{lines_of};
 
+use super::super::samples::{Pieces, in_pieces};
 use lsif::{Counted, LineBuffer, Lines, LinesFault, Source};
 use std::alloc::Global;
-use std::io;
-use std::io::{ErrorKind, Read};
 use std::test::Fail;
-
-/// A reader that gives at most so many bytes at a time, and fails once, at the read of that number.
-#[derive(Drop)]
-struct Pieces<'a> {
-    bytes: &'a [u8],
-    most: usize,
-    fails_at: u32,
-    reads: u32,
-}
-
-impl Read for Pieces<'_> {
-    fn read(&mut self, buf: &mut [u8]) -> io::Result<usize> {
-        self.reads = self.reads.saturating_add(1);
-        if self.reads == self.fails_at {
-            return Err(io::Error::from(ErrorKind::Other));
-        }
-        let count = self.bytes.len().min(self.most).min(buf.len());
-        buf[..count].copy_from_slice(&self.bytes[..count]);
-        self.bytes = &self.bytes[count..];
-        Ok(count)
-    }
-}
-
-fn in_pieces(bytes: &[u8], most: usize, fails_at: u32) -> Pieces<'_> {
-    Pieces {
-        bytes,
-        most,
-        fails_at,
-        reads: 0,
-    }
-}
 
 /// How many lines are left, where they are fewer than `u64::MAX`.
 fn count_lines<S: Source>(lines: &mut Lines<S>) -> Result<Option<u64>, LinesFault>
@@ -101,7 +69,8 @@ fn answers(alloc: Global, lines: &mut Lines<Counted<Pieces<'_>>>) -> Result<Stri
 
 /// The text of a reader, of lines of at most seven bytes, and what seven asks answer.
 fn row(alloc: Global, text: &str, most: usize, fails_at: u32) -> Result<String, Fail> {
-    let reader = in_pieces(text.as_bytes(), most, fails_at);
+    let mut reader = in_pieces(text.as_bytes(), most);
+    reader.fails_at = fails_at;
     let mut lines = Lines::new(alloc, Counted::new(reader), 7)?;
     let found = answers(alloc, &mut lines)?;
     Ok(format!(in alloc; "{text:?} =>{found}\n")?)

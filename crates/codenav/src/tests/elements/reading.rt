@@ -1,4 +1,4 @@
-//! What is read of lines: an element, or the code of its shape. A table's row is a part of a line and what is read of
+//! What is read of lines: an element, or the code of its shape. Ids and ends are in `ends.rt`. A table's row is a part of a line and what is read of
 //! it, with `=>` between them: a code, what a vertex or an edge of some labels says, or `an element`; and behind a bar what
 //! profile 2 reads, where that differs.
 use lsif::{Edge, Element, Id, MonikerKind, Profile, ReadFault, Vertex, profile_law, read_element};
@@ -228,129 +228,71 @@ fn tables_of_lines(rt: HostRuntime) -> Result<(), Fail> {
     Ok(())
 }
 
-/// Adds the rows of blank lines and others.
-fn push_blanks(alloc: Global, found: &mut String) -> Result<(), Fail> {
-    let null_first = b"{\"id\":null,\"id\":1,\"type\":\"vertex\",\"label\":\"x\"}\r";
-    for (name, line) in [
-        ("empty", b"".as_slice()),
-        ("blank", b" \t\r"),
-        ("a byte order mark", "\u{feff}{}".as_bytes()),
-        ("not UTF-8", b"{\"id\":\"\xff\"}"),
-        ("two ids, and a CR at the end", null_first),
-    ] {
-        found.push_str(row(alloc, name, line)?.as_str())?;
-    }
-    Ok(())
-}
-
-/// Adds the row of a vertex of label `note` with a member of so many nested arrays.
-fn push_arrays(alloc: Global, found: &mut String, depth: usize) -> Result<(), Fail> {
-    let before = r#"{"id":2,"type":"vertex","label":"note","x":"#;
-    let opened = "[".repeat(alloc, depth)?;
-    let closed = "]".repeat(alloc, depth)?;
-    let line = format!(in alloc; "{before}{opened}{closed}}}")?;
-    let name = format!(in alloc; "{depth} arrays")?;
-    Ok(found.push_str(row(alloc, name.as_str(), line.as_bytes())?.as_str())?)
-}
-
-/// Adds the row of a vertex with blanks behind it, up to this length.
-fn push_bytes(alloc: Global, found: &mut String, length: usize) -> Result<(), Fail> {
-    let element = r#"{"id":1,"type":"vertex","label":"x"}"#;
-    let blanks = " ".repeat(alloc, length.saturating_sub(element.len()))?;
-    let line = format!(in alloc; "{element}{blanks}")?;
-    let name = format!(in alloc; "{length} bytes")?;
-    Ok(found.push_str(row(alloc, name.as_str(), line.as_bytes())?.as_str())?)
-}
-
-const MADE: &str = "
-empty => L02
-blank => L02
-a byte order mark => L02
-not UTF-8 => L02
-two ids, and a CR at the end => another vertex
-126 arrays => another vertex
-127 arrays => L02
-1048576 bytes => another vertex
-1048577 bytes => L01
-";
+/// Lines, and a row of what is read of each. In a line so many of a second text and as many of a third stand between the first and the last.
+const MADE: &[(&[u8], usize, &str, &str, &str, &str)] = &[
+    (b"", 0, "", "", "", "empty => L02\n"),
+    (b" \t\r", 0, "", "", "", "blank => L02\n"),
+    (
+        b"\xef\xbb\xbf{}",
+        0,
+        "",
+        "",
+        "",
+        "a byte order mark => L02\n",
+    ),
+    (b"{\"id\":\"\xff\"}", 0, "", "", "", "not UTF-8 => L02\n"),
+    (
+        b"{\"id\":null,\"id\":1,\"type\":\"vertex\",\"label\":\"x\"}\r",
+        0,
+        "",
+        "",
+        "",
+        "two ids, and a CR at the end => another vertex\n",
+    ),
+    (
+        br#"{"id":2,"type":"vertex","label":"note","x":"#,
+        126,
+        "[",
+        "]",
+        "}",
+        "126 arrays => another vertex\n",
+    ),
+    (
+        br#"{"id":2,"type":"vertex","label":"note","x":"#,
+        127,
+        "[",
+        "]",
+        "}",
+        "127 arrays => L02\n",
+    ),
+    (
+        br#"{"id":1,"type":"vertex","label":"x"}"#,
+        1_048_540,
+        " ",
+        "",
+        "",
+        "1048576 bytes => another vertex\n",
+    ),
+    (
+        br#"{"id":1,"type":"vertex","label":"x"}"#,
+        1_048_541,
+        " ",
+        "",
+        "",
+        "1048577 bytes => L01\n",
+    ),
+];
 
 #[test]
 fn blanks_depths_and_lengths(rt: HostRuntime) -> Result<(), Fail> {
-    let mut found = String::from_str(rt.alloc(), "\n")?;
-    push_blanks(rt.alloc(), &mut found)?;
-    for depth in [126, 127] {
-        push_arrays(rt.alloc(), &mut found, depth)?;
+    for (before, times, opening, closing, after, wanted) in MADE {
+        let (name, _) = wanted.split_once(" => ").ok_or("no row")?;
+        let mut line = Vec::from_slice(rt.alloc(), before)?;
+        line.extend_from_slice(opening.repeat(rt.alloc(), *times)?.as_bytes())?;
+        line.extend_from_slice(closing.repeat(rt.alloc(), *times)?.as_bytes())?;
+        line.extend_from_slice(after.as_bytes())?;
+        let found = row(rt.alloc(), name, line.as_slice())?;
+        assert_eq!(rt; found.as_str(), *wanted);
     }
-    for length in [1_048_576, 1_048_577] {
-        push_bytes(rt.alloc(), &mut found, length)?;
-    }
-    assert_eq!(rt; found.as_str(), MADE);
-    Ok(())
-}
-
-/// Whether the element of this line has the id.
-fn has_id(alloc: Global, line: &[u8], id: &Id) -> Option<bool> {
-    match read_element(alloc, Profile::One, line) {
-        Ok(element) => Some(element.id().is(id)),
-        Err(_) => None,
-    }
-}
-
-/// How many targets a `contains` edge out of the element with the number 1 has, and how many of them from the first on are
-/// the numbers from 0 on.
-fn counts(element: &Element) -> Option<(usize, u64)> {
-    match element {
-        Element::Edge(_, Edge::Contains(from, to)) if from.is(&Id::Number(1)) => {
-            Some((to.len(), in_turn(to)))
-        }
-        _ => None,
-    }
-}
-
-/// How many of the ids from the first on are the numbers from 0 on.
-fn in_turn(ids: &[Id]) -> u64 {
-    let mut count = 0u64;
-    for id in ids {
-        if !id.is(&Id::Number(count)) {
-            break;
-        }
-        count = count.saturating_add(1);
-    }
-    count
-}
-
-/// The counts of the element that is read of a line.
-fn counts_of(alloc: Global, line: &[u8]) -> Option<(usize, u64)> {
-    match read_element(alloc, Profile::One, line) {
-        Ok(element) => counts(&element),
-        Err(_) => None,
-    }
-}
-
-/// The line of a `contains` edge whose targets are the numbers below 10,000.
-fn with_targets(alloc: Global) -> Result<String, Fail> {
-    let before = r#"{"id":1,"type":"edge","label":"contains","outV":1,"inVs":[0"#;
-    let mut line = String::from_str(alloc, before)?;
-    for number in 1..10000 {
-        line.push_str(format!(in alloc; ",{number}")?.as_str())?;
-    }
-    line.push_str("]}")?;
-    Ok(line)
-}
-
-#[test]
-fn ids_and_targets(rt: HostRuntime) -> Result<(), Fail> {
-    let document = br#"{"id":"1","type":"vertex","label":"document","uri":"FILE:///a.ts"}"#;
-    let text = Id::Text(String::from_str(rt.alloc(), "1")?);
-    let number = Id::Number(1);
-    assert_eq!(rt; has_id(rt.alloc(), document, &text), Some(true));
-    assert_eq!(rt; has_id(rt.alloc(), document, &number), Some(false));
-    let contains = br#"{"id":3,"type":"edge","label":"contains","outV":1,"inVs":[0,1,"2"]}"#;
-    assert_eq!(rt; counts_of(rt.alloc(), contains), Some((3, 2)));
-    let line = with_targets(rt.alloc())?;
-    assert_eq!(rt;
-        counts_of(rt.alloc(), line.as_bytes()),
-        Some((10000, 10000))
-    );
     Ok(())
 }

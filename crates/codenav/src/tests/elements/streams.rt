@@ -1,50 +1,16 @@
 //! Readers and writers of std's under the counts.
+use super::super::samples::slow_writer;
 use lsif::{Counted, Sink, Source, counted_law};
 use std::alloc::Global;
-use std::io;
-use std::io::{ErrorKind, Write};
 use std::test::Fail;
 
-/// A writer that takes at most so many bytes at a time, and fails once, at the write of that number.
-#[derive(Drop)]
-struct Slow {
-    taken: Vec<u8>,
-    most: usize,
-    fails_at: u32,
-    writes: u32,
-}
-
-impl Write for Slow {
-    fn write(&mut self, bytes: &[u8]) -> io::Result<usize> {
-        self.writes = self.writes.saturating_add(1);
-        if self.writes == self.fails_at {
-            return Err(io::Error::from(ErrorKind::Other));
-        }
-        let count = bytes.len().min(self.most);
-        self.taken.extend_from_slice(&bytes[..count])?;
-        Ok(count)
-    }
-
-    fn flush(&mut self) -> io::Result<()> {
-        Ok(())
-    }
-}
-
-fn slow_writer(alloc: Global, most: usize, fails_at: u32) -> Counted<Slow> {
-    Counted::new(Slow {
-        taken: Vec::new(alloc),
-        most,
-        fails_at,
-        writes: 0,
-    })
-}
-
-/// Pulls three times: the answers, with the bytes of the room and the failures after each.
-fn pulls(alloc: Global, reader: &mut Counted<&[u8]>) -> Result<String, Fail> {
+/// Pulls three times of a slice: the answers, with the bytes of the room after each.
+fn slice_pulls(alloc: Global) -> Result<String, Fail> {
+    let mut reader = Counted::new(b"abc".as_slice());
     let mut room = [0; 2];
     let mut found = String::new(alloc);
     for _ in 0..3 {
-        if Source::failures(reader) != 0 {
+        if Source::failures(&reader) != 0 {
             Err("a pull failed")?;
         }
         let answer = reader.pull(&mut room);
@@ -52,12 +18,6 @@ fn pulls(alloc: Global, reader: &mut Counted<&[u8]>) -> Result<String, Fail> {
         found.push_str(format!(in alloc; "{answer:?} {text}; ")?.as_str())?;
     }
     Ok(found)
-}
-
-/// The same of a slice.
-fn slice_pulls(alloc: Global) -> Result<String, Fail> {
-    let mut reader = Counted::new(b"abc".as_slice());
-    pulls(alloc, &mut reader)
 }
 
 /// Pushes each of the parts: the answers, and then how often a push failed and how often one took nothing.
@@ -85,7 +45,7 @@ fn vector_pushes(alloc: Global, parts: &[&str]) -> Result<String, Fail> {
 
 /// The same of a slow writer.
 fn slow_pushes(alloc: Global, most: usize, fails_at: u32, parts: &[&str]) -> Result<String, Fail> {
-    let mut writer = slow_writer(alloc, most, fails_at);
+    let mut writer = Counted::new(slow_writer(alloc, most, fails_at));
     let found = pushes(alloc, &mut writer, parts)?;
     let taken = writer.into_inner().taken;
     let text = str::from_utf8(&taken).unwrap_or("no text");
@@ -112,20 +72,16 @@ Ok(2) Err(Failed) Ok(2) 1 0 abef
 ";
 
 /// Writers that take little, nothing, and one that fails once.
-fn all_slow_pushes(alloc: Global) -> Result<String, Fail> {
-    let mut found = String::new(alloc);
+#[test]
+fn slow_writers(rt: HostRuntime) -> Result<(), Fail> {
+    let mut found = String::new(rt.alloc());
     for (most, fails_at, parts) in [
         (1, 0, ["ab", "b", ""]),
         (0, 0, ["ab", "", "ab"]),
         (9, 2, ["ab", "cd", "ef"]),
     ] {
-        found.push_str(slow_pushes(alloc, most, fails_at, &parts)?.as_str())?;
+        found.push_str(slow_pushes(rt.alloc(), most, fails_at, &parts)?.as_str())?;
     }
-    Ok(found)
-}
-
-#[test]
-fn slow_writers(rt: HostRuntime) -> Result<(), Fail> {
-    assert_eq!(rt; all_slow_pushes(rt.alloc())?.as_str(), SLOW);
+    assert_eq!(rt; found.as_str(), SLOW);
     Ok(())
 }
