@@ -120,11 +120,11 @@ fn insert_bearer<S: Alter>(
     ensures put { HasCleanDisk (state S.Store tx.new.conn.now) → IsTrue tx.old.conn.now.in_transaction
         → (state S.Store tx.old.conn.now).now.schema ≡ schema_two
         → ((row : Columns) → Has (map (λ columns. Int slot ∷ columns) (flat_map (λ r. range_more (range_value r)) rows.now.ranges.items)) row
-            → Holds (state S.Store tx.old.conn.now).now.trees more_tree row)
+        → Holds (state S.Store tx.old.conn.now).now.trees more_tree row)
         → ((row : Columns) → Has (map (λ columns. Int slot ∷ columns) (flat_map (λ b. bearer_more (bearer_value b)) (take at rows.now.bearers.items))) row
-            → Holds (state S.Store tx.old.conn.now).now.trees more_tree row)
+        → Holds (state S.Store tx.old.conn.now).now.trees more_tree row)
         → OnOk result (Steps (PutsAll more_tree (map (λ columns. Int slot ∷ columns) (bearer_more (bearer_value bearer.now))))
-            (state S.Store tx.old.conn.now) (state S.Store tx.new.conn.now)) }
+        (state S.Store tx.old.conn.now) (state S.Store tx.new.conn.now)) }
     ensures kept { HasCleanDisk (state S.Store tx.new.conn.now) → KeepsCommit (state S.Store tx.old.conn.now) (state S.Store tx.new.conn.now) }
     ensures survives { Survives (state S.Store tx.old.conn.now) (state S.Store tx.new.conn.now) (λ _. ⊥) }
 {
@@ -144,9 +144,9 @@ fn insert_bearers<S: Alter>(
     ensures put { HasCleanDisk (state S.Store tx.new.conn.now) → IsTrue tx.old.conn.now.in_transaction
         → (state S.Store tx.old.conn.now).now.schema ≡ schema_two
         → ((row : Columns) → Has (map (λ columns. Int slot ∷ columns) (flat_map (λ r. range_more (range_value r)) rows.now.ranges.items)) row
-            → Holds (state S.Store tx.old.conn.now).now.trees more_tree row)
+        → Holds (state S.Store tx.old.conn.now).now.trees more_tree row)
         → OnOk result (Steps (PutsAll more_tree (flat_map (λ b. map (λ columns. Int slot ∷ columns) (bearer_more (bearer_value b))) rows.now.bearers.items))
-            (state S.Store tx.old.conn.now) (state S.Store tx.new.conn.now)) }
+        (state S.Store tx.old.conn.now) (state S.Store tx.new.conn.now)) }
     ensures kept { HasCleanDisk (state S.Store tx.new.conn.now) → KeepsCommit (state S.Store tx.old.conn.now) (state S.Store tx.new.conn.now) }
     ensures survives { Survives (state S.Store tx.old.conn.now) (state S.Store tx.new.conn.now) (λ _. ⊥) }
 {

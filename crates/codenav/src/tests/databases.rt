@@ -2,19 +2,19 @@
 //! twice by the gate. What is asked of a connection stands in functions over any store: one over a store of files takes long to prove.
 ghost use Rattle.std.specs.Prelude.{◌≡◌, false, IfOk};
 
-mod changes;
+pub(super) mod changes;
 mod covering;
-mod migrated;
+pub(super) mod migrated;
 mod names;
 mod opening;
 mod selections;
-mod stops;
+pub(super) mod stops;
 
 use sqlite::{Alter, Connection, FileStore, Files, Options};
 use sqlite_disk::{Crash, Fuse, Memory};
 use std::alloc::Global;
 use std::test::Fail;
-use tables::Tables;
+use tables::{Tables, TablesFault};
 use tags::{Tag, read_tags};
 
 /// The tables of format 1, as they were made.
@@ -39,6 +39,9 @@ pub(super) fn opened<S: Alter + Drop>(conn: Connection<S>) -> Result<Tables<S>, 
         Err(_) => Err("not opened")?,
     }
 }
+
+/// What is done over a connection whose store may stop: how many steps were accepted, the fault of the next one, where it's told, and the connection.
+pub(super) type Lived<S> = (usize, Option<TablesFault>, Connection<S>);
 
 fn tags_of(alloc: Global, text: &str) -> Result<Vec<Tag>, Fail> {
     match read_tags(alloc, text.as_bytes()) {

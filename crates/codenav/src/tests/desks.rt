@@ -9,6 +9,7 @@ mod pieces;
 mod profiles;
 mod queries;
 
+use super::databases::opened;
 use super::samples::dump_text;
 use desk::{
     Command, Desk, DocUri, Key, PlainDesk, ProjectName, Query, Reply, Request, TableDesk,
@@ -17,7 +18,7 @@ use desk::{
 use dump::RequestKind;
 use lsif::Profile;
 use positions::Position;
-use sqlite::Alter;
+use sqlite::{Alter, Connection, MemStore};
 use std::alloc::Global;
 use std::process::Abort;
 use std::test::Fail;
@@ -185,10 +186,15 @@ fn reply_to<D: Desk>(alloc: Global, desk: &mut D, row: &'static str) -> Result<S
     served(alloc, desk, &request(alloc, row, body.as_str())?)
 }
 
+/// A desk over the tables of a new database in memory.
+fn table_desk(alloc: Global) -> Result<TableDesk<MemStore>, Fail> {
+    Ok(TableDesk::new(alloc, opened(Connection::open_in_memory(alloc)?)?))
+}
+
 /// Asserts the replies of new desks, one that keeps dumps in memory and one over tables: below each row stand the status and the body of its reply.
 fn expect_replies<R: AllocGlobal + Abort>(rt: &R, scenario: &'static str) -> Result<(), Fail> {
     expect_of(rt, &mut PlainDesk::new(rt.alloc()), scenario)?;
-    expect_of_tables(rt, &mut TableDesk::open_in_memory(rt.alloc())?, scenario)
+    expect_of_tables(rt, &mut table_desk(rt.alloc())?, scenario)
 }
 
 /// Asserts the replies of a new desk over tables.

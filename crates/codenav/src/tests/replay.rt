@@ -3,7 +3,7 @@ use super::samples::{Pieces, Slow, dump_text, in_pieces, reply, slow_writer};
 use crate::replay::replay_in_memory;
 use http_edge::ServeFault;
 use lsif::Counted;
-use std::alloc::{AllocError, Global};
+use std::alloc::Global;
 use std::process::Abort;
 use std::test::Fail;
 
@@ -158,6 +158,7 @@ fn status_of(status: &str) -> Result<&'static str, Fail> {
         "400" => Ok("400 Bad Request"),
         "404" => Ok("404 Not Found"),
         "422" => Ok("422 Unprocessable Entity"),
+        "503" => Ok("503 Service Unavailable"),
         _ => Err(Fail::from("no such status")),
     }
 }
@@ -216,45 +217,6 @@ pub(super) fn expect<R: AllocGlobal + Abort>(
         "{most}"
     );
     assert_eq!(rt; answer, Ok(count), "{wanted}");
-}
-
-/// The reply with the places of a request: the first character of so many lines of `file:///a.ts`.
-fn places_reply(alloc: Global, lines: u32) -> Result<String, Fail> {
-    let mut places = String::from_str(alloc, "200 {\"places\":[")?;
-    for line in 0..lines {
-        let place = format!(in alloc;
-            "{{\"end\":{{\"character\":1,\"line\":{line}}},\"project\":\"app\",\"start\":{{\"character\":0,\"line\":{line}}},\"uri\":\"file:///a.ts\"}},"
-        )?;
-        places.push_str(place.as_str())?;
-    }
-    places.pop();
-    places.push_str("]}")?;
-    reply_of(alloc, places.as_str())
-}
-
-/// An upload of a dump, and a request at the first position of `file:///a.ts`.
-fn place_requests(alloc: Global, dump: &str, request: &str) -> Result<String, AllocError> {
-    let length = dump.len();
-    format!(in alloc;
-        "PUT /projects/app/lsif?key=k1 HTTP/1.1\r\nContent-Length: {length}\r\n\r\n{dump}GET /projects/app/{request}?uri=file:///a.ts&line=0&character=0 HTTP/1.1\r\n\r\n"
-    )
-}
-
-/// Asserts that a dump of so many elements is accepted, and the places of a request at the first position of `file:///a.ts`: the
-/// first character of so many lines.
-pub(super) fn expect_places<R: AllocGlobal + Abort>(
-    rt: &R,
-    dump: &str,
-    request: &str,
-    elements: u32,
-    lines: u32,
-) -> Result<(), Fail> {
-    let stream = place_requests(rt.alloc(), dump, request)?;
-    let accepted = format!(in rt.alloc(); "200 {{\"accepted\":\"lsif\",\"count\":{elements}}}")?;
-    let mut wanted = reply_of(rt.alloc(), accepted.as_str())?;
-    wanted.push_str(places_reply(rt.alloc(), lines)?.as_str())?;
-    expect(rt, stream.as_bytes(), 1_000_000, 2, wanted.as_str());
-    Ok(())
 }
 
 /// Asserts what is written for streams that come whole, and for no bytes.

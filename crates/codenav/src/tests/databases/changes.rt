@@ -42,7 +42,7 @@ pub(super) const TAGS: &str = "a\tf.c\t1;\"\tf\tclass:B\\tC\nb\tf.c\t/x/\n";
 
 /// A change of the index, each under a key of its own.
 #[derive(Clone, Copy)]
-pub(super) enum Step {
+pub(crate) enum Step {
     /// Puts `FULL`, by profile 2.
     Full(&'static str),
     /// Puts `SMALL`, by profile 1.
@@ -107,13 +107,13 @@ pub(super) fn take<S: Alter>(
 
 /// A step under a key, and how many rows the tables have before it.
 #[derive(Clone, Copy)]
-pub(super) struct Row {
-    pub(super) step: Step,
-    pub(super) key: &'static str,
+pub(crate) struct Row {
+    pub(crate) step: Step,
+    pub(crate) key: &'static str,
     before: [usize; 11],
 }
 
-pub(super) const ROWS: &[Row] = &[
+pub(crate) const ROWS: &[Row] = &[
     Row {
         step: Step::Full("app"),
         key: "k1",

@@ -1,10 +1,9 @@
-//! What a migration keeps, and what it leaves where the store stops.
-use super::{FORMAT_ONE, connected, files_of, fuses, opened, reopened};
-use sqlite::{Alter, Connection, Files, MemStore};
-use sqlite_disk::{Fuse, Memory};
+//! What a migration keeps. Where the store stops in its midst is in the `stops.rt` of all tests.
+use super::{FORMAT_ONE, Lived, opened};
+use sqlite::{Alter, Connection, MemStore};
 use std::alloc::Global;
 use std::test::Fail;
-use tables::{Tables, TablesFault, migrate};
+use tables::{Tables, migrate};
 
 /// Parts of three projects, of which two have a dump, and the reply to the removal of a fourth.
 const PARTS: &str =
@@ -76,60 +75,32 @@ fn migrated(rt: HostRuntime) -> Result<(), Fail> {
     Ok(())
 }
 
-/// How far the making of tables of format 1 and their migration went. A migration that was refused has a fault.
-#[derive(Clone, Copy, PartialEq, Eq)]
-enum Reached {
-    Nothing,
-    FormatOne(TablesFault),
-    FormatTwo,
-}
-
-/// Whether tables of format 1 with these parts could be made.
-fn is_made<S: Alter>(alloc: Global, conn: &mut Connection<S>) -> Result<bool, Fail> {
-    let text = format!(in alloc; "BEGIN;{FORMAT_ONE};{PARTS};COMMIT")?;
-    Ok(conn.execute_batch(&text).is_ok())
-}
-
-/// How far a migration went, and the connection.
-fn reached_by<S: Alter + Drop>(conn: Connection<S>) -> (Reached, Connection<S>) {
+/// Migrates a database of format 1: 2 steps where it's of format 2 then, else 1 and the fault.
+fn migrated_by<S: Alter + Drop>(conn: Connection<S>) -> Lived<S> {
     if !conn.is_autocommit() {
-        return (Reached::Nothing, conn);
+        return (0, None, conn);
     }
     match migrate(conn) {
-        Ok((tables, _)) => (Reached::FormatTwo, tables.into_connection()),
-        Err((fault, conn)) => (Reached::FormatOne(fault), conn),
+        Ok((tables, _)) => (2, None, tables.into_connection()),
+        Err((fault, conn)) => (1, Some(fault), conn),
     }
 }
 
-/// The same where tables of format 1 are made first.
-fn made_and_migrated<S: Alter + Drop>(
+/// The same where tables of format 1 with these parts are made first; no step where they can't be made.
+pub(crate) fn made_and_migrated<S: Alter + Drop>(
     alloc: Global,
     mut conn: Connection<S>,
-) -> Result<(Reached, Connection<S>), Fail> {
-    if is_made(alloc, &mut conn)? {
-        Ok(reached_by(conn))
+) -> Result<Lived<S>, Fail> {
+    let text = format!(in alloc; "BEGIN;{FORMAT_ONE};{PARTS};COMMIT")?;
+    if conn.execute_batch(&text).is_ok() {
+        Ok(migrated_by(conn))
     } else {
-        Ok((Reached::Nothing, conn))
-    }
-}
-
-/// The same in files that stop after so many calls.
-fn migration_stopped(
-    alloc: Global,
-    log: u64,
-    db: u64,
-) -> Result<(Reached, Files<Fuse<Memory>>), Fail> {
-    match connected(alloc, log, db) {
-        Ok(conn) => {
-            let (reached, conn) = made_and_migrated(alloc, conn)?;
-            Ok((reached, files_of(conn)))
-        }
-        Err(files) => Ok((Reached::Nothing, files)),
+        Ok((0, None, conn))
     }
 }
 
 /// Whether the tables that a connection shows can be migrated, and then have the rows of the parts.
-fn is_migrated<S: Alter + Drop>(conn: Connection<S>) -> Result<bool, Fail> {
+pub(crate) fn is_migrated<S: Alter + Drop>(conn: Connection<S>) -> Result<bool, Fail> {
     if !conn.is_autocommit() {
         return Err("in a transaction")?;
     }
@@ -137,28 +108,4 @@ fn is_migrated<S: Alter + Drop>(conn: Connection<S>) -> Result<bool, Fail> {
         Ok((tables, _)) => Ok(lost(&mut tables.into_connection())?.is_none()),
         Err(_) => Ok(false),
     }
-}
-
-/// Each call of one of the files stops the store in turn: a migration answers that the store refused, and leaves tables of format 1, or those of
-/// format 2, whole.
-#[test]
-fn migration_stopped_at_each_call(rt: HostRuntime) -> Result<(), Fail> {
-    for is_log in [true, false] {
-        let mut reached = Reached::Nothing;
-        for calls in 0..10000u64 {
-            let (log, db) = fuses(is_log, calls);
-            let (far, files) = migration_stopped(rt.alloc(), log, db)?;
-            let is_whole = is_migrated(reopened(rt.alloc(), files)?)?;
-            assert!(rt; is_whole || far == Reached::Nothing);
-            if let Reached::FormatOne(fault) = far {
-                assert_eq!(rt; (calls, fault), (calls, TablesFault::Refused));
-            }
-            reached = far;
-            if reached == Reached::FormatTwo {
-                break;
-            }
-        }
-        assert!(rt; reached == Reached::FormatTwo);
-    }
-    Ok(())
 }

@@ -1,9 +1,9 @@
 //! Which fault the opening and the migration of a database answer, and that tables of other names don't count.
 use super::{FORMAT_ONE, opened};
-use sqlite::{Alter, Connection, FileStore, Files, Options};
+use sqlite::{Alter, Connection};
 use std::alloc::Global;
 use std::test::Fail;
-use tables::{MemoryDisk, Tables, TablesFault, migrate};
+use tables::{Tables, TablesFault, migrate};
 
 /// A text that makes a database, and the fault that its opening answers.
 #[derive(Drop)]
@@ -113,18 +113,6 @@ fn opens_and_migrates(rt: HostRuntime) -> Result<(), Fail> {
     Ok(())
 }
 
-/// An empty database in files in memory.
-fn in_memory_files(alloc: Global) -> Result<Connection<FileStore<MemoryDisk>>, Fail> {
-    let files = Files {
-        log: MemoryDisk::new(alloc),
-        db: MemoryDisk::new(alloc),
-    };
-    match Connection::open_files(alloc, files, Options::new(1)) {
-        Ok(conn) => Ok(conn),
-        Err((error, _)) => Err(error)?,
-    }
-}
-
 /// How many objects the schema has of the tables that are opened over a connection.
 fn objects<S: Alter + Drop>(conn: Connection<S>) -> Result<usize, Fail> {
     let mut conn = opened(conn)?.into_connection();
@@ -134,6 +122,6 @@ fn objects<S: Alter + Drop>(conn: Connection<S>) -> Result<usize, Fail> {
 /// There are 12 tables, 11 keys and 3 indexes.
 #[test]
 fn in_memory(rt: HostRuntime) -> Result<(), Fail> {
-    assert_eq!(rt; objects(in_memory_files(rt.alloc())?)?, 26);
+    assert_eq!(rt; objects(Connection::open_in_memory(rt.alloc())?)?, 26);
     Ok(())
 }

@@ -1,8 +1,7 @@
-//! Stores that stop: what the tables hold when they are opened again, and what the calls answer.
+//! What is done with tables whose store may stop, and what they hold when they're opened again. The stops themselves are in the `stops.rt` of all tests.
 use super::changes::{ROWS, Step, TAGS, held, rows_after, take};
-use super::{connected, files_of, fuses, opened, reopened};
-use sqlite::{Alter, Connection, Files};
-use sqlite_disk::{Fuse, Memory};
+use super::{Lived, opened};
+use sqlite::{Alter, Connection};
 use std::alloc::Global;
 use std::test::Fail;
 use tables::{Tables, TablesFault};
@@ -20,11 +19,11 @@ fn take_steps<S: Alter>(
     Ok((ROWS.len(), None))
 }
 
-/// Opens the tables and takes the steps until one is refused: how many were accepted, the fault, and the connection.
-fn taken<S: Alter + Drop>(
+/// Opens the tables and takes the steps until one is refused.
+pub(crate) fn steps_taken<S: Alter + Drop>(
     alloc: Global,
     conn: Connection<S>,
-) -> Result<(usize, Option<TablesFault>, Connection<S>), Fail> {
+) -> Result<Lived<S>, Fail> {
     if !conn.is_autocommit() {
         return Err("in a transaction")?;
     }
@@ -37,52 +36,19 @@ fn taken<S: Alter + Drop>(
     }
 }
 
-/// How many steps were accepted until one was refused, the fault, and the files.
-type Stopped = (usize, Option<TablesFault>, Files<Fuse<Memory>>);
-
-/// Takes the steps in files that stop after so many calls.
-fn stopped(alloc: Global, log: u64, db: u64) -> Result<Stopped, Fail> {
-    match connected(alloc, log, db) {
-        Ok(conn) => {
-            let (count, fault, conn) = taken(alloc, conn)?;
-            Ok((count, fault, files_of(conn)))
-        }
-        Err(files) => Ok((0, None, files)),
-    }
-}
-
-/// How many rows the tables have that a connection shows.
-fn held_by<S: Alter + Drop>(alloc: Global, conn: Connection<S>) -> Result<Vec<usize>, Fail> {
+/// Whether the tables that a connection shows have the rows after so many steps, or after one more.
+pub(crate) fn have_taken<S: Alter + Drop>(
+    alloc: Global,
+    conn: Connection<S>,
+    steps: usize,
+) -> Result<bool, Fail> {
     let mut conn = opened(conn)?.into_connection();
-    held(alloc, &mut conn)
-}
-
-/// Whether these are the rows after so many steps, or after one more.
-fn is_left(counts: &[usize], steps: usize) -> bool {
-    counts == rows_after(steps).as_slice()
-        || (steps < ROWS.len() && counts == rows_after(steps + 1).as_slice())
-}
-
-/// Each call of one of the files stops the store in turn: what is left is the state before the step that was refused, or the one after
-/// it, and a step that was accepted isn't lost. What is refused answers that the store refused.
-#[test]
-fn stop_at_each_call(rt: HostRuntime) -> Result<(), Fail> {
-    for is_log in [true, false] {
-        let mut taken = 0;
-        for calls in 0..10000u64 {
-            let (log, db) = fuses(is_log, calls);
-            let (count, fault, files) = stopped(rt.alloc(), log, db)?;
-            let left = held_by(rt.alloc(), reopened(rt.alloc(), files)?)?;
-            assert!(rt; is_left(&left, count));
-            assert!(rt; fault.is_none() || fault == Some(TablesFault::Refused));
-            taken = count;
-            if taken == ROWS.len() {
-                break;
-            }
-        }
-        assert!(rt; taken == ROWS.len());
-    }
-    Ok(())
+    let counts = held(alloc, &mut conn)?;
+    let counts = counts.as_slice();
+    Ok(
+        counts == rows_after(steps).as_slice()
+            || (steps < ROWS.len() && counts == rows_after(steps + 1).as_slice()),
+    )
 }
 
 /// What the first call answers that is refused, of a put of tags and a selection.
@@ -93,64 +59,24 @@ fn refused<S: Alter>(alloc: Global, tables: &mut Tables<S>) -> Result<Option<Tab
     }
 }
 
-/// How far the calls come in files that each stop after a number of calls.
-#[derive(Clone, Copy, PartialEq, Eq)]
-enum Reached {
-    Unopened,
-    Refused(TablesFault),
-    Whole,
-}
-
-/// How far they come over this connection.
-fn reached_by<S: Alter + Drop>(
+/// Opens the tables, of a database in memory or another, and makes these two calls: 2 steps where neither is refused, 1 where one is, and none where
+/// the tables aren't opened.
+pub(crate) fn first_calls<S: Alter + Drop>(
     alloc: Global,
     conn: Connection<S>,
     is_in_memory: bool,
-) -> Result<Reached, Fail> {
+) -> Result<Lived<S>, Fail> {
     if !conn.is_autocommit() {
         return Err("in a transaction")?;
     }
-    let Ok(mut tables) = Tables::open(conn) else {
-        return Ok(Reached::Unopened);
+    let mut tables = match Tables::open(conn) {
+        Ok(tables) => tables,
+        Err((_, conn)) => return Ok((0, None, conn)),
     };
     if is_in_memory {
         tables = tables.in_memory();
     }
-    match refused(alloc, &mut tables)? {
-        Some(fault) => Ok(Reached::Refused(fault)),
-        None => Ok(Reached::Whole),
-    }
-}
-
-fn reached_in(alloc: Global, calls: u64, is_in_memory: bool) -> Result<Reached, Fail> {
-    match connected(alloc, calls, calls) {
-        Ok(conn) => reached_by(alloc, conn, is_in_memory),
-        Err(_) => Ok(Reached::Unopened),
-    }
-}
-
-/// The faults that the calls answer, for each number of calls after which the files stop.
-fn told_faults(alloc: Global, is_in_memory: bool) -> Result<Vec<TablesFault>, Fail> {
-    let mut told = Vec::new(alloc);
-    for calls in 0..10000u64 {
-        match reached_in(alloc, calls, is_in_memory)? {
-            Reached::Unopened => {}
-            Reached::Refused(fault) => told.push(fault)?,
-            Reached::Whole => break,
-        }
-    }
-    Ok(told)
-}
-
-/// A store that can't do what is asked was refused memory exactly where the database is in memory.
-#[test]
-fn stopped_in_memory(rt: HostRuntime) -> Result<(), Fail> {
-    for (is_in_memory, fault) in [(false, TablesFault::Refused), (true, TablesFault::Memory)] {
-        let told = told_faults(rt.alloc(), is_in_memory)?;
-        assert!(rt; !told.is_empty());
-        for found in &told {
-            assert_eq!(rt; *found, fault);
-        }
-    }
-    Ok(())
+    let fault = refused(alloc, &mut tables)?;
+    let count = if fault.is_some() { 1 } else { 2 };
+    Ok((count, fault, tables.into_connection()))
 }

@@ -1,7 +1,7 @@
 //! Ranges around ranges, and a row that isn't one of this product's.
 use super::super::databases::opened;
 use super::super::samples::great::levels;
-use super::{command, reply_to, text_of};
+use super::{command, reply_to, table_desk, text_of};
 use desk::{Desk, TableDesk};
 use sqlite::Alter;
 use std::alloc::Global;
@@ -72,8 +72,7 @@ fn found<S: Alter + Drop>(
 #[test]
 fn climb(rt: HostRuntime) -> Result<(), Fail> {
     for (row, sql, wanted) in ROWS {
-        let desk = TableDesk::open_in_memory(rt.alloc())?;
-        let found = found(rt.alloc(), desk, *row, *sql)?;
+        let found = found(rt.alloc(), table_desk(rt.alloc())?, *row, *sql)?;
         assert_eq!(rt; found.as_str(), *wanted, "{row} {sql}");
     }
     Ok(())
@@ -94,7 +93,7 @@ fn ten_thousand_levels(rt: HostRuntime) -> Result<(), Fail> {
     let dump = levels(rt.alloc(), false)?;
     let wanted =
         r#"200 {"places":[{"end":{"character":20000,"line":0},"project":"app","start":{"character":0,"line":0},"uri":"file:///a.ts"}]}"#;
-    let mut desk = TableDesk::open_in_memory(rt.alloc())?;
+    let mut desk = table_desk(rt.alloc())?;
     let found = deepest(rt.alloc(), &mut desk, dump.as_str())?;
     assert_eq!(rt; found.as_str(), wanted);
     Ok(())

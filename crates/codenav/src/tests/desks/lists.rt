@@ -1,5 +1,5 @@
 //! Each list of four requests, and so each shorter one: it's the beginning of others. Both desks give the same replies.
-use super::{requests, served, uploads};
+use super::{requests, served, table_desk, uploads};
 use desk::{Desk, PlainDesk, Request, TableDesk};
 use sqlite::Alter;
 use std::process::Abort;
@@ -156,7 +156,7 @@ fn expect_lists<R: AllocGlobal + Abort>(rt: &R, first: usize) -> Result<(), Fail
     for n in 0..729 {
         let rows = [first, n / 81, n / 9 % 9, n % 9, 9];
         expect_list(rt, &mut PlainDesk::new(rt.alloc()), &requests, rows)?;
-        let mut desk = TableDesk::open_in_memory(rt.alloc())?;
+        let mut desk = table_desk(rt.alloc())?;
         expect_list_of_tables(rt, &mut desk, &requests, rows)?;
     }
     Ok(())
