@@ -1,9 +1,8 @@
 -- The rows of dumps as entries: what a selection by the slot of a dump gives.
-use Rattle.std.proofs.Common.{◌≡◌, ◌≢◌, ◌⊎◌, true, is_eq, int_cmp, inl, inr, ℕ, ℤ, pos, List, [], ◌∷◌, map, Option, Some, None, refl, sym, ap, subst, ◌∙◌}
+use Rattle.std.proofs.Common.{◌≡◌, inl, inr, ℕ, ℤ, List, [], ◌∷◌, map, Option, Some, None, refl, sym, ap, subst, ◌∙◌}
 use Rattle.std.specs.Prelude.{◌↔◌, Contains}
 use Rattle.std.specs.List.{AllByRecursion}
 use Rattle.std.specs.List.Sorted.{IsStrictlySortedBy}
-use Rattle.std.proofs.lemmas.Bool.{cases_Bool}
 use Rattle.sqlite_value.specs.Order.{Row}
 use Rattle.sqlite_value.specs.declared.value.Value.{Value}
 use Rattle.sqlite_value.specs.declared.value.Value.TheVariants.{Int}
@@ -18,13 +17,15 @@ use Rattle.flatten.specs.Flat.{RowsValue, IsFlat}
 use Rattle.tables.specs.Databases.{Holds}
 use Rattle.tables.specs.Columns.{dump_rows, tag_rows}
 use Rattle.tables.specs.Contents.{IsOwned, owned, slot_row}
+use Rattle.tables.specs.declared.slots.Part.{Part}
+use Rattle.tables.specs.declared.slots.Part.TheVariants.{Dump, Tags}
 use Rattle.machine.specs.State.{State}
 use Rattle.tables.specs.Stands.{StandsFor, IsDump, AreTags, Each}
 use Rattle.tables.specs.Steps.Selected.{AreTyped, Selects, ShowsOne}
 use Rattle.tables.specs.Steps.DumpEntries.{Entries, entry_values, SelectsOf, ShowsOneOf}
 use Rattle.tables.proofs.Entries.{typed_as}
 use Rattle.tables.proofs.FoundSlots.{one_slot}
-use Rattle.tables.proofs.Keeping.{none_is_some, same_some, table_of, slot_is, same_int_is, same_int_itself, from_map, to_map}
+use Rattle.tables.proofs.Keeping.{none_is_some, same_some, table_of, slot_is, which_part, from_map, to_map}
 use Rattle.tables.proofs.Selecting.{all_of, of_all}
 
 each_some : {X : Type 0} (HasRows : X → (ℕ → List Row) → Type 0) (o : Option X) (p : Option (ℕ → List Row)) (rows : ℕ → List Row) → Each HasRows o p → p ≡ Some rows → (x : X) × (o ≡ Some x) × HasRows x rows
@@ -69,44 +70,32 @@ module _ {E X V : Type 0} (shown : E → Row) (Of Matches : E → Type 0) (colum
         contains_had (map value xs) v (subst (Has (map value xs)) same (to_map value xs x.0 x.1))),
   )
 
-same_or_not : (a b : ℤ) → (a ≡ b) ⊎ (a ≢ b)
-same_or_not a b = elim (cases_Bool (is_eq (int_cmp a b))) [
-  | inl same ↦ inl (same_int_is a b same)
-  | inr other ↦ inr (λ e. absurd (let t = subst (λ (x : ℤ). is_eq (int_cmp a x) ≡ true) e (same_int_itself a) in let f = other in cc))
-]
-
 module _ (db : Trees) (m : State) (s : StandsFor db m) where
   -- a part of the first kind is a dump
-  pub dump_of : (project : List ℕ) (rows : ℕ → List Row) → s.parts project (pos 1) ≡ Some rows → (dump : DumpValue) × (m.dump project ≡ Some dump) × IsDump dump rows
-  dump_of project rows = each_some IsDump (m.dump project) (s.parts project (pos 1)) rows (s.dumps project)
+  pub dump_of : (project : List ℕ) (rows : ℕ → List Row) → s.parts project Dump ≡ Some rows → (dump : DumpValue) × (m.dump project ≡ Some dump) × IsDump dump rows
+  dump_of project rows = each_some IsDump (m.dump project) (s.parts project Dump) rows (s.dumps project)
 
-  pub rows_of : (project : List ℕ) (dump : DumpValue) → m.dump project ≡ Some dump → (rows : ℕ → List Row) × (s.parts project (pos 1) ≡ Some rows) × IsDump dump rows
-  rows_of project dump = some_each IsDump (m.dump project) (s.parts project (pos 1)) dump (s.dumps project)
+  pub rows_of : (project : List ℕ) (dump : DumpValue) → m.dump project ≡ Some dump → (rows : ℕ → List Row) × (s.parts project Dump ≡ Some rows) × IsDump dump rows
+  rows_of project dump = some_each IsDump (m.dump project) (s.parts project Dump) dump (s.dumps project)
 
-  pub no_dump : (project : List ℕ) → s.parts project (pos 1) ≡ None → m.dump project ≡ None
-  no_dump project = none_each IsDump (m.dump project) (s.parts project (pos 1)) (s.dumps project)
+  pub no_dump : (project : List ℕ) → s.parts project Dump ≡ None → m.dump project ≡ None
+  no_dump project = none_each IsDump (m.dump project) (s.parts project Dump) (s.dumps project)
 
-  pub tags_of : (project : List ℕ) (rows : ℕ → List Row) → s.parts project (pos 2) ≡ Some rows → (tags : List TagValue) × (m.tags project ≡ Some tags) × AreTags tags rows
-  tags_of project rows = each_some AreTags (m.tags project) (s.parts project (pos 2)) rows (s.tags project)
+  pub tags_of : (project : List ℕ) (rows : ℕ → List Row) → s.parts project Tags ≡ Some rows → (tags : List TagValue) × (m.tags project ≡ Some tags) × AreTags tags rows
+  tags_of project rows = each_some AreTags (m.tags project) (s.parts project Tags) rows (s.tags project)
 
-  pub rows_of_tags : (project : List ℕ) (tags : List TagValue) → m.tags project ≡ Some tags → (rows : ℕ → List Row) × (s.parts project (pos 2) ≡ Some rows) × AreTags tags rows
-  rows_of_tags project tags = some_each AreTags (m.tags project) (s.parts project (pos 2)) tags (s.tags project)
+  pub rows_of_tags : (project : List ℕ) (tags : List TagValue) → m.tags project ≡ Some tags → (rows : ℕ → List Row) × (s.parts project Tags ≡ Some rows) × AreTags tags rows
+  rows_of_tags project tags = some_each AreTags (m.tags project) (s.parts project Tags) tags (s.tags project)
 
-  pub no_tags : (project : List ℕ) → s.parts project (pos 2) ≡ None → m.tags project ≡ None
-  no_tags project = none_each AreTags (m.tags project) (s.parts project (pos 2)) (s.tags project)
-
-  pub which_part : (project : List ℕ) (part : ℤ) (rows : ℕ → List Row) → s.parts project part ≡ Some rows → (part ≡ pos 1) ⊎ (part ≡ pos 2)
-  which_part project part rows has = elim (same_or_not part (pos 1)) [
-    | inl one ↦ inl one
-    | inr other ↦ elim (same_or_not part (pos 2)) [ inl two ↦ inr two | inr none ↦ absurd (none_is_some (sym (s.others project part other none) ∙ has)) ]
-  ]
+  pub no_tags : (project : List ℕ) → s.parts project Tags ≡ None → m.tags project ≡ None
+  no_tags project = none_each AreTags (m.tags project) (s.parts project Tags) (s.tags project)
 
   -- the slot of a project's dump
-  pub dump_slot : (project : List ℕ) (id : ℤ) → Has (db 1) (slot_row id project (pos 1)) → (dump : DumpValue) × (m.dump project ≡ Some dump)
+  pub dump_slot : (project : List ℕ) (id : ℤ) → Has (db 1) (slot_row id project Dump) → (dump : DumpValue) × (m.dump project ≡ Some dump)
   dump_slot project id h =
       let it = s.keeps.slots _ h in
       let same = (slot_is it.is).1 in
-      let d = dump_of it.project it.rows (subst (λ (k : ℤ). s.parts it.project k ≡ Some it.rows) (sym same.1) it.has) in
+      let d = dump_of it.project it.rows (subst (λ (k : Part). s.parts it.project k ≡ Some it.rows) (sym same.1) it.has) in
       (d.0, subst (λ (p : List ℕ). m.dump p ≡ Some d.0) (sym same.0) d.1)
 
   -- a table with rows of dumps alone
@@ -116,13 +105,13 @@ module _ (db : Trees) (m : State) (s : StandsFor db m) where
     values = entry_values columns Of db m
 
     from_owned : (row : Row) → IsOwned db s.parts tree row → (e : Entries Of db m) × (row ≡ values e)
-    from_owned row o = elim (which_part o.project o.part o.rows o.has) [
+    from_owned row o = elim (which_part o.part) [
       | inl one ↦
-          let d = dump_of o.project o.rows (subst (λ (k : ℤ). s.parts o.project k ≡ Some o.rows) one o.has) in
+          let d = dump_of o.project o.rows (subst (λ (k : Part). s.parts o.project k ≡ Some o.rows) one o.has) in
           let it = (are d.0 d.2.flat d.2.is_flat o.values).0 (subst (λ (r : ℕ → List Row). Has (r tree) o.values) d.2.are_rows o.listed) in
-          ((record { slot = o.id; value = it.0 }, record { project = o.project; dump = d.0; slot = subst (λ (k : ℤ). Has (db 1) (slot_row o.id o.project k)) one o.slot; has = d.1; is = it.1 }), o.is ∙ ap (λ (v : Row). Int o.id ∷ v) it.2)
+          ((record { slot = o.id; value = it.0 }, record { project = o.project; dump = d.0; slot = subst (λ (k : Part). Has (db 1) (slot_row o.id o.project k)) one o.slot; has = d.1; is = it.1 }), o.is ∙ ap (λ (v : Row). Int o.id ∷ v) it.2)
       | inr two ↦
-          let t = tags_of o.project o.rows (subst (λ (k : ℤ). s.parts o.project k ≡ Some o.rows) two o.has) in
+          let t = tags_of o.project o.rows (subst (λ (k : Part). s.parts o.project k ≡ Some o.rows) two o.has) in
           absurd (subst (λ (l : List Row). Has l o.values) (untagged t.0) (subst (λ (r : ℕ → List Row). Has (r tree) o.values) t.2 o.listed))
     ]
 
@@ -136,16 +125,16 @@ module _ (db : Trees) (m : State) (s : StandsFor db m) where
     held e =
         let r = rows_of e.1.project e.1.dump e.1.has in
         let listed = (are e.1.dump r.2.flat r.2.is_flat (columns e.0.value)).1 (e.0.value, e.1.is, refl) in
-        (s.keeps.children tree owns (values e)).1 (record { id = e.0.slot; project = e.1.project; part = pos 1; rows = r.0; values = columns e.0.value; slot = e.1.slot; has = r.1; listed = subst (λ (f : ℕ → List Row). Has (f tree) (columns e.0.value)) (sym r.2.are_rows) listed; is = refl })
+        (s.keeps.children tree owns (values e)).1 (record { id = e.0.slot; project = e.1.project; part = Dump; rows = r.0; values = columns e.0.value; slot = e.1.slot; has = r.1; listed = subst (λ (f : ℕ → List Row). Has (f tree) (columns e.0.value)) (sym r.2.are_rows) listed; is = refl })
 
     -- one dump of them, by its slot
-    module _ (project : List ℕ) (dump : DumpValue) (id : ℤ) (slot : Has (db 1) (slot_row id project (pos 1))) (has : m.dump project ≡ Some dump) (Matches : E → Type 0) where
+    module _ (project : List ℕ) (dump : DumpValue) (id : ℤ) (slot : Has (db 1) (slot_row id project Dump)) (has : m.dump project ≡ Some dump) (Matches : E → Type 0) where
       abbrev Wanted : ℤ → Entries Of db m → Type 0
       Wanted at e = (e.0.slot ≡ id) × Matches e.0.value
 
       pub in_dump : (e : Entries Of db m) → e.0.slot ≡ id → Of dump e.0.value
       in_dump e same =
-          let p = (one_slot db s.parts _ id e.1.project project (pos 1) (pos 1) s.keeps (subst (λ (i : ℤ). Has (db 1) (slot_row i e.1.project (pos 1))) same e.1.slot) slot).0 in
+          let p = (one_slot db s.parts _ id e.1.project project Dump Dump s.keeps (subst (λ (i : ℤ). Has (db 1) (slot_row i e.1.project Dump)) same e.1.slot) slot).0 in
           let d : e.1.dump ≡ dump = same_some (sym e.1.has ∙ (ap m.dump p ∙ has)) in
           subst (λ (x : DumpValue). Of x e.0.value) d e.1.is
 

@@ -57,7 +57,7 @@ module _ (db : Trees) (made : WasMade db) where
   }
 
   pub stands_empty : StandsFor db nothing
-  stands_empty = record { listed = made.2; parts = λ p k. None; keeps = keeps_nothing; dumps = λ p. tt; tags = λ p. tt; others = λ p k one two. refl }
+  stands_empty = record { listed = made.2; parts = λ p k. None; keeps = keeps_nothing; dumps = λ p. tt; tags = λ p. tt }
 
 -- tables that were made and committed
 pub made_rests : (s : sqlite.State) → IsMade s.now → s.committed ≡ s.now → Rests s nothing

@@ -15,6 +15,9 @@ use Rattle.tables.specs.Contents.{Contents, Replies, slot_row, owned, Keeps, cha
 use Rattle.tables.specs.Steps.Puts.{Puts, PutsAll, GoesOn, Steps, Then}
 use Rattle.tables.specs.Schema.{schema_two}
 use Rattle.tables.specs.Databases.{Holds}
+use Rattle.tables.specs.Parts.{part_number}
+use Rattle.tables.specs.declared.slots.Part.{Part}
+use Rattle.tables.specs.declared.slots.Part.TheVariants.{Dump, Tags}
 use Rattle.tables.proofs.Keeping.{keeps_slot, keeps_rows, is_owned, from_map, to_map}
 use Rattle.tables.proofs.Puts.{puts_none, puts_then}
 
@@ -79,13 +82,13 @@ pub held_of : {X : Type 0} (tree : ℕ) (id : ℤ) (f : X → List Row) (xs : Li
     → (row : Row) → Has (map (λ columns. Int id ∷ columns) (flat_map f xs)) row → Holds new tree row
 held_of tree id f xs old new puts row h = (puts.rows row).1 (inl (subst (λ l. Has l row) (map_flat id f xs) h))
 
-module _ (parts : Contents) (replies : Replies) (project : List ℕ) (part id : ℤ) where
+module _ (parts : Contents) (replies : Replies) (project : List ℕ) (part : Part) (id : ℤ) where
   -- the part has these rows so far, under this slot
   pub record IsFilling (rows : ℕ → List Row) (db : Trees) : Type 0 where
     pub keeps : Keeps db (changed parts project part (Some rows)) replies
     pub slot : Has (db 1) (slot_row id project part)
 
-  pub begins : (old new : Trees) → Keeps old (changed parts project part None) replies → Puts 1 id (Null ∷ Text project ∷ Int part ∷ []) old new → IsFilling nowhere new
+  pub begins : (old new : Trees) → Keeps old (changed parts project part None) replies → Puts 1 id (Null ∷ Text project ∷ Int (part_number part) ∷ []) old new → IsFilling nowhere new
   begins old new is puts = record { keeps = keeps_slot parts project part replies id old new is puts; slot = (puts.rows (slot_row id project part)).1 (inl refl) }
 
   pub fills : (tree : ℕ) (rows : ℕ → List Row) (list : List Row) (old new : Trees) → Has owned tree → rows tree ≡ [] → IsFilling rows old → PutsAll tree (map (λ values. Int id ∷ values) list) old new → IsFilling (laid tree list rows) new
@@ -99,29 +102,29 @@ module _ (parts : Contents) (replies : Replies) (project : List ℕ) (id : ℤ) 
   Given tree list = PutsAll tree (map (λ values. Int id ∷ values) list)
 
   -- a slot and the rows of a dump
-  pub dump_filled : (a b c d e f : State) → Keeps a.now.trees (changed parts project (pos 1) None) replies → Steps (Puts 1 id (Null ∷ Text project ∷ Int (pos 1) ∷ [])) a b
+  pub dump_filled : (a b c d e f : State) → Keeps a.now.trees (changed parts project Dump None) replies → Steps (Puts 1 id (Null ∷ Text project ∷ Int (pos 1) ∷ [])) a b
       → Steps (Then (Given 5 (map document_columns flat.documents)) (Then (Given 7 (map range_columns flat.ranges)) (Given 9 (map item_columns flat.items)))) b c
       → Steps (Then (Given 11 (map hover_columns flat.hovers)) (Then (Given 13 (map mark_columns flat.marks)) (Given 15 (map bearer_columns flat.bearers)))) c d
       → Steps (PutsAll 22 ((Int id ∷ profile_columns profile) ∷ [])) d e → Steps (Given 24 (more_rows flat)) e f
-      → GoesOn a f × Keeps f.now.trees (changed parts project (pos 1) (Some (dump_rows profile flat))) replies
+      → GoesOn a f × Keeps f.now.trees (changed parts project Dump (Some (dump_rows profile flat))) replies
   dump_filled a b c d e f is (on1, p) (on2, first) (on3, second) (on4, q) (on5, r) =
-      let s0 = begins parts replies project (pos 1) id a.now.trees b.now.trees is p in
-      let s1 = fills parts replies project (pos 1) id 5 _ (map document_columns flat.documents) b.now.trees first.0 (inl refl) refl s0 first.1 in
-      let s2 = fills parts replies project (pos 1) id 7 _ (map range_columns flat.ranges) first.0 first.2.0 (inr (inl refl)) refl s1 first.2.1 in
-      let s3 = fills parts replies project (pos 1) id 9 _ (map item_columns flat.items) first.2.0 c.now.trees (inr (inr (inl refl))) refl s2 first.2.2 in
-      let s4 = fills parts replies project (pos 1) id 11 _ (map hover_columns flat.hovers) c.now.trees second.0 (inr (inr (inr (inl refl)))) refl s3 second.1 in
-      let s5 = fills parts replies project (pos 1) id 13 _ (map mark_columns flat.marks) second.0 second.2.0 (inr (inr (inr (inr (inl refl))))) refl s4 second.2.1 in
-      let s6 = fills parts replies project (pos 1) id 15 _ (map bearer_columns flat.bearers) second.2.0 d.now.trees (inr (inr (inr (inr (inr (inl refl)))))) refl s5 second.2.2 in
-      let s7 = fills parts replies project (pos 1) id 22 _ (profile_columns profile ∷ []) d.now.trees e.now.trees (inr (inr (inr (inr (inr (inr (inr (inl refl)))))))) refl s6 q in
-      let s8 = fills parts replies project (pos 1) id 24 _ (more_rows flat) e.now.trees f.now.trees (inr (inr (inr (inr (inr (inr (inr (inr (inl refl))))))))) refl s7 r in
+      let s0 = begins parts replies project Dump id a.now.trees b.now.trees is p in
+      let s1 = fills parts replies project Dump id 5 _ (map document_columns flat.documents) b.now.trees first.0 (inl refl) refl s0 first.1 in
+      let s2 = fills parts replies project Dump id 7 _ (map range_columns flat.ranges) first.0 first.2.0 (inr (inl refl)) refl s1 first.2.1 in
+      let s3 = fills parts replies project Dump id 9 _ (map item_columns flat.items) first.2.0 c.now.trees (inr (inr (inl refl))) refl s2 first.2.2 in
+      let s4 = fills parts replies project Dump id 11 _ (map hover_columns flat.hovers) c.now.trees second.0 (inr (inr (inr (inl refl)))) refl s3 second.1 in
+      let s5 = fills parts replies project Dump id 13 _ (map mark_columns flat.marks) second.0 second.2.0 (inr (inr (inr (inr (inl refl))))) refl s4 second.2.1 in
+      let s6 = fills parts replies project Dump id 15 _ (map bearer_columns flat.bearers) second.2.0 d.now.trees (inr (inr (inr (inr (inr (inl refl)))))) refl s5 second.2.2 in
+      let s7 = fills parts replies project Dump id 22 _ (profile_columns profile ∷ []) d.now.trees e.now.trees (inr (inr (inr (inr (inr (inr (inr (inl refl)))))))) refl s6 q in
+      let s8 = fills parts replies project Dump id 24 _ (more_rows flat) e.now.trees f.now.trees (inr (inr (inr (inr (inr (inr (inr (inr (inl refl))))))))) refl s7 r in
       (goes_then a e f (goes_then a d e (goes_then a c d (goes_then a b c on1 on2) on3) on4) on5, s8.keeps)
 
 module _ (parts : Contents) (replies : Replies) (project : List ℕ) (id : ℤ) where
   -- a slot and the rows of tags
-  pub tags_filled : (tags : List TagValue) (a b c : State) → Keeps a.now.trees (changed parts project (pos 2) None) replies → Steps (Puts 1 id (Null ∷ Text project ∷ Int (pos 2) ∷ [])) a b
+  pub tags_filled : (tags : List TagValue) (a b c : State) → Keeps a.now.trees (changed parts project Tags None) replies → Steps (Puts 1 id (Null ∷ Text project ∷ Int (pos 2) ∷ [])) a b
       → Steps (PutsAll 17 (map (λ values. Int id ∷ values) (map tag_columns tags))) b c
-      → GoesOn a c × Keeps c.now.trees (changed parts project (pos 2) (Some (tag_rows tags))) replies
+      → GoesOn a c × Keeps c.now.trees (changed parts project Tags (Some (tag_rows tags))) replies
   tags_filled tags a b c is (on1, p) (on2, q) =
-      let s0 = begins parts replies project (pos 2) id a.now.trees b.now.trees is p in
-      let s1 = fills parts replies project (pos 2) id 17 _ (map tag_columns tags) b.now.trees c.now.trees (inr (inr (inr (inr (inr (inr (inl refl))))))) refl s0 q in
+      let s0 = begins parts replies project Tags id a.now.trees b.now.trees is p in
+      let s1 = fills parts replies project Tags id 17 _ (map tag_columns tags) b.now.trees c.now.trees (inr (inr (inr (inr (inr (inr (inl refl))))))) refl s0 q in
       (goes_then a b c on1 on2, s1.keeps)

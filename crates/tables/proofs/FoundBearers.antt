@@ -14,6 +14,7 @@ use Rattle.sqlite_rules.specs.Lists.{Has}
 use Rattle.sqlite_rules.proofs.ListLemmas.{has_contained, contains_had}
 use Rattle.dump.specs.Places.{IsListing}
 use Rattle.flatten.proofs.Listing.{same_listing}
+use Rattle.tables.specs.declared.slots.Part.TheVariants.{Dump}
 use Rattle.tables.proofs.BearerOrder.{tied_bearers}
 use Rattle.dump.specs.Progress.{DumpValue}
 use Rattle.flatten.specs.Flat.{RowsValue, IsFlat, BearerRowValue, IsBearerRow, kind_index}
@@ -106,7 +107,7 @@ module _ (key : List ℕ) where
           v,
           record {
             dump = e.1.dump;
-            slot = subst (λ (i : ℤ). Has (db 1) (slot_row i e.1.project (pos 1))) it.slot_is e.1.slot;
+            slot = subst (λ (i : ℤ). Has (db 1) (slot_row i e.1.project Dump)) it.slot_is e.1.slot;
             has = e.1.has;
             is = subst (λ (k : List ℕ). IsBearer e.1.dump (record { line = b.line; key = k; kind = b.kind; results = b.results })) under e.1.is;
             line = it.line;
@@ -126,7 +127,7 @@ module _ (key : List ℕ) where
       all_told : (v : BearerFound) → Bears m key v → (x : SlotBearer) × Has xs x × TellsBearer db m key x v
       all_told v h =
           let r = rows_of db m s v.project h.0 h.1 in
-          let slot = s.keeps.there v.project (pos 1) r.0 r.1 in
+          let slot = s.keeps.there v.project Dump r.0 r.1 in
           let e : Entries IsBearer db m = (record { slot = slot.0; value = bearer_row key v }, record { project = v.project; dump = h.0; slot = slot.1; has = h.1; is = h.2 }) in
           let x = from_map told_columns xs (bearer_shown slot.0 (bearer_row key v)) (found.all e (held db m s IsBearer bearer_columns 15 is_owned are (λ tags. refl) e, refl)) in
           let it = is_shown x.0 slot.0 (bearer_row key v) (sym x.2) in (
@@ -134,7 +135,7 @@ module _ (key : List ℕ) where
             x.1,
             record {
               dump = h.0;
-              slot = subst (λ (i : ℤ). Has (db 1) (slot_row i v.project (pos 1))) it.slot_is slot.1;
+              slot = subst (λ (i : ℤ). Has (db 1) (slot_row i v.project Dump)) it.slot_is slot.1;
               has = h.1;
               is = h.2;
               line = it.line;

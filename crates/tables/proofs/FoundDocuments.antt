@@ -13,6 +13,7 @@ use Rattle.sqlite_rules.specs.Lists.{Has}
 use Rattle.dump.specs.Places.{HasDocument}
 use Rattle.dump.specs.Progress.{DumpValue}
 use Rattle.flatten.specs.Flat.{RowsValue, IsFlat}
+use Rattle.tables.specs.declared.slots.Part.TheVariants.{Dump}
 use Rattle.tables.specs.Schema.{schema_two}
 use Rattle.tables.specs.Columns.{dump_rows, document_columns}
 use Rattle.tables.specs.Contents.{owned, slot_row}
@@ -77,7 +78,7 @@ module _ (uri : List ℕ) where
   says d id None none = ((λ yes. absurd cc), (λ h. absurd (none uri h refl)))
   says d id (Some n) one = ((λ yes. subst (HasDocument d.elements) one.2 one.1), (λ h. refl))
 
-  pub document_found : (m : State) (id : ℤ) (project : List ℕ) (dump : DumpValue) (old new : Store) (rows : List Row) (found : Option ℤ) → StandsFor old.now.trees m → old.now.schema ≡ schema_two → Has (old.now.trees 1) (slot_row id project (pos 1))
+  pub document_found : (m : State) (id : ℤ) (project : List ℕ) (dump : DumpValue) (old new : Store) (rows : List Row) (found : Option ℤ) → StandsFor old.now.trees m → old.now.schema ≡ schema_two → Has (old.now.trees 1) (slot_row id project Dump)
       → m.dump project ≡ Some dump → Shown select_document (Int id ∷ Text uri ∷ []) old new rows → IsFirstRead slot_columns rows found → IsTrue (is_some found) ↔ HasDocument dump.elements uri
   unfolding selection
   document_found m id project dump old new rows found s schema slot has shown read =

@@ -28,6 +28,7 @@ use Rattle.dump.specs.Progress.{DumpValue}
 use Rattle.flatten.specs.Flat.{RowsValue, IsFlat, ItemRowValue, IsItemRow, role_index}
 use Rattle.flatten.proofs.Listing.{under, same_listing}
 use Rattle.flatten.proofs.RowOrders.{same_span, place_ties, place_same}
+use Rattle.tables.specs.declared.slots.Part.TheVariants.{Dump}
 use Rattle.tables.specs.Schema.{schema_two}
 use Rattle.tables.specs.Columns.{number, dump_rows, position, item_columns}
 use Rattle.tables.specs.Contents.{owned, slot_row}
@@ -158,7 +159,7 @@ module _ (result : ℕ) (role : Role) where
         (λ h. it.1 (subst (λ (d : DumpValue). IsItem d (entry v)) (same_some (sym h.1 ∙ has)) h.2)),
       )
 
-  pub items_found : (m : State) (id : ℤ) (project : List ℕ) (old new : Store) (rows : List Row) (found listed : List FoundItem) → StandsFor old.now.trees m → old.now.schema ≡ schema_two → Has (old.now.trees 1) (slot_row id project (pos 1))
+  pub items_found : (m : State) (id : ℤ) (project : List ℕ) (old new : Store) (rows : List Row) (found listed : List FoundItem) → StandsFor old.now.trees m → old.now.schema ≡ schema_two → Has (old.now.trees 1) (slot_row id project Dump)
       → Shown select_items (Int id ∷ number result ∷ number (role_index role) ∷ []) old new rows → AreRead found_columns rows found → AllByRecursion IsSound found → IsListing place_cmp (Contains (map item_found found)) (map item_found listed) → FindsItems m project result role (map item_found listed)
   unfolding selection
   items_found m id project old new rows found listed s schema slot shown read sound list =

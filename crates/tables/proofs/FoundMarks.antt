@@ -23,6 +23,7 @@ use Rattle.dump.specs.Progress.{DumpValue}
 use Rattle.flatten.specs.Flat.{RowsValue, IsFlat, MarkRowValue, IsMarkRow, kind_index}
 use Rattle.flatten.proofs.Listing.{under, same_listing}
 use Rattle.flatten.proofs.RowOrders.{parts_tie, parts_same}
+use Rattle.tables.specs.declared.slots.Part.TheVariants.{Dump}
 use Rattle.tables.specs.Schema.{schema_two}
 use Rattle.tables.specs.Columns.{number, dump_rows, mark_columns}
 use Rattle.tables.specs.Contents.{owned, slot_row}
@@ -133,7 +134,7 @@ module _ (line : ℕ) where
         (λ h. it.1 (subst (λ (d : DumpValue). IsMark d (entry v)) (same_some (sym h.1 ∙ has)) h.2)),
       )
 
-  pub marks_found : (m : State) (id : ℤ) (project : List ℕ) (old new : Store) (rows : List Row) (found listed : List FoundMark) → StandsFor old.now.trees m → old.now.schema ≡ schema_two → Has (old.now.trees 1) (slot_row id project (pos 1))
+  pub marks_found : (m : State) (id : ℤ) (project : List ℕ) (old new : Store) (rows : List Row) (found listed : List FoundMark) → StandsFor old.now.trees m → old.now.schema ≡ schema_two → Has (old.now.trees 1) (slot_row id project Dump)
       → Shown select_marks (Int id ∷ number line ∷ []) old new rows → AreRead found_columns rows found → AllByRecursion (λ (x : FoundMark). Unit {0}) found → IsListing mark_text_cmp (Contains (map mark_found found)) (map mark_found listed) → FindsMarks m project line (map mark_found listed)
   unfolding selection
   marks_found m id project old new rows found listed s schema slot shown read sound list =

@@ -16,6 +16,7 @@ use Rattle.lsif.specs.Element.{IdValue, range}
 use Rattle.dump.specs.Graph.{vertex_at}
 use Rattle.dump.specs.Progress.{DumpValue}
 use Rattle.flatten.specs.Flat.{RowsValue, IsFlat, RangeRowValue, IsRangeRow}
+use Rattle.tables.specs.declared.slots.Part.TheVariants.{Dump}
 use Rattle.tables.specs.Schema.{schema_two}
 use Rattle.tables.specs.Columns.{number, optional, position, dump_rows, range_columns}
 use Rattle.tables.specs.Contents.{owned, slot_row}
@@ -118,7 +119,7 @@ module _ (line : ℕ) (uri : List ℕ) where
   named : (d : DumpValue) (child : SlotRange) (x : SlotRange) → HasPositions d → child.parent ≡ Some line → IsSound x → ShowsOneOf range_shown (IsRange d) IsAtLine found_columns (Some x) → IsNamed d uri child (Some x)
   named d child x bounded has sound one = (one.0, (one.1, one.2.1), has ∙ ap Some (sym one.2.0), tells x one.0 sound (located d one.0 bounded one.1) one.3)
 
-  pub range_found : (m : State) (id : ℤ) (project : List ℕ) (dump : DumpValue) (old new : Store) (rows : List Row) (child x : SlotRange) → StandsFor old.now.trees m → old.now.schema ≡ schema_two → Has (old.now.trees 1) (slot_row id project (pos 1))
+  pub range_found : (m : State) (id : ℤ) (project : List ℕ) (dump : DumpValue) (old new : Store) (rows : List Row) (child x : SlotRange) → StandsFor old.now.trees m → old.now.schema ≡ schema_two → Has (old.now.trees 1) (slot_row id project Dump)
       → m.dump project ≡ Some dump → child.parent ≡ Some line → IsSound x → Shown select_range (Int id ∷ number line ∷ Text uri ∷ []) old new rows → IsFirstRead found_columns rows (Some x) → IsNamed dump uri child (Some x)
   unfolding selection
   range_found m id project dump old new rows child x s schema slot has asked sound shown read =

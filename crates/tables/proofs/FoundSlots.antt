@@ -21,8 +21,10 @@ use Rattle.tables.specs.Contents.{Contents, Replies, Keeps, slot_row}
 use Rattle.tables.specs.Steps.SelectionTexts.{select_slot, select_project}
 use Rattle.tables.specs.Steps.Selected.{AreTyped, IsFirstRead, ShowsOne, equals}
 use Rattle.tables.specs.Steps.Slots.{IsSlotOf}
+use Rattle.tables.specs.Parts.{part_number}
+use Rattle.tables.specs.declared.slots.Part.{Part}
 use Rattle.tables.proofs.Cascade.{equal_is}
-use Rattle.tables.proofs.Keeping.{none_is_some, same_some, slot_is, same_int_itself}
+use Rattle.tables.proofs.Keeping.{none_is_some, same_some, slot_is, number_is, same_int_itself}
 use Rattle.tables.proofs.Select.{one_table}
 use Rattle.tables.proofs.Selecting.{IsSelection, shows_one}
 
@@ -36,10 +38,10 @@ select_slot_plain = ((refl, refl), refl)
 
 pub record SlotEntry : Type 0 where
   pub project : List ℕ
-  pub part : ℤ
+  pub part : Part
 
 abbrev pub slot_values : SlotEntry → Row
-slot_values e = Null ∷ Text e.project ∷ Int e.part ∷ []
+slot_values e = Null ∷ Text e.project ∷ Int (part_number e.part) ∷ []
 
 abbrev pub id_of : ℤ → Row
 id_of id = Int id ∷ []
@@ -51,23 +53,23 @@ pub typed_slots : (db : Trees) (parts : Contents) (replies : Replies) → Keeps 
 typed_slots db parts replies is row h = let s = is.slots row h in (s.id, record { project = s.project; part = s.part }, s.is)
 
 -- two parts have no slot in common
-pub one_slot : (db : Trees) (parts : Contents) (replies : Replies) (id : ℤ) (p q : List ℕ) (j k : ℤ) → Keeps db parts replies → Has (db 1) (slot_row id p j) → Has (db 1) (slot_row id q k) → (p ≡ q) × (j ≡ k)
+pub one_slot : (db : Trees) (parts : Contents) (replies : Replies) (id : ℤ) (p q : List ℕ) (j k : Part) → Keeps db parts replies → Has (db 1) (slot_row id p j) → Has (db 1) (slot_row id q k) → (p ≡ q) × (j ≡ k)
 one_slot db parts replies id p q j k is a b =
     (slot_is (tied_same (db 1) (slot_row id p j) (slot_row id q k) (is.ordered slot (inr (inl refl))).rises a b (value_cmp-Int id id ∙ equal_is _ (same_int_itself id)))).1
 
-pub no_slot : (db : Trees) (parts : Contents) (project : List ℕ) (part : ℤ) (found : Option ℤ) → IsSlotOf db parts project part found → found ≡ None → parts project part ≡ None
+pub no_slot : (db : Trees) (parts : Contents) (project : List ℕ) (part : Part) (found : Option ℤ) → IsSlotOf db parts project part found → found ≡ None → parts project part ≡ None
 no_slot db parts project part None is e = is
 no_slot db parts project part (Some id) is e = absurd (none_is_some (sym e))
 
-pub the_slot : (db : Trees) (parts : Contents) (project : List ℕ) (part id : ℤ) (found : Option ℤ) → IsSlotOf db parts project part found → found ≡ Some id → Has (db 1) (slot_row id project part)
+pub the_slot : (db : Trees) (parts : Contents) (project : List ℕ) (part : Part) (id : ℤ) (found : Option ℤ) → IsSlotOf db parts project part found → found ≡ Some id → Has (db 1) (slot_row id project part)
 the_slot db parts project part id None is e = absurd (none_is_some e)
 the_slot db parts project part id (Some n) is e = subst (λ (i : ℤ). Has (db 1) (slot_row i project part)) (let it : n ≡ id = cc in it) is
 
-module _ (project : List ℕ) (part : ℤ) where
+module _ (project : List ℕ) (part : Part) where
   abbrev IsOfPart : ℤ → SlotEntry → Type 0
   IsOfPart id e = (e.project ≡ project) × (e.part ≡ part)
 
-  selection : IsSelection slot_values Ided IsOfPart select_slot (Text project ∷ Int part ∷ []) 1
+  selection : IsSelection slot_values Ided IsOfPart select_slot (Text project ∷ Int (part_number part) ∷ []) 1
   selection = record {
     pairs = (2, 0) ∷ (3, 1) ∷ [];
     terms = col 1 0 ∷ [];
@@ -77,8 +79,8 @@ module _ (project : List ℕ) (part : ℤ) where
     own = λ db. refl;
     shows = λ id e. refl;
     alike = λ id e. (tt, (tt, tt));
-    wants = λ id e h. ((let a = h.0 in cc), (let a = h.1.0 in cc));
-    wanted = λ id e w. (ap Text w.0, (ap Int w.1, tt));
+    wants = λ id e h. ((let a = h.0 in cc), number_is _ _ (let a = h.1.0 in cc));
+    wanted = λ id e w. (ap Text w.0, (ap (λ k. Int (part_number k)) w.1, tt));
   }
 
   is_slot : (db : Trees) (parts : Contents) (replies : Replies) → Keeps db parts replies → (found : Option ℤ) → ShowsOne slot_values Ided IsOfPart id_of db 1 found → IsSlotOf db parts project part found
@@ -92,14 +94,14 @@ module _ (project : List ℕ) (part : ℤ) where
   is_slot db parts replies is (Some id) one =
       let same : one.1.0.0 ≡ id = let a = one.2 in cc in
       subst (λ (i : ℤ). Has (db 1) (slot_row i project part)) same
-      (subst (λ (k : ℤ). Has (db 1) (slot_row one.1.0.0 project k)) one.1.1.1 (subst (λ (p : List ℕ). Has (db 1) (slot_row one.1.0.0 p one.0.part)) one.1.1.0 one.1.0.1))
+      (subst (λ (k : Part). Has (db 1) (slot_row one.1.0.0 project k)) one.1.1.1 (subst (λ (p : List ℕ). Has (db 1) (slot_row one.1.0.0 p one.0.part)) one.1.1.0 one.1.0.1))
 
-  pub slot_found : (old new : State) (rows : List Row) (found : Option ℤ) (parts : Contents) (replies : Replies) → Keeps old.now.trees parts replies → old.now.schema ≡ schema_two → Shown select_slot (Text project ∷ Int part ∷ []) old new rows → IsFirstRead id_of rows found
+  pub slot_found : (old new : State) (rows : List Row) (found : Option ℤ) (parts : Contents) (replies : Replies) → Keeps old.now.trees parts replies → old.now.schema ≡ schema_two → Shown select_slot (Text project ∷ Int (part_number part) ∷ []) old new rows → IsFirstRead id_of rows found
       → IsSlotOf old.now.trees parts project part found
   unfolding selection
   slot_found old new rows found parts replies is has shown read =
       is_slot old.now.trees parts replies is found
-      (shows_one slot_values Ided IsOfPart id_of select_slot (Text project ∷ Int part ∷ []) 1 selection (λ x. refl) old new rows has (typed_slots old.now.trees parts replies is) shown found read)
+      (shows_one slot_values Ided IsOfPart id_of select_slot (Text project ∷ Int (part_number part) ∷ []) 1 selection (λ x. refl) old new rows has (typed_slots old.now.trees parts replies is) shown found read)
 
 -- ---- the project of a slot
 
@@ -135,7 +137,7 @@ module _ (id : ℤ) where
     wanted = λ at e w. (ap Int w, tt);
   }
 
-  is_project : (db : Trees) (parts : Contents) (replies : Replies) → Keeps db parts replies → (project : List ℕ) (part : ℤ) → Has (db 1) (slot_row id project part) → (found : Option (String Global)) (text : String Global) → found ≡ Some text
+  is_project : (db : Trees) (parts : Contents) (replies : Replies) → Keeps db parts replies → (project : List ℕ) (part : Part) → Has (db 1) (slot_row id project part) → (found : Option (String Global)) (text : String Global) → found ≡ Some text
       → ShowsOne slot_values project_shown HasId project_columns db 1 found → string_bytes text ≡ project
   is_project db parts replies is project part slot None text e none = absurd (none_is_some e)
   is_project db parts replies is project part slot (Some x) text e one =
@@ -147,7 +149,7 @@ module _ (id : ℤ) where
       ap (λ (t : String Global). string_bytes t) (sym text_is) ∙ (read ∙ same)
 
   pub project_found : (old new : State) (rows : List Row) (found : Option (String Global)) (text : String Global) (parts : Contents) (replies : Replies) → found ≡ Some text → Keeps old.now.trees parts replies → old.now.schema ≡ schema_two
-      → Shown select_project (Int id ∷ []) old new rows → IsFirstRead project_columns rows found → (project : List ℕ) (part : ℤ) → Has (old.now.trees 1) (slot_row id project part) → string_bytes text ≡ project
+      → Shown select_project (Int id ∷ []) old new rows → IsFirstRead project_columns rows found → (project : List ℕ) (part : Part) → Has (old.now.trees 1) (slot_row id project part) → string_bytes text ≡ project
   unfolding by_id
   project_found old new rows found text parts replies e is has shown read project part slot =
       is_project old.now.trees parts replies is project part slot found text e

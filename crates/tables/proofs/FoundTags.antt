@@ -12,6 +12,8 @@ use Rattle.sqlite_trees.specs.Tree.{Trees}
 use Rattle.sqlite_rules.specs.Lists.{Has}
 use Rattle.sqlite_rules.proofs.ListLemmas.{has_contained, contains_had}
 use Rattle.tags.specs.Values.{TagValue}
+use Rattle.tables.specs.declared.slots.Part.TheVariants.{Tags}
+use Rattle.tables.specs.declared.slots.Part.{Part}
 use Rattle.tables.specs.Columns.{tag_columns}
 use Rattle.tables.specs.Contents.{IsOwned, owned, slot_row}
 use Rattle.tables.specs.Databases.{Holds}
@@ -23,9 +25,9 @@ use Rattle.tables.specs.declared.found_tags.TagRow.{TagRow}
 use Rattle.tables.specs.Steps.SelectionTexts.{select_named}
 use Rattle.tables.specs.Steps.Selected.{AreRead, AreTyped, Selects, equals}
 use Rattle.tables.specs.Steps.TagRows.{TellsTag, TellNamed, tag_row_columns}
-use Rattle.tables.proofs.DumpEntries.{which_part, dump_of, tags_of, rows_of_tags}
+use Rattle.tables.proofs.DumpEntries.{dump_of, tags_of, rows_of_tags}
 use Rattle.tables.proofs.Entries.{typed_as}
-use Rattle.tables.proofs.Keeping.{from_map, to_map, table_of}
+use Rattle.tables.proofs.Keeping.{from_map, to_map, table_of, which_part}
 use Rattle.tables.proofs.Select.{one_table}
 use Rattle.tables.proofs.Selecting.{IsSelection, selects_typed, all_of, of_all}
 
@@ -52,7 +54,7 @@ pub record TagEntry : Type 0 where
 
 pub record IsEntry (db : Trees) (m : State) (e : TagEntry) : Type 0 where
   pub tags : List TagValue
-  pub slot : Has (db 1) (slot_row e.slot e.found.project (pos 2))
+  pub slot : Has (db 1) (slot_row e.slot e.found.project Tags)
   pub has : m.tags e.found.project ≡ Some tags
   pub listed : Contains tags e.found.tag
 
@@ -67,16 +69,16 @@ is_owned = inr (inr (inr (inr (inr (inr (inl refl))))))
 
 module _ (db : Trees) (m : State) (s : StandsFor db m) where
   from_owned : (row : Row) → IsOwned db s.parts 17 row → (e : TagEntries db m) × (row ≡ entry_row db m e)
-  from_owned row o = elim (which_part db m s o.project o.part o.rows o.has) [
+  from_owned row o = elim (which_part o.part) [
     | inl one ↦
-        let d = dump_of db m s o.project o.rows (subst (λ (k : ℤ). s.parts o.project k ≡ Some o.rows) one o.has) in
+        let d = dump_of db m s o.project o.rows (subst (λ (k : Part). s.parts o.project k ≡ Some o.rows) one o.has) in
         absurd (subst (λ (r : ℕ → List Row). Has (r 17) o.values) d.2.are_rows o.listed)
     | inr two ↦
-        let t = tags_of db m s o.project o.rows (subst (λ (k : ℤ). s.parts o.project k ≡ Some o.rows) two o.has) in
+        let t = tags_of db m s o.project o.rows (subst (λ (k : Part). s.parts o.project k ≡ Some o.rows) two o.has) in
         let it = from_map tag_columns t.0 o.values (subst (λ (r : ℕ → List Row). Has (r 17) o.values) t.2 o.listed) in (
           (
             record { slot = o.id; found = record { project = o.project; tag = it.0 } },
-            record { tags = t.0; slot = subst (λ (k : ℤ). Has (db 1) (slot_row o.id o.project k)) two o.slot; has = t.1; listed = contains_had t.0 it.0 it.1 },
+            record { tags = t.0; slot = subst (λ (k : Part). Has (db 1) (slot_row o.id o.project k)) two o.slot; has = t.1; listed = contains_had t.0 it.0 it.1 },
           ),
           o.is ∙ ap (λ (v : Row). Int o.id ∷ v) it.2,
         )
@@ -95,7 +97,7 @@ module _ (db : Trees) (m : State) (s : StandsFor db m) where
       (s.keeps.children 17 is_owned (entry_row db m e)).1 (record {
         id = e.0.slot;
         project = e.0.found.project;
-        part = pos 2;
+        part = Tags;
         rows = r.0;
         values = tag_columns e.0.found.tag;
         slot = e.1.slot;
@@ -108,7 +110,7 @@ module _ (db : Trees) (m : State) (s : StandsFor db m) where
   tells : (x : TagRow) (e : TagEntries db m) → tag_row_columns x ≡ entry_row db m e → TellsTag db m x e.0.found
   tells x e h =
       let id : e.0.slot ≡ x.slot = let a = h in cc in
-      record { tags = e.1.tags; slot = subst (λ (i : ℤ). Has (db 1) (slot_row i e.0.found.project (pos 2))) id e.1.slot; has = e.1.has; listed = e.1.listed; is = let a = h in cc }
+      record { tags = e.1.tags; slot = subst (λ (i : ℤ). Has (db 1) (slot_row i e.0.found.project Tags)) id e.1.slot; has = e.1.has; listed = e.1.listed; is = let a = h in cc }
 
   module _ (IsNamed : List ℕ → Type 0) where
     abbrev Wanted : ℤ → TagEntries db m → Type 0
@@ -121,7 +123,7 @@ module _ (db : Trees) (m : State) (s : StandsFor db m) where
           (e.0.0.found, tells x e.0 e.2, e.1.1));
       all = λ v is named.
           let r = rows_of_tags db m s v.project is.0 is.1 in
-          let slot = s.keeps.there v.project (pos 2) r.0 r.1 in
+          let slot = s.keeps.there v.project Tags r.0 r.1 in
           let e : TagEntries db m = (record { slot = slot.0; found = v }, record { tags = is.0; slot = slot.1; has = is.1; listed = is.2 }) in
           let x = from_map tag_row_columns xs (entry_row db m e) (found.all e (held_tag e, named)) in
           (x.0, x.1, tells x.0 e (sym x.2));

@@ -14,6 +14,7 @@ use Rattle.sqlite_trees.specs.Tree.{Trees}
 use Rattle.sqlite_rules.specs.Lists.{Has}
 use Rattle.dump.specs.Progress.{DumpValue}
 use Rattle.flatten.specs.Flat.{RowsValue, IsFlat, HoverRowValue, IsHoverRow}
+use Rattle.tables.specs.declared.slots.Part.TheVariants.{Dump}
 use Rattle.tables.specs.Schema.{schema_two}
 use Rattle.tables.specs.Columns.{number, dump_rows, hover_columns}
 use Rattle.tables.specs.Contents.{owned, slot_row}
@@ -81,7 +82,7 @@ module _ (result : ℕ) where
       let same : h.contents ≡ string_bytes text = let a = one.3 in cc in
       (dump, has, subst (λ (x : ℕ × List ℕ). IsHover dump (record { result = x.0; contents = x.1 })) (λ i. (one.2 i, same i)) one.1)
 
-  pub hover_found : (m : State) (id : ℤ) (project : List ℕ) (old new : Store) (rows : List Row) (found : Option (String Global)) → StandsFor old.now.trees m → old.now.schema ≡ schema_two → Has (old.now.trees 1) (slot_row id project (pos 1))
+  pub hover_found : (m : State) (id : ℤ) (project : List ℕ) (old new : Store) (rows : List Row) (found : Option (String Global)) → StandsFor old.now.trees m → old.now.schema ≡ schema_two → Has (old.now.trees 1) (slot_row id project Dump)
       → Shown select_hover (Int id ∷ number result ∷ []) old new rows → IsFirstRead text_columns rows found → FindsHover m project result (option_map string_bytes found)
   unfolding selection
   hover_found m id project old new rows found s schema slot shown read =

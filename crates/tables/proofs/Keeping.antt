@@ -16,6 +16,9 @@ use Rattle.tables.specs.Databases.{Holds}
 use Rattle.tables.specs.Steps.Puts.{Puts, PutsAll}
 use Rattle.tables.specs.Contents.{Contents, Replies, slot_row, IsOwned, IsReply, owned, Keeps, same_text, is_at, changed, kept}
 use Rattle.tables.specs.Columns.{laid, nowhere}
+use Rattle.tables.specs.Parts.{part_number, same_part}
+use Rattle.tables.specs.declared.slots.Part.{Part}
+use Rattle.tables.specs.declared.slots.Part.TheVariants.{Dump, Tags}
 use Rattle.tables.proofs.Cascade.{same_or_not, equal_is}
 
 both : (a b : Bool) → a && b ≡ true → (a ≡ true) × (b ≡ true)
@@ -34,14 +37,46 @@ same_int_is x y h = int_ranked x y Equal (sym (equal_is _ h))
 pub same_int_itself : (x : ℤ) → is_eq (int_cmp x x) ≡ true
 same_int_itself x = ap is_eq (tied_itself int_cmp_total x)
 
-pub at_is : (project : List ℕ) (part : ℤ) (p : List ℕ) (k : ℤ) → is_at project part p k ≡ true → (p ≡ project) × (k ≡ part)
+-- ---- kinds of parts
+
+pub same_part_is : (a b : Part) → same_part a b ≡ true → a ≡ b
+same_part_is Dump Dump h = refl
+same_part_is Dump Tags h = absurd cc
+same_part_is Tags Dump h = absurd cc
+same_part_is Tags Tags h = refl
+
+same_part_itself : (a : Part) → same_part a a ≡ true
+same_part_itself Dump = refl
+same_part_itself Tags = refl
+
+-- the numbers of two kinds differ
+pub number_is : (a b : Part) → part_number a ≡ part_number b → a ≡ b
+number_is Dump Dump h = refl
+number_is Dump Tags h = absurd cc
+number_is Tags Dump h = absurd cc
+number_is Tags Tags h = refl
+
+-- a comparison of numbers is one of kinds
+pub numbers_are : (a b : Part) → (is_eq (int_cmp (part_number a) (part_number b)) && true) ≡ same_part a b
+numbers_are a b = elim (cases_Bool (is_eq (int_cmp (part_number a) (part_number b)))) [
+  | inl same ↦ rw (same, number_is a b (same_int_is (part_number a) (part_number b) same)) (sym (same_part_itself b))
+  | inr off ↦ elim (cases_Bool (same_part a b)) [
+    | inl same ↦ absurd (let yes = same_int_itself (part_number b) in let e = rw (same_part_is a b same) at off in cc)
+    | inr other ↦ rw (off, other)
+  ]
+]
+
+pub which_part : (part : Part) → (part ≡ Dump) ⊎ (part ≡ Tags)
+which_part Dump = inl refl
+which_part Tags = inr refl
+
+pub at_is : (project : List ℕ) (part : Part) (p : List ℕ) (k : Part) → is_at project part p k ≡ true → (p ≡ project) × (k ≡ part)
 at_is project part p k h =
     let a = both _ _ h in
-    let b = both _ _ a.1 in
-    (same_text_is p project a.0, same_int_is k part b.0)
+    (same_text_is p project a.0, same_part_is k part a.1)
 
-pub at_itself : (project : List ℕ) (part : ℤ) → is_at project part project part ≡ true
-at_itself project part = rw (same_text_itself project, same_int_itself part)
+pub at_itself : (project : List ℕ) (part : Part) → is_at project part project part ≡ true
+at_itself project part = rw (same_text_itself project, same_part_itself part)
 
 then_is : {X : Type 0} (b : Bool) (x y : X) → b ≡ true → (if b then x else y) ≡ x
 then_is true x y h = refl
@@ -57,8 +92,8 @@ none_is_some e = absurd cc
 pub same_some : {X : Type 0} {x y : X} → ◌≡◌ {A = Option X} (Some x) (Some y) → x ≡ y
 same_some e = cc
 
-pub slot_is : {a b : ℤ} {p q : List ℕ} {j k : ℤ} → slot_row a p j ≡ slot_row b q k → (a ≡ b) × ((p ≡ q) × (j ≡ k))
-slot_is e = (cc, (cc, cc))
+pub slot_is : {a b : ℤ} {p q : List ℕ} {j k : Part} → slot_row a p j ≡ slot_row b q k → (a ≡ b) × ((p ≡ q) × (j ≡ k))
+slot_is e = (cc, (cc, number_is _ _ cc))
 
 pair : {X Y : Type 0} {a b : X} {c d : Y} → a ≡ b → c ≡ d → ◌≡◌ {A = X × Y} (a, c) (b, d)
 pair e f = cc
@@ -127,31 +162,31 @@ other_tree tree t old new others h differ =
 
 -- ---- one part, whose rows change
 
-module _ (parts : Contents) (project : List ℕ) (part : ℤ) where
+module _ (parts : Contents) (project : List ℕ) (part : Part) where
   abbrev With : Option (ℕ → List Row) → Contents
   With = changed parts project part
 
-  pub which : (p : List ℕ) (k : ℤ) → ((p ≡ project) × (k ≡ part)) ⊎ (is_at project part p k ≡ false)
+  pub which : (p : List ℕ) (k : Part) → ((p ≡ project) × (k ≡ part)) ⊎ (is_at project part p k ≡ false)
   which p k = elim (cases_Bool (is_at project part p k)) [ inl here ↦ inl (at_is project part p k here) | inr other ↦ inr other ]
 
-  pub here_is : (v : Option (ℕ → List Row)) (p : List ℕ) (k : ℤ) → (p ≡ project) × (k ≡ part) → With v p k ≡ v
+  pub here_is : (v : Option (ℕ → List Row)) (p : List ℕ) (k : Part) → (p ≡ project) × (k ≡ part) → With v p k ≡ v
   here_is v p k at = rw (at.0, at.1) (then_is (is_at project part project part) v (parts project part) (at_itself project part))
 
-  pub other_is : (v : Option (ℕ → List Row)) (p : List ℕ) (k : ℤ) → is_at project part p k ≡ false → With v p k ≡ parts p k
+  pub other_is : (v : Option (ℕ → List Row)) (p : List ℕ) (k : Part) → is_at project part p k ≡ false → With v p k ≡ parts p k
   other_is v p k other = else_is (is_at project part p k) v (parts p k) other
 
-  moved : (v w : Option (ℕ → List Row)) (p : List ℕ) (k : ℤ) (rows : ℕ → List Row) → is_at project part p k ≡ false → With v p k ≡ Some rows → With w p k ≡ Some rows
+  moved : (v w : Option (ℕ → List Row)) (p : List ℕ) (k : Part) (rows : ℕ → List Row) → is_at project part p k ≡ false → With v p k ≡ Some rows → With w p k ≡ Some rows
   moved v w p k rows other has = other_is w p k other ∙ (sym (other_is v p k other) ∙ has)
 
-  rows_here : (v : ℕ → List Row) (p : List ℕ) (k : ℤ) (rows : ℕ → List Row) → (p ≡ project) × (k ≡ part) → With (Some v) p k ≡ Some rows → v ≡ rows
+  rows_here : (v : ℕ → List Row) (p : List ℕ) (k : Part) (rows : ℕ → List Row) → (p ≡ project) × (k ≡ part) → With (Some v) p k ≡ Some rows → v ≡ rows
   rows_here v p k rows at has = same_some (sym (here_is (Some v) p k at) ∙ has)
 
-  pub not_none : (p : List ℕ) (k : ℤ) (rows : ℕ → List Row) → (p ≡ project) × (k ≡ part) → With None p k ≡ Some rows → ⊥
+  pub not_none : (p : List ℕ) (k : Part) (rows : ℕ → List Row) → (p ≡ project) × (k ≡ part) → With None p k ≡ Some rows → ⊥
   not_none p k rows at has = none_is_some (sym (here_is None p k at) ∙ has)
 
   module _ (replies : Replies) where
     -- a slot is put for the part, which has no row yet
-    pub keeps_slot : (id : ℤ) (old new : Trees) → Keeps old (With None) replies → Puts 1 id (Null ∷ Text project ∷ Int part ∷ []) old new → Keeps new (With (Some nowhere)) replies
+    pub keeps_slot : (id : ℤ) (old new : Trees) → Keeps old (With None) replies → Puts 1 id (Null ∷ Text project ∷ Int (part_number part) ∷ []) old new → Keeps new (With (Some nowhere)) replies
     keeps_slot id old new is puts = record {
       ordered = puts.ordered is.ordered;
       version = subst (λ (rows : List Row). (row : Row) → Has rows row ↔ (row ≡ Int (pos 2) ∷ Null ∷ [])) (sym (puts.others.0 (λ e. omega (arith, e)))) is.version;
@@ -237,7 +272,7 @@ module _ (parts : Contents) (project : List ℕ) (part : ℤ) where
               (λ (o : IsOwned new (With (Some (laid tree list rows))) tree row). elim (which o.project o.part) [
                 | inl at ↦
                     let mine = subst (λ (r : ℕ → List Row). Has (r tree) o.values) (sym (rows_here (laid tree list rows) o.project o.part o.rows at o.has)) o.listed in
-                    let one : o.id ≡ id = is.single o.id id project part (subst (λ (x : List ℕ × ℤ). Has (old 1) (slot_row o.id x.0 x.1)) (pair at.0 at.1) (rw slots_same at o.slot)) slot in
+                    let one : o.id ≡ id = is.single o.id id project part (subst (λ (x : List ℕ × Part). Has (old 1) (slot_row o.id x.0 x.1)) (pair at.0 at.1) (rw slots_same at o.slot)) slot in
                     (puts.rows row).1 (inl (subst (Has (map (λ values. Int id ∷ values) list)) (sym (o.is ∙ ap (λ (i : ℤ). Int i ∷ o.values) one)) (to_map (λ values. Int id ∷ values) list o.values (subst (λ l. Has l o.values) (laid_here tree list rows) mine))))
                 | inr other ↦
                     (puts.rows row).1 (inr ((is.children tree owns row).1 (record { id = o.id; project = o.project; part = o.part; rows = o.rows; values = o.values; slot = rw slots_same at o.slot; has = moved (Some (laid tree list rows)) (Some rows) o.project o.part o.rows other o.has; listed = o.listed; is = o.is })))

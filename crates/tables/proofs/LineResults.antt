@@ -18,6 +18,7 @@ use Rattle.dump.proofs.OnePicks.{one_result}
 use Rattle.flatten.specs.Flat.{RowsValue, IsFlat, ResultsValue, AreResults, number_of}
 use Rattle.flatten.proofs.NumberPairs.{number_ones}
 use Rattle.flatten.proofs.RangeRows.{results_one}
+use Rattle.tables.specs.declared.slots.Part.TheVariants.{Dump}
 use Rattle.tables.specs.Schema.{schema_two}
 use Rattle.tables.specs.Columns.{number, optional, dump_rows, more_columns, range_more, bearer_more}
 use Rattle.tables.specs.Contents.{owned, slot_row}
@@ -183,7 +184,7 @@ module _ (line : ℕ) where
       let read = first_optional one.3 in
       (read.0 ∙ (sym v.declaration ∙ ap (λ (r : ResultsValue). r.declaration) same), read.1 ∙ (sym v.implementation ∙ ap (λ (r : ResultsValue). r.implementation) same))
 
-  pub more_found : (m : State) (id : ℤ) (project : List ℕ) (dump : DumpValue) (old new : Store) (rows : List Row) (found : Option LineMore) → StandsFor old.now.trees m → old.now.schema ≡ schema_two → Has (old.now.trees 1) (slot_row id project (pos 1))
+  pub more_found : (m : State) (id : ℤ) (project : List ℕ) (dump : DumpValue) (old new : Store) (rows : List Row) (found : Option LineMore) → StandsFor old.now.trees m → old.now.schema ≡ schema_two → Has (old.now.trees 1) (slot_row id project Dump)
       → m.dump project ≡ Some dump → Shown select_more (Int id ∷ number line ∷ []) old new rows → IsFirstRead more_read rows found → (results : ResultsValue) → IsKnown dump line results → Says found results
   unfolding selection
   more_found m id project dump old new rows found s schema slot has shown read results known =

@@ -23,26 +23,28 @@ use Rattle.tables.specs.Steps.Queries.{by_project_and_part}
 use Rattle.tables.specs.Schema.{schema_two, format, slot, keyed, document, range_row, item, hover, mark, bearer, tag, part_profile, more}
 use Rattle.sqlite_trees.proofs.ListLemmas.{all-permutation}
 use Rattle.tables.specs.Contents.{Contents, Replies, slot_row, IsOwned, owned, Keeps, same_text, is_at, changed}
+use Rattle.tables.specs.Parts.{part_number}
+use Rattle.tables.specs.declared.slots.Part.{Part}
 use Rattle.tables.proofs.Cascade.{is_hit, Lacks, left_from, left_has, equal_is}
 use Rattle.tables.proofs.Removal.{IsOn, at_slot, each_on, works_are, Removed}
-use Rattle.tables.proofs.Keeping.{same_int_is, same_int_itself, at_is, at_itself, from_map, to_map, table_of, is_owned, which, other_is, not_none, slot_is}
+use Rattle.tables.proofs.Keeping.{same_int_is, same_int_itself, numbers_are, at_is, at_itself, from_map, to_map, table_of, is_owned, which, other_is, not_none, slot_is}
 
 pub truly : (b : Bool) → is_true (from_truth (Some b)) ≡ b
 truly true = refl
 truly false = refl
 
 -- the statement's tests are those of one project and kind of part
-pub tests_are : (p : List ℕ) (k : ℤ) (id : ℤ) (q : List ℕ) (j : ℤ) → list_all (holds ((Text p ∷ Int k ∷ []) ∷ slot_row id q j ∷ [])) by_project_and_part ≡ is_at p k q j
+pub tests_are : (p : List ℕ) (k : Part) (id : ℤ) (q : List ℕ) (j : Part) → list_all (holds ((Text p ∷ Int (part_number k) ∷ []) ∷ slot_row id q j ∷ [])) by_project_and_part ≡ is_at p k q j
 unfolding binary
-tests_are p k id q j = rw (value_cmp-Text q p, value_cmp-Int j k, truly (same_text q p), truly (is_eq (int_cmp j k)))
+tests_are p k id q j = rw (value_cmp-Text q p, value_cmp-Int (part_number j) (part_number k), truly (same_text q p), truly (is_eq (int_cmp (part_number j) (part_number k))), numbers_are j k)
 
 -- a row of a child goes where its first column is the id
-child_is : (i s id : ℤ) (values : Row) (p : List ℕ) (k : ℤ)
+child_is : (i s id : ℤ) (values : Row) (p : List ℕ) (k : Part)
     → (loses plain (0 ∷ []) (slot_row id p k, []) && agree plain (1 ∷ []) (Int i ∷ Int s ∷ values) (0 ∷ []) (slot_row id p k)) ≡ (is_eq (int_cmp s id) && true)
 unfolding binary first_key
 child_is i s id values p k = rw (value_cmp-Int id id, value_cmp-Int s id, same_int_itself id, truly (is_eq (int_cmp s id)))
 
-loses_is : (id : ℤ) (p : List ℕ) (k : ℤ) → loses plain (0 ∷ []) (slot_row id p k, []) ≡ true
+loses_is : (id : ℤ) (p : List ℕ) (k : Part) → loses plain (0 ∷ []) (slot_row id p k, []) ≡ true
 unfolding binary first_key
 loses_is id p k = rw (value_cmp-Int id id, same_int_itself id)
 
@@ -56,7 +58,7 @@ plainly_true false h = h
 pub has_permuted : {X : Type 0} (xs ys : List X) (x : X) → IsPermutation xs ys → Has ys x → Has xs x
 has_permuted xs ys x same = all_has (Has xs) ys x (all-permutation (Has xs) xs ys same (all_from (Has xs) xs (λ e h. h)))
 
-slots_at : (id : ℤ) {q p : List ℕ} {j k : ℤ} → q ≡ p → j ≡ k → slot_row id q j ≡ slot_row id p k
+slots_at : (id : ℤ) {q p : List ℕ} {j k : Part} → q ≡ p → j ≡ k → slot_row id q j ≡ slot_row id p k
 slots_at id e f = rw (e, f)
 
 pairs_from : (olds : List Row) (m : Row × Row) → Has (pairs olds []) m → (o : Row) × Has olds o × (m ≡ (o, []))
@@ -84,7 +86,7 @@ at_work olds t (inr (inr (inr (inr (inr (inr (inr (inl e)))))))) = (part_profile
 at_work olds t (inr (inr (inr (inr (inr (inr (inr (inr (inl e))))))))) = (more, sym e, inr (inr (inr (inr (inr (inr (inr (inr (inl refl)))))))))
 at_work olds t (inr (inr (inr (inr (inr (inr (inr (inr (inr none))))))))) = absurd none
 
-module _ (parts : Contents) (replies : Replies) (p : List ℕ) (k : ℤ) (old new : Trees) (is : Keeps old parts replies) (r : Removed (Text p ∷ Int k ∷ []) by_project_and_part old new) where
+module _ (parts : Contents) (replies : Replies) (p : List ℕ) (k : Part) (old new : Trees) (is : Keeps old parts replies) (r : Removed (Text p ∷ Int (part_number k) ∷ []) by_project_and_part old new) where
   abbrev ids : List ℤ
   ids = ids_of r.rows
 
@@ -98,21 +100,21 @@ module _ (parts : Contents) (replies : Replies) (p : List ℕ) (k : ℤ) (old ne
   pub id_from : (id : ℤ) → Has ids id → Has (old 1) (slot_row id p k)
   id_from id h =
       let row = from_map (λ x. id_in (rowid x)) r.rows id h in
-      let y = from_map (λ x. eval_all (col 1 0 ∷ []) ((Text p ∷ Int k ∷ []) ∷ x ∷ [])) _ row.0 (has_permuted _ r.rows row.0 r.selected row.1) in
-      let good = has_filtered (λ x. list_all (holds ((Text p ∷ Int k ∷ []) ∷ x ∷ [])) by_project_and_part) (old 1) y.0 y.1 in
+      let y = from_map (λ x. eval_all (col 1 0 ∷ []) ((Text p ∷ Int (part_number k) ∷ []) ∷ x ∷ [])) _ row.0 (has_permuted _ r.rows row.0 r.selected row.1) in
+      let good = has_filtered (λ x. list_all (holds ((Text p ∷ Int (part_number k) ∷ []) ∷ x ∷ [])) by_project_and_part) (old 1) y.0 y.1 in
       let s = is.slots y.0 good.0 in
-      let at = at_is p k s.project s.part (sym (tests_are p k s.id s.project s.part) ∙ subst (λ x. list_all (holds ((Text p ∷ Int k ∷ []) ∷ x ∷ [])) by_project_and_part ≡ true) s.is good.1) in
+      let at = at_is p k s.project s.part (sym (tests_are p k s.id s.project s.part) ∙ subst (λ x. list_all (holds ((Text p ∷ Int (part_number k) ∷ []) ∷ x ∷ [])) by_project_and_part ≡ true) s.is good.1) in
       let mine : y.0 ≡ slot_row s.id p k = s.is ∙ slots_at s.id at.0 at.1 in
-      let one : id ≡ s.id = row.2 ∙ (ap (λ x. id_in (rowid x)) y.2 ∙ ap (λ x. id_in (rowid (eval_all (col 1 0 ∷ []) ((Text p ∷ Int k ∷ []) ∷ x ∷ [])))) mine) in
+      let one : id ≡ s.id = row.2 ∙ (ap (λ x. id_in (rowid x)) y.2 ∙ ap (λ x. id_in (rowid (eval_all (col 1 0 ∷ []) ((Text p ∷ Int (part_number k) ∷ []) ∷ x ∷ [])))) mine) in
       subst (Has (old 1)) (mine ∙ ap (λ (i : ℤ). slot_row i p k) (sym one)) good.0
 
   pub id_to : (id : ℤ) → Has (old 1) (slot_row id p k) → Has ids id
   id_to id h =
-      let good = has_kept (λ x. list_all (holds ((Text p ∷ Int k ∷ []) ∷ x ∷ [])) by_project_and_part) (old 1) (slot_row id p k) h (tests_are p k id p k ∙ at_itself p k) in
-      to_map (λ x. id_in (rowid x)) r.rows (Int id ∷ []) (has_permuted r.rows _ _ (IsPermutation-sym _ _ r.selected) (to_map (λ x. eval_all (col 1 0 ∷ []) ((Text p ∷ Int k ∷ []) ∷ x ∷ [])) _ (slot_row id p k) good))
+      let good = has_kept (λ x. list_all (holds ((Text p ∷ Int (part_number k) ∷ []) ∷ x ∷ [])) by_project_and_part) (old 1) (slot_row id p k) h (tests_are p k id p k ∙ at_itself p k) in
+      to_map (λ x. id_in (rowid x)) r.rows (Int id ∷ []) (has_permuted r.rows _ _ (IsPermutation-sym _ _ r.selected) (to_map (λ x. eval_all (col 1 0 ∷ []) ((Text p ∷ Int (part_number k) ∷ []) ∷ x ∷ [])) _ (slot_row id p k) good))
 
   -- two slots of one id are one
-  pub same_slot : (id : ℤ) (q : List ℕ) (j : ℤ) → Has (old 1) (slot_row id q j) → Has (old 1) (slot_row id p k) → (q ≡ p) × (j ≡ k)
+  pub same_slot : (id : ℤ) (q : List ℕ) (j : Part) → Has (old 1) (slot_row id q j) → Has (old 1) (slot_row id p k) → (q ≡ p) × (j ≡ k)
   same_slot id q j a b = (slot_is (tied_same (old 1) (slot_row id q j) (slot_row id p k) (is.ordered slot (inr (inl refl))).rises a b (value_cmp-Int id id ∙ equal_is _ (same_int_itself id)))).1
 
   old_row : (id : ℤ) → Has ids id → row_at (old 1) id ≡ slot_row id p k
@@ -133,7 +135,7 @@ module _ (parts : Contents) (replies : Replies) (p : List ℕ) (k : ℤ) (old ne
   slot_stays : (row : Row) → Has (old 1) row → Lacks ids row → Has (new 1) row
   slot_stays row h lacks = (unhit slot (inr (inl refl)) (λ owns. (is_owned 1 owns).1.0 refl) row).1 (subst (λ l. Has l row) (sym r.taken.slots) (left_has ids (old 1) row h lacks))
 
-  other_stays : (id : ℤ) (q : List ℕ) (j : ℤ) → is_at p k q j ≡ false → Has (old 1) (slot_row id q j) → Has (new 1) (slot_row id q j)
+  other_stays : (id : ℤ) (q : List ℕ) (j : Part) → is_at p k q j ≡ false → Has (old 1) (slot_row id q j) → Has (new 1) (slot_row id q j)
   other_stays id q j other h = slot_stays (slot_row id q j) h (λ i taken. elim (cases_Bool (has_rowid i (slot_row id q j))) [
     | inl here ↦
         let one : id ≡ i = same_int_is id i (sym (ap is_eq (value_cmp-Int id i)) ∙ here) in

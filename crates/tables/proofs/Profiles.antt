@@ -14,6 +14,7 @@ use Rattle.lsif.specs.declared.element.Profile.{Profile}
 use Rattle.lsif.specs.declared.element.Profile.TheVariants.{One, Two}
 use Rattle.dump.specs.Progress.{DumpValue}
 use Rattle.flatten.specs.Flat.{RowsValue, IsFlat}
+use Rattle.tables.specs.declared.slots.Part.TheVariants.{Dump}
 use Rattle.tables.specs.Schema.{schema_two}
 use Rattle.tables.specs.Columns.{dump_rows, profile_columns}
 use Rattle.tables.specs.Contents.{owned, slot_row}
@@ -73,7 +74,7 @@ module _ (db : Trees) (m : State) (s : StandsFor db m) (id : ℤ) where
 is_owned : Has owned 22
 is_owned = inr (inr (inr (inr (inr (inr (inr (inl refl)))))))
 
-pub profile_found : (m : State) (id : ℤ) (project : List ℕ) (dump : DumpValue) (old new : Store) (rows : List Row) (found : Option Profile) → StandsFor old.now.trees m → old.now.schema ≡ schema_two → Has (old.now.trees 1) (slot_row id project (pos 1))
+pub profile_found : (m : State) (id : ℤ) (project : List ℕ) (dump : DumpValue) (old new : Store) (rows : List Row) (found : Option Profile) → StandsFor old.now.trees m → old.now.schema ≡ schema_two → Has (old.now.trees 1) (slot_row id project Dump)
     → m.dump project ≡ Some dump → Shown select_profile (Int id ∷ []) old new rows → IsFirstRead profile_columns rows found → found ≡ Some dump.profile
 unfolding selection
 profile_found m id project dump old new rows found s schema slot has shown read =

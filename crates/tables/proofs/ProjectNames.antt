@@ -23,6 +23,8 @@ use Rattle.std.proofs.lemmas.List.{map-append}
 use Rattle.dump.specs.Places.{IsListing}
 use Rattle.flatten.proofs.Listing.{under, same_listing, rises_unmap}
 use Rattle.flatten.proofs.RowOrders.{text_eq}
+use Rattle.tables.specs.declared.slots.Part.TheVariants.{Dump, Tags}
+use Rattle.tables.specs.declared.slots.Part.{Part}
 use Rattle.tables.specs.Schema.{schema_two}
 use Rattle.tables.specs.Contents.{Contents, Replies, Keeps}
 use Rattle.machine.specs.State.{State}
@@ -34,9 +36,9 @@ use Rattle.machine.specs.declared.found.FoundProject.{FoundProject}
 use Rattle.tables.specs.Steps.SelectionTexts.{select_projects}
 use Rattle.tables.specs.Steps.Selected.{AreRead, Selects, equals}
 use Rattle.tables.specs.Steps.Slots.{IsSlotOf, HasPart, IsTold}
-use Rattle.tables.proofs.DumpEntries.{dump_of, tags_of, rows_of, rows_of_tags, which_part}
+use Rattle.tables.proofs.DumpEntries.{dump_of, tags_of, rows_of, rows_of_tags}
 use Rattle.tables.proofs.FoundSlots.{SlotEntry, slot_values, typed_slots}
-use Rattle.tables.proofs.Keeping.{none_is_some, from_map, to_map}
+use Rattle.tables.proofs.Keeping.{none_is_some, from_map, to_map, which_part, slot_is}
 use Rattle.tables.proofs.Select.{one_table}
 use Rattle.tables.proofs.Selecting.{IsSelection, selects_typed, of_all, all_last}
 
@@ -114,11 +116,12 @@ names_of found = map (λ (p : FoundProject). string_bytes p.name) found
 
 -- ---- which parts
 
-pub told_part : (db : Trees) (parts : Contents) (replies : Replies) (project : List ℕ) (part : ℤ) (found : Option ℤ) → Keeps db parts replies → IsSlotOf db parts project part found → is_some found ≡ is_some (parts project part)
+pub told_part : (db : Trees) (parts : Contents) (replies : Replies) (project : List ℕ) (part : Part) (found : Option ℤ) → Keeps db parts replies → IsSlotOf db parts project part found → is_some found ≡ is_some (parts project part)
 told_part db parts replies project part None is slot = sym (ap is_some slot)
 told_part db parts replies project part (Some id) is slot =
     let s = is.slots _ slot in
-    let same : parts project part ≡ Some s.rows = let a = s.is in subst (λ (x : List ℕ × ℤ). parts x.0 x.1 ≡ Some s.rows) (let it : ◌≡◌ {A = List ℕ × ℤ} (s.project, s.part) (project, part) = cc in it) s.has in
+    let at = (slot_is s.is).1 in
+    let same : parts project part ≡ Some s.rows = ap (λ (q : List ℕ). parts q part) at.0 ∙ (ap (parts s.project) at.1 ∙ s.has) in
     sym (ap is_some same)
 
 some_of : {X : Type 0} (o : Option X) → is_some o ≡ true → (x : X) × (o ≡ Some x)
@@ -144,21 +147,21 @@ both_some (Some x) None to back = absurd (none_is_some (to x refl).1)
 both_some (Some x) (Some y) to back = refl
 
 module _ (db : Trees) (m : State) (s : StandsFor db m) where
-  pub told_dump : (project : List ℕ) → is_some (s.parts project (pos 1)) ≡ is_some (m.dump project)
-  told_dump project = both_some (s.parts project (pos 1)) (m.dump project) (λ r e. let d = dump_of db m s project r e in (d.0, d.1)) (λ d e. let r = rows_of db m s project d e in (r.0, r.1))
+  pub told_dump : (project : List ℕ) → is_some (s.parts project Dump) ≡ is_some (m.dump project)
+  told_dump project = both_some (s.parts project Dump) (m.dump project) (λ r e. let d = dump_of db m s project r e in (d.0, d.1)) (λ d e. let r = rows_of db m s project d e in (r.0, r.1))
 
-  pub told_tags : (project : List ℕ) → is_some (s.parts project (pos 2)) ≡ is_some (m.tags project)
-  told_tags project = both_some (s.parts project (pos 2)) (m.tags project) (λ r e. let t = tags_of db m s project r e in (t.0, t.1)) (λ t e. let r = rows_of_tags db m s project t e in (r.0, r.1))
+  pub told_tags : (project : List ℕ) → is_some (s.parts project Tags) ≡ is_some (m.tags project)
+  told_tags project = both_some (s.parts project Tags) (m.tags project) (λ r e. let t = tags_of db m s project r e in (t.0, t.1)) (λ t e. let r = rows_of_tags db m s project t e in (r.0, r.1))
 
   has_some : (name : List ℕ) → HasPart s.parts name ↔ ((is_some (m.dump name) || is_some (m.tags name)) ≡ true)
   has_some name = (
-    (λ h. elim (which_part db m s name h.0 h.1 h.2) [
-      | inl one ↦ left_true _ _ (ap is_some (dump_of db m s name h.1 (subst (λ (k : ℤ). s.parts name k ≡ Some h.1) one h.2)).1)
-      | inr two ↦ right_true _ _ (ap is_some (tags_of db m s name h.1 (subst (λ (k : ℤ). s.parts name k ≡ Some h.1) two h.2)).1)
+    (λ h. elim (which_part h.0) [
+      | inl one ↦ left_true _ _ (ap is_some (dump_of db m s name h.1 (subst (λ (k : Part). s.parts name k ≡ Some h.1) one h.2)).1)
+      | inr two ↦ right_true _ _ (ap is_some (tags_of db m s name h.1 (subst (λ (k : Part). s.parts name k ≡ Some h.1) two h.2)).1)
     ]),
     (λ e. elim (either _ _ e) [
-      | inl one ↦ let d = some_of (m.dump name) one in let r = rows_of db m s name d.0 d.1 in (pos 1, r.0, r.1)
-      | inr two ↦ let t = some_of (m.tags name) two in let r = rows_of_tags db m s name t.0 t.1 in (pos 2, r.0, r.1)
+      | inl one ↦ let d = some_of (m.dump name) one in let r = rows_of db m s name d.0 d.1 in (Dump, r.0, r.1)
+      | inr two ↦ let t = some_of (m.tags name) two in let r = rows_of_tags db m s name t.0 t.1 in (Tags, r.0, r.1)
     ]),
   )
 

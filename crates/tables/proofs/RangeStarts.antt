@@ -30,6 +30,7 @@ use Rattle.positions.specs.Position.{PositionValue, IsPosition, packed_of}
 use Rattle.dump.specs.Progress.{DumpValue}
 use Rattle.flatten.specs.Flat.{RangeRowValue}
 use Rattle.flatten.proofs.Intervals.{before_packed, packed_before}
+use Rattle.tables.specs.declared.slots.Part.TheVariants.{Dump}
 use Rattle.tables.specs.Columns.{number, position, range_columns}
 use Rattle.tables.specs.Contents.{slot_row}
 use Rattle.tables.specs.Schema.{schema_two}
@@ -187,7 +188,7 @@ comes_before o r a b (inl less) = inl (packed_before o.place.span.start r.place.
 comes_before o r a b (inr ties) =
     inr (one_position o.place.span.start r.place.span.start a.0 b.0 (ap number ties.0), λ less. let low = before_packed o.place.span.«end» r.place.span.«end» a.1 b.1 less in omega (arith, ties.1))
 
-module _ (db : Trees) (m : State) (s : StandsFor db m) (project : List ℕ) (dump : DumpValue) (id : ℤ) (slot : Has (db 1) (slot_row id project (pos 1))) (has : m.dump project ≡ Some dump) (uri : List ℕ) (p : PositionValue) (good : IsPosition p) where
+module _ (db : Trees) (m : State) (s : StandsFor db m) (project : List ℕ) (dump : DumpValue) (id : ℤ) (slot : Has (db 1) (slot_row id project Dump)) (has : m.dump project ≡ Some dump) (uri : List ℕ) (p : PositionValue) (good : IsPosition p) where
   abbrev asked : Row
   asked = Int id ∷ Text uri ∷ position p ∷ []
 
@@ -231,7 +232,7 @@ module _ (db : Trees) (m : State) (s : StandsFor db m) (project : List ℕ) (dum
       )
 
 pub start_found : (m : State) (id : ℤ) (project : List ℕ) (dump : DumpValue) (uri : List ℕ) (p : PositionValue) (old new : Store) (rows : List Row) (found : Option SlotRange) → IsPosition p → StandsFor old.now.trees m → old.now.schema ≡ schema_two
-    → Has (old.now.trees 1) (slot_row id project (pos 1)) → m.dump project ≡ Some dump → Shown select_start (Int id ∷ Text uri ∷ position p ∷ []) old new rows → IsFirstRead found_columns rows found → IfSome found IsSound → IsStart dump uri p found
+    → Has (old.now.trees 1) (slot_row id project Dump) → m.dump project ≡ Some dump → Shown select_start (Int id ∷ Text uri ∷ position p ∷ []) old new rows → IsFirstRead found_columns rows found → IfSome found IsSound → IsStart dump uri p found
 start_found m id project dump uri p old new rows found good s schema slot has shown read sound =
     let params = Int id ∷ Text uri ∷ position p ∷ [] in
     let it = selects_in_order schema_two select_start params 7 start_tests range_terms start_order (pos 1) range_names select_start_is select_start_plain.0 select_start_plain.1 (λ db. refl) old new rows schema shown in

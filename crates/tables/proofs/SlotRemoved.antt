@@ -12,6 +12,8 @@ use Rattle.tables.specs.Schema.{schema_two}
 use Rattle.tables.specs.Steps.Queries.{by_project_and_part}
 use Rattle.tables.specs.Steps.Puts.{GoesOn}
 use Rattle.tables.specs.Contents.{Contents, Replies, Keeps, slot_row, changed}
+use Rattle.tables.specs.Parts.{part_number}
+use Rattle.tables.specs.declared.slots.Part.{Part}
 use Rattle.tables.proofs.Removal.{Removed, removes}
 use Rattle.tables.proofs.Keeping.{slot_is, none_is_some}
 use Rattle.tables.proofs.PartRemoved.{id_from, id_to, keeps_drop}
@@ -28,7 +30,7 @@ some_id : (rows : List Row) → (length rows ≡ 0) ⊎ ((id : ℤ) × Has (map 
 some_id [] = inl refl
 some_id (x ∷ xs) = inr (id_in (rowid x), inl refl)
 
-module _ (parts : Contents) (replies : Replies) (p : List ℕ) (k : ℤ) (old new : Trees) (is : Keeps old parts replies) (r : Removed (Text p ∷ Int k ∷ []) by_project_and_part old new) where
+module _ (parts : Contents) (replies : Replies) (p : List ℕ) (k : Part) (old new : Trees) (is : Keeps old parts replies) (r : Removed (Text p ∷ Int (part_number k) ∷ []) by_project_and_part old new) where
   none_there : length r.rows ≡ 0 → parts p k ≡ None
   none_there e = elim (option_cases (parts p k)) [
     | inl none ↦ none
@@ -44,11 +46,11 @@ module _ (parts : Contents) (replies : Replies) (p : List ℕ) (k : ℤ) (old ne
         absurd (none_is_some (sym none ∙ (ap (λ (q : List ℕ). parts q k) at.0 ∙ (ap (parts s.project) at.1 ∙ s.has))))
   ]
 
-pub drop_ok : (project : List ℕ) (part : ℤ) (old new : State) (r : Result ℕ Error) → old.now.schema ≡ schema_two → ExecutesInside 0 delete_slot (Text project ∷ Int part ∷ []) old new r
+pub drop_ok : (project : List ℕ) (part : Part) (old new : State) (r : Result ℕ Error) → old.now.schema ≡ schema_two → ExecutesInside 0 delete_slot (Text project ∷ Int (part_number part) ∷ []) old new r
     → (parts : Contents) (replies : Replies) → Keeps old.now.trees parts replies → IfOk r (λ count. GoesOn old new × Keeps new.now.trees (changed parts project part None) replies × ((count ≡ 0) ↔ (parts project part ≡ None)))
 drop_ok project part old new (Err e) has h parts replies is = tt
 drop_ok project part old new (Ok count) has h parts replies is =
-    let it = removes old new project part count has is.ordered h.0 in (
+    let it = removes old new project (part_number part) count has is.ordered h.0 in (
       record { schema = it.0; inside = rw h.1.mode; committed = h.1.committed_is },
       keeps_drop parts replies project part old.now.trees new.now.trees is it.1.0,
       ((λ none. none_there parts replies project part old.now.trees new.now.trees is it.1.0 (sym it.1.1 ∙ none)), (λ none. it.1.1 ∙ none_taken parts replies project part old.now.trees new.now.trees is it.1.0 none)),

@@ -1,5 +1,5 @@
 -- The tables stand for the next state where they keep its parts and its replies.
-use Rattle.std.proofs.Common.{◌≡◌, ◌≢◌, ◌&&◌, inl, inr, ℕ, ℤ, pos, Bool, true, false, List, Option, Some, None, option_map, if◌then◌else◌, bytes_eq, refl, sym, ap, subst, ◌∙◌, int_cmp, is_eq, zero, suc, nat_lt, is_some, arith, ◌||◌, ◌↔◌}
+use Rattle.std.proofs.Common.{◌≡◌, ◌≢◌, ◌&&◌, inl, inr, ℕ, Bool, true, false, List, Option, Some, None, option_map, if◌then◌else◌, bytes_eq, refl, sym, ap, subst, ◌∙◌, zero, suc, nat_lt, is_some, arith, ◌||◌, ◌↔◌}
 use Rattle.std.proofs.lemmas.Bool.{cases_Bool}
 use Rattle.std.proofs.lemmas.Bool.Decides.{nat_tests}
 use Rattle.std.proofs.lemmas.Map.Text.{is_eq-slice_cmp}
@@ -10,10 +10,13 @@ use Rattle.tags.specs.Values.{TagValue}
 use Rattle.tables.specs.Columns.{tag_rows}
 use Rattle.tables.specs.Contents.{Contents, Replies, Keeps, IsReply, same_text, changed as replaced, kept}
 use Rattle.tables.specs.Databases.{IsListed}
+use Rattle.tables.specs.Parts.{same_part}
+use Rattle.tables.specs.declared.slots.Part.{Part}
+use Rattle.tables.specs.declared.slots.Part.TheVariants.{Dump, Tags}
 use Rattle.tables.specs.Schema.{schema_two}
 use Rattle.tables.specs.Stands.{Each, IsDump, AreTags, StandsFor, replies_of}
 use Rattle.machine.specs.State.{State, Accepted, Change, set_dump, set_tags, clear, accepted_text, changed, text_after}
-use Rattle.tables.proofs.Keeping.{same_text_is, same_text_itself, same_int_is}
+use Rattle.tables.proofs.Keeping.{same_text_is, same_text_itself, same_part_is}
 
 -- ---- equality of texts
 
@@ -64,9 +67,9 @@ never true x y = refl
 never false x y = refl
 
 -- the rows of another kind of part stay
-apart : (parts : Contents) (project : List ℕ) (part : ℤ) (rows : Option (ℕ → List Row)) (p : List ℕ) (k : ℤ) → k ≢ part → replaced parts project part rows p k ≡ parts p k
-apart parts project part rows p k other = elim (cases_Bool (is_eq (int_cmp k part))) [
-  | inl same ↦ absurd (other (same_int_is k part same))
+apart : (parts : Contents) (project : List ℕ) (part : Part) (rows : Option (ℕ → List Row)) (p : List ℕ) (k : Part) → k ≢ part → replaced parts project part rows p k ≡ parts p k
+apart parts project part rows p k other = elim (cases_Bool (same_part k part)) [
+  | inl same ↦ absurd (other (same_part_is k part same))
   | inr off ↦ rw off (never (same_text p project) rows (parts p k))
 ]
 
@@ -76,42 +79,39 @@ stays false x = refl
 
 -- a dump is replaced
 pub dump_changes : (db next : Trees) (m : State) (is : StandsFor db m) (project key reply : List ℕ) (dump : DumpValue) (rows : ℕ → List Row) → IsDump dump rows → reply ≡ text_after m project (set_dump dump)
-    → Keeps next (replaced is.parts project (pos 1) (Some rows)) (kept (replies_of m) project key reply) → IsListed schema_two next → StandsFor next (changed m project key (set_dump dump))
+    → Keeps next (replaced is.parts project Dump (Some rows)) (kept (replies_of m) project key reply) → IsListed schema_two next → StandsFor next (changed m project key (set_dump dump))
 dump_changes db next m is project key reply dump rows of text keeps listed = record {
   listed = listed;
-  parts = replaced is.parts project (pos 1) (Some rows);
+  parts = replaced is.parts project Dump (Some rows);
   keeps = replies_same _ (kept (replies_of m) project key reply) _ next (reply_kept m project key reply (set_dump dump) text) keeps;
-  dumps = λ p. picked IsDump (same_text p project) (bytes_eq project p) (Some dump) (m.dump p) (Some rows) (is.parts p (pos 1)) (text_same project p) of (is.dumps p);
-  tags = λ p. subst (λ o. Each AreTags o (replaced is.parts project (pos 1) (Some rows) p (pos 2))) (sym (stays (bytes_eq project p) (m.tags p)))
-      (subst (Each AreTags (m.tags p)) (sym (apart is.parts project (pos 1) (Some rows) p (pos 2) (λ e. cc))) (is.tags p));
-  others = λ p k one two. apart is.parts project (pos 1) (Some rows) p k one ∙ is.others p k one two;
+  dumps = λ p. picked IsDump (same_text p project) (bytes_eq project p) (Some dump) (m.dump p) (Some rows) (is.parts p Dump) (text_same project p) of (is.dumps p);
+  tags = λ p. subst (λ o. Each AreTags o (replaced is.parts project Dump (Some rows) p Tags)) (sym (stays (bytes_eq project p) (m.tags p)))
+      (subst (Each AreTags (m.tags p)) (sym (apart is.parts project Dump (Some rows) p Tags (λ e. cc))) (is.tags p));
 }
 
 -- tags are replaced
 pub tags_change : (db next : Trees) (m : State) (is : StandsFor db m) (project key reply : List ℕ) (tags : List TagValue) → reply ≡ text_after m project (set_tags tags)
-    → Keeps next (replaced is.parts project (pos 2) (Some (tag_rows tags))) (kept (replies_of m) project key reply) → IsListed schema_two next → StandsFor next (changed m project key (set_tags tags))
+    → Keeps next (replaced is.parts project Tags (Some (tag_rows tags))) (kept (replies_of m) project key reply) → IsListed schema_two next → StandsFor next (changed m project key (set_tags tags))
 tags_change db next m is project key reply tags text keeps listed = record {
   listed = listed;
-  parts = replaced is.parts project (pos 2) (Some (tag_rows tags));
+  parts = replaced is.parts project Tags (Some (tag_rows tags));
   keeps = replies_same _ (kept (replies_of m) project key reply) _ next (reply_kept m project key reply (set_tags tags) text) keeps;
-  dumps = λ p. subst (λ o. Each IsDump o (replaced is.parts project (pos 2) (Some (tag_rows tags)) p (pos 1))) (sym (stays (bytes_eq project p) (m.dump p)))
-      (subst (Each IsDump (m.dump p)) (sym (apart is.parts project (pos 2) (Some (tag_rows tags)) p (pos 1) (λ e. cc))) (is.dumps p));
-  tags = λ p. picked AreTags (same_text p project) (bytes_eq project p) (Some tags) (m.tags p) (Some (tag_rows tags)) (is.parts p (pos 2)) (text_same project p) refl (is.tags p);
-  others = λ p k one two. apart is.parts project (pos 2) (Some (tag_rows tags)) p k two ∙ is.others p k one two;
+  dumps = λ p. subst (λ o. Each IsDump o (replaced is.parts project Tags (Some (tag_rows tags)) p Dump)) (sym (stays (bytes_eq project p) (m.dump p)))
+      (subst (Each IsDump (m.dump p)) (sym (apart is.parts project Tags (Some (tag_rows tags)) p Dump (λ e. cc))) (is.dumps p));
+  tags = λ p. picked AreTags (same_text p project) (bytes_eq project p) (Some tags) (m.tags p) (Some (tag_rows tags)) (is.parts p Tags) (text_same project p) refl (is.tags p);
 }
 
 -- both parts go
 pub both_go : (db next : Trees) (m : State) (is : StandsFor db m) (project key reply : List ℕ) → reply ≡ text_after m project clear
-    → Keeps next (replaced (replaced is.parts project (pos 1) None) project (pos 2) None) (kept (replies_of m) project key reply) → IsListed schema_two next → StandsFor next (changed m project key clear)
+    → Keeps next (replaced (replaced is.parts project Dump None) project Tags None) (kept (replies_of m) project key reply) → IsListed schema_two next → StandsFor next (changed m project key clear)
 both_go db next m is project key reply text keeps listed =
-    let first = replaced is.parts project (pos 1) None in
+    let first = replaced is.parts project Dump None in
     record {
       listed = listed;
-      parts = replaced first project (pos 2) None;
+      parts = replaced first project Tags None;
       keeps = replies_same _ (kept (replies_of m) project key reply) _ next (reply_kept m project key reply clear text) keeps;
-      dumps = λ p. subst (Each IsDump (if bytes_eq project p then None else m.dump p)) (sym (apart first project (pos 2) None p (pos 1) (λ e. cc))) (picked IsDump (same_text p project) (bytes_eq project p) None (m.dump p) None (is.parts p (pos 1)) (text_same project p) tt (is.dumps p));
-      tags = λ p. picked AreTags (same_text p project) (bytes_eq project p) None (m.tags p) None (first p (pos 2)) (text_same project p) tt (subst (Each AreTags (m.tags p)) (sym (apart is.parts project (pos 1) None p (pos 2) (λ e. cc))) (is.tags p));
-      others = λ p k one two. apart first project (pos 2) None p k two ∙ (apart is.parts project (pos 1) None p k one ∙ is.others p k one two);
+      dumps = λ p. subst (Each IsDump (if bytes_eq project p then None else m.dump p)) (sym (apart first project Tags None p Dump (λ e. cc))) (picked IsDump (same_text p project) (bytes_eq project p) None (m.dump p) None (is.parts p Dump) (text_same project p) tt (is.dumps p));
+      tags = λ p. picked AreTags (same_text p project) (bytes_eq project p) None (m.tags p) None (first p Tags) (text_same project p) tt (subst (Each AreTags (m.tags p)) (sym (apart is.parts project Dump None p Tags (λ e. cc))) (is.tags p));
     }
 
 -- ---- whether a part was there
@@ -123,10 +123,10 @@ was_there zero (Some x) h = absurd (let e = h.0 refl in cc)
 was_there (suc n) (Some x) h = grind (arith, nat_tests)
 
 -- slots of a dump and of tags were taken out
-pub were_there : (dumps tags : ℕ) (parts : Contents) (project : List ℕ) → (dumps ≡ 0) ↔ (parts project (pos 1) ≡ None) → (tags ≡ 0) ↔ (replaced parts project (pos 1) None project (pos 2) ≡ None)
-    → (nat_lt 0 dumps || nat_lt 0 tags) ≡ (is_some (parts project (pos 1)) || is_some (parts project (pos 2)))
+pub were_there : (dumps tags : ℕ) (parts : Contents) (project : List ℕ) → (dumps ≡ 0) ↔ (parts project Dump ≡ None) → (tags ≡ 0) ↔ (replaced parts project Dump None project Tags ≡ None)
+    → (nat_lt 0 dumps || nat_lt 0 tags) ≡ (is_some (parts project Dump) || is_some (parts project Tags))
 were_there dumps tags parts project p q =
-    rw (was_there dumps (parts project (pos 1)) p, was_there tags (replaced parts project (pos 1) None project (pos 2)) q, apart parts project (pos 1) None project (pos 2) (λ e. cc)) refl
+    rw (was_there dumps (parts project Dump) p, was_there tags (replaced parts project Dump None project Tags) q, apart parts project Dump None project Tags (λ e. cc)) refl
 
 is_there : {X : Type 0} (HasRows : X → (ℕ → List Row) → Type 0) (o : Option X) (rows : Option (ℕ → List Row)) → Each HasRows o rows → is_some rows ≡ is_some o
 is_there HasRows None None is = refl
@@ -135,8 +135,8 @@ is_there HasRows (Some x) None none = absurd none
 is_there HasRows (Some x) (Some rows) is = refl
 
 -- the parts that the tables keep are those that the state has
-pub are_there : (db : Trees) (m : State) (is : StandsFor db m) (project : List ℕ) → (is_some (is.parts project (pos 1)) || is_some (is.parts project (pos 2))) ≡ (is_some (m.dump project) || is_some (m.tags project))
-are_there db m is project = rw (is_there IsDump (m.dump project) (is.parts project (pos 1)) (is.dumps project), is_there AreTags (m.tags project) (is.parts project (pos 2)) (is.tags project)) refl
+pub are_there : (db : Trees) (m : State) (is : StandsFor db m) (project : List ℕ) → (is_some (is.parts project Dump) || is_some (is.parts project Tags)) ≡ (is_some (m.dump project) || is_some (m.tags project))
+are_there db m is project = rw (is_there IsDump (m.dump project) (is.parts project Dump) (is.dumps project), is_there AreTags (m.tags project) (is.parts project Tags) (is.tags project)) refl
 
 -- a key that isn't kept has no text
 pub unkept : (m : State) (project key : List ℕ) → m.kept project key ≡ None → replies_of m project key ≡ None

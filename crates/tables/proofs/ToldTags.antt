@@ -6,6 +6,7 @@ use Rattle.sqlite_trees.specs.Tree.{Trees}
 use Rattle.sqlite_rules.specs.Lists.{Has}
 use Rattle.sqlite_rules.proofs.ListLemmas.{has_contained, contains_had}
 use Rattle.machine.specs.State.{State}
+use Rattle.tables.specs.declared.slots.Part.TheVariants.{Tags}
 use Rattle.tables.specs.Stands.{StandsFor}
 use Rattle.machine.specs.FoundTags.{FoundTag, IsTag, IsAsked}
 use Rattle.machine.specs.Found.{tag_found}
@@ -87,6 +88,6 @@ module _ (db : Trees) (m : State) (asked : Option (List ℕ)) where
 -- a row tells one tag
 pub one_told : (db : Trees) (m : State) (s : StandsFor db m) (x : TagRow) (v w : FoundTag) → TellsTag db m x v → TellsTag db m x w → v ≡ w
 one_told db m s x v w a b =
-    let project = (one_slot db s.parts _ x.slot v.project w.project (pos 2) (pos 2) s.keeps a.slot b.slot).0 in
+    let project = (one_slot db s.parts _ x.slot v.project w.project Tags Tags s.keeps a.slot b.slot).0 in
     let tag = one_tag v.tag w.tag (sym a.is ∙ b.is) in
     λ i. record { project = project i; tag = tag i }

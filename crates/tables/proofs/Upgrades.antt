@@ -1,7 +1,6 @@
 -- Tables that were upgraded stand for the state that those of format 1 stood for.
 use Rattle.std.proofs.Common.{arith, ◌≡◌, ◌≢◌, ◌⊎◌, ◌↔◌, ◌&&◌, inl, inr, ℕ, ℤ, pos, Bool, true, false, List, [], ◌∷◌, Option, Some, None, refl, sym, ap, subst, ◌∙◌, int_cmp, is_eq}
 use Rattle.std.specs.List.{list_all}
-use Rattle.std.proofs.lemmas.Bool.{cases_Bool}
 use Rattle.sqlite_value.specs.Order.{Row}
 use Rattle.sqlite_value.specs.declared.value.Value.TheVariants.{Int, Null}
 use Rattle.sqlite_value.proofs.OrderLemmas.{value_cmp-Int}
@@ -21,21 +20,27 @@ use Rattle.tables.specs.Databases.{IsOrdered, AllOrdered, AreNumbered, Holds, Wa
 use Rattle.tables.specs.Contents.{Contents, Replies, Keeps, KeepsOne, IsOwned, IsReply, slot_row, owned, owned_one}
 use Rattle.tables.specs.Stands.{Each, IsDump, IsDumpOne, AreTags, StandsFor, StandsForOne, Rests, RestsOne, replies_of}
 use Rattle.machine.specs.State.{State}
+use Rattle.tables.specs.Parts.{part_number}
+use Rattle.tables.specs.declared.slots.Part.{Part}
+use Rattle.tables.specs.declared.slots.Part.TheVariants.{Dump, Tags}
 use Rattle.tables.proofs.Empty.{one_row, version_ordered, version_is}
-use Rattle.tables.proofs.Keeping.{from_map, to_map, none_is_some, same_int_is, same_int_itself}
+use Rattle.tables.proofs.Keeping.{from_map, to_map, number_is, which_part, same_int_is, same_int_itself}
 use Rattle.tables.proofs.PartRemoved.{truly}
 
 -- ---- the rows of a part that format 2 has besides
 
 -- what a part has in `part_profile` and in `more`
 abbrev HasBesides : Contents → Type 0
-HasBesides parts = (project : List ℕ) (part : ℤ) (rows : ℕ → List Row) → parts project part ≡ Some rows
-    → (rows 24 ≡ []) × (((part ≡ pos 1) × (rows 22 ≡ profile_columns One ∷ [])) ⊎ ((part ≢ pos 1) × (rows 22 ≡ [])))
+HasBesides parts = (project : List ℕ) (part : Part) (rows : ℕ → List Row) → parts project part ≡ Some rows
+    → (rows 24 ≡ []) × (((part ≡ Dump) × (rows 22 ≡ profile_columns One ∷ [])) ⊎ ((part ≡ Tags) × (rows 22 ≡ [])))
+
+no_dump : {part : Part} → part ≡ Tags → part ≡ Dump → ⊥
+no_dump tags dump = let e = sym tags ∙ dump in cc
 
 -- the statement's test is that of a dump's slot
-dump_test : (id : ℤ) (q : List ℕ) (j : ℤ) → list_all (holds ([] ∷ slot_row id q j ∷ [])) dump_tests ≡ (is_eq (int_cmp j (pos 1)) && true)
+dump_test : (id : ℤ) (q : List ℕ) (j : Part) → list_all (holds ([] ∷ slot_row id q j ∷ [])) dump_tests ≡ (is_eq (int_cmp (part_number j) (pos 1)) && true)
 unfolding binary
-dump_test id q j = rw (value_cmp-Int j (pos 1), truly (is_eq (int_cmp j (pos 1))))
+dump_test id q j = rw (value_cmp-Int (part_number j) (pos 1), truly (is_eq (int_cmp (part_number j) (pos 1))))
 
 plainly_true : (b : Bool) → (b && true) ≡ true → b ≡ true
 plainly_true true h = refl
@@ -56,9 +61,9 @@ module _ (old new : Trees) (parts : Contents) (replies : Replies) (is : KeepsOne
       let y = from_map (λ x. eval_all profile_shown ([] ∷ x ∷ [])) _ row h in
       let good = has_filtered (λ x. list_all (holds ([] ∷ x ∷ [])) dump_tests) (old 1) y.0 y.1 in
       let s = is.slots y.0 good.0 in
-      let dump : s.part ≡ pos 1 = same_int_is s.part (pos 1) (plainly_true _ (sym (dump_test s.id s.project s.part) ∙ subst (λ x. list_all (holds ([] ∷ x ∷ [])) dump_tests ≡ true) s.is good.1)) in
+      let dump : s.part ≡ Dump = number_is s.part Dump (same_int_is (part_number s.part) (pos 1) (plainly_true _ (sym (dump_test s.id s.project s.part) ∙ subst (λ x. list_all (holds ([] ∷ x ∷ [])) dump_tests ≡ true) s.is good.1))) in
       let b = besides s.project s.part s.rows s.has in
-      let rows : s.rows 22 ≡ profile_columns One ∷ [] = elim b.1 [ inl one ↦ one.1 | inr other ↦ absurd (other.0 dump) ] in
+      let rows : s.rows 22 ≡ profile_columns One ∷ [] = elim b.1 [ inl one ↦ one.1 | inr other ↦ absurd (no_dump other.0 dump) ] in
       record {
         id = s.id;
         project = s.project;
@@ -79,7 +84,7 @@ module _ (old new : Trees) (parts : Contents) (replies : Replies) (is : KeepsOne
         | inl one ↦
             let values : o.values ≡ profile_columns One = elim (subst (λ l. Has l o.values) one.1 o.listed) [ inl e ↦ e | inr none ↦ absurd none ] in
             let there = subst (λ l. Has l (slot_row o.id o.project o.part)) slots_same o.slot in
-            let passes = dump_test o.id o.project o.part ∙ ap (λ b. b && true) (ap (λ k. is_eq (int_cmp k (pos 1))) one.0 ∙ same_int_itself (pos 1)) in
+            let passes = dump_test o.id o.project o.part ∙ ap (λ b. b && true) (ap (λ (k : Part). is_eq (int_cmp (part_number k) (pos 1))) one.0 ∙ same_int_itself (pos 1)) in
             let kept = has_kept (λ x. list_all (holds ([] ∷ x ∷ [])) dump_tests) (old 1) (slot_row o.id o.project o.part) there passes in
             subst (Has (chosen dump_tests profile_shown [] (old 1))) (sym (o.is ∙ ap (λ (v : Row). Int o.id ∷ v) values)) (to_map (λ x. eval_all profile_shown ([] ∷ x ∷ [])) _ (slot_row o.id o.project o.part) kept)
       ]
@@ -154,19 +159,13 @@ dump_of_two (Some dump) (Some rows) is = is.is_dump
 
 module _ (db : Trees) (m : State) (is : StandsForOne db m) where
   besides : HasBesides is.parts
-  besides project part rows has = elim (cases_Bool (is_eq (int_cmp part (pos 1)))) [
-    | inl one ↦
-        let k = same_int_is part (pos 1) one in
-        let b = besides_dump (m.dump project) rows (subst (Each IsDumpOne (m.dump project)) (ap (is.parts project) (sym k) ∙ has) (is.dumps project)) in
-        (b.0, inl (k, b.1))
-    | inr not_one ↦
-        let other : part ≢ pos 1 = (λ e. let yes = same_int_itself (pos 1) in let off = rw (e) at not_one in absurd cc) in
-        elim (cases_Bool (is_eq (int_cmp part (pos 2)))) [
-          | inl two ↦
-              let b = besides_tags (m.tags project) rows (subst (Each AreTags (m.tags project)) (ap (is.parts project) (sym (same_int_is part (pos 2) two)) ∙ has) (is.tags project)) in
-              (b.0, inr (other, b.1))
-          | inr not_two ↦ absurd (none_is_some (sym (is.others project part other (λ e. let yes = same_int_itself (pos 2) in let off = rw (e) at not_two in absurd cc)) ∙ has))
-        ]
+  besides project part rows has = elim (which_part part) [
+    | inl dump ↦
+        let b = besides_dump (m.dump project) rows (subst (Each IsDumpOne (m.dump project)) (ap (is.parts project) (sym dump) ∙ has) (is.dumps project)) in
+        (b.0, inl (dump, b.1))
+    | inr tags ↦
+        let b = besides_tags (m.tags project) rows (subst (Each AreTags (m.tags project)) (ap (is.parts project) (sym tags) ∙ has) (is.tags project)) in
+        (b.0, inr (tags, b.1))
   ]
 
   pub stands_upgraded : (next : Trees) → WasUpgraded db next → StandsFor next m
@@ -174,9 +173,8 @@ module _ (db : Trees) (m : State) (is : StandsForOne db m) where
     listed = up.listed;
     parts = is.parts;
     keeps = keeps_upgraded db next is.parts (replies_of m) is.keeps up besides;
-    dumps = λ p. dump_of_two (m.dump p) (is.parts p (pos 1)) (is.dumps p);
+    dumps = λ p. dump_of_two (m.dump p) (is.parts p Dump) (is.dumps p);
     tags = is.tags;
-    others = is.others;
   }
 
 pub rests_upgraded : (s t : sqlite.State) (m : State) → RestsOne s m → IsUpgraded s.now t.now → t.committed ≡ t.now → Rests t m

@@ -1,6 +1,6 @@
 -- What the tables hold: the rows of each part that is there, and the kept replies.
 use Rattle.std.specs.Prelude.{◌≡◌, ◌↔◌, ◌&&◌, ℕ, ℤ, pos, Bool, List, [], ◌∷◌, Option, Some, if◌then◌else◌}
-use Rattle.std.specs.Ordering.{is_eq, int_cmp, nat_cmp}
+use Rattle.std.specs.Ordering.{is_eq, nat_cmp}
 use Rattle.std.specs.Cmp.Lexicographic.{slice_cmp}
 use Rattle.sqlite_value.specs.Order.{Row}
 use Rattle.sqlite_value.specs.declared.value.Value.TheVariants.{Int, Text, Null}
@@ -9,31 +9,31 @@ use Rattle.sqlite_rules.specs.Lists.{Has}
 use Rattle.sqlite_schema.specs.declared.schema.Schema.{Schema}
 use Rattle.tables.specs.Schema.{schema_one, schema_two}
 use Rattle.tables.specs.Databases.{Holds, AllOrdered}
-use Rattle.tables.specs.Parts.{part_number}
+use Rattle.tables.specs.Parts.{part_number, same_part}
 use Rattle.tables.specs.TableTrees.{format_tree, slot_tree, keyed_tree, document_tree, range_row_tree, item_tree, hover_tree, mark_tree, bearer_tree, tag_tree, part_profile_tree, more_tree}
 use Rattle.tables.specs.declared.slots.Part.{Part}
 
--- for each project and kind of part (1 is a dump, 2 tags) nothing, or for each table the part's rows without the id of its slot
+-- for each project and kind of part nothing, or for each table the part's rows without the id of its slot
 abbrev pub Contents : Type 0
-Contents = List ℕ → ℤ → Option (ℕ → List Row)
+Contents = List ℕ → Part → Option (ℕ → List Row)
 
 -- for each project and key nothing, or the text of the kept reply
 abbrev pub Replies : Type 0
 Replies = List ℕ → List ℕ → Option (List ℕ)
 
 -- a key's own column is kept as NULL
-abbrev pub slot_row : ℤ → List ℕ → ℤ → Row
-slot_row id project part = Int id ∷ Null ∷ Text project ∷ Int part ∷ []
+abbrev pub slot_row : ℤ → List ℕ → Part → Row
+slot_row id project part = Int id ∷ Null ∷ Text project ∷ Int (part_number part) ∷ []
 
 -- the part of the project has the slot of this id
 abbrev pub HasSlot : Trees → ℤ → List ℕ → Part → Type 0
-HasSlot db id project part = Has (db slot_tree) (slot_row id project (part_number part))
+HasSlot db id project part = Has (db slot_tree) (slot_row id project part)
 
 -- the row is the slot of a part that is there
 pub record IsSlot (parts : Contents) (row : Row) : Type 0 where
   pub id : ℤ
   pub project : List ℕ
-  pub part : ℤ
+  pub part : Part
   pub rows : ℕ → List Row
   pub has : parts project part ≡ Some rows
   pub is : row ≡ slot_row id project part
@@ -42,7 +42,7 @@ pub record IsSlot (parts : Contents) (row : Row) : Type 0 where
 pub record IsOwned (db : Trees) (parts : Contents) (tree : ℕ) (row : Row) : Type 0 where
   pub id : ℤ
   pub project : List ℕ
-  pub part : ℤ
+  pub part : Part
   pub rows : ℕ → List Row
   pub values : Row
   pub slot : Has (db slot_tree) (slot_row id project part)
@@ -71,8 +71,8 @@ pub record KeepsIn (schema : Schema) (number : ℕ) (owners : List ℕ) (db : Tr
   pub ordered : AllOrdered schema db
   pub version : (row : Row) → Has (db format_tree) row ↔ (row ≡ Int (pos number) ∷ Null ∷ [])
   pub slots : (row : Row) → Has (db slot_tree) row → IsSlot parts row
-  pub there : (project : List ℕ) (part : ℤ) (rows : ℕ → List Row) → parts project part ≡ Some rows → (id : ℤ) × Has (db slot_tree) (slot_row id project part)
-  pub single : (a b : ℤ) (project : List ℕ) (part : ℤ) → Has (db slot_tree) (slot_row a project part) → Has (db slot_tree) (slot_row b project part) → a ≡ b
+  pub there : (project : List ℕ) (part : Part) (rows : ℕ → List Row) → parts project part ≡ Some rows → (id : ℤ) × Has (db slot_tree) (slot_row id project part)
+  pub single : (a b : ℤ) (project : List ℕ) (part : Part) → Has (db slot_tree) (slot_row a project part) → Has (db slot_tree) (slot_row b project part) → a ≡ b
   pub keyed : (row : Row) → Holds db keyed_tree row ↔ IsReply replies row
   pub children : (tree : ℕ) → Has owners tree → (row : Row) → Holds db tree row ↔ IsOwned db parts tree row
 
@@ -87,11 +87,11 @@ KeepsOne = KeepsIn schema_one 1 owned_one
 abbrev pub same_text : List ℕ → List ℕ → Bool
 same_text a b = is_eq (slice_cmp nat_cmp a b)
 
-abbrev pub is_at : List ℕ → ℤ → List ℕ → ℤ → Bool
-is_at project part p k = same_text p project && (is_eq (int_cmp k part) && Bool.true)
+abbrev pub is_at : List ℕ → Part → List ℕ → Part → Bool
+is_at project part p k = same_text p project && same_part k part
 
 -- one part is replaced, or gone
-abbrev pub changed : Contents → List ℕ → ℤ → Option (ℕ → List Row) → Contents
+abbrev pub changed : Contents → List ℕ → Part → Option (ℕ → List Row) → Contents
 changed parts project part rows p k = if is_at project part p k then rows else parts p k
 
 -- one reply is kept

@@ -1,5 +1,5 @@
 -- Which states of the index the tables stand for.
-use Rattle.std.specs.Prelude.{◌≡◌, ◌≢◌, ⊤, ℕ, ℤ, pos, List, [], map, Option, Some, None, option_map, Ok}
+use Rattle.std.specs.Prelude.{◌≡◌, ⊤, ℕ, List, [], map, Option, Some, None, option_map, Ok}
 use Rattle.sqlite_value.specs.Order.{Row}
 use Rattle.sqlite_schema.specs.declared.schema.Schema.{Schema}
 use Rattle.sqlite_trees.specs.Tree.{Trees}
@@ -19,6 +19,7 @@ use Rattle.tables.specs.Databases.{IsListed}
 use Rattle.tables.specs.Schema.{schema_one, schema_two}
 use Rattle.machine.specs.State.{State, Change, accepted_text, text_after}
 use Rattle.tables.specs.TableTrees.{more_tree}
+use Rattle.tables.specs.declared.slots.Part.TheVariants.{Dump, Tags}
 
 -- the dump has no fault, its ranges have positions within their bounds, and these are the rows that its walks lead to
 pub record IsDump (dump : DumpValue) (rows : ℕ → List Row) : Type 0 where
@@ -49,9 +50,8 @@ pub record StandsIn (schema : Schema) (KeepsRows : Trees → Contents → Replie
   pub listed : IsListed schema db
   pub parts : Contents
   pub keeps : KeepsRows db parts (replies_of m)
-  pub dumps : (project : List ℕ) → Each IsDumpOf (m.dump project) (parts project (pos 1))
-  pub tags : (project : List ℕ) → Each AreTags (m.tags project) (parts project (pos 2))
-  pub others : (project : List ℕ) (part : ℤ) → part ≢ pos 1 → part ≢ pos 2 → parts project part ≡ None
+  pub dumps : (project : List ℕ) → Each IsDumpOf (m.dump project) (parts project Dump)
+  pub tags : (project : List ℕ) → Each AreTags (m.tags project) (parts project Tags)
 
 abbrev pub StandsFor : Trees → State → Type 0
 StandsFor = StandsIn schema_two Keeps IsDump

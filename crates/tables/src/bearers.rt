@@ -1,5 +1,5 @@
 //! The bearers of a moniker key in all projects, as they are selected, in order. `FindsBearers` in `specs/Selections`.
-ghost use Rattle.std.specs.Prelude.{◌≡◌, ◌∷◌, [], List, ℕ, ℤ, Contains, Some, map, string_bytes, false, IsTrue, IfOk, IfErr};
+ghost use Rattle.std.specs.Prelude.{◌≡◌, ◌∷◌, [], List, ℕ, Contains, Some, map, string_bytes, false, IsTrue, IfOk, IfErr};
 ghost use Rattle.std.specs.declared.cmp.Ordering.TheVariants.{Equal};
 ghost use Rattle.std.specs.List.{AllByRecursion};
 ghost use Rattle.sqlite_value.specs.declared.value.Value.TheVariants.{Int};
@@ -19,6 +19,7 @@ ghost use Rattle.tables.specs.declared.bearers.SlotBearer.{SlotBearer};
 ghost use Rattle.tables.specs.Steps.Selected.{Looks};
 ghost use Rattle.tables.specs.Steps.Known.{IsKnown, TellsBearer};
 ghost use Rattle.tables.specs.Steps.Clauses.{OfDump, OfState, StaysAsBefore};
+ghost use Rattle.tables.specs.declared.slots.Part.{Part};
 
 use crate::columns::{column, kind_of};
 use crate::dump_rows::kind_number;
@@ -120,7 +121,7 @@ pub(crate) fn more_of<S: Alter>(
 pub(crate) fn slot_project<S: Alter>(conn: &mut Connection<S>, slot: i64) -> Result<String, Refusal>
     ensures project { HasCleanDisk (state S.Store conn.new) → (state S.Store conn.old).now.schema ≡ schema_two → (parts : Contents) (replies : Replies)
         → Keeps (state S.Store conn.old).now.trees parts replies
-        → (project : List ℕ) (part : ℤ) → Has ((state S.Store conn.old).now.trees 1) (slot_row slot project part)
+        → (project : List ℕ) (part : Part) → Has ((state S.Store conn.old).now.trees 1) (slot_row slot project part)
         → IfOk result (λ found. string_bytes found ≡ project) }
     ensures kept { StaysAsBefore result (state S.Store conn.old) (state S.Store conn.new) }
     ensures looks { Looks (state S.Store conn.old) (state S.Store conn.new) }

@@ -1,6 +1,6 @@
 //! The changes of the index, each one transaction with its kept reply: a dump or tags replaced, and both removed. `specs/Contents` says what they
 //! leave.
-ghost use Rattle.std.specs.Prelude.{◌≡◌, ◌||◌, nat_lt, ℕ, List, pos, Option, Some, None, is_some, false, IsTrue, IfOk, OnOk, OnErr, IfErr};
+ghost use Rattle.std.specs.Prelude.{◌≡◌, ◌||◌, nat_lt, ℕ, List, Option, Some, None, is_some, false, IsTrue, IfOk, OnOk, OnErr, IfErr};
 ghost use Rattle.sqlite.specs.State.{HasCleanDisk, Survives, KeepsCommit};
 ghost use Rattle.sqlite.specs.Held.{state};
 ghost use Rattle.flatten.specs.Rows.{rows_value};
@@ -14,6 +14,7 @@ ghost use Rattle.tables.specs.Fault.{IsStoreFault};
 ghost use Rattle.tables.specs.Stands.{IsAsBefore, IsDump, IsNew, Rests, StandsFor, replies_of};
 ghost use Rattle.machine.specs.State.{State, parts_removed, accepted_text, set_dump, set_tags, clear, changed};
 ghost use Rattle.tables.specs.Steps.Puts.{GoesOn};
+ghost use Rattle.tables.specs.declared.slots.Part.TheVariants.{Dump, Tags};
 
 use crate::dump_part::insert_dump;
 use crate::fault::{TablesFault, fault_of};
@@ -41,7 +42,7 @@ fn change_dump<S: Alter>(
         → (state S.Store tx.old.conn.now).now.schema ≡ schema_two
         → (parts : Contents) (replies : Replies) → Keeps (state S.Store tx.old.conn.now).now.trees parts replies → replies project.now key.now ≡ None
         → OnOk result (GoesOn (state S.Store tx.old.conn.now) (state S.Store tx.new.conn.now)
-        × Keeps (state S.Store tx.new.conn.now).now.trees (replaced parts project.now (pos 1) (Some (dump_rows rows.now.profile (rows_value rows.now))))
+        × Keeps (state S.Store tx.new.conn.now).now.trees (replaced parts project.now Dump (Some (dump_rows rows.now.profile (rows_value rows.now))))
         (kept replies project.now key.now reply.now)
         × IsListed schema_two (state S.Store tx.new.conn.now).now.trees) }
     ensures kept { HasCleanDisk (state S.Store tx.new.conn.now) → KeepsCommit (state S.Store tx.old.conn.now) (state S.Store tx.new.conn.now) }
@@ -97,7 +98,7 @@ fn change_tags<S: Alter>(
         → (state S.Store tx.old.conn.now).now.schema ≡ schema_two
         → (parts : Contents) (replies : Replies) → Keeps (state S.Store tx.old.conn.now).now.trees parts replies → replies project.now key.now ≡ None
         → OnOk result (GoesOn (state S.Store tx.old.conn.now) (state S.Store tx.new.conn.now)
-        × Keeps (state S.Store tx.new.conn.now).now.trees (replaced parts project.now (pos 2) (Some (tag_rows (tag_values tags.now))))
+        × Keeps (state S.Store tx.new.conn.now).now.trees (replaced parts project.now Tags (Some (tag_rows (tag_values tags.now))))
         (kept replies project.now key.now reply.now)
         × IsListed schema_two (state S.Store tx.new.conn.now).now.trees) }
     ensures kept { HasCleanDisk (state S.Store tx.new.conn.now) → KeepsCommit (state S.Store tx.old.conn.now) (state S.Store tx.new.conn.now) }
@@ -151,9 +152,9 @@ fn clear_parts<S: Alter>(tx: &mut Transaction<'_, S>, project: &str) -> Result<b
     ensures gone { HasCleanDisk (state S.Store tx.new.conn.now) → IsTrue tx.old.conn.now.in_transaction
         → (state S.Store tx.old.conn.now).now.schema ≡ schema_two
         → (parts : Contents) (replies : Replies) → Keeps (state S.Store tx.old.conn.now).now.trees parts replies
-        → IfOk result (λ was_there. (was_there ≡ (is_some (parts project.now (pos 1)) || is_some (parts project.now (pos 2))))
+        → IfOk result (λ was_there. (was_there ≡ (is_some (parts project.now Dump) || is_some (parts project.now Tags)))
         × GoesOn (state S.Store tx.old.conn.now) (state S.Store tx.new.conn.now)
-        × Keeps (state S.Store tx.new.conn.now).now.trees (replaced (replaced parts project.now (pos 1) None) project.now (pos 2) None) replies) }
+        × Keeps (state S.Store tx.new.conn.now).now.trees (replaced (replaced parts project.now Dump None) project.now Tags None) replies) }
     ensures kept { HasCleanDisk (state S.Store tx.new.conn.now) → KeepsCommit (state S.Store tx.old.conn.now) (state S.Store tx.new.conn.now) }
     ensures survives { Survives (state S.Store tx.old.conn.now) (state S.Store tx.new.conn.now) (λ _. ⊥) }
 {
@@ -172,9 +173,9 @@ fn change_both<S: Alter>(
     ensures changed { HasCleanDisk (state S.Store tx.new.conn.now) → IsTrue tx.old.conn.now.in_transaction
         → (state S.Store tx.old.conn.now).now.schema ≡ schema_two
         → (parts : Contents) (replies : Replies) → Keeps (state S.Store tx.old.conn.now).now.trees parts replies → replies project.now key.now ≡ None
-        → IfOk result (λ was_there. (was_there ≡ (is_some (parts project.now (pos 1)) || is_some (parts project.now (pos 2))))
+        → IfOk result (λ was_there. (was_there ≡ (is_some (parts project.now Dump) || is_some (parts project.now Tags)))
         × GoesOn (state S.Store tx.old.conn.now) (state S.Store tx.new.conn.now)
-        × Keeps (state S.Store tx.new.conn.now).now.trees (replaced (replaced parts project.now (pos 1) None) project.now (pos 2) None)
+        × Keeps (state S.Store tx.new.conn.now).now.trees (replaced (replaced parts project.now Dump None) project.now Tags None)
         (kept replies project.now key.now (accepted_text (parts_removed was_there)))
         × IsListed schema_two (state S.Store tx.new.conn.now).now.trees) }
     ensures kept { HasCleanDisk (state S.Store tx.new.conn.now) → KeepsCommit (state S.Store tx.old.conn.now) (state S.Store tx.new.conn.now) }

@@ -1,5 +1,5 @@
 //! The rows of a dump, put under a slot of its own, table by table. The rows are made by the crate `flatten`.
-ghost use Rattle.std.specs.Prelude.{◌≡◌, ◌∷◌, [], pos, map, Some, None, IsTrue, OnOk};
+ghost use Rattle.std.specs.Prelude.{◌≡◌, ◌∷◌, [], map, Some, None, IsTrue, OnOk};
 ghost use Rattle.sqlite_value.specs.declared.value.Value.TheVariants.{Int};
 ghost use Rattle.sqlite.specs.State.{HasCleanDisk, Survives, KeepsCommit};
 ghost use Rattle.sqlite.specs.Held.{state};
@@ -11,6 +11,7 @@ ghost use Rattle.tables.specs.Contents.{Contents, Replies, Keeps, changed, kept}
 ghost use Rattle.tables.specs.Steps.Puts.{PutsAll, Then, GoesOn};
 ghost use Rattle.tables.specs.Steps.Clauses.{Edits};
 ghost use Rattle.tables.specs.TableTrees.{bearer_tree, document_tree, hover_tree, item_tree, mark_tree, part_profile_tree, range_row_tree};
+ghost use Rattle.tables.specs.declared.slots.Part.TheVariants.{Dump};
 
 use crate::more::insert_more;
 use crate::part_rows::insert_all;
@@ -93,9 +94,9 @@ pub(crate) fn insert_dump<S: Alter>(
 ) -> Result<(), Error>
     ensures same_reference { tx.new.conn.ghost_name ≡ tx.old.conn.ghost_name }
     ensures put { HasCleanDisk (state S.Store tx.new.conn.now) → IsTrue tx.old.conn.now.in_transaction → (state S.Store tx.old.conn.now).now.schema ≡ schema_two
-        → (parts : Contents) (replies : Replies) → Keeps (state S.Store tx.old.conn.now).now.trees (changed parts project.now (pos 1) None) replies
+        → (parts : Contents) (replies : Replies) → Keeps (state S.Store tx.old.conn.now).now.trees (changed parts project.now Dump None) replies
         → OnOk result (GoesOn (state S.Store tx.old.conn.now) (state S.Store tx.new.conn.now)
-        × Keeps (state S.Store tx.new.conn.now).now.trees (changed parts project.now (pos 1) (Some (dump_rows rows.now.profile (rows_value rows.now))))
+        × Keeps (state S.Store tx.new.conn.now).now.trees (changed parts project.now Dump (Some (dump_rows rows.now.profile (rows_value rows.now))))
         replies) }
     ensures kept { HasCleanDisk (state S.Store tx.new.conn.now) → KeepsCommit (state S.Store tx.old.conn.now) (state S.Store tx.new.conn.now) }
     ensures survives { Survives (state S.Store tx.old.conn.now) (state S.Store tx.new.conn.now) (λ _. ⊥) }

@@ -5,7 +5,6 @@ ghost use Rattle.sqlite.specs.Held.{state};
 ghost use Rattle.tables.specs.Schema.{schema_two};
 ghost use Rattle.tables.specs.Columns.{profile_columns};
 ghost use Rattle.tables.specs.Contents.{Contents, Replies, Keeps};
-ghost use Rattle.tables.specs.Parts.{part_number};
 ghost use Rattle.machine.specs.State.{State};
 ghost use Rattle.tables.specs.Fault.{IsStoreFault};
 ghost use Rattle.tables.specs.Stands.{IsAsBefore, Rests};
@@ -30,7 +29,7 @@ pub(crate) fn find_slot<S: Alter>(
 ) -> Result<Option<i64>, Refusal>
     ensures slot { HasCleanDisk (state S.Store conn.new) → (state S.Store conn.old).now.schema ≡ schema_two → (parts : Contents) (replies : Replies)
         → Keeps (state S.Store conn.old).now.trees parts replies
-        → IfOk result (IsSlotOf (state S.Store conn.old).now.trees parts project.now (part_number part)) }
+        → IfOk result (IsSlotOf (state S.Store conn.old).now.trees parts project.now part) }
     ensures kept { StaysAsBefore result (state S.Store conn.old) (state S.Store conn.new) }
     ensures looks { Looks (state S.Store conn.old) (state S.Store conn.new) }
     ensures mode { conn.old.in_transaction ≡ false → conn.new.in_transaction ≡ false }

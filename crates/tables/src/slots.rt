@@ -41,8 +41,8 @@ pub(crate) fn remove_slot<S: Alter>(
         → (state S.Store tx.old.conn.now).now.schema ≡ schema_two
         → (parts : Contents) (replies : Replies) → Keeps (state S.Store tx.old.conn.now).now.trees parts replies
         → IfOk result (λ count. GoesOn (state S.Store tx.old.conn.now) (state S.Store tx.new.conn.now)
-        × Keeps (state S.Store tx.new.conn.now).now.trees (changed parts project.now (part_number part) None) replies
-        × ((count ≡ 0) ↔ (parts project.now (part_number part) ≡ None))) }
+        × Keeps (state S.Store tx.new.conn.now).now.trees (changed parts project.now part None) replies
+        × ((count ≡ 0) ↔ (parts project.now part ≡ None))) }
     ensures kept { HasCleanDisk (state S.Store tx.new.conn.now) → KeepsCommit (state S.Store tx.old.conn.now) (state S.Store tx.new.conn.now) }
     ensures survives { Survives (state S.Store tx.old.conn.now) (state S.Store tx.new.conn.now) (λ _. ⊥) }
 {

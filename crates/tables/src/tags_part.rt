@@ -1,5 +1,5 @@
 //! The rows of tags, put under a slot of their own; the fields are written as JSON. A dump's rows are in `dump_part.rt`.
-ghost use Rattle.std.specs.Prelude.{◌≡◌, ◌∷◌, [], pos, map, string_bytes, Some, None, IsTrue, IfOk, OnOk};
+ghost use Rattle.std.specs.Prelude.{◌≡◌, ◌∷◌, [], map, string_bytes, Some, None, IsTrue, IfOk, OnOk};
 ghost use Rattle.sqlite_value.specs.declared.value.Value.TheVariants.{Int};
 ghost use Rattle.sqlite.specs.State.{HasCleanDisk, Survives, KeepsCommit};
 ghost use Rattle.sqlite.specs.Held.{state};
@@ -10,6 +10,7 @@ ghost use Rattle.tables.specs.Contents.{Contents, Replies, Keeps, changed};
 ghost use Rattle.tables.specs.Steps.Puts.{PutsAll, GoesOn};
 ghost use Rattle.tables.specs.Steps.Clauses.{Edits};
 ghost use Rattle.tables.specs.TableTrees.{tag_tree};
+ghost use Rattle.tables.specs.declared.slots.Part.TheVariants.{Tags};
 
 use crate::slots::{Part, insert_slot};
 use machine::fields_value;
@@ -98,9 +99,9 @@ pub(crate) fn insert_tags<S: Alter>(
 ) -> Result<(), Error>
     ensures same_reference { tx.new.conn.ghost_name ≡ tx.old.conn.ghost_name }
     ensures put { HasCleanDisk (state S.Store tx.new.conn.now) → IsTrue tx.old.conn.now.in_transaction → (state S.Store tx.old.conn.now).now.schema ≡ schema_two
-        → (parts : Contents) (replies : Replies) → Keeps (state S.Store tx.old.conn.now).now.trees (changed parts project.now (pos 2) None) replies
+        → (parts : Contents) (replies : Replies) → Keeps (state S.Store tx.old.conn.now).now.trees (changed parts project.now Tags None) replies
         → OnOk result (GoesOn (state S.Store tx.old.conn.now) (state S.Store tx.new.conn.now)
-        × Keeps (state S.Store tx.new.conn.now).now.trees (changed parts project.now (pos 2) (Some (tag_rows (tag_values tags.now)))) replies) }
+        × Keeps (state S.Store tx.new.conn.now).now.trees (changed parts project.now Tags (Some (tag_rows (tag_values tags.now)))) replies) }
     ensures kept { HasCleanDisk (state S.Store tx.new.conn.now) → KeepsCommit (state S.Store tx.old.conn.now) (state S.Store tx.new.conn.now) }
     ensures survives { Survives (state S.Store tx.old.conn.now) (state S.Store tx.new.conn.now) (λ _. ⊥) }
 {

@@ -3,6 +3,7 @@ use Rattle.sqlite.specs.State.{HasCleanDisk}
 use Rattle.sqlite.specs.Held.{state}
 use Rattle.sqlite_rules.specs.Lists.{Has}
 use Rattle.dump.specs.Progress.{DumpValue}
+use Rattle.tables.specs.declared.slots.Part.TheVariants.{Dump}
 use Rattle.tables.specs.Schema.{schema_two}
 use Rattle.tables.specs.Contents.{slot_row}
 use Rattle.machine.specs.State.{State}
@@ -20,7 +21,7 @@ invariant-loop-next g l =
       looks : Looks old now;
       kept : HasCleanDisk now → old.now.schema ≡ schema_two → IsAsBefore old now;
       mode : l.fn.conn.in_transaction ≡ false → l.conn.in_transaction ≡ false;
-      climbs : HasCleanDisk now → old.now.schema ≡ schema_two → (m : State) → StandsFor old.now.trees m → (project : List ℕ) (dump : DumpValue) → Has (old.now.trees 1) (slot_row l.fn.slot project (pos 1)) → m.dump project ≡ Some dump
+      climbs : HasCleanDisk now → old.now.schema ≡ schema_two → (m : State) → StandsFor old.now.trees m → (project : List ℕ) (dump : DumpValue) → Has (old.now.trees 1) (slot_row l.fn.slot project Dump) → m.dump project ≡ Some dump
           → ClimbsTo dump l.uri l.fn.at l.found.items l.next;
     }
 

@@ -5,6 +5,7 @@ use Rattle.sqlite.specs.Held.{state}
 use Rattle.sqlite_rules.specs.Lists.{Has}
 use Rattle.dump.specs.Progress.{DumpValue}
 use Rattle.flatten.specs.Flat.{RangeRowValue, IsRangeRow}
+use Rattle.tables.specs.declared.slots.Part.TheVariants.{Dump}
 use Rattle.tables.specs.Schema.{schema_two}
 use Rattle.tables.specs.Contents.{slot_row}
 use Rattle.machine.specs.State.{State}
@@ -23,6 +24,6 @@ invariant-loop-row g l =
       kept : HasCleanDisk now → old.now.schema ≡ schema_two → IsAsBefore old now;
       cleans : HasCleanDisk now → HasCleanDisk (state g.S.Store l.initial.conn);
       mode : l.fn.conn.in_transaction ≡ false → l.conn.in_transaction ≡ false;
-      found : HasCleanDisk now → old.now.schema ≡ schema_two → (m : State) → StandsFor old.now.trees m → (project : List ℕ) (dump : DumpValue) → Has (old.now.trees 1) (slot_row l.fn.slot project (pos 1)) → m.dump project ≡ Some dump
+      found : HasCleanDisk now → old.now.schema ≡ schema_two → (m : State) → StandsFor old.now.trees m → (project : List ℕ) (dump : DumpValue) → Has (old.now.trees 1) (slot_row l.fn.slot project Dump) → m.dump project ≡ Some dump
           → (rows : List RangeRowValue) → AllZip TellsRange l.row-items rows → AllByRecursion (IsRangeRow dump.elements) rows → map range_found l.found.items ≡ map (row_found l.fn.request) (take l.row-index rows);
     }

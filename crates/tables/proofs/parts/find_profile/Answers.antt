@@ -5,6 +5,7 @@ use Rattle.sqlite.specs.Held.{state}
 use Rattle.sqlite_rules.specs.Lists.{Has}
 use Rattle.dump.specs.Progress.{DumpValue}
 use Rattle.lsif.specs.declared.element.Profile.{Profile}
+use Rattle.tables.specs.declared.slots.Part.TheVariants.{Dump}
 use Rattle.tables.specs.Stands.{StandsFor}
 use Rattle.tables.specs.Contents.{slot_row}
 use Rattle.tables.proofs.Looking.{looks_then, still, survives_clean}
@@ -16,7 +17,7 @@ pub returns-in-None-clause-found : goal.returns-in-None-clause-found
 returns-in-None-clause-found g c clean has m s =
     let db = (state g.S.Store c.args.conn.now).now.trees in
     let none : c.in_ok-slot.field-0 ≡ None = search rules in
-    let nothing = no_dump db m s c.args.project.now (no_slot db s.parts c.args.project.now (pos 1) c.in_ok-slot.field-0 (c.in_ok-slot.ensures.slot clean has s.parts _ s.keeps) none) in
+    let nothing = no_dump db m s c.args.project.now (no_slot db s.parts c.args.project.now Dump c.in_ok-slot.field-0 (c.in_ok-slot.ensures.slot clean has s.parts _ s.keeps) none) in
     sym (ap (option_map (λ (d : DumpValue). d.profile)) nothing)
 
 pub returns-in_err-profile_in-in-Some-clause-looks : goal.returns-in_err-profile_in-in-Some-clause-looks
@@ -35,8 +36,8 @@ returns-in_ok-profile_in-in-Some-clause-found g c clean has m s =
     let fits : SFits w64 id = search rules in
     let some : c.in_ok-slot.field-0 ≡ Some id = search rules in
     let mid_clean = survives_clean mid new c.profile_in.ensures.looks clean in
-    let slot = the_slot old.now.trees s.parts project (pos 1) id c.in_ok-slot.field-0 (c.in_ok-slot.ensures.slot mid_clean has s.parts _ s.keeps) some in
+    let slot = the_slot old.now.trees s.parts project Dump id c.in_ok-slot.field-0 (c.in_ok-slot.ensures.slot mid_clean has s.parts _ s.keeps) some in
     let dump = dump_slot old.now.trees m s project id slot in
-    let profile = still old mid new (λ db. StandsFor db m × Has (db 1) (slot_row id project (pos 1))) (λ db. c.in_ok-profile_in-in-Some.field-0 ≡ dump.0.profile) c.in_ok-slot.ensures.kept c.profile_in.ensures.looks
+    let profile = still old mid new (λ db. StandsFor db m × Has (db 1) (slot_row id project Dump)) (λ db. c.in_ok-profile_in-in-Some.field-0 ≡ dump.0.profile) c.in_ok-slot.ensures.kept c.profile_in.ensures.looks
     (λ cleaner schema known. (rw (to_z-of_z fits) at c.in_ok-profile_in-in-Some.ensures.profile) cleaner schema m known.0 project dump.0 known.1 dump.1) clean has (s, slot) in
     ap (λ (p : Profile). Some p) profile ∙ sym (ap (option_map (λ (d : DumpValue). d.profile)) dump.1)

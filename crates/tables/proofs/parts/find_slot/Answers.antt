@@ -14,4 +14,4 @@ returns-clause-slot g c clean has parts replies is =
     let old = state g.S.Store c.args.conn.now in
     let new = state g.S.Store c.select_first.new.conn in
     IfOk-weaker c.select_first.result _ _ (λ found h.
-    slot_found c.args.project.now (part_number c.args.part) old new h.0 found parts replies is has (rw (c.params-to_sql.ensures, c.params-to_sql-2.ensures, number ∙ c.part_number-number.ensures) at h.1) h.2) (c.select_first.ensures.read clean)
+    slot_found c.args.project.now c.args.part old new h.0 found parts replies is has (rw (c.params-to_sql.ensures, c.params-to_sql-2.ensures, number ∙ c.part_number-number.ensures) at h.1) h.2) (c.select_first.ensures.read clean)

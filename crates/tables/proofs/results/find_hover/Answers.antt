@@ -3,6 +3,7 @@ use mir.Val.{SFits}
 use mir.Syntax.{w64}
 use Rattle.sqlite.specs.Held.{state}
 use Rattle.sqlite_rules.specs.Lists.{Has}
+use Rattle.tables.specs.declared.slots.Part.TheVariants.{Dump}
 use Rattle.tables.specs.Stands.{StandsFor}
 use Rattle.tables.specs.Contents.{slot_row}
 use Rattle.tables.specs.Selections.{FindsHover}
@@ -16,7 +17,7 @@ pub returns-in-None-clause-found : goal.returns-in-None-clause-found
 returns-in-None-clause-found g c clean has m s =
     let db = (state g.S.Store c.args.conn.now).now.trees in
     let none : c.in_ok-slot.field-0 ≡ None = search rules in
-    let nothing = no_dump db m s c.args.project.now (no_slot db s.parts c.args.project.now (pos 1) c.in_ok-slot.field-0 (c.in_ok-slot.ensures.slot clean has s.parts _ s.keeps) none) in
+    let nothing = no_dump db m s c.args.project.now (no_slot db s.parts c.args.project.now Dump c.in_ok-slot.field-0 (c.in_ok-slot.ensures.slot clean has s.parts _ s.keeps) none) in
     λ contents h. absurd (none_is_some (sym nothing ∙ h.1))
 
 pub returns-in-Some-clause-looks : goal.returns-in-Some-clause-looks
@@ -31,6 +32,6 @@ returns-in-Some-clause-found g c clean has m s =
     let id = c.in-Some.slot in
     let fits : SFits w64 id = search rules in
     let some : c.in_ok-slot.field-0 ≡ Some id = search rules in
-    let slot = the_slot old.now.trees s.parts project (pos 1) id c.in_ok-slot.field-0 (c.in_ok-slot.ensures.slot (survives_clean mid new c.hover_in.ensures.looks clean) has s.parts _ s.keeps) some in
-    still old mid new (λ db. StandsFor db m × Has (db 1) (slot_row id project (pos 1))) (λ db. IfOk c.hover_in.result (λ found. FindsHover m project c.args.result_number (option_map string_bytes found))) c.in_ok-slot.ensures.kept c.hover_in.ensures.looks
+    let slot = the_slot old.now.trees s.parts project Dump id c.in_ok-slot.field-0 (c.in_ok-slot.ensures.slot (survives_clean mid new c.hover_in.ensures.looks clean) has s.parts _ s.keeps) some in
+    still old mid new (λ db. StandsFor db m × Has (db 1) (slot_row id project Dump)) (λ db. IfOk c.hover_in.result (λ found. FindsHover m project c.args.result_number (option_map string_bytes found))) c.in_ok-slot.ensures.kept c.hover_in.ensures.looks
     (λ cleaner schema known. (rw (to_z-of_z fits) at c.hover_in.ensures.found) cleaner schema m known.0 project known.1) clean has (s, slot)

@@ -10,7 +10,7 @@ use Rattle.tables.proofs.slots.remove_slot.Goals as goal
 pub returns-clause-gone : goal.returns-clause-gone
 returns-clause-gone g c clean inside has parts replies is =
     let back : to_z w64 (of_z w64 c.part_number-number.result) ≡ c.part_number-number.result = search rules in
-    drop_ok c.args.project.now (part_number c.args.part) (state g.S.Store c.args.tx.now.conn.now) (state g.S.Store c.execute.new.self.conn.now) c.execute.result has
+    drop_ok c.args.project.now c.args.part (state g.S.Store c.args.tx.now.conn.now) (state g.S.Store c.execute.new.self.conn.now) c.execute.result has
     (rw (c.params-to_sql.ensures, c.params-to_sql-2.ensures, back ∙ c.part_number-number.ensures) at (c.execute.ensures.runs clean inside)) parts replies is
 
 pub returns-clause-kept : goal.returns-clause-kept
