@@ -23,13 +23,14 @@ use Rattle.dump.specs.declared.reading.DumpFault.TheVariants as dumps
 
 -- ---- the reading of the next line
 
-pub given_fault : (profile : Profile) (left new : Option (List ℕ)) (line : List ℕ) (has_feed : Bool) (c : Code) → GivesLine left line has_feed new → reading profile line ≡ Err c → ReadsNext profile left (Some (Err c)) new
-given_fault profile None new line has_feed c g h = tt
-given_fault profile (Some text) new line has_feed c g h = (dump_of profile g.0, ap (map (reading profile)) g.2 ∙ ap (λ r. r ∷ dump_of profile g.0) h)
-
-long_reading : (profile : Profile) (line : List ℕ) → longest_line < length line → reading profile line ≡ Err L01
+pub long_reading : (profile : Profile) (line : List ℕ) → longest_line < length line → reading profile line ≡ Err L01
 unfolding reading reading_by
 long_reading profile line lt = rw (lt-ltb longest_line (length line) lt) refl
+
+pub given_reading : (profile : Profile) (left new : Option (List ℕ)) (line : List ℕ) (has_feed : Bool) (r : Reading) → GivesLine left line has_feed new → r ≡ reading profile line → ReadsNext profile left (Some r) new
+given_reading profile None new line has_feed r g h = tt
+given_reading profile (Some text) new line has_feed (Ok x) g h = (g.0, g.1, ap (map (reading profile)) g.2 ∙ ap (λ r. r ∷ dump_of profile g.0) (sym h))
+given_reading profile (Some text) new line has_feed (Err c) g h = (dump_of profile g.0, ap (map (reading profile)) g.2 ∙ ap (λ r. r ∷ dump_of profile g.0) (sym h))
 
 pub long_fault : (profile : Profile) (left new : Option (List ℕ)) → HasLongLine longest_line left → ReadsNext profile left (Some (Err L01)) new
 long_fault profile None new h = tt

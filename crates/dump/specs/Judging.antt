@@ -1,5 +1,6 @@
 -- The dump that a reader's bytes are.
-use Rattle.std.specs.Prelude.{ℕ, ◌+◌, List, map, Option, Some, None, Result, Ok, Err, ⊤, ◌≡◌}
+use Rattle.std.specs.Prelude.{ℕ, ◌+◌, ◌<◌, List, length, map, Option, Some, None, Result, Ok, Err, ⊤, ◌≡◌}
+use Rattle.std.specs.Borrow.{Bor}
 use Rattle.lsif.specs.declared.element.Profile.{Profile}
 use Rattle.dump.specs.declared.fault.FeedFault.{FeedFault}
 use Rattle.dump.specs.declared.fault.FeedFault.TheVariants as feeds
@@ -8,6 +9,11 @@ use Rattle.dump.specs.declared.reading.DumpFault.TheVariants as faults
 use Rattle.dump.specs.Fault.{IsFault}
 use Rattle.dump.specs.Lines.{dump_of}
 use Rattle.dump.specs.Progress.{DumpValue}
+
+-- a line that is handed in: these bytes, or one that is longer than the longest
+abbrev pub IsHanded : ℕ → Option (Bor (List ℕ)) → List ℕ → Type 0
+IsHanded longest (Some line) bytes = bytes ≡ line.now
+IsHanded longest None bytes = longest < length bytes
 
 -- what the reading of known bytes by a profile answers: the elements of a dump without fault, or the dump's fault
 abbrev pub ReadsDump : Profile → Option (List ℕ) → Result DumpValue DumpFault → Type 0

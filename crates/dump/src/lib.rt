@@ -28,6 +28,6 @@ pub use laws::{
     chain_law, container_law, ends_law, fault_law, hover_law, line_law, listing_law, nesting_law,
     own_law, path_law, pick_law, uri_law, vertex_law,
 };
-pub use reading::{DumpFault, read_dump};
+pub use reading::{DumpFault, read_dump, read_line};
 pub use request_kind::RequestKind;
 pub use role::{Role, role_of};

@@ -1,8 +1,11 @@
-//! The dump that a reader's bytes are: each line is read and handed to the checker (`checker.rt`). An upload's lines come from the crate `machine`.
-ghost use Rattle.std.specs.Prelude.{◌≡◌, ◌-◌, ◌^◌, ◌<◌, IfOk, IfErr, option_map};
+//! The dump that a reader's bytes are: each line is read and handed to the checker (`checker.rt`). An upload's lines come from the crate `machine`, and are read by `read_line` too.
+ghost use Rattle.std.specs.Prelude.{◌≡◌, ◌-◌, ◌^◌, ◌<◌, ℕ, List, IfOk, IfErr, option_map, true};
+ghost use Rattle.std.specs.Result.{ForErr};
+ghost use Rattle.lsif.specs.Code.{is_shape_code};
 ghost use Rattle.lsif.specs.Element.{reading_value};
+ghost use Rattle.lsif.specs.Reading.{longest_line, reading};
 ghost use Rattle.lsif.specs.Buffered.{unread};
-ghost use Rattle.dump.specs.Judging.{CountsRead, ReadsDump, as_dump_fault};
+ghost use Rattle.dump.specs.Judging.{CountsRead, IsHanded, ReadsDump, as_dump_fault};
 ghost use Rattle.dump.specs.Steps.Judging.{GoesOn, IsOutside, IsReady, ReadsNext};
 
 use crate::checker::{CheckedDump, Checker};
@@ -11,7 +14,7 @@ use crate::laws::fault_law;
 use lsif::{
     Code, Element, LONGEST_LINE, LineBuffer, LinesFault, Profile, ReadFault, Source, read_element,
 };
-use std::alloc::Global;
+use std::alloc::{AllocError, Global};
 
 /// Why a reader's bytes give no dump.
 #[derive(Clone, Copy, Debug, PartialEq, Eq)]
@@ -35,6 +38,25 @@ impl From<FeedFault> for DumpFault {
     }
 }
 
+/// What is read of a line of a dump by a profile: its element, or the code of its shape. Of a line that isn't given, since it's longer than the longest, it's L01.
+pub fn read_line(
+    alloc: Global,
+    profile: Profile,
+    line: Option<&[u8]>,
+) -> Result<Result<Element, Code>, AllocError>
+    ensures reading { (bytes : List ℕ) → IsHanded longest_line line.entry bytes → IfOk result (λ r. reading_value r ≡ reading profile bytes) }
+    ensures shape { IfOk result (λ r. ForErr r (λ code. is_shape_code code ≡ true)) }
+{
+    let Some(line) = line else {
+        return Ok(Err(Code::L01));
+    };
+    match read_element(alloc, profile, line) {
+        Ok(element) => Ok(Ok(element)),
+        Err(ReadFault::Shape(code)) => Ok(Err(code)),
+        Err(ReadFault::Memory) => Err(AllocError),
+    }
+}
+
 /// The reading of the next line by a profile: its element, or the fault of its shape. None at the end.
 fn next_reading<R: Source>(
     alloc: Global,
@@ -52,10 +74,9 @@ fn next_reading<R: Source>(
 {
     match lines.advance(r) {
         Ok(false) => Ok(None),
-        Ok(true) => match read_element(alloc, profile, lines.line()) {
-            Ok(element) => Ok(Some(Ok(element))),
-            Err(ReadFault::Shape(code)) => Ok(Some(Err(code))),
-            Err(ReadFault::Memory) => Err(DumpFault::Memory),
+        Ok(true) => match read_line(alloc, profile, Some(lines.line())) {
+            Ok(reading) => Ok(Some(reading)),
+            Err(_) => Err(DumpFault::Memory),
         },
         Err(LinesFault::TooLong) => Ok(Some(Err(Code::L01))),
         Err(LinesFault::Read) => Err(DumpFault::Read),

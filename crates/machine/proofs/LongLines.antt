@@ -17,7 +17,7 @@ use Rattle.tags.specs.declared.code.LineFault.{LineFault}
 use Rattle.tags.specs.declared.code.TagsFault.{TagsFault}
 use Rattle.tags.specs.declared.code.TagsFault.TheVariants as faults_of
 use Rattle.tags.specs.declared.code.Code.TheVariants.{T01}
-use Rattle.machine.specs.Steps.Uploads.{IsHanded}
+use Rattle.dump.specs.Judging.{IsHanded}
 
 -- of a dump such a line has the code L01
 pub long_element : (profile : Profile) (line : List ℕ) → dumps.longest_line < length line → reading profile line ≡ Err L01

@@ -1,11 +1,8 @@
 //! What takes the lines of a body: those of a dump or of a tags file, each to its checker. The pieces are cut in `upload.rt`.
 ghost use Rattle.std.specs.Prelude.{◌≡◌, ℕ, List, IfOk, true};
 ghost use Rattle.machine.specs.Steps.Changes.{said_value};
-ghost use Rattle.machine.specs.Steps.Uploads.{IsHanded, Judges, Rises, emptied, next, said, taken};
-ghost use Rattle.std.specs.Result.{ForErr};
-ghost use Rattle.lsif.specs.Code.{is_shape_code};
-ghost use Rattle.lsif.specs.Element.{reading_value};
-ghost use Rattle.lsif.specs.Reading.{reading};
+ghost use Rattle.dump.specs.Judging.{IsHanded};
+ghost use Rattle.machine.specs.Steps.Uploads.{Judges, Rises, emptied, next, said, taken};
 ghost use Rattle.lsif.specs.Reading as dumps;
 ghost use Rattle.tags.specs.Lines as tags;
 ghost use Rattle.machine.specs.Uploads.{dump_lines, longest_of, tags_lines};
@@ -14,8 +11,7 @@ use crate::bodies::{dump_refused, tags_refused};
 use crate::change::Change;
 use crate::reply::Reply;
 use crate::tags_part::TagsPart;
-use dump::{Checker, FeedFault};
-use lsif::{Code, Element, Profile, ReadFault, read_element};
+use dump::{Checker, FeedFault, read_line};
 use std::alloc::{AllocError, Global};
 use tags::{Code as TagsCode, TagReader, TagsFault, reading_law};
 
@@ -35,25 +31,6 @@ pub(crate) enum ReadingState {
 pub(crate) enum LineReader {
     Dump(Checker),
     Tags(TagReader),
-}
-
-/// The reading of a line of a dump, or of one that's too long.
-fn read_line(
-    alloc: Global,
-    profile: Profile,
-    line: Option<&[u8]>,
-) -> Result<Result<Element, Code>, AllocError>
-    ensures reading { (bytes : List ℕ) → IsHanded dumps.longest_line line.entry bytes → IfOk result (λ r. reading_value r ≡ reading profile bytes) }
-    ensures shape { IfOk result (λ r. ForErr r (λ code. is_shape_code code ≡ true)) }
-{
-    let Some(line) = line else {
-        return Ok(Err(Code::L01));
-    };
-    match read_element(alloc, profile, line) {
-        Ok(element) => Ok(Ok(element)),
-        Err(ReadFault::Shape(code)) => Ok(Err(code)),
-        Err(ReadFault::Memory) => Err(AllocError),
-    }
 }
 
 /// Takes the next line of a dump.

@@ -1,5 +1,5 @@
 -- The bearers of a key, as they are selected.
-use Rattle.std.proofs.Common.{◌≡◌, ◌⊎◌, inl, inr, ℕ, ℤ, pos, List, [], ◌∷◌, ◌++◌, map, codes, false, refl, sym, ap, subst, ◌∙◌, ◌↔◌, Contains, Equal}
+use Rattle.std.proofs.Common.{◌≡◌, ◌⊎◌, inl, inr, ℕ, ℤ, List, [], ◌∷◌, ◌++◌, map, codes, false, refl, sym, ap, subst, ◌∙◌, ◌↔◌, Contains, Equal}
 use Rattle.std.specs.List.{AllByRecursion}
 use Rattle.sqlite.specs.Listing.{understood, reads_listing}
 use Rattle.sqlite.specs.State.{State as Store, Shown}

@@ -1,5 +1,5 @@
 -- Whether a dump has a document, as it is selected.
-use Rattle.std.proofs.Common.{◌≡◌, inl, ℤ, pos, ℕ, List, [], ◌∷◌, Option, Some, None, is_some, codes, false, refl, ap, subst, ◌∙◌, ◌↔◌, IsTrue}
+use Rattle.std.proofs.Common.{◌≡◌, inl, ℤ, ℕ, List, [], ◌∷◌, Option, Some, None, is_some, codes, false, refl, ap, subst, ◌∙◌, ◌↔◌, IsTrue}
 use Rattle.sqlite.specs.Listing.{understood, reads_listing}
 use Rattle.sqlite.specs.State.{State as Store, Shown}
 use Rattle.sqlite.proofs.Callers.{IsPlain, command_of}

@@ -1,5 +1,5 @@
 -- The marks of a range, as they are selected.
-use Rattle.std.proofs.Common.{◌≡◌, inl, inr, ℕ, ℤ, pos, Bool, true, ◌&&◌, List, [], ◌∷◌, map, Some, None, codes, false, refl, sym, ap, subst, ◌∙◌, string_bytes, ◌↔◌, Contains}
+use Rattle.std.proofs.Common.{◌≡◌, inl, inr, ℕ, ℤ, Bool, true, ◌&&◌, List, [], ◌∷◌, map, Some, None, codes, false, refl, sym, ap, subst, ◌∙◌, string_bytes, ◌↔◌, Contains}
 use Rattle.std.specs.List.{AllByRecursion}
 use Rattle.std.specs.Cmp.{IsTotalOrder, then_total, on_total, nat_cmp_total}
 use Rattle.std.specs.Cmp.Lexicographic.{on_texts}

@@ -1,5 +1,5 @@
 -- The rows of ranges, as they are selected.
-use Rattle.std.proofs.Common.{◌≡◌, inl, inr, ℕ, ℤ, pos, List, [], ◌∷◌, Some, codes, false, refl, sym, ap, ◌∙◌, ◌↔◌}
+use Rattle.std.proofs.Common.{◌≡◌, inl, inr, ℕ, ℤ, List, [], ◌∷◌, Some, codes, false, refl, sym, ap, ◌∙◌, ◌↔◌}
 use Rattle.sqlite.specs.Listing.{understood, reads_listing}
 use Rattle.sqlite.specs.State.{State as Store, Shown}
 use Rattle.sqlite.proofs.Callers.{IsPlain, command_of}

@@ -1,5 +1,5 @@
 -- Tags, as they are selected.
-use Rattle.std.proofs.Common.{◌≡◌, inl, inr, ℕ, ℤ, pos, List, [], ◌∷◌, map, Some, codes, false, refl, sym, ap, subst, ◌∙◌, Contains}
+use Rattle.std.proofs.Common.{◌≡◌, inl, inr, ℕ, ℤ, List, [], ◌∷◌, map, Some, codes, false, refl, sym, ap, subst, ◌∙◌, Contains}
 use Rattle.sqlite.specs.Listing.{understood, reads_listing}
 use Rattle.sqlite.specs.State.{State as Store, Shown}
 use Rattle.sqlite.proofs.Callers.{IsPlain, command_of}

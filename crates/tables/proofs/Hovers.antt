@@ -1,5 +1,5 @@
 -- The contents of a hover result, as they are selected.
-use Rattle.std.proofs.Common.{◌≡◌, inl, inr, ℕ, ℤ, pos, List, [], ◌∷◌, Option, Some, None, codes, false, refl, sym, ap, subst, ◌∙◌, option_map, string_bytes, ◌↔◌}
+use Rattle.std.proofs.Common.{◌≡◌, inl, inr, ℕ, ℤ, List, [], ◌∷◌, Option, Some, None, codes, false, refl, sym, ap, subst, ◌∙◌, option_map, string_bytes, ◌↔◌}
 use Rattle.std.specs.declared.string.String.{String}
 use Rattle.std.specs.declared.alloc.Global.{Global}
 use Rattle.sqlite.specs.Listing.{understood, reads_listing}

@@ -1,5 +1,5 @@
 -- The declaration and the implementation of a line, as they are selected.
-use Rattle.std.proofs.Common.{◌≡◌, ◌⊎◌, inl, inr, ◌||◌, ℕ, ℤ, pos, true, List, [], ◌∷◌, ◌++◌, flat_map, Option, Some, None, is_some, codes, false, refl, sym, ap, subst, ◌∙◌, ◌↔◌}
+use Rattle.std.proofs.Common.{◌≡◌, ◌⊎◌, inl, inr, ◌||◌, ℕ, ℤ, true, List, [], ◌∷◌, ◌++◌, flat_map, Option, Some, None, is_some, codes, false, refl, sym, ap, subst, ◌∙◌, ◌↔◌}
 use Rattle.sqlite.specs.Listing.{understood, reads_listing}
 use Rattle.sqlite.specs.State.{State as Store, Shown}
 use Rattle.sqlite.proofs.Callers.{IsPlain, command_of}

@@ -189,7 +189,8 @@ schema_two = record {
       ∷ key_of (codes "sqlite_autoindex_document_1") document_tree (1 ∷ 2 ∷ []) ∷ key_of (codes "sqlite_autoindex_range_row_1") range_row_tree (1 ∷ 2 ∷ [])
       ∷ key_of (codes "sqlite_autoindex_item_1") item_tree (1 ∷ 2 ∷ 3 ∷ 4 ∷ 5 ∷ 6 ∷ []) ∷ key_of (codes "sqlite_autoindex_hover_1") hover_tree (1 ∷ 2 ∷ [])
       ∷ key_of (codes "sqlite_autoindex_mark_1") mark_tree (1 ∷ 2 ∷ 3 ∷ 4 ∷ []) ∷ key_of (codes "sqlite_autoindex_bearer_1") bearer_tree (1 ∷ 2 ∷ 3 ∷ 4 ∷ [])
-      ∷ key_of (codes "sqlite_autoindex_tag_1") tag_tree (1 ∷ 2 ∷ []) ∷ range_by_start_on 19 range_row_tree ∷ bearer_by_key_on 20 bearer_tree ∷ tag_by_name_on 21 tag_tree
+      ∷ key_of (codes "sqlite_autoindex_tag_1") tag_tree (1 ∷ 2 ∷ [])
+      ∷ range_by_start_on 19 range_row_tree ∷ bearer_by_key_on 20 bearer_tree ∷ tag_by_name_on 21 tag_tree
       ∷ key_of (codes "sqlite_autoindex_part_profile_1") part_profile_tree (1 ∷ []) ∷ key_of (codes "sqlite_autoindex_more_1") more_tree (1 ∷ 2 ∷ []) ∷ [];
   views = [];
 }

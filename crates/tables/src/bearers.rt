@@ -10,7 +10,7 @@ ghost use Rattle.dump.specs.Places.{IsListing};
 ghost use Rattle.flatten.specs.Flat.{ResultsValue, kind_index};
 ghost use Rattle.tables.specs.Schema.{schema_two};
 ghost use Rattle.tables.specs.Columns.{number, optional};
-ghost use Rattle.tables.specs.Contents.{Contents, Replies, Keeps, slot_row};
+ghost use Rattle.tables.specs.Contents.{Contents, HasSlot, Replies, Keeps};
 ghost use Rattle.machine.specs.State.{State};
 ghost use Rattle.tables.specs.Fault.{IsStoreFault};
 ghost use Rattle.tables.specs.Stands.{IsAsBefore, Rests};
@@ -121,7 +121,7 @@ pub(crate) fn more_of<S: Alter>(
 pub(crate) fn slot_project<S: Alter>(conn: &mut Connection<S>, slot: i64) -> Result<String, Refusal>
     ensures project { HasCleanDisk (state S.Store conn.new) → (state S.Store conn.old).now.schema ≡ schema_two → (parts : Contents) (replies : Replies)
         → Keeps (state S.Store conn.old).now.trees parts replies
-        → (project : List ℕ) (part : Part) → Has ((state S.Store conn.old).now.trees 1) (slot_row slot project part)
+        → (project : List ℕ) (part : Part) → HasSlot (state S.Store conn.old).now.trees slot project part
         → IfOk result (λ found. string_bytes found ≡ project) }
     ensures kept { StaysAsBefore result (state S.Store conn.old) (state S.Store conn.new) }
     ensures looks { Looks (state S.Store conn.old) (state S.Store conn.new) }

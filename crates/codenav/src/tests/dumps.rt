@@ -6,10 +6,10 @@ mod spans;
 use super::samples::{dump_of, text_of};
 use dump::{
     CheckedDump, Checker, RequestKind, Role, chain_law, container_law, ends_law, fault_law,
-    hover_law, line_law, listing_law, nesting_law, own_law, path_law, pick_law, read_dump, role_of,
-    uri_law, vertex_law,
+    hover_law, line_law, listing_law, nesting_law, own_law, path_law, pick_law, read_dump,
+    read_line, role_of, uri_law, vertex_law,
 };
-use lsif::{Code, Counted, Element, Id, Profile, Property, ReadFault, Vertex, read_element};
+use lsif::{Counted, Id, Profile, Property, Vertex};
 use std::alloc::Global;
 use std::test::Fail;
 
@@ -17,30 +17,23 @@ const META_DATA: &str = r#"{"id":1,"type":"vertex","label":"metaData","version":
 
 const DOCUMENT: &str = r#"{"id":2,"type":"vertex","label":"document","uri":"file:///a.ts"}"#;
 
-fn element(alloc: Global, profile: Profile, line: &str) -> Result<Element, Fail> {
-    match read_element(alloc, profile, line.as_bytes()) {
-        Ok(element) => Ok(element),
-        Err(ReadFault::Shape(_) | ReadFault::Memory) => Err("no element")?,
-    }
-}
-
-/// What is answered for an element, a fault of shape, another element and another fault, and at the end; and at the end of no line.
+/// What is answered for an element, a fault of shape, another element and a line that is too long, and at the end; and at the end of no line.
 const FED: &str =
     "[Ok(()), Err(Line(LineFault { line: 2, code: L02 })), Err(Line(LineFault { line: 2, code: L02 })), Err(Line(LineFault { line: 2, code: L02 }))] \
 Some(Line(LineFault { line: 2, code: L02 })) Some(Line(LineFault { line: 1, code: L06 }))";
 
 /// The same as it's found.
 fn fed(alloc: Global, profile: Profile) -> Result<String, Fail> {
-    let (first, third) = (
-        element(alloc, profile, META_DATA)?,
-        element(alloc, profile, DOCUMENT)?,
-    );
+    let first = read_line(alloc, profile, Some(META_DATA.as_bytes()))?;
+    let second = read_line(alloc, profile, Some(b"{".as_slice()))?;
+    let third = read_line(alloc, profile, Some(DOCUMENT.as_bytes()))?;
+    let fourth = read_line(alloc, profile, None)?;
     let mut checker = Checker::new(alloc, profile);
     let answers = [
-        checker.feed(Ok(first)),
-        checker.feed(Err(Code::L02)),
-        checker.feed(Ok(third)),
-        checker.feed(Err(Code::L01)),
+        checker.feed(first),
+        checker.feed(second),
+        checker.feed(third),
+        checker.feed(fourth),
     ];
     let end = checker.finish().err();
     let of_none = Checker::new(alloc, profile).finish().err();

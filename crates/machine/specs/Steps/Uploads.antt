@@ -1,6 +1,5 @@
 -- The lines of an upload, taken one after another.
-use Rattle.std.specs.Prelude.{◌≡◌, ◌≢◌, ◌⊎◌, ℕ, ◌<◌, Bool, true, false, List, length, fold, Option, Some, None, Result, ⊤}
-use Rattle.std.specs.Borrow.{Bor}
+use Rattle.std.specs.Prelude.{◌≡◌, ◌≢◌, ◌⊎◌, ℕ, Bool, true, false, List, fold, Result, ⊤}
 use Rattle.lsif.specs.Pieces.{CutterValue, begun}
 use Rattle.lsif.specs.Reading.{reading}
 use Rattle.lsif.specs.declared.cutter.LineState.TheVariants.{TooLong}
@@ -32,11 +31,6 @@ next (tags_lines state) line is_ended = tags_lines (tags.next listed state (read
 abbrev pub IsRunning : TakenLines → Type 0
 IsRunning (dump_lines profile progress) = dumps.IsRunning progress
 IsRunning (tags_lines state) = tags.IsRunning state
-
--- a line that is handed in: these bytes, or one that is too long
-abbrev pub IsHanded : ℕ → Option (Bor (List ℕ)) → List ℕ → Type 0
-IsHanded longest (Some line) bytes = bytes ≡ line.now
-IsHanded longest None bytes = longest < length bytes
 
 -- a line was taken, and it has a fault or not
 abbrev pub Judges : ReadingState → TakenLines → TakenLines → Type 0

@@ -1,4 +1,4 @@
-use Rattle.std.proofs.Common.{to_z-of_z, rules, ◌≡◌, inr, pos, refl, sym, string_bytes}
+use Rattle.std.proofs.Common.{to_z-of_z, rules, ◌≡◌, inr, refl, sym, string_bytes}
 use mir.Val.{SFits}
 use mir.Syntax.{w64}
 use Rattle.sqlite.specs.Held.{state}

@@ -1,4 +1,4 @@
-use Rattle.std.proofs.Common.{rules, ◌≡◌, to_z-of_z, Some, None, pos, IfOk}
+use Rattle.std.proofs.Common.{rules, ◌≡◌, to_z-of_z, Some, None, IfOk}
 use mir.Val.{SFits}
 use mir.Syntax.{w64}
 use Rattle.sqlite.specs.Held.{state}

@@ -1,4 +1,4 @@
-use Rattle.std.proofs.Common.{to_z-of_z, rules, ◌≡◌, ◌∙◌, pos, sym, subst, option_map, IsTrue}
+use Rattle.std.proofs.Common.{to_z-of_z, rules, ◌≡◌, ◌∙◌, sym, subst, option_map, IsTrue}
 use mir.Val.{SFits}
 use mir.Syntax.{w64}
 use Rattle.tables.specs.declared.slots.Part.TheVariants.{Tags}

@@ -1,4 +1,4 @@
-use Rattle.std.proofs.Common.{rules, ◌≡◌, sym, subst, to_z-of_z, Some, None, pos, IfOk, map, List}
+use Rattle.std.proofs.Common.{rules, ◌≡◌, sym, subst, to_z-of_z, Some, None, IfOk, map, List}
 use mir.Val.{SFits}
 use mir.Syntax.{w64}
 use Rattle.sqlite.specs.Held.{state}

@@ -1,4 +1,4 @@
-use Rattle.std.proofs.Common.{rules, to_z-of_z, ◌≡◌, ◌∙◌, ap, sym, Some, None, option_map, pos}
+use Rattle.std.proofs.Common.{rules, to_z-of_z, ◌≡◌, ◌∙◌, ap, sym, Some, None, option_map}
 use mir.Val.{SFits}
 use mir.Syntax.{w64}
 use Rattle.sqlite.specs.Held.{state}

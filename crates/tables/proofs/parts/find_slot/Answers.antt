@@ -1,7 +1,6 @@
 use Rattle.std.proofs.Common.{rules, ◌≡◌, ◌∙◌, to_z, of_z, w64}
 use Rattle.std.proofs.lemmas.Result.{IfOk-weaker}
 use Rattle.sqlite.specs.Held.{state}
-use Rattle.tables.specs.Parts.{part_number}
 use Rattle.tables.proofs.FoundSlots.{select_slot_plain, slot_found}
 use Rattle.tables.proofs.parts.find_slot.Goals as goal
 

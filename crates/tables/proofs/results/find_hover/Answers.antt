@@ -1,4 +1,4 @@
-use Rattle.std.proofs.Common.{rules, ◌≡◌, ◌∙◌, sym, to_z-of_z, Some, None, pos, IfOk, option_map, string_bytes}
+use Rattle.std.proofs.Common.{rules, ◌≡◌, ◌∙◌, sym, to_z-of_z, Some, None, IfOk, option_map, string_bytes}
 use mir.Val.{SFits}
 use mir.Syntax.{w64}
 use Rattle.sqlite.specs.Held.{state}

@@ -4,7 +4,6 @@ use Rattle.sqlite.specs.State.{KeepsCommit}
 use Rattle.sqlite.specs.Held.{state}
 use Rattle.tables.proofs.Puts.{inside_keeps, commit_same}
 use Rattle.tables.proofs.SlotRemoved.{drop_ok}
-use Rattle.tables.specs.Parts.{part_number}
 use Rattle.tables.proofs.slots.remove_slot.Goals as goal
 
 pub returns-clause-gone : goal.returns-clause-gone
