@@ -24,7 +24,7 @@ use http_edge::ServeFault;
 use lsif::{Counted, Profile};
 use replay::{replay_file, replay_in_memory};
 use report::{CheckFault, Status};
-use serve::{CountedListener, ServerFault, serve_in_memory, serve_tables};
+use serve::{CountedListener, ServerFault, serve_connections, serve_in_memory};
 use sqlite::{Alter, Connection, Unknown};
 use std::alloc::Global;
 use std::io::ErrorKind;
@@ -206,7 +206,7 @@ fn serve_desk<S: Alter>(rt: &HostRuntime, desk: &mut TableDesk<S>, port: u16, re
         Err(status) => return status,
     };
     let mut counted = CountedListener::new(&listener);
-    let answer = serve_tables(rt.alloc(), desk, rt, limits(), &mut counted, requests);
+    let answer = serve_connections(rt.alloc(), desk, rt, limits(), &mut counted, requests);
     served(rt, answer)
 }
 

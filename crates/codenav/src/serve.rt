@@ -7,10 +7,10 @@ ghost use Rattle.http_edge.specs.declared.serve.ServeFault.TheVariants as serve_
 ghost use Rattle.codenav.specs.Serve.{ConnectionValue, CountsAccept, CountsServed, ServesConnection, ServesEach, most_requests};
 
 use crate::timed::{Limits, Timed};
-use desk::{Desk, IndexDesk, MemoryDesk, TableDesk, memory_law};
+use desk::{Desk, IndexDesk, MemoryDesk, memory_law};
 use http_edge::{ServeFault, serve_stream};
 use lsif::{Counted, Sink, Source};
-use sqlite::{Alter, FileStore};
+use sqlite::FileStore;
 use std::alloc::{AllocError, Global};
 use std::io::{Read, Write};
 use std::net::{OpenListener, OpenStream};
@@ -182,27 +182,6 @@ where
     Ok(())
 }
 
-/// The same over the tables of a database.
-pub fn serve_tables<S: Alter, L: OpenListener, C: Clock>(
-    alloc: Global,
-    desk: &mut TableDesk<S>,
-    clock: &C,
-    limits: Limits,
-    listener: &mut CountedListener<'_, L>,
-    requests: u32,
-) -> Result<(), ServerFault>
-where
-    L::Stream: OpenStream + Read + Write,
-    requires { listener.old.accepted + requests < 2 ^ 64 }
-    ensures { (connections : List ConnectionValue) × CountsServed requests (length connections) listener.old.accepted result listener.new.accepted
-        × (⟦<IndexDesk<Tables<S>> as Desk>⟧.is_reliable desk.new → (m : State) (states : List State) → ⟦<IndexDesk<Tables<S>> as Desk>⟧.stands desk.old m
-        → ⟦<IndexDesk<Tables<S>> as Desk>⟧.may_leave desk.old states → (n : State) × (left : List State)
-        × ServesEach true m states connections n left × ⟦<IndexDesk<Tables<S>> as Desk>⟧.stands desk.new n
-        × ⟦<IndexDesk<Tables<S>> as Desk>⟧.may_leave desk.new left) }
-{
-    serve_connections(alloc, desk, clock, limits, listener, requests)
-}
-
 /// The same over a database in memory.
 pub fn serve_in_memory<L: OpenListener, C: Clock>(
     alloc: Global,
@@ -221,7 +200,7 @@ where
         × ServesEach true m states connections n left × ⟦<IndexDesk<Tables<FileStore<MemoryDisk>>> as Desk>⟧.stands desk.new n
         × ⟦<IndexDesk<Tables<FileStore<MemoryDisk>>> as Desk>⟧.may_leave desk.new left) }
 {
-    let answer = serve_tables(alloc, desk, clock, limits, listener, requests);
+    let answer = serve_connections(alloc, desk, clock, limits, listener, requests);
     memory_law(desk);
     answer
 }
