@@ -41,9 +41,9 @@ append_nil (x ∷ xs) = ap (λ ys. x ∷ ys) (append_nil xs)
 no_dump : (d : DumpValue) → ◌≡◌ {A = Option DumpValue} None (Some d) → ⊥
 no_dump d e = cc
 
-pub adds_none : (key name : List ℕ) (old new : List BearerFound) → new ≡ old → AddsBearers key name None old new
+pub adds_none : (key name : List ℕ) (old : List BearerFound) → AddsBearers key name None old old
 unfolding IsStrictlySortedBy
-adds_none key name old new same = ([], same ∙ sym (append_nil old), record { rises = tt; each = λ b. ((λ at. absurd (not_in_nil b at)), (λ h. absurd (no_dump h.0 h.1))) })
+adds_none key name old = ([], sym (append_nil old), record { rises = tt; each = λ b. ((λ at. absurd (not_in_nil b at)), (λ h. absurd (no_dump h.0 h.1))) })
 
 same_dump : (c d : DumpValue) → ◌≡◌ {A = Option DumpValue} (Some c) (Some d) → c ≡ d
 same_dump c d e = cc

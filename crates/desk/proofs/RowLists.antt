@@ -104,10 +104,10 @@ role_items m t p q is same role items listing place = (to, back)
         (place.place, (listing.each place.place).1 (subst (λ (x : List ℕ). HasItem m x t.number role place.place) (sym is) has), λ i. record { project = project i; place = place.place })
 
 -- the range's own result and those of joined vertices are the results that answer
-pub results_are : (m : State) (request : RequestKind) (own : List ℕ) (row : RangeFound) (texts : List (List ℕ)) (joined : List JoinedValue) (t : ProjectResultValue) {A B C : Type 0} → AreKeys m request own row.line texts
-    → ((j : JoinedValue) → Contains joined j ↔ AreJoined m request own texts j) → (C ↔ A) → (A ↔ (B ⊎ ((j : JoinedValue) × Contains joined j × (result_of_joined j ≡ t)))) → (B ↔ IsOwnResult own row t)
-    → C ↔ IsAnsweringResult m request own row t
-results_are m request own row texts joined t {A} {B} {C} keyed are listed added mine = iff_trans listed (iff_trans added (to, back))
+pub results_are : (m : State) (request : RequestKind) (own : List ℕ) (row : RangeFound) (texts : List (List ℕ)) (joined : List JoinedValue) (t : ProjectResultValue) {A B : Type 0} → AreKeys m request own row.line texts
+    → ((j : JoinedValue) → Contains joined j ↔ AreJoined m request own texts j) → (A ↔ (B ⊎ ((j : JoinedValue) × Contains joined j × (result_of_joined j ≡ t)))) → (B ↔ IsOwnResult own row t)
+    → A ↔ IsAnsweringResult m request own row t
+results_are m request own row texts joined t {A} {B} keyed are added mine = iff_trans added (to, back)
   where
     row_joined : (j : JoinedValue) → AreJoined m request own texts j → IsRowJoined m request own row j
     row_joined j (text, at, h) = (text, (keyed text).0 at, h)

@@ -12,16 +12,16 @@ use Rattle.std.proofs.lemmas.Cmp.{tied_itself, nat_list_cmp_total}
 use Rattle.positions.specs.Position.{PositionValue}
 use Rattle.positions.specs.Span.{Covers, covers}
 use Rattle.lsif.specs.Element.{ElementValue}
+use Rattle.dump.specs.contracts.role.RolePartialEq.TheImpl as role_eq
 use Rattle.dump.specs.declared.role.Role.{Role}
+use Rattle.dump.specs.declared.role.Role.TheVariants.{Definitions, References}
 use Rattle.dump.specs.Places.{IsListing, PlaceValue, place_cmp}
 use Rattle.dump.specs.Progress.{DumpValue}
 use Rattle.flatten.specs.Flat.{RangeRowValue, ItemRowValue, MarkRowValue, HoverRowValue, BearerRowValue, IsRangeRow, IsItemRow, IsMarkRow, IsHoverRow, IsBearerRow, by_line, item_cmp, mark_cmp, by_result, bearer_cmp, role_index, kind_index}
 use Rattle.tables.specs.Selections.{MarkText, mark_text_cmp, BearerFound, bearer_row}
 use Rattle.tables.specs.Steps.Climbs.{IsCoverRow}
-use Rattle.machine.specs.Steps.Places.{same_role}
 use Rattle.desk.specs.Steps.Selected.{item_row, item_wanted, IsItemOf, mark_row, mark_wanted, IsMarkOf, hover_row, hover_wanted, IsHoverOf, bearer_wanted, bearer_in_cmp, IsBearerOf, range_wanted}
 use Rattle.machine.proofs.Covers.{covers_of, covers_from}
-use Rattle.machine.proofs.Gathers.{role_eq, role_self}
 use Rattle.machine.proofs.Listing.{eq_of, text_eq}
 use Rattle.machine.proofs.Members.{contains_head, contains_tail, contains_cases, not_in_nil, and_both, and_of}
 
@@ -93,6 +93,10 @@ wanted_of seen f wanted Q found items all k step same le q =
     let whole : map seen found ≡ filter_map wanted (map f all) = sym (and_none (map seen found)) ∙ ap (λ xs. map seen found ++ filter_map wanted (map f xs)) (sym none) ∙ step ∙ ap (λ xs. filter_map wanted (map f xs)) same in
     subst Q (sym whole) q
 
+-- what is told of all rows, when all were looked at
+pub told_of : {A B V : Type 0} (seen : B → V) (f : A → V) (found : List B) (items all : List A) (k : ℕ) → map seen found ++ map f (drop k items) ≡ map f items → items ≡ all → length items ≤ k → map seen found ≡ map f all
+told_of seen f found items all k step same le = sym (and_none (map seen found)) ∙ ap (λ xs. map seen found ++ map f xs) (sym (drop_past k items le)) ∙ step ∙ ap (map f) same
+
 -- nothing was found
 pub none_of : {A R V : Type 0} (f : A → R) (wanted : R → Option V) (items all : List A) (k : ℕ) → filter_map wanted (map f (drop k items)) ≡ filter_map wanted (map f items) → items ≡ all → length items ≤ k → filter_map wanted (map f all) ≡ []
 none_of f wanted items all k step same le = ap (λ xs. filter_map wanted (map f xs)) (sym same) ∙ sym step ∙ ap (λ xs. filter_map wanted (map f xs)) (drop_past k items le)
@@ -126,17 +130,27 @@ then_equal Greater = refl
 abbrev IsAny : {V : Type 0} → V → Type 0
 IsAny v = Unit {0}
 
+role_itself : (r : Role) → role_eq.ghosts.eq r r ≡ true
+role_itself Definitions = refl
+role_itself References = refl
+
+role_same : (r s : Role) → role_eq.ghosts.eq r s ≡ true → r ≡ s
+role_same Definitions Definitions e = refl
+role_same References References e = refl
+role_same Definitions References e = cc
+role_same References Definitions e = cc
+
 module _ (result : ℕ) (role : Role) where
   item_back : (r : ItemRowValue) (v : PlaceValue) → item_wanted result role r ≡ Some v → (r ≡ item_row result role v) × IsAny v
   item_back r v e =
-      let h = when_some (r.result == result && same_role r.role role) r.place v e in
-      let b = and_both (r.result == result) (same_role r.role role) h.0 in
+      let h = when_some (r.result == result && role_eq.ghosts.eq r.role role) r.place v e in
+      let b = and_both (r.result == result) (role_eq.ghosts.eq r.role role) h.0 in
       let number = eq_of r.result result b.0 in
-      let in_role = role_eq r.role role b.1 in
+      let in_role = role_same r.role role b.1 in
       ((λ i. record { result = number i; role = in_role i; place = h.1 i }), tt)
 
   item_gives : (v : PlaceValue) → IsAny v → item_wanted result role (item_row result role v) ≡ Some v
-  item_gives v so = let e = and_of (result == result) (same_role role role) (nat_itself result) (role_self role) in rw e refl
+  item_gives v so = let e = and_of (result == result) (role_eq.ghosts.eq role role) (nat_itself result) (role_itself role) in rw e refl
 
   item_same : (v w : PlaceValue) → item_cmp (item_row result role v) (item_row result role w) ≡ place_cmp v w
   item_same v w = let e = nat_cmp_itself result in let f = nat_cmp_itself (role_index role) in rw (e, f) refl

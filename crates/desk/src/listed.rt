@@ -5,7 +5,7 @@ ghost use Rattle.std.specs.String.{string_cmp};
 ghost use Rattle.tags.specs.Views.{field_value, tag_value};
 ghost use Rattle.machine.specs.FoundTags.{name_cmp};
 ghost use Rattle.machine.specs.Found.{project_found, tag_found};
-ghost use Rattle.desk.specs.Steps.Listed.{is_asked, is_wanted, by_value, project_tags, projects_of, tags_of, tags_so, AllRise, AreOrdered, TagsRise};
+ghost use Rattle.desk.specs.Steps.Listed.{is_wanted, by_value, project_tags, projects_of, tags_of, tags_so, AllRise, AreOrdered, TagsRise};
 
 use crate::index::Wanted;
 use crate::project::Project;
@@ -21,16 +21,6 @@ fn is_wanted(wanted: Wanted<'_>, name: &str) -> bool
     match wanted {
         Wanted::Name(text) => name == text,
         Wanted::Prefix(text) => name.as_bytes().starts_with(text.as_bytes()),
-    }
-}
-
-/// Whether this project's tags are asked for.
-fn is_asked(asked: Option<&str>, project: &str) -> bool
-    ensures { result ≡ is_asked (option_map (λ p. p.now) asked.entry) project.now }
-{
-    match asked {
-        Some(name) => name == project,
-        None => true,
     }
 }
 
@@ -71,7 +61,7 @@ fn add_project(
     match &project.tags {
         Some(part) => {
             let tags = part.tags();
-            if is_asked(asked, name) {
+            if asked.is_none_or(|asked| asked == name) {
                 add_tags(found, alloc, wanted, name, tags)
             } else {
                 Ok(())

@@ -1,7 +1,5 @@
 //! The desk over a database in files in memory, which is new and empty. One over a file is made by the program (`codenav/src/database.rt`).
-ghost use Rattle.std.specs.Prelude.{◌≡◌, ◌∷◌, [], true, false, IfOk};
-ghost use Rattle.sqlite.specs.Held.{state};
-ghost use Rattle.tables.specs.Schema.{empty_schema};
+ghost use Rattle.std.specs.Prelude.{◌≡◌, ◌∷◌, [], false, IfOk};
 ghost use Rattle.machine.specs.State.{nothing};
 
 use crate::index_desk::IndexDesk;
@@ -14,14 +12,6 @@ use tables::{MemoryDisk, Tables};
 /// A desk over a database in files in memory.
 pub type MemoryDesk = TableDesk<FileStore<MemoryDisk>>;
 
-/// Whether the database has no table, no index and no view.
-fn is_empty<S: Alter>(conn: &Connection<S>) -> bool
-    ensures { result ≡ true → (state S.Store conn.now).now.schema ≡ empty_schema }
-{
-    let schema = conn.schema();
-    schema.tables.is_empty() && schema.indexes.is_empty() && schema.views.is_empty()
-}
-
 /// A desk over new tables in a database that is in memory alone, where that is empty. Where its store returned what was written, it stands for the state of an empty
 /// index, and a stop leaves that state alone.
 fn make_desk<S: Alter + Drop>(
@@ -33,7 +23,8 @@ fn make_desk<S: Alter + Drop>(
     ensures may_leave { IfOk result (λ desk. ⟦<IndexDesk<Tables<S>> as Desk>⟧.is_reliable desk
         → ⟦<IndexDesk<Tables<S>> as Desk>⟧.may_leave desk (nothing ∷ [])) }
 {
-    if !is_empty(&conn) {
+    let schema = conn.schema();
+    if !(schema.tables.is_empty() && schema.indexes.is_empty() && schema.views.is_empty()) {
         return Err(AllocError);
     }
     match Tables::open(conn) {

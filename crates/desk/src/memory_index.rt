@@ -6,7 +6,7 @@ ghost use Rattle.machine.specs.Steps.Changes.{change_value};
 ghost use Rattle.desk.specs.Steps.Plain.{Stands};
 
 use crate::index::{Index, IndexFault, Wanted};
-use crate::kept::{change, dump_in, has_part, kept_in};
+use crate::kept::{dump_in, has_part, kept_in};
 use crate::listed::{list_projects, list_tags, order_tags};
 use crate::project::Project;
 use crate::selected::{bearers_in, covering_of, hover_of, items_of, marks_of};
@@ -37,7 +37,7 @@ impl MemoryIndex {
         }
     }
 
-    /// Makes a change, and keeps the text of its reply under the key. Nothing changes where memory is refused.
+    /// Makes a change of the project of this name, and keeps the text of its reply under the key. Nothing changes where memory is refused.
     fn make(
         &mut self,
         project: &str,
@@ -52,7 +52,11 @@ impl MemoryIndex {
         let name = String::from_str(self.alloc, project)?;
         let key = String::from_str(self.alloc, key)?;
         let reply = String::from_str(self.alloc, reply)?;
-        change(&mut self.projects, self.alloc, name, key, made, reply)
+        let found = self
+            .projects
+            .entry(name)?
+            .or_insert(Project::new(self.alloc));
+        found.change(key, made, reply)
     }
 }
 

@@ -1,5 +1,5 @@
 //! What is selected of dumps in memory: the rows of a dump are made, and what is wanted of them is copied.
-ghost use Rattle.std.specs.Prelude.{◌≡◌, Contains, map, IfOk, OnOk, option_map, string_bytes};
+ghost use Rattle.std.specs.Prelude.{◌≡◌, Contains, map, IfOk, option_map, string_bytes};
 ghost use Rattle.std.specs.BTreeMap.{IsOrdered};
 ghost use Rattle.std.specs.String.{string_cmp};
 ghost use Rattle.std.specs.List.{filter_map};
@@ -8,8 +8,7 @@ ghost use Rattle.dump.specs.Places.{IsListing, place_cmp};
 ghost use Rattle.flatten.specs.Rows.{range_value};
 ghost use Rattle.tables.specs.Selections.{FindsCover, bearer_found, bearer_found_cmp, item_found, mark_found, mark_text_cmp, range_found};
 ghost use Rattle.machine.specs.Steps.Covers.{inner_order};
-ghost use Rattle.desk.specs.Steps.Selected.{AddsBearers, IsBearerAmong, IsBearerOf, IsItemOf, IsMarkOf, IsHoverOf, bearer_in_cmp, by_span, range_found_of, range_wanted};
-ghost use Rattle.machine.specs.Steps.Places.{same_role};
+ghost use Rattle.desk.specs.Steps.Selected.{IsBearerAmong, IsBearerOf, IsItemOf, IsMarkOf, IsHoverOf, bearer_in_cmp, by_span, range_found_of, range_wanted};
 
 use crate::project::Project;
 use dump::{CheckedDump, RequestKind, Role, nesting_law, uri_law};
@@ -20,16 +19,6 @@ use std::cmp::Ordering;
 use std::collections::BTreeMap;
 use std::rc::RcStr;
 use tables::{FoundBearer, FoundItem, FoundMark, FoundRange};
-
-/// Whether the roles are the same.
-fn same_role(a: Role, b: Role) -> bool
-    ensures { result ≡ same_role a b }
-{
-    match (a, b) {
-        (Role::Definitions, Role::Definitions) | (Role::References, Role::References) => true,
-        _ => false,
-    }
-}
 
 /// The places that the result of this number has in a role, each once.
 pub(crate) fn items_of(
@@ -43,7 +32,7 @@ pub(crate) fn items_of(
     let rows = flatten(alloc, dump)?;
     let mut found = Vec::new(alloc);
     for row in &rows.items {
-        if row.result == result_number && same_role(row.role, role) {
+        if row.result == result_number && row.role == role {
             let uri = RcStr::from_string(String::from_str(alloc, row.uri)?)?;
             found.push(FoundItem {
                 uri,
@@ -176,21 +165,6 @@ fn found_range(row: &RangeRow<'_>, request: RequestKind) -> FoundRange
     }
 }
 
-/// What the request finds of the ranges of these rows.
-fn found_ranges(
-    alloc: Global,
-    request: RequestKind,
-    rows: &[RangeRow<'_>],
-) -> Result<Vec<FoundRange>, AllocError>
-    ensures { IfOk result (λ found. map range_found found.items ≡ map (range_found_of request) rows.now) }
-{
-    let mut found = Vec::new(alloc);
-    for row in rows {
-        found.push(found_range(row, request))?;
-    }
-    Ok(found)
-}
-
 /// The ranges of the document of this serialized URL that cover the position, the smallest first, with their results for the request.
 pub(crate) fn covering_of(
     alloc: Global,
@@ -207,24 +181,11 @@ pub(crate) fn covering_of(
     let rows = flatten(alloc, dump)?;
     let mut covering = covering_rows(alloc, &rows.ranges, uri, at)?;
     list_rows(&mut covering);
-    Ok(found_ranges(alloc, request, &covering)?)
-}
-
-/// Adds the bearers of the key in the dump of this project, where it has one.
-fn add_bearers(
-    found: &mut Vec<FoundBearer>,
-    alloc: Global,
-    project: &str,
-    kept: &Option<CheckedDump>,
-    key: &str,
-) -> Result<(), FlattenFault>
-    ensures { OnOk result (AddsBearers key.now project.now kept.now (map bearer_found found.old.items) (map bearer_found found.new.items)) }
-{
-    if let Some(dump) = kept {
-        let mut more = bearers_of(alloc, dump, project, key)?;
-        found.append(&mut more)?;
+    let mut found = Vec::new(alloc);
+    for row in &covering {
+        found.push(found_range(row, request))?;
     }
-    Ok(())
+    Ok(found)
 }
 
 /// The bearers of the key in the dumps of all projects, by project, line and kind, each once.
@@ -238,7 +199,10 @@ pub(crate) fn bearers_in(
 {
     let mut found = Vec::new(alloc);
     for (name, project) in projects {
-        add_bearers(&mut found, alloc, name.as_str(), &project.dump, key)?;
+        if let Some(dump) = &project.dump {
+            let mut more = bearers_of(alloc, dump, name.as_str(), key)?;
+            found.append(&mut more)?;
+        }
     }
     Ok(found)
 }

@@ -9,6 +9,7 @@ use Rattle.positions.specs.Position.{PositionValue}
 use Rattle.positions.specs.Span.{covers}
 use Rattle.lsif.specs.Element.{ElementValue}
 use Rattle.dump.specs.declared.request_kind.RequestKind.{RequestKind}
+use Rattle.dump.specs.contracts.role.RolePartialEq.TheImpl as role_eq
 use Rattle.dump.specs.declared.role.Role.{Role}
 use Rattle.dump.specs.Places.{IsListing, PlaceValue}
 use Rattle.dump.specs.Progress.{DumpValue}
@@ -19,7 +20,6 @@ use Rattle.tables.specs.Selections.{MarkText, RangeFound, BearerFound, bearer_fo
 use Rattle.tables.specs.Steps.Climbs.{row_found}
 use Rattle.desk.specs.declared.project.Project.{Project}
 use Rattle.machine.specs.Steps.Covers.{inner_order}
-use Rattle.machine.specs.Steps.Places.{same_role}
 
 -- ---- items
 
@@ -27,7 +27,7 @@ abbrev pub item_row : ℕ → Role → PlaceValue → ItemRowValue
 item_row result role place = record { result = result; role = role; place = place }
 
 abbrev pub item_wanted : ℕ → Role → ItemRowValue → Option PlaceValue
-item_wanted result role row = if row.result == result && same_role row.role role then Some row.place else None
+item_wanted result role row = if row.result == result && role_eq.ghosts.eq row.role role then Some row.place else None
 
 -- the result of this number has the place in the role
 abbrev pub IsItemOf : List ElementValue → ℕ → Role → PlaceValue → Type 0

@@ -1,18 +1,16 @@
 //! The contents that answer a hover query: those of the range's own result, and where it has none, those of the first vertex that is joined to it, by
 //! project and line (`HoversAt` of `specs/Answers`).
-ghost use Rattle.std.specs.Prelude.{◌≡◌, Contains, IfOk, IfErr, map, option_map, string_bytes, true};
-ghost use Rattle.dump.specs.Places.{IsListing};
+ghost use Rattle.std.specs.Prelude.{◌≡◌, IfOk, IfErr, option_map, string_bytes, true};
 ghost use Rattle.tables.specs.Selections.{range_found};
 ghost use Rattle.machine.specs.State.{State};
 ghost use Rattle.desk.specs.Indexes.{ReadsOnly};
 ghost use Rattle.machine.specs.Answers.{AnswersAt, AnswersHover};
 ghost use Rattle.machine.specs.Requests.{at_value};
-ghost use Rattle.desk.specs.Steps.RowHovers.{RowHovers, joined_cmp};
-ghost use Rattle.desk.specs.Steps.Rows.{joined_value};
+ghost use Rattle.desk.specs.Steps.RowHovers.{RowHovers};
 ghost use Rattle.desk.specs.declared.index.IndexFault.TheVariants.{Refused};
 
 use crate::index::{Index, IndexFault};
-use crate::rows::bearers::{JoinedBearer, joined_bearers};
+use crate::rows::bearers::joined_bearers;
 use crate::rows::ranges::{Picked, keys_at, pick};
 use dump::RequestKind;
 use machine::{Code, DocUri, ProjectName, Reply, hover_found};
@@ -20,15 +18,8 @@ use positions::Position;
 use std::alloc::Global;
 use tables::FoundRange;
 
-/// Puts the vertices in order, each once: by project, line and number.
-fn list_bearers(found: &mut Vec<JoinedBearer>)
-    ensures { IsListing joined_cmp (Contains (map joined_value found.old.items)) (map joined_value found.new.items) }
-{
-    found.sort_unstable();
-    found.dedup();
-}
-
-/// The contents that answer a hover query at the range of this row.
+/// The contents that answer a hover query at the range of this row: of its own result, and where it has none, of the least vertex that is joined to it
+/// (by project, line and number).
 fn contents_at<I: Index>(
     alloc: Global,
     index: &mut I,
@@ -45,9 +36,8 @@ fn contents_at<I: Index>(
         return index.hover(own, number);
     }
     let keys = keys_at(alloc, index, RequestKind::Hover, own, range.line)?;
-    let mut found = joined_bearers(alloc, index, RequestKind::Hover, own, &keys)?;
-    list_bearers(&mut found);
-    match found.first() {
+    let found = joined_bearers(alloc, index, RequestKind::Hover, own, &keys)?;
+    match found.iter().min() {
         Some(row) => index.hover(row.project.as_str(), row.number),
         None => Ok(None),
     }

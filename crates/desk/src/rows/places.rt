@@ -114,14 +114,6 @@ fn add_results<'a, I: Index>(
     Ok(())
 }
 
-/// Puts the places in order, each once.
-fn list_places(found: &mut Vec<ItemPlace<'_>>)
-    ensures { IsListing found_cmp (Contains (map item_place found.old.items)) (map item_place found.new.items) }
-{
-    found.sort_unstable();
-    found.dedup();
-}
-
 /// The places of these results in these roles: in order, each once.
 pub(crate) fn places_of<'a, I: Index>(
     alloc: Global,
@@ -138,7 +130,8 @@ pub(crate) fn places_of<'a, I: Index>(
 {
     let mut found = Vec::new(alloc);
     add_results(alloc, index, &mut found, project_results, roles)?;
-    list_places(&mut found);
+    found.sort_unstable();
+    found.dedup();
     Ok(found)
 }
 

@@ -1,5 +1,5 @@
 //! The replies to queries, each made of what the selections of an index find.
-ghost use Rattle.std.specs.Prelude.{◌≡◌, ◌≢◌, IfOk, List, map, option_map, IfErr, true};
+ghost use Rattle.std.specs.Prelude.{◌≡◌, ◌≢◌, IfOk, IfErr, true};
 ghost use Rattle.dump.specs.declared.request_kind.RequestKind.TheVariants as requests;
 ghost use Rattle.machine.specs.State.{State};
 ghost use Rattle.desk.specs.Indexes.{ReadsOnly};
@@ -62,16 +62,6 @@ pub(crate) fn places<I: Index>(
     }
 }
 
-/// The name of the project that is asked for, where it is one.
-fn name_of(project: &Option<ProjectName>) -> Option<&str>
-    ensures { option_map (λ p. p.now) result ≡ project.now }
-{
-    match project {
-        Some(name) => Some(name.as_str()),
-        None => None,
-    }
-}
-
 /// Answers a query for tags.
 pub(crate) fn tags<I: Index>(
     alloc: Global,
@@ -84,7 +74,8 @@ pub(crate) fn tags<I: Index>(
     ensures reads_only { I.is_reliable index.new → ReadsOnly I.stands I.may_leave index.old index.new }
     ensures refused { IfErr result (λ fault. fault ≡ Refused → I.may_refuse ≡ true) }
 {
-    let found = index.tags(alloc, wanted, name_of(project))?;
+    let name = project.as_ref().map(ProjectName::as_str);
+    let found = index.tags(alloc, wanted, name)?;
     Ok(tags_found(alloc, &found)?)
 }
 

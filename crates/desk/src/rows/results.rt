@@ -55,16 +55,7 @@ fn add_joined(
     Ok(())
 }
 
-/// Puts the results in order, each once.
-fn list_results(project_results: &mut Vec<ProjectResult>)
-    ensures { IsListing project_result_cmp (Contains (map project_result_value project_results.old.items))
-        (map project_result_value project_results.new.items) }
-{
-    project_results.sort_unstable();
-    project_results.dedup();
-}
-
-/// The results whose places answer a query at the range of this row: each once.
+/// The results whose places answer a query at the range of this row: in order, each once.
 pub(crate) fn answering_results<I: Index>(
     alloc: Global,
     index: &mut I,
@@ -74,7 +65,8 @@ pub(crate) fn answering_results<I: Index>(
 ) -> Result<Vec<ProjectResult>, IndexFault>
     ensures reliable { I.is_reliable index.new → I.is_reliable index.old }
     ensures found { I.is_reliable index.new → (m : State) → I.stands index.old m
-        → IfOk result (λ results. AreThose (IsAnsweringResult m request own.now (range_found range.now)) (map project_result_value results.items)) }
+        → IfOk result (λ results. IsListing project_result_cmp
+        (IsAnsweringResult m request own.now (range_found range.now)) (map project_result_value results.items)) }
     ensures reads_only { I.is_reliable index.new → ReadsOnly I.stands I.may_leave index.old index.new }
     ensures refused { IfErr result (λ fault. fault ≡ Refused → I.may_refuse ≡ true) }
 {
@@ -82,6 +74,7 @@ pub(crate) fn answering_results<I: Index>(
     let joined = joined_bearers(alloc, index, request, own, &keys)?;
     let mut project_results = own_result(alloc, own, range)?;
     add_joined(&mut project_results, joined)?;
-    list_results(&mut project_results);
+    project_results.sort_unstable();
+    project_results.dedup();
     Ok(project_results)
 }

@@ -1,7 +1,0 @@
-use Rattle.std.proofs.Common.{◌≡◌, ◌++◌, map, drop}
-use Rattle.tables.specs.Selections.{range_found}
-use Rattle.desk.specs.Steps.Selected.{range_found_of}
-use Rattle.desk.proofs.selected.found_ranges.Given as goal
-
-abbrev pub invariant-loop-row : goal.invariant-loop-row
-invariant-loop-row l = map range_found l.found.items ++ map (range_found_of l.request) (drop l.row-index l.rows) ≡ map (range_found_of l.request) l.rows
