@@ -2,10 +2,14 @@
 # Measures what an upload in pieces costs a desk in memory: the least time of pieces of 8,192 bytes beside that of the same body
 # as one piece, in one run and in turn; and the most memory that the program holds while it reads the body from a file
 # piece by piece, beside that with the whole body in memory, in multiples of the body. For a dump and for a tags file.
-# usage: bench/uploads.sh [RUNS]      (default 9)
+# With the built program, it also measures a whole put of that dump into a new file by `replay`, which reads, checks, flattens and writes it, beside
+# Python's `json` and `sqlite3`, which read the same lines, ask of each that its id is new and its ends are known, and write the same rows (taken from
+# the program's database, so that Python's flattening isn't in its time): the least time of each, in turn.
+# usage: bench/uploads.sh [RUNS [PROGRAM]]      (default 9 runs, and no whole put)
 # It builds and proves a small program over the crates of this repository, in a copy beside /tmp, which takes some minutes.
 set -eu
 runs=${1:-9}
+whole_program=${2:+$(realpath "$2")}
 . "$(dirname "${BASH_SOURCE[0]}")/shared.sh"
 
 build_program uploads "lsif desk" <<'EOP'
@@ -154,3 +158,68 @@ for kind in dump tags; do
         printf "%-5s memory: in pieces %.2f times the body, with the body in memory %.2f times\n", kind, pieces / size, whole / size
     }'
 done
+
+[ -n "$whole_program" ] || exit 0
+cat >"$folder/peer.py" <<'PY'
+import json, os, sqlite3, sys, time
+
+own, dump, runs = sys.argv[1], sys.argv[2], int(sys.argv[3])
+source = sqlite3.connect(own)
+schema = [row[0] for row in source.execute("SELECT sql FROM sqlite_master WHERE sql IS NOT NULL ORDER BY rowid")]
+children = ["document", "range_row", "item", "hover", "mark", "bearer", "part_profile", "more"]
+rows = {table: [row[1:] for row in source.execute(f"SELECT * FROM {table}")] for table in children}
+
+
+def put(peer):
+    start = time.perf_counter_ns()
+    vertices, edges = set(), set()
+    with open(dump, "rb") as file:
+        for line in file:
+            element = json.loads(line)
+            own_id = element["id"]
+            assert own_id not in vertices and own_id not in edges
+            if element["type"] == "vertex":
+                vertices.add(own_id)
+                continue
+            ends = [element["outV"], *(element["inVs"] if "inVs" in element else [element["inV"]])]
+            assert all(end in vertices for end in ends)
+            edges.add(own_id)
+    base = sqlite3.connect(peer, isolation_level=None)
+    for text in ["PRAGMA journal_mode = WAL", "PRAGMA synchronous = FULL", "PRAGMA foreign_keys = ON"] + schema:
+        base.execute(text)
+    base.execute("BEGIN")
+    slot = base.execute("INSERT INTO slot (project, part) VALUES (?1, ?2)", ("app", 1)).lastrowid
+    for table, values in rows.items():
+        if values:
+            marks = ", ".join("?" * (len(values[0]) + 1))
+            base.executemany(f"INSERT INTO {table} VALUES ({marks})", ((slot, *row) for row in values))
+    base.execute("INSERT INTO keyed (project, cmdkey, reply) VALUES (?1, ?2, ?3)", ("app", "k", "{}"))
+    base.execute("COMMIT")
+    base.close()
+    return time.perf_counter_ns() - start
+
+
+times = []
+for run in range(runs):
+    times.append(put("peer.db"))
+    for name in ("peer.db", "peer.db-wal", "peer.db-shm"):
+        if os.path.exists(name):
+            os.remove(name)
+print(min(times))
+PY
+{
+    printf 'PUT /projects/app/lsif?key=k HTTP/1.1\r\nContent-Length: %d\r\n\r\n' "$(wc -c <"$folder/dump")"
+    cat "$folder/dump"
+} >"$folder/put.http"
+cd "$folder"
+least=
+for _ in $(seq "$runs"); do
+    rm -f put.db put.db-wal put.db-shm
+    start=$(date +%s%N)
+    "$whole_program" replay put.db put.http | grep -q '"accepted":"lsif"' || { echo "the put was refused" >&2; exit 1; }
+    took=$(($(date +%s%N) - start))
+    [ -n "$least" ] && [ "$least" -le "$took" ] || least=$took
+done
+python3 peer.py put.db dump "$runs" | awk -v own="$least" -v lines="$(wc -l <dump)" '{
+    printf "a whole put of %d elements: %.0f ms, by Python %.0f ms, ratio %.2f\n", lines, own / 1e6, $1 / 1e6, own / $1
+}'

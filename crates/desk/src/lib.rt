@@ -1,5 +1,6 @@
-//! Desks, which serve the requests of `machine`: one over any index (`IndexDesk`), over the tables of a database (`TableDesk`), and over an index in memory, for tests and for
-//! reading (`PlainDesk`). What a desk serves is said in `machine`, whose names are to be had here too. Its tests call public functions alone, and stand in `codenav` (`tests/desks`).
+//! Desks, which serve the requests of `machine`: one over any index (`IndexDesk`), over the tables of a database (`TableDesk`), and over an index in memory,
+//! for tests and for reading (`PlainDesk`). What a desk serves is said in `machine`, whose names are to be had here too. Its tests call public functions
+//! alone, and stand in `codenav` (`tests/desks`).
 #![tactic(auto)]
 
 mod index;

@@ -12,8 +12,8 @@ use tables::{MemoryDisk, Tables};
 /// A desk over a database in files in memory.
 pub type MemoryDesk = TableDesk<FileStore<MemoryDisk>>;
 
-/// A desk over new tables in a database that is in memory alone, where that is empty. Where its store returned what was written, it stands for the state of an empty
-/// index, and a stop leaves that state alone.
+/// A desk over new tables in a database that is in memory alone, where that is empty. Where its store returned what was written, it stands for the state
+/// of an empty index, and a stop leaves that state alone.
 fn make_desk<S: Alter + Drop>(
     alloc: Global,
     conn: Connection<S>,

@@ -1,5 +1,6 @@
 -- What ON DELETE CASCADE leaves, where no child is a parent.
 use Rattle.tables.specs.Databases.{IsOrdered, AllOrdered}
+use Rattle.tables.specs.TableTrees.{format_tree}
 use Rattle.std.proofs.Common.{eqb, eqb-true, eq-eqb, true≢false, nat_lt, Ordering, Less, Equal, Greater, ◌≡◌, ◌≢◌, ◌⊎◌, inl, inr, ℕ, zero, suc, ◌+◌, ℤ, List, [], ◌∷◌, ◌++◌, append-nil, Bool, true, false, not, Ok, Result, Option, refl, sym, ap, subst, ◌∙◌}
 use Rattle.std.specs.List.{AllByRecursion, list_any}
 use Rattle.std.proofs.lemmas.Bool.{cases_Bool}
@@ -97,7 +98,7 @@ module _ (schema : Schema) (Then : Trees → List Work → Result Trees (Option 
   step_in (id ∷ ids) h = elim (rw leaf.deletes at h) [
     | inl refused ↦ absurd (let e = refused.2 in cc)
     | inr (inl big) ↦ absurd (let e = big.3 in cc)
-    | inr (inr went) ↦ (went.0, record { rows = went.1.rows; others = went.1.tables }, rw (leaf.unreferred (w.depth + 1) (taken_by db (edit_of db w.child (id ∷ ids) Given 0 [])), append-nil below) at went.2)
+    | inr (inr went) ↦ (went.0, record { rows = went.1.rows; others = went.1.tables }, rw (leaf.unreferred (w.depth + 1) (taken_by db (edit_of db w.child (id ∷ ids) Given format_tree [])), append-nil below) at went.2)
   ]
 
   acts_in : Acts schema Enforced Then db w below (Ok next) → (ids : List ℤ) × AreChildren db w ids × ((mid : Trees) × Took schema db mid w ids × Then mid below (Ok next))

@@ -23,6 +23,7 @@ use Rattle.machine.specs.State.{State}
 use Rattle.tables.specs.Stands.{StandsFor, IsDump, AreTags, Each}
 use Rattle.tables.specs.Steps.Selected.{AreTyped, Selects, ShowsOne}
 use Rattle.tables.specs.Steps.DumpEntries.{Entries, entry_values, SelectsOf, ShowsOneOf}
+use Rattle.tables.specs.TableTrees.{slot_tree}
 use Rattle.tables.proofs.Entries.{typed_as}
 use Rattle.tables.proofs.FoundSlots.{one_slot}
 use Rattle.tables.proofs.Keeping.{none_is_some, same_some, table_of, slot_is, which_part, from_map, to_map}
@@ -91,7 +92,7 @@ module _ (db : Trees) (m : State) (s : StandsFor db m) where
   no_tags project = none_each AreTags (m.tags project) (s.parts project Tags) (s.tags project)
 
   -- the slot of a project's dump
-  pub dump_slot : (project : List ℕ) (id : ℤ) → Has (db 1) (slot_row id project Dump) → (dump : DumpValue) × (m.dump project ≡ Some dump)
+  pub dump_slot : (project : List ℕ) (id : ℤ) → Has (db slot_tree) (slot_row id project Dump) → (dump : DumpValue) × (m.dump project ≡ Some dump)
   dump_slot project id h =
       let it = s.keeps.slots _ h in
       let same = (slot_is it.is).1 in
@@ -109,7 +110,7 @@ module _ (db : Trees) (m : State) (s : StandsFor db m) where
       | inl one ↦
           let d = dump_of o.project o.rows (subst (λ (k : Part). s.parts o.project k ≡ Some o.rows) one o.has) in
           let it = (are d.0 d.2.flat d.2.is_flat o.values).0 (subst (λ (r : ℕ → List Row). Has (r tree) o.values) d.2.are_rows o.listed) in
-          ((record { slot = o.id; value = it.0 }, record { project = o.project; dump = d.0; slot = subst (λ (k : Part). Has (db 1) (slot_row o.id o.project k)) one o.slot; has = d.1; is = it.1 }), o.is ∙ ap (λ (v : Row). Int o.id ∷ v) it.2)
+          ((record { slot = o.id; value = it.0 }, record { project = o.project; dump = d.0; slot = subst (λ (k : Part). Has (db slot_tree) (slot_row o.id o.project k)) one o.slot; has = d.1; is = it.1 }), o.is ∙ ap (λ (v : Row). Int o.id ∷ v) it.2)
       | inr two ↦
           let t = tags_of o.project o.rows (subst (λ (k : Part). s.parts o.project k ≡ Some o.rows) two o.has) in
           absurd (subst (λ (l : List Row). Has l o.values) (untagged t.0) (subst (λ (r : ℕ → List Row). Has (r tree) o.values) t.2 o.listed))
@@ -128,13 +129,13 @@ module _ (db : Trees) (m : State) (s : StandsFor db m) where
         (s.keeps.children tree owns (values e)).1 (record { id = e.0.slot; project = e.1.project; part = Dump; rows = r.0; values = columns e.0.value; slot = e.1.slot; has = r.1; listed = subst (λ (f : ℕ → List Row). Has (f tree) (columns e.0.value)) (sym r.2.are_rows) listed; is = refl })
 
     -- one dump of them, by its slot
-    module _ (project : List ℕ) (dump : DumpValue) (id : ℤ) (slot : Has (db 1) (slot_row id project Dump)) (has : m.dump project ≡ Some dump) (Matches : E → Type 0) where
+    module _ (project : List ℕ) (dump : DumpValue) (id : ℤ) (slot : Has (db slot_tree) (slot_row id project Dump)) (has : m.dump project ≡ Some dump) (Matches : E → Type 0) where
       abbrev Wanted : ℤ → Entries Of db m → Type 0
       Wanted at e = (e.0.slot ≡ id) × Matches e.0.value
 
       pub in_dump : (e : Entries Of db m) → e.0.slot ≡ id → Of dump e.0.value
       in_dump e same =
-          let p = (one_slot db s.parts _ id e.1.project project Dump Dump s.keeps (subst (λ (i : ℤ). Has (db 1) (slot_row i e.1.project Dump)) same e.1.slot) slot).0 in
+          let p = (one_slot db s.parts _ id e.1.project project Dump Dump s.keeps (subst (λ (i : ℤ). Has (db slot_tree) (slot_row i e.1.project Dump)) same e.1.slot) slot).0 in
           let d : e.1.dump ≡ dump = same_some (sym e.1.has ∙ (ap m.dump p ∙ has)) in
           subst (λ (x : DumpValue). Of x e.0.value) d e.1.is
 

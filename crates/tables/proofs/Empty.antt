@@ -14,6 +14,7 @@ use Rattle.tables.specs.Schema.{schema_two, format, slot, keyed}
 use Rattle.tables.specs.Databases.{version_row, IsMade, WasMade, IsFormatTwo, IsOrdered}
 use Rattle.tables.specs.Contents.{Keeps, IsReply, IsOwned}
 use Rattle.tables.specs.Stands.{StandsFor, Rests, replies_of}
+use Rattle.tables.specs.TableTrees.{format_tree}
 use Rattle.machine.specs.State.{State, nothing}
 use Rattle.tables.proofs.Cascade.{same_or_not}
 use Rattle.tables.proofs.Keeping.{none_is_some, table_of, is_owned}
@@ -23,7 +24,7 @@ use Rattle.tables.proofs.Keeping.{none_is_some, table_of, is_owned}
 pub version_ordered : IsOrdered (version_row 2)
 version_ordered = record { rises = (tt, tt); numbered = λ row h. elim h [ inl e ↦ (pos 2, ap rowid e) | inr none ↦ absurd none ] }
 
-pub version_is : (db : Trees) → db 0 ≡ version_row 2 → (row : Row) → Has (db 0) row ↔ (row ≡ Int (pos 2) ∷ Null ∷ [])
+pub version_is : (db : Trees) → db format_tree ≡ version_row 2 → (row : Row) → Has (db format_tree) row ↔ (row ≡ Int (pos 2) ∷ Null ∷ [])
 version_is db made row = (
   (λ h. elim (subst (λ l. Has l row) made h) [ inl e ↦ e | inr none ↦ absurd none ]),
   (λ e. subst (λ l. Has l row) (sym made) (inl e)),
@@ -32,15 +33,15 @@ version_is db made row = (
 -- ---- new tables
 
 module _ (db : Trees) (made : WasMade db) where
-  empty_tree : (t : Table) → Has schema_two.tables t → t.tree ≢ 0 → db t.tree ≡ []
+  empty_tree : (t : Table) → Has schema_two.tables t → t.tree ≢ format_tree → db t.tree ≡ []
   empty_tree t listed other = all_has (λ (x : Table). x.tree ≢ 0 → db x.tree ≡ []) schema_two.tables t made.1 listed other
 
-  no_row : (t : Table) → Has schema_two.tables t → t.tree ≢ 0 → (row : Row) → Has (db t.tree) row → ⊥
+  no_row : (t : Table) → Has schema_two.tables t → t.tree ≢ format_tree → (row : Row) → Has (db t.tree) row → ⊥
   no_row t listed other row h = subst (λ l. Has l row) (empty_tree t listed other) h
 
   keeps_nothing : Keeps db (λ p k. None) (replies_of nothing)
   keeps_nothing = record {
-    ordered = λ t listed. elim (same_or_not t.tree 0) [
+    ordered = λ t listed. elim (same_or_not t.tree format_tree) [
       | inl same ↦ subst (λ x. IsOrdered (db x)) (sym same) (subst IsOrdered (sym made.0) version_ordered)
       | inr other ↦ subst IsOrdered (sym (empty_tree t listed other)) (record { rises = tt; numbered = λ row none. absurd none })
     ];
@@ -77,7 +78,7 @@ one_row (a ∷ b ∷ rows) one id is up each h =
 pub rests_format : (s : sqlite.State) (m : State) → Rests s m → IsFormatTwo s.now
 rests_format s m is = record {
   schema_is = is.schema_is;
-  version = one_row (s.now.trees 0) (Int (pos 2) ∷ Null ∷ []) (pos 2) refl (is.stands.keeps.ordered format (inl refl)).rises (λ row h. (is.stands.keeps.version row).0 h) ((is.stands.keeps.version _).1 refl);
+  version = one_row (s.now.trees format_tree) (Int (pos 2) ∷ Null ∷ []) (pos 2) refl (is.stands.keeps.ordered format (inl refl)).rises (λ row h. (is.stands.keeps.version row).0 h) ((is.stands.keeps.version _).1 refl);
 }
 
 -- ---- what is unchanged

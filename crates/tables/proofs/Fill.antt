@@ -36,6 +36,7 @@ use Rattle.sqlite.proofs.Callers.{IsPlain, command_of, statement_of, runs_as, on
 use Rattle.tables.specs.Steps.Texts.{fill_profiles, set_version, semicolon}
 use Rattle.tables.specs.Schema.{schema_two, part_profile, format}
 use Rattle.tables.specs.Databases.{chosen, dump_tests, profile_shown, version_row, Holds, AreNumbered, IsOrdered}
+use Rattle.tables.specs.TableTrees.{format_tree, part_profile_tree, slot_tree}
 use Rattle.tables.proofs.Insert.{went, same_value, concluded, plain_mode}
 use Rattle.tables.proofs.Puts.{ordered_all}
 use Rattle.tables.proofs.Select.{one_table, collated_table, answers, passing}
@@ -88,14 +89,14 @@ unreferred_format olds (r ∷ rs) = rw (eqb-suc-zero (length rs)) refl
 pub record Filled (old new : Database) : Type 0 where
   pub schema_is : new.schema ≡ schema_two
   pub sources : List Row
-  pub same : IsPermutation (chosen dump_tests fill_shown [] (old.trees 1)) sources
+  pub same : IsPermutation (chosen dump_tests fill_shown [] (old.trees slot_tree)) sources
   pub applies : Applies schema_two Enforced old.trees (edit_of old.trees part_profile [] Chosen 0 sources) new.trees
 
 abbrev Fills : Trees → Trees → Type 0
-Fills db next = (sources : List Row) × IsPermutation (chosen dump_tests fill_shown [] (db 1)) sources × Applies schema_two Enforced db (edit_of db part_profile [] Chosen 0 sources) next
+Fills db next = (sources : List Row) × IsPermutation (chosen dump_tests fill_shown [] (db slot_tree)) sources × Applies schema_two Enforced db (edit_of db part_profile [] Chosen 0 sources) next
 
 abbrev news_of : Trees → List Row → List Row
-news_of db sources = numbered Chosen (db 22) (map (λ s. cast_row part_profile (drop 0 s)) sources)
+news_of db sources = numbered Chosen (db part_profile_tree) (map (λ s. cast_row part_profile (drop 0 s)) sources)
 
 filled_by : (limit : Option ℕ) (db : Trees) (w : Written) → Inserts (record { limit = limit; keys = Enforced; schema = schema_two; table = part_profile; params = [] }) (Query fill) db (Ok w) → Fills db w.trees
 filled_by limit db w h =
@@ -165,34 +166,34 @@ unfolding unary
 cast_int n = either _ (Int n)
 
 -- each source is a slot's id and profile 1
-from_slot : (db : Trees) (sources : List Row) → IsPermutation (chosen dump_tests fill_shown [] (db 1)) sources → AreNumbered (db 1) → (s : Row) → Has sources s
-    → (id : ℤ) × (s ≡ Null ∷ Int id ∷ Int (pos 1) ∷ []) × Has (chosen dump_tests profile_shown [] (db 1)) (Int id ∷ Int (pos 1) ∷ [])
+from_slot : (db : Trees) (sources : List Row) → IsPermutation (chosen dump_tests fill_shown [] (db slot_tree)) sources → AreNumbered (db slot_tree) → (s : Row) → Has sources s
+    → (id : ℤ) × (s ≡ Null ∷ Int id ∷ Int (pos 1) ∷ []) × Has (chosen dump_tests profile_shown [] (db slot_tree)) (Int id ∷ Int (pos 1) ∷ [])
 from_slot db sources same ids s has =
-    let there = has_contained (chosen dump_tests fill_shown [] (db 1)) s (Contains-permutation sources (chosen dump_tests fill_shown [] (db 1)) s (IsPermutation-sym _ _ same) (contains_had sources s has)) in
-    let at = map_from (λ r. eval_all fill_shown ([] ∷ r ∷ [])) (passing dump_tests [] (db 1)) s there in
-    let slot = has_filtered _ (db 1) at.0 at.1 in
+    let there = has_contained (chosen dump_tests fill_shown [] (db slot_tree)) s (Contains-permutation sources (chosen dump_tests fill_shown [] (db slot_tree)) s (IsPermutation-sym _ _ same) (contains_had sources s has)) in
+    let at = map_from (λ r. eval_all fill_shown ([] ∷ r ∷ [])) (passing dump_tests [] (db slot_tree)) s there in
+    let slot = has_filtered _ (db slot_tree) at.0 at.1 in
     let id = ids at.0 slot.0 in
-    (id.0, (at.2 ∙ ap (λ v. Null ∷ v ∷ Int (pos 1) ∷ []) id.1), subst (λ v. Has (chosen dump_tests profile_shown [] (db 1)) (v ∷ Int (pos 1) ∷ [])) id.1 (map_has (λ r. eval_all profile_shown ([] ∷ r ∷ [])) (passing dump_tests [] (db 1)) at.0 at.1))
+    (id.0, (at.2 ∙ ap (λ v. Null ∷ v ∷ Int (pos 1) ∷ []) id.1), subst (λ v. Has (chosen dump_tests profile_shown [] (db slot_tree)) (v ∷ Int (pos 1) ∷ [])) id.1 (map_has (λ r. eval_all profile_shown ([] ∷ r ∷ [])) (passing dump_tests [] (db slot_tree)) at.0 at.1))
 
 cast_source : (id : ℤ) → cast_row part_profile (Null ∷ Int id ∷ Int (pos 1) ∷ []) ≡ Null ∷ Int id ∷ Int (pos 1) ∷ []
 cast_source id = rw (cast_null, cast_int id, cast_int (pos 1)) refl
 
-all_null : (db : Trees) (sources : List Row) → IsPermutation (chosen dump_tests fill_shown [] (db 1)) sources → AreNumbered (db 1) → AllNull (map (λ s. cast_row part_profile (drop 0 s)) sources)
+all_null : (db : Trees) (sources : List Row) → IsPermutation (chosen dump_tests fill_shown [] (db slot_tree)) sources → AreNumbered (db slot_tree) → AllNull (map (λ s. cast_row part_profile (drop 0 s)) sources)
 all_null db sources same numbered y has =
     let at = map_from (λ s. cast_row part_profile (drop 0 s)) sources y has in
     let it = from_slot db sources same numbered at.0 at.1 in
     (Int it.0 ∷ Int (pos 1) ∷ [], at.2 ∙ ap (cast_row part_profile) it.1 ∙ cast_source it.0)
 
 -- the table was empty: it holds just those
-pub profiles : (old new : Database) → old.trees 22 ≡ [] → Filled old new → AreNumbered (old.trees 1) → (row : Row) → Holds new.trees 22 row ↔ Has (chosen dump_tests profile_shown [] (old.trees 1)) row
+pub profiles : (old new : Database) → old.trees part_profile_tree ≡ [] → Filled old new → AreNumbered (old.trees slot_tree) → (row : Row) → Holds new.trees part_profile_tree row ↔ Has (chosen dump_tests profile_shown [] (old.trees slot_tree)) row
 profiles old new blank it ids row =
     let list = map (λ s. cast_row part_profile (drop 0 s)) it.sources in
     let null = all_null old.trees it.sources it.same ids in (
       (λ held.
           let put : Has (edited old.trees (edit_of old.trees part_profile [] Chosen 0 it.sources)) (Int held.0 ∷ row) = rw it.applies.rows at held.1 in
-          elim (put_all_has (numbered Chosen (old.trees 22) list) (old.trees 22) (Int held.0 ∷ row) put) [
+          elim (put_all_has (numbered Chosen (old.trees part_profile_tree) list) (old.trees part_profile_tree) (Int held.0 ∷ row) put) [
             | inl one ↦
-                let from = numbered_from (old.trees 22) list (Int held.0 ∷ row) null one in
+                let from = numbered_from (old.trees part_profile_tree) list (Int held.0 ∷ row) null one in
                 let at = map_from (λ s. cast_row part_profile (drop 0 s)) it.sources (Null ∷ from.0) from.1 in
                 let slot = from_slot old.trees it.sources it.same ids at.0 at.1 in
                 let is : Null ∷ from.0 ≡ Null ∷ Int slot.0 ∷ Int (pos 1) ∷ [] = at.2 ∙ ap (cast_row part_profile) slot.1 ∙ cast_source slot.0 in
@@ -201,31 +202,31 @@ profiles old new blank it ids row =
             | inr none ↦ absurd (subst (λ rows. Has rows (Int held.0 ∷ row)) blank none)
           ]),
       (λ has.
-          let at = map_from (λ r. eval_all profile_shown ([] ∷ r ∷ [])) (passing dump_tests [] (old.trees 1)) row has in
-          let source : Has it.sources (Null ∷ row) = has_contained it.sources (Null ∷ row) (Contains-permutation (chosen dump_tests fill_shown [] (old.trees 1)) it.sources (Null ∷ row) it.same
-          (contains_had (chosen dump_tests fill_shown [] (old.trees 1)) (Null ∷ row) (subst (λ v. Has (chosen dump_tests fill_shown [] (old.trees 1)) (Null ∷ v)) (sym at.2) (map_has (λ r. eval_all fill_shown ([] ∷ r ∷ [])) (passing dump_tests [] (old.trees 1)) at.0 at.1)))) in
+          let at = map_from (λ r. eval_all profile_shown ([] ∷ r ∷ [])) (passing dump_tests [] (old.trees slot_tree)) row has in
+          let source : Has it.sources (Null ∷ row) = has_contained it.sources (Null ∷ row) (Contains-permutation (chosen dump_tests fill_shown [] (old.trees slot_tree)) it.sources (Null ∷ row) it.same
+          (contains_had (chosen dump_tests fill_shown [] (old.trees slot_tree)) (Null ∷ row) (subst (λ v. Has (chosen dump_tests fill_shown [] (old.trees slot_tree)) (Null ∷ v)) (sym at.2) (map_has (λ r. eval_all fill_shown ([] ∷ r ∷ [])) (passing dump_tests [] (old.trees slot_tree)) at.0 at.1)))) in
           let slot = from_slot old.trees it.sources it.same ids (Null ∷ row) source in
           let cast_is : cast_row part_profile (Null ∷ row) ≡ Null ∷ row = ap (cast_row part_profile) slot.1 ∙ cast_source slot.0 ∙ sym slot.1 in
           let listed : Has list (Null ∷ row) = subst (Has list) cast_is (map_has (λ s. cast_row part_profile (drop 0 s)) it.sources (Null ∷ row) source) in
-          let put = numbered_has (old.trees 22) list row listed in
-          (put.0, rw it.applies.rows (put_all_adds (numbered Chosen (old.trees 22) list) (old.trees 22) (Int put.0 ∷ row) it.applies.fresh put.1))),
+          let put = numbered_has (old.trees part_profile_tree) list row listed in
+          (put.0, rw it.applies.rows (put_all_adds (numbered Chosen (old.trees part_profile_tree) list) (old.trees part_profile_tree) (Int put.0 ∷ row) it.applies.fresh put.1))),
     )
 
-pub profiles_ordered : (old new : Database) → old.trees 22 ≡ [] → Filled old new → AreNumbered (old.trees 1) → IsOrdered (new.trees 22)
+pub profiles_ordered : (old new : Database) → old.trees part_profile_tree ≡ [] → Filled old new → AreNumbered (old.trees slot_tree) → IsOrdered (new.trees part_profile_tree)
 profiles_ordered old new blank it ids =
     let list = map (λ s. cast_row part_profile (drop 0 s)) it.sources in
     let null = all_null old.trees it.sources it.same ids in
-    subst IsOrdered (sym it.applies.rows) (ordered_all (numbered Chosen (old.trees 22) list) (old.trees 22)
-    (λ row h. let from = numbered_from (old.trees 22) list row null h in (from.2, ap rowid from.3))
+    subst IsOrdered (sym it.applies.rows) (ordered_all (numbered Chosen (old.trees part_profile_tree) list) (old.trees part_profile_tree)
+    (λ row h. let from = numbered_from (old.trees part_profile_tree) list row null h in (from.2, ap rowid from.3))
     (subst IsOrdered (sym blank) (record { rises = tt; numbered = λ row none. absurd none })))
 
 -- ---- UPDATE
 
 abbrev risen_edit : Trees → List Row → Edit
-risen_edit db rows = edit_of db format (ids_of rows) Given 1 rows
+risen_edit db rows = edit_of db format (ids_of rows) Given slot_tree rows
 
 abbrev Rises : Trees → Trees → Type 0
-Rises db next = (rows : List Row) × IsPermutation (chosen [] (col 1 0 ∷ lit (Int (pos 2)) ∷ lit Null ∷ []) [] (db 0)) rows × Applies schema_two Enforced db (risen_edit db rows) next
+Rises db next = (rows : List Row) × IsPermutation (chosen [] (col 1 0 ∷ lit (Int (pos 2)) ∷ lit Null ∷ []) [] (db format_tree)) rows × Applies schema_two Enforced db (risen_edit db rows) next
 
 risen_by : (limit : Option ℕ) (db : Trees) (w : Written) → Updates (record { limit = limit; keys = Enforced; schema = schema_two; table = format; params = [] }) rise [] db (Ok w) → Rises db w.trees
 risen_by limit db w h =
@@ -251,14 +252,14 @@ rise_does limit db text tally after has h = rise_rows limit db tally after (subs
 pub record Risen (old new : Database) : Type 0 where
   pub schema_is : new.schema ≡ schema_two
   pub sound : IsDatabase new
-  pub version : new.trees 0 ≡ version_row 2
-  pub others : Rattle.std.specs.List.AllByRecursion (λ t. t.tree ≢ 0 → new.trees t.tree ≡ old.trees t.tree) schema_two.tables
+  pub version : new.trees format_tree ≡ version_row 2
+  pub others : Rattle.std.specs.List.AllByRecursion (λ t. t.tree ≢ format_tree → new.trees t.tree ≡ old.trees t.tree) schema_two.tables
 
-risen_row : (db : Trees) (rows : List Row) → db 0 ≡ version_row 1 → rows ≡ (Int (pos 1) ∷ Int (pos 2) ∷ Null ∷ []) ∷ [] → edited db (risen_edit db rows) ≡ version_row 2
+risen_row : (db : Trees) (rows : List Row) → db format_tree ≡ version_row 1 → rows ≡ (Int (pos 1) ∷ Int (pos 2) ∷ Null ∷ []) ∷ [] → edited db (risen_edit db rows) ≡ version_row 2
 unfolding value_cmp everything lib.Ieee.is_nan lib.Ieee.lt
 risen_row db rows was is = rw (is, was, cast_null, cast_int (pos 2)) refl
 
-pub rises : (old new : State) (count : ℕ) → old.now.schema ≡ schema_two → old.now.trees 0 ≡ version_row 1 → ExecutesIn true set_version [] old new (Ok count) → Risen old.now new.now
+pub rises : (old new : State) (count : ℕ) → old.now.schema ≡ schema_two → old.now.trees format_tree ≡ version_row 1 → ExecutesIn true set_version [] old new (Ok count) → Risen old.now new.now
 rises old new count has was h =
     let w = runs_as set_version [] old new schema_two has (Update 0 rise) rise_is rise_quiet.0 count (from_batch set_version [] old new schema_two count has rise_quiet.1 h) in
     let did = rise_does old.step_limit old.now (statement_of set_version (understood schema_two set_version)) w.tally new.now has w.changed in

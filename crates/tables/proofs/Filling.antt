@@ -18,6 +18,7 @@ use Rattle.tables.specs.Databases.{Holds}
 use Rattle.tables.specs.Parts.{part_number}
 use Rattle.tables.specs.declared.slots.Part.{Part}
 use Rattle.tables.specs.declared.slots.Part.TheVariants.{Dump, Tags}
+use Rattle.tables.specs.TableTrees.{bearer_tree, document_tree, hover_tree, item_tree, mark_tree, more_tree, part_profile_tree, range_row_tree, slot_tree, tag_tree}
 use Rattle.tables.proofs.Keeping.{keeps_slot, keeps_rows, is_owned, from_map, to_map}
 use Rattle.tables.proofs.Puts.{puts_none, puts_then}
 
@@ -38,6 +39,16 @@ with_slot id columns value (x ∷ xs) = ap (λ l. (Int id ∷ columns (value x))
 pub put_values : {X Y : Type 0} (tree : ℕ) (id : ℤ) (columns : Y → Row) (value : X → Y) (given xs : List X) (old new : State) → given ≡ xs → Steps (PutsAll tree (map (λ x. Int id ∷ columns (value x)) given)) old new
     → Steps (PutsAll tree (map (λ values. Int id ∷ values) (map columns (map value xs)))) old new
 put_values tree id columns value given xs old new same puts = subst (λ l. Steps (PutsAll tree l) old new) (ap (map (λ x. Int id ∷ columns (value x))) same ∙ with_slot id columns value xs) puts
+
+slot_before : {X : Type 0} (id : ℤ) (columns : X → Row) (xs : List X) → map (λ x. Int id ∷ columns x) xs ≡ map (λ values. Int id ∷ values) (map columns xs)
+slot_before id columns [] = refl
+slot_before id columns (x ∷ xs) = ap (λ l. (Int id ∷ columns x) ∷ l) (slot_before id columns xs)
+
+-- rows that were put, by others that have the same columns
+pub put_same : {X Y : Type 0} (tree : ℕ) (id : ℤ) (f : X → Row) (g : Y → Row) (xs : List X) (ys : List Y) (old new : State) → map f xs ≡ map g ys → Steps (PutsAll tree (map (λ x. Int id ∷ f x) xs)) old new
+    → Steps (PutsAll tree (map (λ y. Int id ∷ g y) ys)) old new
+put_same tree id f g xs ys old new same puts =
+    subst (λ l. Steps (PutsAll tree l) old new) (slot_before id f xs ∙ (ap (map (λ values. Int id ∷ values)) same ∙ sym (slot_before id g ys))) puts
 
 -- rows that are there already are put by doing nothing
 pub puts_held : (tree : ℕ) (list : List Row) (s : State) → s.now.schema ≡ schema_two → IsTrue s.in_transaction → ((row : Row) → Has list row → Holds s.now.trees tree row) → Steps (PutsAll tree list) s s
@@ -86,9 +97,9 @@ module _ (parts : Contents) (replies : Replies) (project : List ℕ) (part : Par
   -- the part has these rows so far, under this slot
   pub record IsFilling (rows : ℕ → List Row) (db : Trees) : Type 0 where
     pub keeps : Keeps db (changed parts project part (Some rows)) replies
-    pub slot : Has (db 1) (slot_row id project part)
+    pub slot : Has (db slot_tree) (slot_row id project part)
 
-  pub begins : (old new : Trees) → Keeps old (changed parts project part None) replies → Puts 1 id (Null ∷ Text project ∷ Int (part_number part) ∷ []) old new → IsFilling nowhere new
+  pub begins : (old new : Trees) → Keeps old (changed parts project part None) replies → Puts slot_tree id (Null ∷ Text project ∷ Int (part_number part) ∷ []) old new → IsFilling nowhere new
   begins old new is puts = record { keeps = keeps_slot parts project part replies id old new is puts; slot = (puts.rows (slot_row id project part)).1 (inl refl) }
 
   pub fills : (tree : ℕ) (rows : ℕ → List Row) (list : List Row) (old new : Trees) → Has owned tree → rows tree ≡ [] → IsFilling rows old → PutsAll tree (map (λ values. Int id ∷ values) list) old new → IsFilling (laid tree list rows) new
@@ -102,10 +113,10 @@ module _ (parts : Contents) (replies : Replies) (project : List ℕ) (id : ℤ) 
   Given tree list = PutsAll tree (map (λ values. Int id ∷ values) list)
 
   -- a slot and the rows of a dump
-  pub dump_filled : (a b c d e f : State) → Keeps a.now.trees (changed parts project Dump None) replies → Steps (Puts 1 id (Null ∷ Text project ∷ Int (pos 1) ∷ [])) a b
-      → Steps (Then (Given 5 (map document_columns flat.documents)) (Then (Given 7 (map range_columns flat.ranges)) (Given 9 (map item_columns flat.items)))) b c
-      → Steps (Then (Given 11 (map hover_columns flat.hovers)) (Then (Given 13 (map mark_columns flat.marks)) (Given 15 (map bearer_columns flat.bearers)))) c d
-      → Steps (PutsAll 22 ((Int id ∷ profile_columns profile) ∷ [])) d e → Steps (Given 24 (more_rows flat)) e f
+  pub dump_filled : (a b c d e f : State) → Keeps a.now.trees (changed parts project Dump None) replies → Steps (Puts slot_tree id (Null ∷ Text project ∷ Int (pos 1) ∷ [])) a b
+      → Steps (Then (Given document_tree (map document_columns flat.documents)) (Then (Given range_row_tree (map range_columns flat.ranges)) (Given item_tree (map item_columns flat.items)))) b c
+      → Steps (Then (Given hover_tree (map hover_columns flat.hovers)) (Then (Given mark_tree (map mark_columns flat.marks)) (Given bearer_tree (map bearer_columns flat.bearers)))) c d
+      → Steps (PutsAll part_profile_tree ((Int id ∷ profile_columns profile) ∷ [])) d e → Steps (Given more_tree (more_rows flat)) e f
       → GoesOn a f × Keeps f.now.trees (changed parts project Dump (Some (dump_rows profile flat))) replies
   dump_filled a b c d e f is (on1, p) (on2, first) (on3, second) (on4, q) (on5, r) =
       let s0 = begins parts replies project Dump id a.now.trees b.now.trees is p in
@@ -121,8 +132,8 @@ module _ (parts : Contents) (replies : Replies) (project : List ℕ) (id : ℤ) 
 
 module _ (parts : Contents) (replies : Replies) (project : List ℕ) (id : ℤ) where
   -- a slot and the rows of tags
-  pub tags_filled : (tags : List TagValue) (a b c : State) → Keeps a.now.trees (changed parts project Tags None) replies → Steps (Puts 1 id (Null ∷ Text project ∷ Int (pos 2) ∷ [])) a b
-      → Steps (PutsAll 17 (map (λ values. Int id ∷ values) (map tag_columns tags))) b c
+  pub tags_filled : (tags : List TagValue) (a b c : State) → Keeps a.now.trees (changed parts project Tags None) replies → Steps (Puts slot_tree id (Null ∷ Text project ∷ Int (pos 2) ∷ [])) a b
+      → Steps (PutsAll tag_tree (map (λ values. Int id ∷ values) (map tag_columns tags))) b c
       → GoesOn a c × Keeps c.now.trees (changed parts project Tags (Some (tag_rows tags))) replies
   tags_filled tags a b c is (on1, p) (on2, q) =
       let s0 = begins parts replies project Tags id a.now.trees b.now.trees is p in

@@ -29,6 +29,7 @@ use Rattle.tables.specs.Steps.SelectionTexts.{select_bearers}
 use Rattle.tables.specs.Steps.Selected.{AreRead, Selects, equals}
 use Rattle.tables.specs.Steps.DumpEntries.{Entries, entry_values}
 use Rattle.tables.specs.Steps.Known.{TellsBearer, Gathers}
+use Rattle.tables.specs.TableTrees.{slot_tree}
 use Rattle.tables.proofs.DumpEntries.{typed, held, rows_of, listed_are}
 use Rattle.tables.proofs.FoundMarks.{one_kind}
 use Rattle.tables.proofs.Keeping.{same_some, from_map, to_map}
@@ -107,7 +108,7 @@ module _ (key : List ℕ) where
           v,
           record {
             dump = e.1.dump;
-            slot = subst (λ (i : ℤ). Has (db 1) (slot_row i e.1.project Dump)) it.slot_is e.1.slot;
+            slot = subst (λ (i : ℤ). Has (db slot_tree) (slot_row i e.1.project Dump)) it.slot_is e.1.slot;
             has = e.1.has;
             is = subst (λ (k : List ℕ). IsBearer e.1.dump (record { line = b.line; key = k; kind = b.kind; results = b.results })) under e.1.is;
             line = it.line;
@@ -135,7 +136,7 @@ module _ (key : List ℕ) where
             x.1,
             record {
               dump = h.0;
-              slot = subst (λ (i : ℤ). Has (db 1) (slot_row i v.project Dump)) it.slot_is slot.1;
+              slot = subst (λ (i : ℤ). Has (db slot_tree) (slot_row i v.project Dump)) it.slot_is slot.1;
               has = h.1;
               is = h.2;
               line = it.line;

@@ -22,6 +22,7 @@ use Rattle.tables.specs.Stands.{StandsFor}
 use Rattle.tables.specs.Steps.SelectionTexts.{select_document}
 use Rattle.tables.specs.Steps.Selected.{IsFirstRead, ShowsOne, equals}
 use Rattle.tables.specs.Steps.DumpEntries.{Entries, entry_values, ShowsOneOf}
+use Rattle.tables.specs.TableTrees.{slot_tree}
 use Rattle.tables.proofs.DumpEntries.{typed, shows_one_of, listed_are}
 use Rattle.tables.proofs.Select.{one_table}
 use Rattle.tables.proofs.Selecting.{IsSelection, shows_one}
@@ -78,7 +79,7 @@ module _ (uri : List ℕ) where
   says d id None none = ((λ yes. absurd cc), (λ h. absurd (none uri h refl)))
   says d id (Some n) one = ((λ yes. subst (HasDocument d.elements) one.2 one.1), (λ h. refl))
 
-  pub document_found : (m : State) (id : ℤ) (project : List ℕ) (dump : DumpValue) (old new : Store) (rows : List Row) (found : Option ℤ) → StandsFor old.now.trees m → old.now.schema ≡ schema_two → Has (old.now.trees 1) (slot_row id project Dump)
+  pub document_found : (m : State) (id : ℤ) (project : List ℕ) (dump : DumpValue) (old new : Store) (rows : List Row) (found : Option ℤ) → StandsFor old.now.trees m → old.now.schema ≡ schema_two → Has (old.now.trees slot_tree) (slot_row id project Dump)
       → m.dump project ≡ Some dump → Shown select_document (Int id ∷ Text uri ∷ []) old new rows → IsFirstRead slot_columns rows found → IsTrue (is_some found) ↔ HasDocument dump.elements uri
   unfolding selection
   document_found m id project dump old new rows found s schema slot has shown read =

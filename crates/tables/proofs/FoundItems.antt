@@ -39,6 +39,7 @@ use Rattle.tables.specs.declared.items.FoundItem.{FoundItem}
 use Rattle.tables.specs.Steps.SelectionTexts.{select_items}
 use Rattle.tables.specs.Steps.Selected.{AreRead, equals}
 use Rattle.tables.specs.Steps.DumpEntries.{Entries, entry_values, SelectsOf}
+use Rattle.tables.specs.TableTrees.{slot_tree}
 use Rattle.tables.proofs.DumpEntries.{rows_of, typed, selects_of, listed_are, dump_slot, are_values, empty_listing}
 use Rattle.tables.proofs.Keeping.{same_some, none_is_some}
 use Rattle.tables.proofs.Select.{one_table}
@@ -159,7 +160,7 @@ module _ (result : ℕ) (role : Role) where
         (λ h. it.1 (subst (λ (d : DumpValue). IsItem d (entry v)) (same_some (sym h.1 ∙ has)) h.2)),
       )
 
-  pub items_found : (m : State) (id : ℤ) (project : List ℕ) (old new : Store) (rows : List Row) (found listed : List FoundItem) → StandsFor old.now.trees m → old.now.schema ≡ schema_two → Has (old.now.trees 1) (slot_row id project Dump)
+  pub items_found : (m : State) (id : ℤ) (project : List ℕ) (old new : Store) (rows : List Row) (found listed : List FoundItem) → StandsFor old.now.trees m → old.now.schema ≡ schema_two → Has (old.now.trees slot_tree) (slot_row id project Dump)
       → Shown select_items (Int id ∷ number result ∷ number (role_index role) ∷ []) old new rows → AreRead found_columns rows found → AllByRecursion IsSound found → IsListing place_cmp (Contains (map item_found found)) (map item_found listed) → FindsItems m project result role (map item_found listed)
   unfolding selection
   items_found m id project old new rows found listed s schema slot shown read sound list =

@@ -34,6 +34,7 @@ use Rattle.tables.specs.declared.marks.FoundMark.{FoundMark}
 use Rattle.tables.specs.Steps.SelectionTexts.{select_marks}
 use Rattle.tables.specs.Steps.Selected.{AreRead, equals}
 use Rattle.tables.specs.Steps.DumpEntries.{Entries, entry_values, SelectsOf}
+use Rattle.tables.specs.TableTrees.{slot_tree}
 use Rattle.tables.proofs.DumpEntries.{typed, selects_of, listed_are, dump_slot, are_values, empty_listing}
 use Rattle.tables.proofs.Keeping.{same_some, none_is_some}
 use Rattle.tables.proofs.Select.{one_table}
@@ -134,7 +135,7 @@ module _ (line : ℕ) where
         (λ h. it.1 (subst (λ (d : DumpValue). IsMark d (entry v)) (same_some (sym h.1 ∙ has)) h.2)),
       )
 
-  pub marks_found : (m : State) (id : ℤ) (project : List ℕ) (old new : Store) (rows : List Row) (found listed : List FoundMark) → StandsFor old.now.trees m → old.now.schema ≡ schema_two → Has (old.now.trees 1) (slot_row id project Dump)
+  pub marks_found : (m : State) (id : ℤ) (project : List ℕ) (old new : Store) (rows : List Row) (found listed : List FoundMark) → StandsFor old.now.trees m → old.now.schema ≡ schema_two → Has (old.now.trees slot_tree) (slot_row id project Dump)
       → Shown select_marks (Int id ∷ number line ∷ []) old new rows → AreRead found_columns rows found → AllByRecursion (λ (x : FoundMark). Unit {0}) found → IsListing mark_text_cmp (Contains (map mark_found found)) (map mark_found listed) → FindsMarks m project line (map mark_found listed)
   unfolding selection
   marks_found m id project old new rows found listed s schema slot shown read sound list =

@@ -27,6 +27,7 @@ use Rattle.tables.specs.Steps.Climbs.{IsNamed, TellsRange}
 use Rattle.tables.specs.Steps.SelectionTexts.{select_range}
 use Rattle.tables.specs.Steps.Selected.{IsFirstRead, equals}
 use Rattle.tables.specs.Steps.DumpEntries.{Entries, entry_values, ShowsOneOf}
+use Rattle.tables.specs.TableTrees.{slot_tree}
 use Rattle.tables.proofs.DumpEntries.{rows_of, typed, shows_one_of, listed_are}
 use Rattle.tables.proofs.FoundItems.{one_position}
 use Rattle.tables.proofs.LineResults.{one_optional}
@@ -119,7 +120,7 @@ module _ (line : ℕ) (uri : List ℕ) where
   named : (d : DumpValue) (child : SlotRange) (x : SlotRange) → HasPositions d → child.parent ≡ Some line → IsSound x → ShowsOneOf range_shown (IsRange d) IsAtLine found_columns (Some x) → IsNamed d uri child (Some x)
   named d child x bounded has sound one = (one.0, (one.1, one.2.1), has ∙ ap Some (sym one.2.0), tells x one.0 sound (located d one.0 bounded one.1) one.3)
 
-  pub range_found : (m : State) (id : ℤ) (project : List ℕ) (dump : DumpValue) (old new : Store) (rows : List Row) (child x : SlotRange) → StandsFor old.now.trees m → old.now.schema ≡ schema_two → Has (old.now.trees 1) (slot_row id project Dump)
+  pub range_found : (m : State) (id : ℤ) (project : List ℕ) (dump : DumpValue) (old new : Store) (rows : List Row) (child x : SlotRange) → StandsFor old.now.trees m → old.now.schema ≡ schema_two → Has (old.now.trees slot_tree) (slot_row id project Dump)
       → m.dump project ≡ Some dump → child.parent ≡ Some line → IsSound x → Shown select_range (Int id ∷ number line ∷ Text uri ∷ []) old new rows → IsFirstRead found_columns rows (Some x) → IsNamed dump uri child (Some x)
   unfolding selection
   range_found m id project dump old new rows child x s schema slot has asked sound shown read =

@@ -23,6 +23,7 @@ use Rattle.tables.specs.Steps.Selected.{AreTyped, IsFirstRead, ShowsOne, equals}
 use Rattle.tables.specs.Steps.Slots.{IsSlotOf}
 use Rattle.tables.specs.Parts.{part_number}
 use Rattle.tables.specs.declared.slots.Part.{Part}
+use Rattle.tables.specs.TableTrees.{slot_tree}
 use Rattle.tables.proofs.Cascade.{equal_is}
 use Rattle.tables.proofs.Keeping.{none_is_some, same_some, slot_is, number_is, same_int_itself}
 use Rattle.tables.proofs.Select.{one_table}
@@ -49,21 +50,21 @@ id_of id = Int id ∷ []
 abbrev Ided : ℤ → SlotEntry → Row
 Ided id e = id_of id
 
-pub typed_slots : (db : Trees) (parts : Contents) (replies : Replies) → Keeps db parts replies → AreTyped slot_values (db 1)
+pub typed_slots : (db : Trees) (parts : Contents) (replies : Replies) → Keeps db parts replies → AreTyped slot_values (db slot_tree)
 typed_slots db parts replies is row h = let s = is.slots row h in (s.id, record { project = s.project; part = s.part }, s.is)
 
 -- two parts have no slot in common
-pub one_slot : (db : Trees) (parts : Contents) (replies : Replies) (id : ℤ) (p q : List ℕ) (j k : Part) → Keeps db parts replies → Has (db 1) (slot_row id p j) → Has (db 1) (slot_row id q k) → (p ≡ q) × (j ≡ k)
+pub one_slot : (db : Trees) (parts : Contents) (replies : Replies) (id : ℤ) (p q : List ℕ) (j k : Part) → Keeps db parts replies → Has (db slot_tree) (slot_row id p j) → Has (db slot_tree) (slot_row id q k) → (p ≡ q) × (j ≡ k)
 one_slot db parts replies id p q j k is a b =
-    (slot_is (tied_same (db 1) (slot_row id p j) (slot_row id q k) (is.ordered slot (inr (inl refl))).rises a b (value_cmp-Int id id ∙ equal_is _ (same_int_itself id)))).1
+    (slot_is (tied_same (db slot_tree) (slot_row id p j) (slot_row id q k) (is.ordered slot (inr (inl refl))).rises a b (value_cmp-Int id id ∙ equal_is _ (same_int_itself id)))).1
 
 pub no_slot : (db : Trees) (parts : Contents) (project : List ℕ) (part : Part) (found : Option ℤ) → IsSlotOf db parts project part found → found ≡ None → parts project part ≡ None
 no_slot db parts project part None is e = is
 no_slot db parts project part (Some id) is e = absurd (none_is_some (sym e))
 
-pub the_slot : (db : Trees) (parts : Contents) (project : List ℕ) (part : Part) (id : ℤ) (found : Option ℤ) → IsSlotOf db parts project part found → found ≡ Some id → Has (db 1) (slot_row id project part)
+pub the_slot : (db : Trees) (parts : Contents) (project : List ℕ) (part : Part) (id : ℤ) (found : Option ℤ) → IsSlotOf db parts project part found → found ≡ Some id → Has (db slot_tree) (slot_row id project part)
 the_slot db parts project part id None is e = absurd (none_is_some e)
-the_slot db parts project part id (Some n) is e = subst (λ (i : ℤ). Has (db 1) (slot_row i project part)) (let it : n ≡ id = cc in it) is
+the_slot db parts project part id (Some n) is e = subst (λ (i : ℤ). Has (db slot_tree) (slot_row i project part)) (let it : n ≡ id = cc in it) is
 
 module _ (project : List ℕ) (part : Part) where
   abbrev IsOfPart : ℤ → SlotEntry → Type 0
@@ -93,8 +94,8 @@ module _ (project : List ℕ) (part : Part) where
           absurd (none (record { project = project; part = part }) ((s.0, s.1), (refl, refl)))
   is_slot db parts replies is (Some id) one =
       let same : one.1.0.0 ≡ id = let a = one.2 in cc in
-      subst (λ (i : ℤ). Has (db 1) (slot_row i project part)) same
-      (subst (λ (k : Part). Has (db 1) (slot_row one.1.0.0 project k)) one.1.1.1 (subst (λ (p : List ℕ). Has (db 1) (slot_row one.1.0.0 p one.0.part)) one.1.1.0 one.1.0.1))
+      subst (λ (i : ℤ). Has (db slot_tree) (slot_row i project part)) same
+      (subst (λ (k : Part). Has (db slot_tree) (slot_row one.1.0.0 project k)) one.1.1.1 (subst (λ (p : List ℕ). Has (db slot_tree) (slot_row one.1.0.0 p one.0.part)) one.1.1.0 one.1.0.1))
 
   pub slot_found : (old new : State) (rows : List Row) (found : Option ℤ) (parts : Contents) (replies : Replies) → Keeps old.now.trees parts replies → old.now.schema ≡ schema_two → Shown select_slot (Text project ∷ Int (part_number part) ∷ []) old new rows → IsFirstRead id_of rows found
       → IsSlotOf old.now.trees parts project part found
@@ -137,19 +138,19 @@ module _ (id : ℤ) where
     wanted = λ at e w. (ap Int w, tt);
   }
 
-  is_project : (db : Trees) (parts : Contents) (replies : Replies) → Keeps db parts replies → (project : List ℕ) (part : Part) → Has (db 1) (slot_row id project part) → (found : Option (String Global)) (text : String Global) → found ≡ Some text
+  is_project : (db : Trees) (parts : Contents) (replies : Replies) → Keeps db parts replies → (project : List ℕ) (part : Part) → Has (db slot_tree) (slot_row id project part) → (found : Option (String Global)) (text : String Global) → found ≡ Some text
       → ShowsOne slot_values project_shown HasId project_columns db 1 found → string_bytes text ≡ project
   is_project db parts replies is project part slot None text e none = absurd (none_is_some e)
   is_project db parts replies is project part slot (Some x) text e one =
       let entry = one.0 in
-      let there = subst (λ (i : ℤ). Has (db 1) (Int i ∷ slot_values entry)) one.1.1 one.1.0.1 in
+      let there = subst (λ (i : ℤ). Has (db slot_tree) (Int i ∷ slot_values entry)) one.1.1 one.1.0.1 in
       let same = (one_slot db parts replies id entry.project project entry.part part is there slot).0 in
       let read : string_bytes x ≡ entry.project = let a = one.2 in cc in
       let text_is : x ≡ text = same_some e in
       ap (λ (t : String Global). string_bytes t) (sym text_is) ∙ (read ∙ same)
 
   pub project_found : (old new : State) (rows : List Row) (found : Option (String Global)) (text : String Global) (parts : Contents) (replies : Replies) → found ≡ Some text → Keeps old.now.trees parts replies → old.now.schema ≡ schema_two
-      → Shown select_project (Int id ∷ []) old new rows → IsFirstRead project_columns rows found → (project : List ℕ) (part : Part) → Has (old.now.trees 1) (slot_row id project part) → string_bytes text ≡ project
+      → Shown select_project (Int id ∷ []) old new rows → IsFirstRead project_columns rows found → (project : List ℕ) (part : Part) → Has (old.now.trees slot_tree) (slot_row id project part) → string_bytes text ≡ project
   unfolding by_id
   project_found old new rows found text parts replies e is has shown read project part slot =
       is_project old.now.trees parts replies is project part slot found text e

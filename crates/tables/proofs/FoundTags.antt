@@ -25,6 +25,7 @@ use Rattle.tables.specs.declared.found_tags.TagRow.{TagRow}
 use Rattle.tables.specs.Steps.SelectionTexts.{select_named}
 use Rattle.tables.specs.Steps.Selected.{AreRead, AreTyped, Selects, equals}
 use Rattle.tables.specs.Steps.TagRows.{TellsTag, TellNamed, tag_row_columns}
+use Rattle.tables.specs.TableTrees.{slot_tree, tag_tree}
 use Rattle.tables.proofs.DumpEntries.{dump_of, tags_of, rows_of_tags}
 use Rattle.tables.proofs.Entries.{typed_as}
 use Rattle.tables.proofs.Keeping.{from_map, to_map, table_of, which_part}
@@ -54,7 +55,7 @@ pub record TagEntry : Type 0 where
 
 pub record IsEntry (db : Trees) (m : State) (e : TagEntry) : Type 0 where
   pub tags : List TagValue
-  pub slot : Has (db 1) (slot_row e.slot e.found.project Tags)
+  pub slot : Has (db slot_tree) (slot_row e.slot e.found.project Tags)
   pub has : m.tags e.found.project ≡ Some tags
   pub listed : Contains tags e.found.tag
 
@@ -78,19 +79,19 @@ module _ (db : Trees) (m : State) (s : StandsFor db m) where
         let it = from_map tag_columns t.0 o.values (subst (λ (r : ℕ → List Row). Has (r 17) o.values) t.2 o.listed) in (
           (
             record { slot = o.id; found = record { project = o.project; tag = it.0 } },
-            record { tags = t.0; slot = subst (λ (k : Part). Has (db 1) (slot_row o.id o.project k)) two o.slot; has = t.1; listed = contains_had t.0 it.0 it.1 },
+            record { tags = t.0; slot = subst (λ (k : Part). Has (db slot_tree) (slot_row o.id o.project k)) two o.slot; has = t.1; listed = contains_had t.0 it.0 it.1 },
           ),
           o.is ∙ ap (λ (v : Row). Int o.id ∷ v) it.2,
         )
   ]
 
-  pub typed_tags : AreTyped (entry_row db m) (db 17)
+  pub typed_tags : AreTyped (entry_row db m) (db tag_tree)
   typed_tags =
       let it = table_of 17 is_owned in
       subst (λ (t : ℕ). AreTyped (entry_row db m) (db t)) it.2
       (typed_as (entry_row db m) db s.parts _ s.keeps it.0 it.1 (λ row h. let e = from_owned row ((s.keeps.children 17 is_owned row).0 (subst (λ (t : ℕ). Holds db t row) it.2 h)) in (e.0, e.1)))
 
-  pub held_tag : (e : TagEntries db m) → Holds db 17 (entry_row db m e)
+  pub held_tag : (e : TagEntries db m) → Holds db tag_tree (entry_row db m e)
   held_tag e =
       let r = rows_of_tags db m s e.0.found.project e.1.tags e.1.has in
       let listed = to_map tag_columns e.1.tags e.0.found.tag (has_contained e.1.tags e.0.found.tag e.1.listed) in
@@ -110,7 +111,7 @@ module _ (db : Trees) (m : State) (s : StandsFor db m) where
   tells : (x : TagRow) (e : TagEntries db m) → tag_row_columns x ≡ entry_row db m e → TellsTag db m x e.0.found
   tells x e h =
       let id : e.0.slot ≡ x.slot = let a = h in cc in
-      record { tags = e.1.tags; slot = subst (λ (i : ℤ). Has (db 1) (slot_row i e.0.found.project Tags)) id e.1.slot; has = e.1.has; listed = e.1.listed; is = let a = h in cc }
+      record { tags = e.1.tags; slot = subst (λ (i : ℤ). Has (db slot_tree) (slot_row i e.0.found.project Tags)) id e.1.slot; has = e.1.has; listed = e.1.listed; is = let a = h in cc }
 
   module _ (IsNamed : List ℕ → Type 0) where
     abbrev Wanted : ℤ → TagEntries db m → Type 0

@@ -24,6 +24,7 @@ use Rattle.tables.specs.Selections.{FindsHover}
 use Rattle.tables.specs.Steps.SelectionTexts.{select_hover}
 use Rattle.tables.specs.Steps.Selected.{IsFirstRead, equals}
 use Rattle.tables.specs.Steps.DumpEntries.{Entries, entry_values, ShowsOneOf}
+use Rattle.tables.specs.TableTrees.{slot_tree}
 use Rattle.tables.proofs.DumpEntries.{typed, shows_one_of, listed_are, dump_slot}
 use Rattle.tables.proofs.Keeping.{same_some}
 use Rattle.tables.proofs.Select.{one_table}
@@ -82,7 +83,7 @@ module _ (result : ℕ) where
       let same : h.contents ≡ string_bytes text = let a = one.3 in cc in
       (dump, has, subst (λ (x : ℕ × List ℕ). IsHover dump (record { result = x.0; contents = x.1 })) (λ i. (one.2 i, same i)) one.1)
 
-  pub hover_found : (m : State) (id : ℤ) (project : List ℕ) (old new : Store) (rows : List Row) (found : Option (String Global)) → StandsFor old.now.trees m → old.now.schema ≡ schema_two → Has (old.now.trees 1) (slot_row id project Dump)
+  pub hover_found : (m : State) (id : ℤ) (project : List ℕ) (old new : Store) (rows : List Row) (found : Option (String Global)) → StandsFor old.now.trees m → old.now.schema ≡ schema_two → Has (old.now.trees slot_tree) (slot_row id project Dump)
       → Shown select_hover (Int id ∷ number result ∷ []) old new rows → IsFirstRead text_columns rows found → FindsHover m project result (option_map string_bytes found)
   unfolding selection
   hover_found m id project old new rows found s schema slot shown read =

@@ -1,16 +1,16 @@
 -- The INSERT of each table.
-use Rattle.std.proofs.Common.{String, string_bytes, option_map, ◌≡◌, ℕ, ℤ, pos, Bool, true, false, cond, List, [], ◌∷◌, Option, Some, None, refl, IsTrue, Result, OnOk}
+use Rattle.std.proofs.Common.{String, string_bytes, option_map, ◌≡◌, ◌==◌, eqb-true, arith, inl, inr, ℕ, ℤ, pos, Bool, true, false, cond, List, [], ◌∷◌, length, map, flat_map, Option, Some, None, refl, sym, ap, subst, IsTrue, Result, OnOk}
+use Rattle.std.proofs.lemmas.Bool.{cases_Bool}
 use Rattle.sqlite_value.specs.declared.value.Value.{Value}
 use Rattle.sqlite_value.specs.declared.value.Value.TheVariants.{Null, Int, Text}
 use Rattle.sqlite_value.specs.Order.{Row}
-use Rattle.sqlite_trees.specs.Tree.{Trees}
-use Rattle.sqlite_sql.specs.Term.{Term, lit, col}
+use Rattle.sqlite_sql.specs.Term.{lit, col}
 use Rattle.sqlite_sql.specs.Ops.{unary}
 use Rattle.sqlite_schema.specs.Names.{same_name}
 use Rattle.sqlite_schema.specs.declared.schema.Keys.TheVariants.{Enforced}
 use Rattle.sqlite_schema.specs.declared.schema.Kind.TheVariants.{Integer, Text as TextKind}
-use Rattle.sqlite_rules.specs.Cast.{cast}
-use Rattle.sqlite_rules.specs.Edit.{next_rowid}
+use Rattle.sqlite_rules.specs.Cast.{cast, cast_row}
+use Rattle.sqlite_schema.specs.declared.schema.Table.{Table}
 use Rattle.sqlite_rules.specs.Action.{works}
 use Rattle.sqlite.specs.declared.error.Error.{Error}
 use Rattle.sqlite.specs.State.{State, ExecutesInside}
@@ -20,24 +20,25 @@ use Rattle.lsif.specs.declared.element.Profile.{Profile}
 use Rattle.tags.specs.Values.{TagValue}
 use Rattle.flatten.specs.Flat.{RangeRowValue, ItemRowValue, HoverRowValue, MarkRowValue, BearerRowValue, role_index, kind_index}
 use Rattle.machine.specs.Reply.{profile_number}
-use Rattle.tables.specs.Columns.{number, optional, document_columns, range_columns, item_columns, hover_columns, mark_columns, bearer_columns, optional_text, tag_columns, profile_columns}
-use Rattle.tables.specs.Steps.Texts.{insert_slot, insert_keyed, insert_document, insert_range_row, insert_item, insert_hover, insert_mark, insert_bearer, insert_tag, insert_part_profile, insert_more}
+use Rattle.tables.specs.Columns.{number, optional, document_columns, range_columns, item_columns, hover_columns, mark_columns, bearer_columns, optional_text, columns_with, profile_columns}
+use Rattle.tables.specs.Steps.Texts.{insert_slot, insert_keyed, insert_document, insert_range_row, insert_item, insert_hover, insert_mark, insert_bearer, insert_tag, insert_part_profile, insert_more, insert_range_rows, insert_items, insert_hovers, insert_marks, insert_bearers, insert_tags}
 use Rattle.tables.specs.Schema.{schema_two, slot, keyed, document, range_row, item, hover, mark, bearer, tag, part_profile, more}
-use Rattle.tables.specs.Steps.Puts.{Steps, Puts, PutsAll}
-use Rattle.tables.proofs.Insert.{new_row}
+use Rattle.tables.specs.Steps.Puts.{Steps, Puts}
+use Rattle.tables.specs.Steps.Inserts.{Inserts}
+use Rattle.tables.specs.TableTrees.{slot_tree, keyed_tree, document_tree, range_row_tree, item_tree, hover_tree, mark_tree, bearer_tree, tag_tree, part_profile_tree, more_tree}
 use Rattle.tables.specs.Databases.{IsListed}
-use Rattle.tables.proofs.Puts.{put_at, put_ok, listed_ok}
-use Rattle.tables.proofs.Commands.{insert_slot_is, insert_slot_plain, insert_keyed_is, insert_keyed_plain, insert_document_is, insert_document_plain, insert_range_row_is, insert_range_row_plain, insert_item_is, insert_item_plain, insert_hover_is, insert_hover_plain, insert_mark_is, insert_mark_plain, insert_bearer_is, insert_bearer_plain, insert_tag_is, insert_tag_plain, insert_part_profile_is, insert_part_profile_plain, insert_more_is, insert_more_plain}
+use Rattle.tables.proofs.Puts.{put_at, listed_ok}
+use Rattle.tables.proofs.Commands.{insert_slot_is, insert_slot_plain, insert_keyed_is, insert_keyed_plain, insert_document_is, insert_document_plain, insert_range_row_is, insert_range_row_plain, insert_item_is, insert_item_plain, insert_hover_is, insert_hover_plain, insert_mark_is, insert_mark_plain, insert_bearer_is, insert_bearer_plain, insert_tag_is, insert_tag_plain, insert_part_profile_is, insert_part_profile_plain, insert_more_is, insert_more_plain, row_terms, insert_range_rows_is, insert_range_rows_plain, insert_items_is, insert_items_plain, insert_hovers_is, insert_hovers_plain, insert_marks_is, insert_marks_plain, insert_bearers_is, insert_bearers_plain, insert_tags_is, insert_tags_plain}
 
 either : (b : Bool) (x : Value) → cond b x x ≡ x
 either true x = refl
 either false x = refl
 
-cast_null : cast Integer Null ≡ Null
+pub cast_null : cast Integer Null ≡ Null
 unfolding unary
 cast_null = either _ Null
 
-cast_int : (n : ℤ) → cast Integer (Int n) ≡ Int n
+pub cast_int : (n : ℤ) → cast Integer (Int n) ≡ Int n
 unfolding unary
 cast_int n = either _ (Int n)
 
@@ -65,194 +66,454 @@ pub bound_text : (o : Option (List ℕ)) → bound_value (optional_text o) ≡ o
 bound_text None = refl
 bound_text (Some text) = refl
 
+-- there is a row
+pub some_rows : (row : Row) (more : List Row) → (length (row ∷ more) == 0) ≡ false
+some_rows row more = elim (cases_Bool (length (row ∷ more) == 0)) [ inl none ↦ absurd (omega (arith, eqb-true (length (row ∷ more)) 0 none)) | inr some ↦ some ]
+
+-- a list of eight
+record IsEight {X : Type 0} (xs : List X) : Type 0 where
+  pub a : X
+  pub b : X
+  pub c : X
+  pub d : X
+  pub e : X
+  pub f : X
+  pub g : X
+  pub h : X
+  pub is : xs ≡ a ∷ b ∷ c ∷ d ∷ e ∷ f ∷ g ∷ h ∷ []
+
+eight_of : {X : Type 0} (xs : List X) → length xs ≡ 8 → IsEight xs
+eight_of (a ∷ b ∷ c ∷ d ∷ e ∷ f ∷ g ∷ h ∷ []) len = record { a = a; b = b; c = c; d = d; e = e; f = f; g = g; h = h; is = refl }
+eight_of [] len = absurd (omega (arith, len))
+eight_of (a ∷ []) len = absurd (omega (arith, len))
+eight_of (a ∷ b ∷ []) len = absurd (omega (arith, len))
+eight_of (a ∷ b ∷ c ∷ []) len = absurd (omega (arith, len))
+eight_of (a ∷ b ∷ c ∷ d ∷ []) len = absurd (omega (arith, len))
+eight_of (a ∷ b ∷ c ∷ d ∷ e ∷ []) len = absurd (omega (arith, len))
+eight_of (a ∷ b ∷ c ∷ d ∷ e ∷ f ∷ []) len = absurd (omega (arith, len))
+eight_of (a ∷ b ∷ c ∷ d ∷ e ∷ f ∷ g ∷ []) len = absurd (omega (arith, len))
+eight_of (a ∷ b ∷ c ∷ d ∷ e ∷ f ∷ g ∷ h ∷ i ∷ xs) len = absurd (omega (arith, len))
+
+-- rows that a table takes as they are
+cast_all : (t : Table) {X : Type 0} (columns : X → Row) → ((x : X) → cast_row t (Null ∷ columns x) ≡ Null ∷ columns x) → (xs : List X)
+    → map (cast_row t) (map (λ x. Null ∷ columns x) xs) ≡ map (λ v. Null ∷ v) (map columns xs)
+cast_all t columns cast [] = refl
+cast_all t columns cast (x ∷ xs) = let one = cast x in let more = cast_all t columns cast xs in rw (one, more) refl
+
+-- a tag with the text of its fields
+abbrev pub written_columns : TagValue × List ℕ → Row
+written_columns t = columns_with t.0 t.1
+
 -- slot
 
-abbrev slot_terms : List Term
-slot_terms = lit Null ∷ lit Null ∷ col 0 0 ∷ col 0 1 ∷ []
-
-slot_quiet : (row : Row) → works schema_two Enforced 0 1 [] (row ∷ []) ≡ []
+slot_quiet : (row : Row) (more : List Row) → works schema_two Enforced 0 slot_tree [] (row ∷ more) ≡ []
 unfolding same_name
-slot_quiet row = refl
-
-slot_values : (db : Trees) (project : List ℕ) (part : ℤ) → new_row db slot slot_terms (Text project ∷ Int part ∷ []) ≡ Int (next_rowid (db 1)) ∷ Null ∷ Text project ∷ Int part ∷ []
-slot_values db project part = rw (cast_null, cast_int part)
+slot_quiet row more = rw (some_rows row more) refl
 
 pub slot_put : (project : List ℕ) (part : ℤ) (old new : State) (r : Result ℕ Error) → old.now.schema ≡ schema_two → IsTrue old.in_transaction → ExecutesInside 0 insert_slot (Text project ∷ Int part ∷ []) old new r
-    → OnOk r (Steps (Puts 1 new.last_rowid (Null ∷ Text project ∷ Int part ∷ [])) old new)
+    → OnOk r (Steps (Puts slot_tree new.last_rowid (Null ∷ Text project ∷ Int part ∷ [])) old new)
 slot_put project part =
-    put_at insert_slot (Text project ∷ Int part ∷ []) 1 slot slot_terms 4 insert_slot_is insert_slot_plain refl (λ p. refl) slot_quiet (Null ∷ Text project ∷ Int part ∷ []) (λ db. slot_values db project part)
+    put_at insert_slot (Text project ∷ Int part ∷ []) 1 slot (lit Null ∷ lit Null ∷ col 0 0 ∷ col 0 1 ∷ []) 4 insert_slot_is insert_slot_plain refl slot_quiet (Null ∷ Text project ∷ Int part ∷ []) (rw (cast_null, cast_int part) refl)
 
 -- keyed
 
-abbrev keyed_terms : List Term
-keyed_terms = lit Null ∷ col 0 0 ∷ col 0 1 ∷ col 0 2 ∷ []
-
-keyed_quiet : (row : Row) → works schema_two Enforced 0 3 [] (row ∷ []) ≡ []
+keyed_quiet : (row : Row) (more : List Row) → works schema_two Enforced 0 keyed_tree [] (row ∷ more) ≡ []
 unfolding same_name
-keyed_quiet row = refl
+keyed_quiet row more = rw (some_rows row more) refl
 
-keyed_values : (db : Trees) (project key reply : List ℕ) → new_row db keyed keyed_terms (Text project ∷ Text key ∷ Text reply ∷ []) ≡ Int (next_rowid (db 3)) ∷ Text project ∷ Text key ∷ Text reply ∷ []
-keyed_values db project key reply = rw (cast_null)
+keyed_cast : (project key reply : List ℕ) → cast_row keyed (Null ∷ Text project ∷ Text key ∷ Text reply ∷ []) ≡ Null ∷ Text project ∷ Text key ∷ Text reply ∷ []
+keyed_cast project key reply = rw (cast_null)
 
-pub keyed_put : (project key reply : List ℕ) (old new : State) (done : Result ℕ Error) → old.now.schema ≡ schema_two → IsTrue old.in_transaction → ExecutesInside 0 insert_keyed (Text project ∷ Text key ∷ Text reply ∷ []) old new done
-    → OnOk done (Steps (PutsAll 3 ((Text project ∷ Text key ∷ Text reply ∷ []) ∷ [])) old new)
+pub keyed_put : (project key reply : List ℕ) → Inserts insert_keyed keyed_tree (Text project ∷ Text key ∷ Text reply ∷ []) ((Text project ∷ Text key ∷ Text reply ∷ []) ∷ [])
 keyed_put project key reply =
-    put_ok insert_keyed (Text project ∷ Text key ∷ Text reply ∷ []) 2 keyed keyed_terms 4 insert_keyed_is insert_keyed_plain refl (λ p. refl) keyed_quiet (Text project ∷ Text key ∷ Text reply ∷ []) (λ db. keyed_values db project key reply)
+    record {
+      at = 2;
+      table = keyed;
+      terms = row_terms 0 3 1;
+      width = 4;
+      is = insert_keyed_is;
+      plain = insert_keyed_plain;
+      placed = refl;
+      of_tree = refl;
+      quiet = keyed_quiet;
+      first = Text project ∷ Text key ∷ Text reply ∷ [];
+      rest = [];
+      some = refl;
+      taken = ap (λ (row : Row). row ∷ []) (keyed_cast project key reply);
+    }
 
 pub keyed_listed : (project key reply : List ℕ) (old new : State) (done : Result ℕ Error) → old.now.schema ≡ schema_two → ExecutesInside 0 insert_keyed (Text project ∷ Text key ∷ Text reply ∷ []) old new done
     → OnOk done (IsListed schema_two new.now.trees)
 keyed_listed project key reply =
-    listed_ok insert_keyed (Text project ∷ Text key ∷ Text reply ∷ []) 2 keyed keyed_terms 4 insert_keyed_is insert_keyed_plain refl (λ p. refl) keyed_quiet (Text project ∷ Text key ∷ Text reply ∷ []) (λ db. keyed_values db project key reply)
+    listed_ok insert_keyed keyed_tree (Text project ∷ Text key ∷ Text reply ∷ []) ((Text project ∷ Text key ∷ Text reply ∷ []) ∷ []) (keyed_put project key reply)
 
 -- document
 
-abbrev document_terms : List Term
-document_terms = lit Null ∷ col 0 0 ∷ col 0 1 ∷ []
-
-document_quiet : (row : Row) → works schema_two Enforced 0 5 [] (row ∷ []) ≡ []
+document_quiet : (row : Row) (more : List Row) → works schema_two Enforced 0 document_tree [] (row ∷ more) ≡ []
 unfolding same_name
-document_quiet row = refl
+document_quiet row more = rw (some_rows row more) refl
 
-document_values : (db : Trees) (id : ℤ) (uri : List ℕ) → new_row db document document_terms (Int id ∷ document_columns uri) ≡ Int (next_rowid (db 5)) ∷ Int id ∷ document_columns uri
-document_values db id uri = rw (cast_null, cast_int id)
+document_cast : (id : ℤ) (uri : List ℕ) → cast_row document (Null ∷ Int id ∷ document_columns uri) ≡ Null ∷ Int id ∷ document_columns uri
+document_cast id uri = rw (cast_null, cast_int id)
 
-pub document_put : (id : ℤ) (uri : List ℕ) (old new : State) (done : Result ℕ Error) → old.now.schema ≡ schema_two → IsTrue old.in_transaction → ExecutesInside 0 insert_document (Int id ∷ document_columns uri) old new done
-    → OnOk done (Steps (PutsAll 5 ((Int id ∷ document_columns uri) ∷ [])) old new)
+pub document_put : (id : ℤ) (uri : List ℕ) → Inserts insert_document document_tree (Int id ∷ document_columns uri) ((Int id ∷ document_columns uri) ∷ [])
 document_put id uri =
-    put_ok insert_document (Int id ∷ document_columns uri) 3 document document_terms 3 insert_document_is insert_document_plain refl (λ p. refl) document_quiet (Int id ∷ document_columns uri) (λ db. document_values db id uri)
+    record {
+      at = 3;
+      table = document;
+      terms = row_terms 0 2 1;
+      width = 3;
+      is = insert_document_is;
+      plain = insert_document_plain;
+      placed = refl;
+      of_tree = refl;
+      quiet = document_quiet;
+      first = Int id ∷ document_columns uri;
+      rest = [];
+      some = refl;
+      taken = ap (λ (row : Row). row ∷ []) (document_cast id uri);
+    }
 
 -- range_row
 
-abbrev range_row_terms : List Term
-range_row_terms = lit Null ∷ col 0 0 ∷ col 0 1 ∷ col 0 2 ∷ col 0 3 ∷ col 0 4 ∷ col 0 5 ∷ col 0 6 ∷ col 0 7 ∷ col 0 8 ∷ []
-
-range_row_quiet : (row : Row) → works schema_two Enforced 0 7 [] (row ∷ []) ≡ []
+range_row_quiet : (row : Row) (more : List Row) → works schema_two Enforced 0 range_row_tree [] (row ∷ more) ≡ []
 unfolding same_name
-range_row_quiet row = refl
+range_row_quiet row more = rw (some_rows row more) refl
 
-range_row_values : (db : Trees) (id : ℤ) (r : RangeRowValue) → new_row db range_row range_row_terms (Int id ∷ range_columns r) ≡ Int (next_rowid (db 7)) ∷ Int id ∷ range_columns r
-range_row_values db id r = rw (cast_null, cast_int id, cast_int (pos r.line), cast_int (pos (packed_of r.place.span.start)), cast_int (pos (packed_of r.place.span.«end»)), cast_optional (r.parent), cast_optional (r.results.definition), cast_optional (r.results.references), cast_optional (r.results.hover))
+range_row_cast : (id : ℤ) (r : RangeRowValue) → cast_row range_row (Null ∷ Int id ∷ range_columns r) ≡ Null ∷ Int id ∷ range_columns r
+range_row_cast id r = rw (cast_null, cast_int id, cast_int (pos r.line), cast_int (pos (packed_of r.place.span.start)), cast_int (pos (packed_of r.place.span.«end»)), cast_optional (r.parent), cast_optional (r.results.definition), cast_optional (r.results.references), cast_optional (r.results.hover))
 
-pub range_row_put : (id : ℤ) (r : RangeRowValue) (old new : State) (done : Result ℕ Error) → old.now.schema ≡ schema_two → IsTrue old.in_transaction → ExecutesInside 0 insert_range_row (Int id ∷ range_columns r) old new done
-    → OnOk done (Steps (PutsAll 7 ((Int id ∷ range_columns r) ∷ [])) old new)
+pub range_row_put : (id : ℤ) (r : RangeRowValue) → Inserts insert_range_row range_row_tree (Int id ∷ range_columns r) ((Int id ∷ range_columns r) ∷ [])
 range_row_put id r =
-    put_ok insert_range_row (Int id ∷ range_columns r) 4 range_row range_row_terms 10 insert_range_row_is insert_range_row_plain refl (λ p. refl) range_row_quiet (Int id ∷ range_columns r) (λ db. range_row_values db id r)
+    record {
+      at = 4;
+      table = range_row;
+      terms = row_terms 0 9 1;
+      width = 10;
+      is = insert_range_row_is;
+      plain = insert_range_row_plain;
+      placed = refl;
+      of_tree = refl;
+      quiet = range_row_quiet;
+      first = Int id ∷ range_columns r;
+      rest = [];
+      some = refl;
+      taken = ap (λ (row : Row). row ∷ []) (range_row_cast id r);
+    }
+
+pub range_rows_put : {X : Type 0} (value : X → RangeRowValue) (id : ℤ) (rows : List X) → length rows ≡ 8
+    → Inserts insert_range_rows range_row_tree (flat_map (λ row. Int id ∷ range_columns (value row)) rows) (map (λ row. Int id ∷ range_columns (value row)) rows)
+range_rows_put {X} value id rows len =
+    let it = eight_of rows len in
+    let columns : X → Row = λ row. Int id ∷ range_columns (value row) in
+    subst (λ (xs : List X). Inserts insert_range_rows range_row_tree (flat_map columns xs) (map columns xs)) (sym it.is) (record {
+      at = 4;
+      table = range_row;
+      terms = row_terms 0 9 8;
+      width = 10;
+      is = insert_range_rows_is;
+      plain = insert_range_rows_plain;
+      placed = refl;
+      of_tree = refl;
+      quiet = range_row_quiet;
+      first = columns it.a;
+      rest = map columns (it.b ∷ it.c ∷ it.d ∷ it.e ∷ it.f ∷ it.g ∷ it.h ∷ []);
+      some = refl;
+      taken = cast_all range_row columns (λ row. range_row_cast id (value row)) (it.a ∷ it.b ∷ it.c ∷ it.d ∷ it.e ∷ it.f ∷ it.g ∷ it.h ∷ []);
+    })
 
 -- item
 
-abbrev item_terms : List Term
-item_terms = lit Null ∷ col 0 0 ∷ col 0 1 ∷ col 0 2 ∷ col 0 3 ∷ col 0 4 ∷ col 0 5 ∷ []
-
-item_quiet : (row : Row) → works schema_two Enforced 0 9 [] (row ∷ []) ≡ []
+item_quiet : (row : Row) (more : List Row) → works schema_two Enforced 0 item_tree [] (row ∷ more) ≡ []
 unfolding same_name
-item_quiet row = refl
+item_quiet row more = rw (some_rows row more) refl
 
-item_values : (db : Trees) (id : ℤ) (i : ItemRowValue) → new_row db item item_terms (Int id ∷ item_columns i) ≡ Int (next_rowid (db 9)) ∷ Int id ∷ item_columns i
-item_values db id i = rw (cast_null, cast_int id, cast_int (pos i.result), cast_int (pos (role_index i.role)), cast_int (pos (packed_of i.place.span.start)), cast_int (pos (packed_of i.place.span.«end»)))
+item_cast : (id : ℤ) (i : ItemRowValue) → cast_row item (Null ∷ Int id ∷ item_columns i) ≡ Null ∷ Int id ∷ item_columns i
+item_cast id i = rw (cast_null, cast_int id, cast_int (pos i.result), cast_int (pos (role_index i.role)), cast_int (pos (packed_of i.place.span.start)), cast_int (pos (packed_of i.place.span.«end»)))
 
-pub item_put : (id : ℤ) (i : ItemRowValue) (old new : State) (done : Result ℕ Error) → old.now.schema ≡ schema_two → IsTrue old.in_transaction → ExecutesInside 0 insert_item (Int id ∷ item_columns i) old new done
-    → OnOk done (Steps (PutsAll 9 ((Int id ∷ item_columns i) ∷ [])) old new)
+pub item_put : (id : ℤ) (i : ItemRowValue) → Inserts insert_item item_tree (Int id ∷ item_columns i) ((Int id ∷ item_columns i) ∷ [])
 item_put id i =
-    put_ok insert_item (Int id ∷ item_columns i) 5 item item_terms 7 insert_item_is insert_item_plain refl (λ p. refl) item_quiet (Int id ∷ item_columns i) (λ db. item_values db id i)
+    record {
+      at = 5;
+      table = item;
+      terms = row_terms 0 6 1;
+      width = 7;
+      is = insert_item_is;
+      plain = insert_item_plain;
+      placed = refl;
+      of_tree = refl;
+      quiet = item_quiet;
+      first = Int id ∷ item_columns i;
+      rest = [];
+      some = refl;
+      taken = ap (λ (row : Row). row ∷ []) (item_cast id i);
+    }
+
+pub items_put : {X : Type 0} (value : X → ItemRowValue) (id : ℤ) (rows : List X) → length rows ≡ 8
+    → Inserts insert_items item_tree (flat_map (λ row. Int id ∷ item_columns (value row)) rows) (map (λ row. Int id ∷ item_columns (value row)) rows)
+items_put {X} value id rows len =
+    let it = eight_of rows len in
+    let columns : X → Row = λ row. Int id ∷ item_columns (value row) in
+    subst (λ (xs : List X). Inserts insert_items item_tree (flat_map columns xs) (map columns xs)) (sym it.is) (record {
+      at = 5;
+      table = item;
+      terms = row_terms 0 6 8;
+      width = 7;
+      is = insert_items_is;
+      plain = insert_items_plain;
+      placed = refl;
+      of_tree = refl;
+      quiet = item_quiet;
+      first = columns it.a;
+      rest = map columns (it.b ∷ it.c ∷ it.d ∷ it.e ∷ it.f ∷ it.g ∷ it.h ∷ []);
+      some = refl;
+      taken = cast_all item columns (λ row. item_cast id (value row)) (it.a ∷ it.b ∷ it.c ∷ it.d ∷ it.e ∷ it.f ∷ it.g ∷ it.h ∷ []);
+    })
 
 -- hover
 
-abbrev hover_terms : List Term
-hover_terms = lit Null ∷ col 0 0 ∷ col 0 1 ∷ col 0 2 ∷ []
-
-hover_quiet : (row : Row) → works schema_two Enforced 0 11 [] (row ∷ []) ≡ []
+hover_quiet : (row : Row) (more : List Row) → works schema_two Enforced 0 hover_tree [] (row ∷ more) ≡ []
 unfolding same_name
-hover_quiet row = refl
+hover_quiet row more = rw (some_rows row more) refl
 
-hover_values : (db : Trees) (id : ℤ) (h : HoverRowValue) → new_row db hover hover_terms (Int id ∷ hover_columns h) ≡ Int (next_rowid (db 11)) ∷ Int id ∷ hover_columns h
-hover_values db id h = rw (cast_null, cast_int id, cast_int (pos h.result))
+hover_cast : (id : ℤ) (h : HoverRowValue) → cast_row hover (Null ∷ Int id ∷ hover_columns h) ≡ Null ∷ Int id ∷ hover_columns h
+hover_cast id h = rw (cast_null, cast_int id, cast_int (pos h.result))
 
-pub hover_put : (id : ℤ) (h : HoverRowValue) (old new : State) (done : Result ℕ Error) → old.now.schema ≡ schema_two → IsTrue old.in_transaction → ExecutesInside 0 insert_hover (Int id ∷ hover_columns h) old new done
-    → OnOk done (Steps (PutsAll 11 ((Int id ∷ hover_columns h) ∷ [])) old new)
+pub hover_put : (id : ℤ) (h : HoverRowValue) → Inserts insert_hover hover_tree (Int id ∷ hover_columns h) ((Int id ∷ hover_columns h) ∷ [])
 hover_put id h =
-    put_ok insert_hover (Int id ∷ hover_columns h) 6 hover hover_terms 4 insert_hover_is insert_hover_plain refl (λ p. refl) hover_quiet (Int id ∷ hover_columns h) (λ db. hover_values db id h)
+    record {
+      at = 6;
+      table = hover;
+      terms = row_terms 0 3 1;
+      width = 4;
+      is = insert_hover_is;
+      plain = insert_hover_plain;
+      placed = refl;
+      of_tree = refl;
+      quiet = hover_quiet;
+      first = Int id ∷ hover_columns h;
+      rest = [];
+      some = refl;
+      taken = ap (λ (row : Row). row ∷ []) (hover_cast id h);
+    }
+
+pub hovers_put : {X : Type 0} (value : X → HoverRowValue) (id : ℤ) (rows : List X) → length rows ≡ 8
+    → Inserts insert_hovers hover_tree (flat_map (λ row. Int id ∷ hover_columns (value row)) rows) (map (λ row. Int id ∷ hover_columns (value row)) rows)
+hovers_put {X} value id rows len =
+    let it = eight_of rows len in
+    let columns : X → Row = λ row. Int id ∷ hover_columns (value row) in
+    subst (λ (xs : List X). Inserts insert_hovers hover_tree (flat_map columns xs) (map columns xs)) (sym it.is) (record {
+      at = 6;
+      table = hover;
+      terms = row_terms 0 3 8;
+      width = 4;
+      is = insert_hovers_is;
+      plain = insert_hovers_plain;
+      placed = refl;
+      of_tree = refl;
+      quiet = hover_quiet;
+      first = columns it.a;
+      rest = map columns (it.b ∷ it.c ∷ it.d ∷ it.e ∷ it.f ∷ it.g ∷ it.h ∷ []);
+      some = refl;
+      taken = cast_all hover columns (λ row. hover_cast id (value row)) (it.a ∷ it.b ∷ it.c ∷ it.d ∷ it.e ∷ it.f ∷ it.g ∷ it.h ∷ []);
+    })
 
 -- mark
 
-abbrev mark_terms : List Term
-mark_terms = lit Null ∷ col 0 0 ∷ col 0 1 ∷ col 0 2 ∷ col 0 3 ∷ []
-
-mark_quiet : (row : Row) → works schema_two Enforced 0 13 [] (row ∷ []) ≡ []
+mark_quiet : (row : Row) (more : List Row) → works schema_two Enforced 0 mark_tree [] (row ∷ more) ≡ []
 unfolding same_name
-mark_quiet row = refl
+mark_quiet row more = rw (some_rows row more) refl
 
-mark_values : (db : Trees) (id : ℤ) (m : MarkRowValue) → new_row db mark mark_terms (Int id ∷ mark_columns m) ≡ Int (next_rowid (db 13)) ∷ Int id ∷ mark_columns m
-mark_values db id m = rw (cast_null, cast_int id, cast_int (pos m.range), cast_int (pos (kind_index m.kind)))
+mark_cast : (id : ℤ) (m : MarkRowValue) → cast_row mark (Null ∷ Int id ∷ mark_columns m) ≡ Null ∷ Int id ∷ mark_columns m
+mark_cast id m = rw (cast_null, cast_int id, cast_int (pos m.range), cast_int (pos (kind_index m.kind)))
 
-pub mark_put : (id : ℤ) (m : MarkRowValue) (old new : State) (done : Result ℕ Error) → old.now.schema ≡ schema_two → IsTrue old.in_transaction → ExecutesInside 0 insert_mark (Int id ∷ mark_columns m) old new done
-    → OnOk done (Steps (PutsAll 13 ((Int id ∷ mark_columns m) ∷ [])) old new)
+pub mark_put : (id : ℤ) (m : MarkRowValue) → Inserts insert_mark mark_tree (Int id ∷ mark_columns m) ((Int id ∷ mark_columns m) ∷ [])
 mark_put id m =
-    put_ok insert_mark (Int id ∷ mark_columns m) 7 mark mark_terms 5 insert_mark_is insert_mark_plain refl (λ p. refl) mark_quiet (Int id ∷ mark_columns m) (λ db. mark_values db id m)
+    record {
+      at = 7;
+      table = mark;
+      terms = row_terms 0 4 1;
+      width = 5;
+      is = insert_mark_is;
+      plain = insert_mark_plain;
+      placed = refl;
+      of_tree = refl;
+      quiet = mark_quiet;
+      first = Int id ∷ mark_columns m;
+      rest = [];
+      some = refl;
+      taken = ap (λ (row : Row). row ∷ []) (mark_cast id m);
+    }
+
+pub marks_put : {X : Type 0} (value : X → MarkRowValue) (id : ℤ) (rows : List X) → length rows ≡ 8
+    → Inserts insert_marks mark_tree (flat_map (λ row. Int id ∷ mark_columns (value row)) rows) (map (λ row. Int id ∷ mark_columns (value row)) rows)
+marks_put {X} value id rows len =
+    let it = eight_of rows len in
+    let columns : X → Row = λ row. Int id ∷ mark_columns (value row) in
+    subst (λ (xs : List X). Inserts insert_marks mark_tree (flat_map columns xs) (map columns xs)) (sym it.is) (record {
+      at = 7;
+      table = mark;
+      terms = row_terms 0 4 8;
+      width = 5;
+      is = insert_marks_is;
+      plain = insert_marks_plain;
+      placed = refl;
+      of_tree = refl;
+      quiet = mark_quiet;
+      first = columns it.a;
+      rest = map columns (it.b ∷ it.c ∷ it.d ∷ it.e ∷ it.f ∷ it.g ∷ it.h ∷ []);
+      some = refl;
+      taken = cast_all mark columns (λ row. mark_cast id (value row)) (it.a ∷ it.b ∷ it.c ∷ it.d ∷ it.e ∷ it.f ∷ it.g ∷ it.h ∷ []);
+    })
 
 -- bearer
 
-abbrev bearer_terms : List Term
-bearer_terms = lit Null ∷ col 0 0 ∷ col 0 1 ∷ col 0 2 ∷ col 0 3 ∷ col 0 4 ∷ col 0 5 ∷ col 0 6 ∷ []
-
-bearer_quiet : (row : Row) → works schema_two Enforced 0 15 [] (row ∷ []) ≡ []
+bearer_quiet : (row : Row) (more : List Row) → works schema_two Enforced 0 bearer_tree [] (row ∷ more) ≡ []
 unfolding same_name
-bearer_quiet row = refl
+bearer_quiet row more = rw (some_rows row more) refl
 
-bearer_values : (db : Trees) (id : ℤ) (b : BearerRowValue) → new_row db bearer bearer_terms (Int id ∷ bearer_columns b) ≡ Int (next_rowid (db 15)) ∷ Int id ∷ bearer_columns b
-bearer_values db id b = rw (cast_null, cast_int id, cast_int (pos b.line), cast_int (pos (kind_index b.kind)), cast_optional (b.results.definition), cast_optional (b.results.references), cast_optional (b.results.hover))
+bearer_cast : (id : ℤ) (b : BearerRowValue) → cast_row bearer (Null ∷ Int id ∷ bearer_columns b) ≡ Null ∷ Int id ∷ bearer_columns b
+bearer_cast id b = rw (cast_null, cast_int id, cast_int (pos b.line), cast_int (pos (kind_index b.kind)), cast_optional (b.results.definition), cast_optional (b.results.references), cast_optional (b.results.hover))
 
-pub bearer_put : (id : ℤ) (b : BearerRowValue) (old new : State) (done : Result ℕ Error) → old.now.schema ≡ schema_two → IsTrue old.in_transaction → ExecutesInside 0 insert_bearer (Int id ∷ bearer_columns b) old new done
-    → OnOk done (Steps (PutsAll 15 ((Int id ∷ bearer_columns b) ∷ [])) old new)
+pub bearer_put : (id : ℤ) (b : BearerRowValue) → Inserts insert_bearer bearer_tree (Int id ∷ bearer_columns b) ((Int id ∷ bearer_columns b) ∷ [])
 bearer_put id b =
-    put_ok insert_bearer (Int id ∷ bearer_columns b) 8 bearer bearer_terms 8 insert_bearer_is insert_bearer_plain refl (λ p. refl) bearer_quiet (Int id ∷ bearer_columns b) (λ db. bearer_values db id b)
+    record {
+      at = 8;
+      table = bearer;
+      terms = row_terms 0 7 1;
+      width = 8;
+      is = insert_bearer_is;
+      plain = insert_bearer_plain;
+      placed = refl;
+      of_tree = refl;
+      quiet = bearer_quiet;
+      first = Int id ∷ bearer_columns b;
+      rest = [];
+      some = refl;
+      taken = ap (λ (row : Row). row ∷ []) (bearer_cast id b);
+    }
+
+pub bearers_put : {X : Type 0} (value : X → BearerRowValue) (id : ℤ) (rows : List X) → length rows ≡ 8
+    → Inserts insert_bearers bearer_tree (flat_map (λ row. Int id ∷ bearer_columns (value row)) rows) (map (λ row. Int id ∷ bearer_columns (value row)) rows)
+bearers_put {X} value id rows len =
+    let it = eight_of rows len in
+    let columns : X → Row = λ row. Int id ∷ bearer_columns (value row) in
+    subst (λ (xs : List X). Inserts insert_bearers bearer_tree (flat_map columns xs) (map columns xs)) (sym it.is) (record {
+      at = 8;
+      table = bearer;
+      terms = row_terms 0 7 8;
+      width = 8;
+      is = insert_bearers_is;
+      plain = insert_bearers_plain;
+      placed = refl;
+      of_tree = refl;
+      quiet = bearer_quiet;
+      first = columns it.a;
+      rest = map columns (it.b ∷ it.c ∷ it.d ∷ it.e ∷ it.f ∷ it.g ∷ it.h ∷ []);
+      some = refl;
+      taken = cast_all bearer columns (λ row. bearer_cast id (value row)) (it.a ∷ it.b ∷ it.c ∷ it.d ∷ it.e ∷ it.f ∷ it.g ∷ it.h ∷ []);
+    })
 
 -- tag
 
-abbrev tag_terms : List Term
-tag_terms = lit Null ∷ col 0 0 ∷ col 0 1 ∷ col 0 2 ∷ col 0 3 ∷ col 0 4 ∷ col 0 5 ∷ col 0 6 ∷ []
-
-tag_quiet : (row : Row) → works schema_two Enforced 0 17 [] (row ∷ []) ≡ []
+tag_quiet : (row : Row) (more : List Row) → works schema_two Enforced 0 tag_tree [] (row ∷ more) ≡ []
 unfolding same_name
-tag_quiet row = refl
+tag_quiet row more = rw (some_rows row more) refl
 
-tag_values : (db : Trees) (id : ℤ) (t : TagValue) → new_row db tag tag_terms (Int id ∷ tag_columns t) ≡ Int (next_rowid (db 17)) ∷ Int id ∷ tag_columns t
-tag_values db id t = rw (cast_null, cast_int id, cast_int (pos t.line), cast_optional_text t.kind)
+tag_cast : (id : ℤ) (t : TagValue × List ℕ) → cast_row tag (Null ∷ Int id ∷ written_columns t) ≡ Null ∷ Int id ∷ written_columns t
+tag_cast id t = rw (cast_null, cast_int id, cast_int (pos t.0.line), cast_optional_text t.0.kind)
 
-pub tag_put : (id : ℤ) (t : TagValue) (old new : State) (done : Result ℕ Error) → old.now.schema ≡ schema_two → IsTrue old.in_transaction → ExecutesInside 0 insert_tag (Int id ∷ tag_columns t) old new done
-    → OnOk done (Steps (PutsAll 17 ((Int id ∷ tag_columns t) ∷ [])) old new)
+pub tag_put : (id : ℤ) (t : TagValue × List ℕ) → Inserts insert_tag tag_tree (Int id ∷ written_columns t) ((Int id ∷ written_columns t) ∷ [])
 tag_put id t =
-    put_ok insert_tag (Int id ∷ tag_columns t) 9 tag tag_terms 8 insert_tag_is insert_tag_plain refl (λ p. refl) tag_quiet (Int id ∷ tag_columns t) (λ db. tag_values db id t)
+    record {
+      at = 9;
+      table = tag;
+      terms = row_terms 0 7 1;
+      width = 8;
+      is = insert_tag_is;
+      plain = insert_tag_plain;
+      placed = refl;
+      of_tree = refl;
+      quiet = tag_quiet;
+      first = Int id ∷ written_columns t;
+      rest = [];
+      some = refl;
+      taken = ap (λ (row : Row). row ∷ []) (tag_cast id t);
+    }
+
+pub tags_put : {X : Type 0} (value : X → TagValue × List ℕ) (id : ℤ) (rows : List X) → length rows ≡ 8
+    → Inserts insert_tags tag_tree (flat_map (λ row. Int id ∷ written_columns (value row)) rows) (map (λ row. Int id ∷ written_columns (value row)) rows)
+tags_put {X} value id rows len =
+    let it = eight_of rows len in
+    let columns : X → Row = λ row. Int id ∷ written_columns (value row) in
+    subst (λ (xs : List X). Inserts insert_tags tag_tree (flat_map columns xs) (map columns xs)) (sym it.is) (record {
+      at = 9;
+      table = tag;
+      terms = row_terms 0 7 8;
+      width = 8;
+      is = insert_tags_is;
+      plain = insert_tags_plain;
+      placed = refl;
+      of_tree = refl;
+      quiet = tag_quiet;
+      first = columns it.a;
+      rest = map columns (it.b ∷ it.c ∷ it.d ∷ it.e ∷ it.f ∷ it.g ∷ it.h ∷ []);
+      some = refl;
+      taken = cast_all tag columns (λ row. tag_cast id (value row)) (it.a ∷ it.b ∷ it.c ∷ it.d ∷ it.e ∷ it.f ∷ it.g ∷ it.h ∷ []);
+    })
 
 -- part_profile
 
-abbrev part_profile_terms : List Term
-part_profile_terms = lit Null ∷ col 0 0 ∷ col 0 1 ∷ []
-
-part_profile_quiet : (row : Row) → works schema_two Enforced 0 22 [] (row ∷ []) ≡ []
+part_profile_quiet : (row : Row) (more : List Row) → works schema_two Enforced 0 part_profile_tree [] (row ∷ more) ≡ []
 unfolding same_name
-part_profile_quiet row = refl
+part_profile_quiet row more = rw (some_rows row more) refl
 
-part_profile_values : (db : Trees) (id : ℤ) (profile : Profile) → new_row db part_profile part_profile_terms (Int id ∷ profile_columns profile) ≡ Int (next_rowid (db 22)) ∷ Int id ∷ profile_columns profile
-part_profile_values db id profile = rw (cast_null, cast_int id, cast_int (pos (profile_number profile)))
+part_profile_cast : (id : ℤ) (profile : Profile) → cast_row part_profile (Null ∷ Int id ∷ profile_columns profile) ≡ Null ∷ Int id ∷ profile_columns profile
+part_profile_cast id profile = rw (cast_null, cast_int id, cast_int (pos (profile_number profile)))
 
-pub part_profile_put : (id : ℤ) (profile : Profile) (old new : State) (done : Result ℕ Error) → old.now.schema ≡ schema_two → IsTrue old.in_transaction → ExecutesInside 0 insert_part_profile (Int id ∷ profile_columns profile) old new done
-    → OnOk done (Steps (PutsAll 22 ((Int id ∷ profile_columns profile) ∷ [])) old new)
+pub part_profile_put : (id : ℤ) (profile : Profile) → Inserts insert_part_profile part_profile_tree (Int id ∷ profile_columns profile) ((Int id ∷ profile_columns profile) ∷ [])
 part_profile_put id profile =
-    put_ok insert_part_profile (Int id ∷ profile_columns profile) 10 part_profile part_profile_terms 3 insert_part_profile_is insert_part_profile_plain refl (λ p. refl) part_profile_quiet (Int id ∷ profile_columns profile) (λ db. part_profile_values db id profile)
+    record {
+      at = 10;
+      table = part_profile;
+      terms = row_terms 0 2 1;
+      width = 3;
+      is = insert_part_profile_is;
+      plain = insert_part_profile_plain;
+      placed = refl;
+      of_tree = refl;
+      quiet = part_profile_quiet;
+      first = Int id ∷ profile_columns profile;
+      rest = [];
+      some = refl;
+      taken = ap (λ (row : Row). row ∷ []) (part_profile_cast id profile);
+    }
 
 -- more
 
-abbrev more_terms : List Term
-more_terms = lit Null ∷ col 0 0 ∷ col 0 1 ∷ col 0 2 ∷ col 0 3 ∷ []
-
-more_quiet : (row : Row) → works schema_two Enforced 0 24 [] (row ∷ []) ≡ []
+more_quiet : (row : Row) (more : List Row) → works schema_two Enforced 0 more_tree [] (row ∷ more) ≡ []
 unfolding same_name
-more_quiet row = refl
+more_quiet row more = rw (some_rows row more) refl
 
-more_values : (db : Trees) (id : ℤ) (line : ℕ) (declaration implementation : Option ℕ) → new_row db more more_terms (Int id ∷ number line ∷ optional declaration ∷ optional implementation ∷ []) ≡ Int (next_rowid (db 24)) ∷ Int id ∷ number line ∷ optional declaration ∷ optional implementation ∷ []
-more_values db id line declaration implementation = rw (cast_null, cast_int id, cast_int (pos line), cast_optional (declaration), cast_optional (implementation))
+more_cast : (id : ℤ) (line : ℕ) (declaration implementation : Option ℕ)
+    → cast_row more (Null ∷ Int id ∷ number line ∷ optional declaration ∷ optional implementation ∷ []) ≡ Null ∷ Int id ∷ number line ∷ optional declaration ∷ optional implementation ∷ []
+more_cast id line declaration implementation = rw (cast_null, cast_int id, cast_int (pos line), cast_optional (declaration), cast_optional (implementation))
 
-pub more_put : (id : ℤ) (line : ℕ) (declaration implementation : Option ℕ) (old new : State) (done : Result ℕ Error) → old.now.schema ≡ schema_two → IsTrue old.in_transaction → ExecutesInside 0 insert_more (Int id ∷ number line ∷ optional declaration ∷ optional implementation ∷ []) old new done
-    → OnOk done (Steps (PutsAll 24 ((Int id ∷ number line ∷ optional declaration ∷ optional implementation ∷ []) ∷ [])) old new)
+pub more_put : (id : ℤ) (line : ℕ) (declaration implementation : Option ℕ)
+    → Inserts insert_more more_tree (Int id ∷ number line ∷ optional declaration ∷ optional implementation ∷ []) ((Int id ∷ number line ∷ optional declaration ∷ optional implementation ∷ []) ∷ [])
 more_put id line declaration implementation =
-    put_ok insert_more (Int id ∷ number line ∷ optional declaration ∷ optional implementation ∷ []) 11 more more_terms 5 insert_more_is insert_more_plain refl (λ p. refl) more_quiet (Int id ∷ number line ∷ optional declaration ∷ optional implementation ∷ []) (λ db. more_values db id line declaration implementation)
+    record {
+      at = 11;
+      table = more;
+      terms = row_terms 0 4 1;
+      width = 5;
+      is = insert_more_is;
+      plain = insert_more_plain;
+      placed = refl;
+      of_tree = refl;
+      quiet = more_quiet;
+      first = Int id ∷ number line ∷ optional declaration ∷ optional implementation ∷ [];
+      rest = [];
+      some = refl;
+      taken = ap (λ (row : Row). row ∷ []) (more_cast id line declaration implementation);
+    }

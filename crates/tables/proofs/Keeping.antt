@@ -19,6 +19,7 @@ use Rattle.tables.specs.Columns.{laid, nowhere}
 use Rattle.tables.specs.Parts.{part_number, same_part}
 use Rattle.tables.specs.declared.slots.Part.{Part}
 use Rattle.tables.specs.declared.slots.Part.TheVariants.{Dump, Tags}
+use Rattle.tables.specs.TableTrees.{keyed_tree, slot_tree}
 use Rattle.tables.proofs.Cascade.{same_or_not, equal_is}
 
 both : (a b : Bool) → a && b ≡ true → (a ≡ true) × (b ≡ true)
@@ -186,7 +187,7 @@ module _ (parts : Contents) (project : List ℕ) (part : Part) where
 
   module _ (replies : Replies) where
     -- a slot is put for the part, which has no row yet
-    pub keeps_slot : (id : ℤ) (old new : Trees) → Keeps old (With None) replies → Puts 1 id (Null ∷ Text project ∷ Int (part_number part) ∷ []) old new → Keeps new (With (Some nowhere)) replies
+    pub keeps_slot : (id : ℤ) (old new : Trees) → Keeps old (With None) replies → Puts slot_tree id (Null ∷ Text project ∷ Int (part_number part) ∷ []) old new → Keeps new (With (Some nowhere)) replies
     keeps_slot id old new is puts = record {
       ordered = puts.ordered is.ordered;
       version = subst (λ (rows : List Row). (row : Row) → Has rows row ↔ (row ≡ Int (pos 2) ∷ Null ∷ [])) (sym (puts.others.0 (λ e. omega (arith, e)))) is.version;
@@ -320,7 +321,7 @@ module _ (parts : Contents) (project : List ℕ) (part : Part) where
 
 -- a reply is kept
 pub keeps_reply : (parts : Contents) (replies : Replies) (project key reply : List ℕ) (old new : Trees) → Keeps old parts replies → replies project key ≡ None
-    → PutsAll 3 ((Text project ∷ Text key ∷ Text reply ∷ []) ∷ []) old new → Keeps new parts (kept replies project key reply)
+    → PutsAll keyed_tree ((Text project ∷ Text key ∷ Text reply ∷ []) ∷ []) old new → Keeps new parts (kept replies project key reply)
 keeps_reply parts replies project key reply old new is free puts =
     let slots_same : new 1 ≡ old 1 = puts.others.1.0 (λ e. omega (arith, e)) in
     record {

@@ -11,6 +11,7 @@ use Rattle.tables.specs.Schema.{schema_two, keyed}
 use Rattle.tables.specs.Contents.{Contents, Replies, Keeps}
 use Rattle.tables.specs.Steps.Texts.{select_reply}
 use Rattle.tables.specs.Steps.Selected.{AreTyped, IsFirstRead, ShowsOne}
+use Rattle.tables.specs.TableTrees.{keyed_tree}
 use Rattle.tables.proofs.Commands.{select_reply_is, select_reply_plain}
 use Rattle.tables.proofs.Entries.{typed_as}
 use Rattle.tables.proofs.Selecting.{IsSelection, shows_one}
@@ -48,7 +49,7 @@ module _ (project key : List ℕ) where
   }
 
   module _ (db : Trees) (parts : Contents) (replies : Replies) (is : Keeps db parts replies) where
-    typed : AreTyped reply_values (db 3)
+    typed : AreTyped reply_values (db keyed_tree)
     typed = typed_as reply_values db parts replies is keyed (inr (inr (inl refl))) (λ row h. let r = (is.keyed row).0 h in (record { project = r.project; key = r.key; reply = r.reply }, r.is))
 
     is_kept : (found : Option (String Global)) → ShowsOne reply_values reply_shown IsUnder reply_columns db 3 found → option_map string_bytes found ≡ replies project key

@@ -29,6 +29,7 @@ use Rattle.tables.specs.Steps.SelectionTexts.{select_more}
 use Rattle.tables.specs.Steps.Selected.{IsFirstRead, equals}
 use Rattle.tables.specs.Steps.DumpEntries.{Entries, entry_values, ShowsOneOf}
 use Rattle.tables.specs.Steps.Known.{IsKnown, MoreValue, IsMore, more_values}
+use Rattle.tables.specs.TableTrees.{slot_tree}
 use Rattle.tables.proofs.DumpEntries.{typed, shows_one_of}
 use Rattle.tables.proofs.Select.{one_table}
 use Rattle.tables.proofs.Selecting.{IsSelection, shows_one}
@@ -184,7 +185,7 @@ module _ (line : ℕ) where
       let read = first_optional one.3 in
       (read.0 ∙ (sym v.declaration ∙ ap (λ (r : ResultsValue). r.declaration) same), read.1 ∙ (sym v.implementation ∙ ap (λ (r : ResultsValue). r.implementation) same))
 
-  pub more_found : (m : State) (id : ℤ) (project : List ℕ) (dump : DumpValue) (old new : Store) (rows : List Row) (found : Option LineMore) → StandsFor old.now.trees m → old.now.schema ≡ schema_two → Has (old.now.trees 1) (slot_row id project Dump)
+  pub more_found : (m : State) (id : ℤ) (project : List ℕ) (dump : DumpValue) (old new : Store) (rows : List Row) (found : Option LineMore) → StandsFor old.now.trees m → old.now.schema ≡ schema_two → Has (old.now.trees slot_tree) (slot_row id project Dump)
       → m.dump project ≡ Some dump → Shown select_more (Int id ∷ number line ∷ []) old new rows → IsFirstRead more_read rows found → (results : ResultsValue) → IsKnown dump line results → Says found results
   unfolding selection
   more_found m id project dump old new rows found s schema slot has shown read results known =

@@ -25,6 +25,7 @@ use Rattle.sqlite_trees.proofs.ListLemmas.{all-permutation}
 use Rattle.tables.specs.Contents.{Contents, Replies, slot_row, IsOwned, owned, Keeps, same_text, is_at, changed}
 use Rattle.tables.specs.Parts.{part_number}
 use Rattle.tables.specs.declared.slots.Part.{Part}
+use Rattle.tables.specs.TableTrees.{slot_tree}
 use Rattle.tables.proofs.Cascade.{is_hit, Lacks, left_from, left_has, equal_is}
 use Rattle.tables.proofs.Removal.{IsOn, at_slot, each_on, works_are, Removed}
 use Rattle.tables.proofs.Keeping.{same_int_is, same_int_itself, numbers_are, at_is, at_itself, from_map, to_map, table_of, is_owned, which, other_is, not_none, slot_is}
@@ -196,7 +197,7 @@ module _ (parts : Contents) (replies : Replies) (p : List ℕ) (k : Part) (old n
       subst (λ x. Has (new x) (Int i ∷ Int s ∷ values)) it.2 ((r.taken.cut it.0 it.1).rest (Int i ∷ Int s ∷ values) (subst (λ x. Has (mid x) (Int i ∷ Int s ∷ values)) (sym it.2) (subst (λ l. Has l (Int i ∷ Int s ∷ values)) (sym (mid_is t owns)) h))
       (λ w there on. let e = each_on olds w there in elim (cases_Bool (is_hit w (Int i ∷ Int s ∷ values))) [ inl hit ↦ absurd (free (hit_from e.0 w e.2 i s values hit)) | inr miss ↦ miss ]))
 
-  quiet : (t : Table) → Has schema_two.tables t → (Has owned t.tree → ⊥) → t.tree ≢ 1 → (row : Row) → Has (new t.tree) row ↔ Has (old t.tree) row
+  quiet : (t : Table) → Has schema_two.tables t → (Has owned t.tree → ⊥) → t.tree ≢ slot_tree → (row : Row) → Has (new t.tree) row ↔ Has (old t.tree) row
   quiet t listed free other row =
       let same = all_has (λ (x : Table). x.tree ≢ 1 → mid x.tree ≡ old x.tree) schema_two.tables t r.taken.others listed other in
       ((λ h. rw same at ((unhit t listed free row).0 h)), (λ h. (unhit t listed free row).1 (rw same h)))

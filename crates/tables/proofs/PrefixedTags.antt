@@ -33,6 +33,7 @@ use Rattle.tables.specs.declared.found_tags.TagRow.{TagRow}
 use Rattle.tables.specs.Steps.SelectionTexts.{select_prefixed}
 use Rattle.tables.specs.Steps.Selected.{AreRead, Selects}
 use Rattle.tables.specs.Steps.TagRows.{TellNamed, tag_row_columns, with_prefix}
+use Rattle.tables.specs.TableTrees.{tag_tree}
 use Rattle.tables.proofs.FoundTags.{TagEntries, entry_row, tag_terms, tag_names, typed_tags, told_named}
 use Rattle.tables.proofs.Keeping.{from_map, to_map}
 use Rattle.tables.proofs.Ordered.{IsInOrder, in_order, selects_in_order, begins_in_order, at_place}
@@ -71,7 +72,7 @@ Ends prefix (row ∷ rest) = with_prefix prefix row ≡ false
 -- the rows begin the ordered answer, and all have the prefix, which the next has not
 pub record AreFirst (db : Trees) (prefix : List ℕ) (rows : List Row) : Type 0 where
   pub ordered : List Row
-  pub in_order : IsInOrder from_prefix by_name (Text prefix ∷ []) (db 17) ordered
+  pub in_order : IsInOrder from_prefix by_name (Text prefix ∷ []) (db tag_tree) ordered
   pub rest : List Row
   pub whole : map (show tag_terms (Text prefix ∷ [])) ordered ≡ rows ++ rest
   pub each : AllByRecursion (λ r. with_prefix prefix r ≡ true) rows
@@ -177,8 +178,8 @@ module _ (prefix : List ℕ) where
     test_is id e = rw (value_cmp-Text (name_of e) prefix, truly (is_ge (slice_cmp nat_cmp (name_of e) prefix))) (plainly _)
 
     module _ (rows : List Row) (it : AreFirst db prefix rows) where
-      from_ordered : (row : Row) → Has it.ordered row → Has (db 17) row × (list_all (holds (params ∷ row ∷ [])) from_prefix ≡ true)
-      from_ordered row there = has_filtered _ (db 17) row (has_permuted (passing from_prefix params (db 17)) it.ordered row it.in_order.same there)
+      from_ordered : (row : Row) → Has it.ordered row → Has (db tag_tree) row × (list_all (holds (params ∷ row ∷ [])) from_prefix ≡ true)
+      from_ordered row there = has_filtered _ (db tag_tree) row (has_permuted (passing from_prefix params (db tag_tree)) it.ordered row it.in_order.same there)
 
       none_left : (kept left : List Row) → it.ordered ≡ kept ++ left → it.rest ≡ map (show tag_terms params) left → (id : ℤ) (e : TagEntries db m) → Has left (Int id ∷ entry_row db m e) → starts_with eqb (name_of e) prefix ≡ false
       none_left kept [] is shown id e there = absurd there
@@ -205,12 +206,12 @@ module _ (prefix : List ℕ) where
                 let e = typed_tags db m s one.0 was.0 in
                 let shown : r ≡ entry_row db m e.1 = one.2 ∙ ap f e.2 in
                 let begins = of_all _ rows r it.each there in
-                (e.1, ((e.0, subst (Has (db 17)) e.2 was.0), begins_if prefix (name_of e.1) (subst (λ x. with_prefix prefix x ≡ true) shown begins)), shown));
+                (e.1, ((e.0, subst (Has (db tag_tree)) e.2 was.0), begins_if prefix (name_of e.1) (subst (λ x. with_prefix prefix x ≡ true) shown begins)), shown));
             all = λ e w.
                 let row = Int w.0.0 ∷ entry_row db m e in
                 let good = if_begins prefix (name_of e) w.1 in
                 let ok = test_is w.0.0 e ∙ not_below prefix (name_of e) good in
-                let placed = has_permuted it.ordered _ row (IsPermutation-sym _ _ it.in_order.same) (has_kept _ (db 17) row w.0.1 ok) in
+                let placed = has_permuted it.ordered _ row (IsPermutation-sym _ _ it.in_order.same) (has_kept _ (db tag_tree) row w.0.1 ok) in
                 elim (had_either parts.0 parts.1 row (subst (λ l. Has l row) parts.2 placed)) [
                   | inl kept ↦ subst (λ l. Has l (entry_row db m e)) (sym parts.3) (to_map f parts.0 row kept)
                   | inr left ↦ absurd (let none = none_left parts.0 parts.1 parts.2 parts.4 w.0.0 e left in cc)

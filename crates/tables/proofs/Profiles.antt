@@ -23,6 +23,7 @@ use Rattle.tables.specs.Stands.{StandsFor}
 use Rattle.tables.specs.Steps.SelectionTexts.{select_profile}
 use Rattle.tables.specs.Steps.Selected.{IsFirstRead, equals}
 use Rattle.tables.specs.Steps.DumpEntries.{Entries, entry_values, ShowsOneOf}
+use Rattle.tables.specs.TableTrees.{slot_tree}
 use Rattle.tables.proofs.DumpEntries.{typed, shows_one_of}
 use Rattle.tables.proofs.Select.{one_table}
 use Rattle.tables.proofs.Selecting.{IsSelection, shows_one}
@@ -74,7 +75,7 @@ module _ (db : Trees) (m : State) (s : StandsFor db m) (id : ℤ) where
 is_owned : Has owned 22
 is_owned = inr (inr (inr (inr (inr (inr (inr (inl refl)))))))
 
-pub profile_found : (m : State) (id : ℤ) (project : List ℕ) (dump : DumpValue) (old new : Store) (rows : List Row) (found : Option Profile) → StandsFor old.now.trees m → old.now.schema ≡ schema_two → Has (old.now.trees 1) (slot_row id project Dump)
+pub profile_found : (m : State) (id : ℤ) (project : List ℕ) (dump : DumpValue) (old new : Store) (rows : List Row) (found : Option Profile) → StandsFor old.now.trees m → old.now.schema ≡ schema_two → Has (old.now.trees slot_tree) (slot_row id project Dump)
     → m.dump project ≡ Some dump → Shown select_profile (Int id ∷ []) old new rows → IsFirstRead profile_columns rows found → found ≡ Some dump.profile
 unfolding selection
 profile_found m id project dump old new rows found s schema slot has shown read =

@@ -1,12 +1,16 @@
 -- Rows that are put one after another.
-use Rattle.std.proofs.Common.{arith, zero, suc, flat_map, map, take, get_or, ◌<◌, ◌+◌, Ok, Err, Result, ℤ, ◌≡◌, ◌≢◌, ◌⊎◌, ◌↔◌, ◌/◌, inl, inr, ℕ, List, [], ◌∷◌, ◌++◌, length, slice_get, Some, refl, sym, ap, subst, ◌∙◌, IsTrue, OnOk}
+use Rattle.std.proofs.Common.{arith, zero, suc, flat_map, map, take, get_or, ◌<◌, ◌+◌, Ok, Err, Result, ℤ, ◌≡◌, ◌≢◌, ◌⊎◌, ◌↔◌, ◌/◌, inl, inr, ℕ, List, [], ◌∷◌, ◌++◌, length, slice_get, Some, refl, sym, ap, subst, subst₂, ◌∙◌, IsTrue, OnOk}
 use Rattle.std.specs.List.{AllByRecursion}
-use Rattle.std.proofs.lemmas.List.{map_more, take_more, flat_map_more}
+use Rattle.std.proofs.lemmas.List.{map_more, take_more, flat_map_more, map-append}
+use Rattle.std.specs.Result.{is_ok}
+use Rattle.std.specs.Bool.{if◌then◌else◌}
+use Rattle.sqlite_value.specs.declared.value.ValueRef.{ValueRef}
+use Rattle.sqlite.specs.Values.{bound}
 use Rattle.sqlite_value.specs.Order.{Row}
-use Rattle.sqlite_value.specs.declared.value.Value.TheVariants.{Int}
+use Rattle.sqlite_value.specs.declared.value.Value.TheVariants.{Int, Null}
 use Rattle.sqlite_trees.specs.Tree.{Trees, rowid, put_row}
 use Rattle.sqlite_trees.proofs.TreeLemmas.{IsTable-put_row}
-use Rattle.sqlite_sql.specs.Term.{Term, eval_all}
+use Rattle.sqlite_sql.specs.Term.{Term}
 use Rattle.sqlite_schema.specs.declared.schema.Table.{Table}
 use Rattle.sqlite_schema.specs.declared.schema.Keys.TheVariants.{Enforced}
 use Rattle.sqlite_schema.specs.declared.command.Source.TheVariants.{Values}
@@ -15,17 +19,19 @@ use Rattle.sqlite_rules.specs.Action.{works}
 use Rattle.sqlite_rules.specs.Edit.{next_rowid, put_all}
 use Rattle.sqlite_rules.specs.Lists.{Has}
 use Rattle.sqlite_rules.proofs.ListLemmas.{has_left, has_right, has_either, all_has}
-use Rattle.sqlite_rules.proofs.TableLemmas.{put_all_has}
+use Rattle.sqlite_rules.proofs.TableLemmas.{put_all_has, put_all_keeps, put_all_adds}
+use Rattle.sqlite_rules.specs.Cast.{cast_row}
 use Rattle.sqlite.specs.Effect.{value_rows}
 use Rattle.sqlite.specs.Listing.{understood}
-use Rattle.sqlite.specs.State.{State, Survives, KeepsCommit, ExecutesInside}
+use Rattle.sqlite.specs.State.{State, Survives, KeepsCommit, Executes, ExecutesInside}
 use Rattle.sqlite.specs.declared.error.Error.{Error}
 use Rattle.sqlite.proofs.Callers.{IsPlain, command_of}
 use Rattle.sqlite.proofs.StateLemmas.{survives_then}
 use Rattle.tables.specs.Schema.{schema_two}
 use Rattle.tables.specs.Steps.Puts.{Steps, Puts, PutsAll}
 use Rattle.tables.specs.Databases.{IsListed, IsOrdered}
-use Rattle.tables.proofs.Insert.{Inserted, inserts, adds, new_row, plainly}
+use Rattle.tables.specs.Steps.Inserts.{Inserts, plainly}
+use Rattle.tables.proofs.Insert.{Inserted, inserts, rows_of, rows_have, rows_list}
 use Rattle.tables.proofs.Cascade.{same_or_not}
 
 others_same : (tree : ℕ) (db : Trees) (tables : List Table) → AllByRecursion (λ t. t.tree ≢ tree → db t.tree ≡ db t.tree) tables
@@ -46,19 +52,6 @@ puts_none tree s has inside = (
     ordered = λ up. up;
   },
 )
-
-pub puts_one : (tree : ℕ) (id : ℤ) (values : Row) (old new : Trees) → Puts tree id values old new → PutsAll tree (values ∷ []) old new
-puts_one tree id values old new p = record {
-  rows = λ row. (
-    (λ held. elim ((p.rows (Int held.0 ∷ row)).0 held.1) [ inl same ↦ inl (inl cc) | inr was ↦ inr (held.0, was) ]),
-    (λ e. elim e [
-      | inl given ↦ elim given [ inl same ↦ (id, (p.rows (Int id ∷ row)).1 (inl (rw same))) | inr none ↦ absurd none ]
-      | inr was ↦ (was.0, (p.rows (Int was.0 ∷ row)).1 (inr was.1))
-    ]),
-  );
-  others = p.others;
-  ordered = p.ordered;
-}
 
 pub puts_then : (tree : ℕ) (xs ys : List Row) (a b c : State) → Steps (PutsAll tree xs) a b → Steps (PutsAll tree ys) b c → Steps (PutsAll tree (xs ++ ys)) a c
 puts_then tree xs ys a b c (on1, p) (on2, q) = (
@@ -86,12 +79,15 @@ rows_more f tree xs i x low is values same a b c p q =
     let listed : map f (take (i + 1) xs) ≡ map f (take i xs) ++ values ∷ [] = map_more f xs i x low ∙ ap (λ v. map f (take i xs) ++ v ∷ []) (ap f (sym is) ∙ sym same) in
     subst (λ l. Steps (PutsAll tree l) a c) (sym listed) (puts_then tree (map f (take i xs)) (values ∷ []) a b c p q)
 
+-- what one more element of a list adds
+pub flat_more : {X Y : Type 0} (f : X → List Y) (xs : List X) (i : ℕ) (x : X) → i < length xs → x ≡ get_or xs i x → flat_map f (take (i + 1) xs) ≡ flat_map f (take i xs) ++ f x
+flat_more f xs i x low is = ap (flat_map f) (take_more xs i x low) ∙ (sym (flat_map_more f [] (take i xs) (get_or xs i x)) ∙ ap (λ v. flat_map f (take i xs) ++ f v) (sym is))
+
 -- the rows of one more element of a list
 pub rows_of_more : {X : Type 0} (f : X → List Row) (tree : ℕ) (xs : List X) (i : ℕ) (x : X) → i < length xs → x ≡ get_or xs i x → (a b c : State)
     → Steps (PutsAll tree (flat_map f (take i xs))) a b → Steps (PutsAll tree (f x)) b c → Steps (PutsAll tree (flat_map f (take (i + 1) xs))) a c
 rows_of_more f tree xs i x low is a b c p q =
-    let listed : flat_map f (take (i + 1) xs) ≡ flat_map f (take i xs) ++ f x = ap (flat_map f) (take_more xs i x low) ∙ (sym (flat_map_more f [] (take i xs) (get_or xs i x)) ∙ ap (λ v. flat_map f (take i xs) ++ f v) (sym is)) in
-    subst (λ l. Steps (PutsAll tree l) a c) (sym listed) (puts_then tree (flat_map f (take i xs)) (f x) a b c p q)
+    subst (λ l. Steps (PutsAll tree l) a c) (sym (flat_more f xs i x low is)) (puts_then tree (flat_map f (take i xs)) (f x) a b c p q)
 
 pub got_has : {X : Type 0} (xs : List X) (i : ℕ) (x : X) → slice_get xs i ≡ Some x → Has xs x
 got_has [] i x e = absurd cc
@@ -121,45 +117,79 @@ pub ordered_all : (news rows : List Row) → ((row : Row) → Has news row → (
 ordered_all [] rows all up = up
 ordered_all (n ∷ news) rows all up = let it = all n (inl refl) in ordered_all news (put_row n rows) (λ row h. all row (inr h)) (ordered_put n it.0 rows it.1 up)
 
-put_in : (table : Table) (terms : List Term) (params values : Row) (id : ℤ) (old new : State) → Inserted schema_two table terms params old new → new_row old.now.trees table terms params ≡ Int id ∷ values
-    → Puts table.tree id values old.now.trees new.now.trees
-put_in table terms params values id old new it one = record {
-  rows = λ row. subst (λ x. Has (new.now.trees table.tree) row ↔ ((row ≡ x) ⊎ Has (old.now.trees table.tree) row)) one (adds schema_two table terms params old new it row);
-  others = it.applies.tables;
-  ordered = λ up t has. elim (same_or_not t.tree table.tree) [
-    | inl same ↦
-        let was : IsOrdered (old.now.trees table.tree) = subst (λ x. IsOrdered (old.now.trees x)) same (up t has) in
-        subst (λ x. IsOrdered (new.now.trees x)) (sym same) (subst IsOrdered (sym it.applies.rows) (ordered_put (new_row old.now.trees table terms params) id (old.now.trees table.tree) (ap rowid one) was))
-    | inr other ↦ subst IsOrdered (sym (all_has (λ (x : Table). x.tree ≢ table.tree → new.now.trees x.tree ≡ old.now.trees x.tree) schema_two.tables t it.applies.tables has other)) (up t has)
-  ];
-}
+-- the rows that an INSERT put are there beside those that were there
+put_in : (table : Table) (values : List Row) (old new : State) → Inserted schema_two table (map (λ v. Null ∷ v) values) old new → PutsAll table.tree values old.now.trees new.now.trees
+put_in table values old new it =
+    let was = old.now.trees table.tree in
+    let news = rows_of was values in
+    record {
+      rows = λ row. (
+        (λ held. elim (put_all_has news was (Int held.0 ∷ row) (rw it.applies.rows at held.1)) [
+          | inl given ↦ let one = rows_have was values (Int held.0 ∷ row) given in let same : one.1 ≡ row = let e = one.3 in cc in inl (subst (Has values) same one.2)
+          | inr there ↦ inr (held.0, there)
+        ]),
+        (λ e. elim e [
+          | inl listed ↦ let one = rows_list was values row listed in (one.0, rw it.applies.rows (put_all_adds news was (Int one.0 ∷ row) it.applies.fresh one.1))
+          | inr held ↦ (held.0, rw it.applies.rows (put_all_keeps news was (Int held.0 ∷ row) it.applies.fresh held.1))
+        ]),
+      );
+      others = it.applies.tables;
+      ordered = λ up t has. elim (same_or_not t.tree table.tree) [
+        | inl same ↦
+            let first : IsOrdered was = subst (λ x. IsOrdered (old.now.trees x)) same (up t has) in
+            let numbered : (row : Row) → Has news row → (id : ℤ) × (rowid row ≡ Int id) = λ row h. let one = rows_have was values row h in (one.0, ap rowid one.3) in
+            subst (λ x. IsOrdered (new.now.trees x)) (sym same) (subst IsOrdered (sym it.applies.rows) (ordered_all news was numbered first))
+        | inr other ↦ subst IsOrdered (sym (all_has (λ (x : Table). x.tree ≢ table.tree → new.now.trees x.tree ≡ old.now.trees x.tree) schema_two.tables t it.applies.tables has other)) (up t has)
+      ];
+    }
 
--- one INSERT of one row
+-- one row with this rowid
+pub puts_at : (tree : ℕ) (id : ℤ) (values : Row) (old new : Trees) → ((row : Row) → Has (new tree) row ↔ ((row ≡ Int id ∷ values) ⊎ Has (old tree) row)) → PutsAll tree (values ∷ []) old new → Puts tree id values old new
+puts_at tree id values old new rows p = record { rows = rows; others = p.others; ordered = p.ordered }
+
+-- a statement that inserts rows puts them
+module _ (text : List ℕ) (tree : ℕ) (values : Row) (rows : List Row) (it : Inserts text tree values rows) where
+  taken : map (cast_row (plainly it.table)) (value_rows values it.width (length it.terms / it.width) it.terms) ≡ map (λ v. Null ∷ v) (it.first ∷ it.rest)
+  taken = it.taken ∙ ap (map (λ v. Null ∷ v)) it.some
+
+  inserted : (old new : State) (count : ℕ) → old.now.schema ≡ schema_two → Executes text values old new (Ok count) → Inserted schema_two (plainly it.table) (map (λ v. Null ∷ v) (it.first ∷ it.rest)) old new
+  inserted = inserts schema_two text values it.at it.table it.terms it.width it.is it.plain it.placed it.quiet (Null ∷ it.first) (map (λ v. Null ∷ v) it.rest) taken
+
+  pub put_rows : (old new : State) (r : Result ℕ Error) → old.now.schema ≡ schema_two → IsTrue old.in_transaction → ExecutesInside 0 text values old new r → OnOk r (Steps (PutsAll tree rows) old new)
+  put_rows old new (Err e) has inside h = tt
+  put_rows old new (Ok count) has inside h =
+      let done = inserted old new count has h.0 in
+      let put = subst₂ (λ n list. PutsAll n list old.now.trees new.now.trees) it.of_tree (sym it.some) (put_in (plainly it.table) (it.first ∷ it.rest) old new done) in
+      (record { schema = done.schema_is; inside = rw h.1.mode; committed = h.1.committed_is }, put)
+
+  -- and the database lists its tables
+  pub listed_ok : (old new : State) (r : Result ℕ Error) → old.now.schema ≡ schema_two → ExecutesInside 0 text values old new r → OnOk r (IsListed schema_two new.now.trees)
+  unfolding IsListed
+  listed_ok old new (Err e) has h = tt
+  listed_ok old new (Ok count) has h = let done = inserted old new count has h.0 in subst (λ s. IsListed s new.now.trees) done.schema_is done.sound.lists
+
+-- an INSERT of one row tells its rowid
 module _ (sql : List ℕ) (params : Row) (at : ℕ) (t : Table) (terms : List Term) (width : ℕ)
     (is : command_of (understood schema_two sql) ≡ Insert at (Values terms width)) (plain : IsPlain (understood schema_two sql))
     (placed : slice_get schema_two.tables at ≡ Some (plainly t))
-    (alone : (p : Row) → value_rows p width (length terms / width) terms ≡ eval_all terms (p ∷ []) ∷ [])
-    (quiet : (row : Row) → works schema_two Enforced 0 t.tree [] (row ∷ []) ≡ [])
-    (values : Row) (row_is : (db : Trees) → new_row db (plainly t) terms params ≡ Int (next_rowid (db t.tree)) ∷ values) where
+    (quiet : (row : Row) (more : List Row) → works schema_two Enforced 0 t.tree [] (row ∷ more) ≡ [])
+    (values : Row)
+    (cast : map (cast_row (plainly t)) (value_rows params width (length terms / width) terms) ≡ (Null ∷ values) ∷ []) where
   pub put_at : (old new : State) (r : Result ℕ Error) → old.now.schema ≡ schema_two → IsTrue old.in_transaction → ExecutesInside 0 sql params old new r → OnOk r (Steps (Puts t.tree new.last_rowid values) old new)
   put_at old new (Err e) has inside h = tt
   put_at old new (Ok count) has inside h =
-      let it = inserts schema_two sql params at t terms width is plain placed alone quiet old new count has h.0 in
-      let one = row_is old.now.trees in
-      let last : new.last_rowid ≡ next_rowid (old.now.trees t.tree) = rw one at it.last in
-      (record { schema = it.schema_is; inside = rw h.1.mode; committed = h.1.committed_is }, put_in (plainly t) terms params values new.last_rowid old new it (one ∙ ap (λ (id : ℤ). Int id ∷ values) (sym last)))
-
-  pub put_ok : (old new : State) (r : Result ℕ Error) → old.now.schema ≡ schema_two → IsTrue old.in_transaction → ExecutesInside 0 sql params old new r → OnOk r (Steps (PutsAll t.tree (values ∷ [])) old new)
-  put_ok old new (Err e) has inside h = tt
-  put_ok old new (Ok count) has inside h = let it = put_at old new (Ok count) has inside h in (it.0, puts_one t.tree new.last_rowid values old.now.trees new.now.trees it.1)
-
-  -- and the database lists its tables
-  pub listed_ok : (old new : State) (r : Result ℕ Error) → old.now.schema ≡ schema_two → ExecutesInside 0 sql params old new r → OnOk r (IsListed schema_two new.now.trees)
-  unfolding IsListed
-  listed_ok old new (Err e) has h = tt
-  listed_ok old new (Ok count) has h =
-      let it = inserts schema_two sql params at t terms width is plain placed alone quiet old new count has h.0 in
-      subst (λ s. IsListed s new.now.trees) it.schema_is it.sound.lists
+      let it = inserts schema_two sql params at t terms width is plain placed quiet (Null ∷ values) [] cast old new count has h.0 in
+      let was = old.now.trees t.tree in
+      let id = it.last (next_rowid was) refl in
+      let put = put_in (plainly t) (values ∷ []) old new it in
+      let one = Int (next_rowid was) ∷ values in
+      let rows : (row : Row) → Has (new.now.trees t.tree) row ↔ ((row ≡ one) ⊎ Has was row) = λ row. (
+        (λ has_it. elim (put_all_has (one ∷ []) was row (rw it.applies.rows at has_it)) [ inl given ↦ elim given [ inl same ↦ inl same | inr none ↦ absurd none ] | inr there ↦ inr there ]),
+        (λ e. rw it.applies.rows (elim e [ inl same ↦ put_all_adds (one ∷ []) was row it.applies.fresh (inl same) | inr there ↦ put_all_keeps (one ∷ []) was row it.applies.fresh there ])),
+      ) in (
+        record { schema = it.schema_is; inside = rw h.1.mode; committed = h.1.committed_is },
+        puts_at t.tree new.last_rowid values old.now.trees new.now.trees (subst (λ (n : ℤ). (row : Row) → Has (new.now.trees t.tree) row ↔ ((row ≡ Int n ∷ values) ⊎ Has was row)) (sym id) rows) put,
+      )
 
 -- the values of a statement, written otherwise
 pub as_params : (sql : List ℕ) (params wanted : Row) (old new : State) (r : Result ℕ Error) → ExecutesInside 0 sql params old new r → params ≡ wanted → ExecutesInside 0 sql wanted old new r
@@ -182,3 +212,8 @@ commit_then a b c p q = record { was_open = λ up. p.was_open (q.was_open up); c
 
 pub commit_same : (a : State) → KeepsCommit a a
 commit_same a = record { was_open = λ up. up; committed = λ _. refl }
+
+-- what was added to the values of a statement
+pub bound_more : {T E : Type 0} (r : Result T E) (was now more : List ValueRef) (values : Row) → now ≡ (if is_ok r then was ++ more else was) → bound more ≡ values → OnOk r (bound now ≡ bound was ++ values)
+bound_more (Ok x) was now more values items same = ap bound items ∙ (map-append _ was more ∙ ap (λ (v : Row). bound was ++ v) same)
+bound_more (Err e) was now more values items same = tt

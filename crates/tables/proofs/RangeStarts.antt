@@ -42,6 +42,7 @@ use Rattle.tables.specs.Steps.DumpEntries.{Entries, entry_values}
 use Rattle.tables.specs.Steps.Queries.{same}
 use Rattle.tables.specs.Steps.Selected.{IsFirstRead}
 use Rattle.tables.specs.Steps.SelectionTexts.{select_start}
+use Rattle.tables.specs.TableTrees.{range_row_tree, slot_tree}
 use Rattle.tables.proofs.DumpEntries.{typed, held, in_dump, entry}
 use Rattle.tables.proofs.FirstRows.{IsFirst, first_is}
 use Rattle.tables.proofs.FoundItems.{one_position}
@@ -188,7 +189,7 @@ comes_before o r a b (inl less) = inl (packed_before o.place.span.start r.place.
 comes_before o r a b (inr ties) =
     inr (one_position o.place.span.start r.place.span.start a.0 b.0 (ap number ties.0), λ less. let low = before_packed o.place.span.«end» r.place.span.«end» a.1 b.1 less in omega (arith, ties.1))
 
-module _ (db : Trees) (m : State) (s : StandsFor db m) (project : List ℕ) (dump : DumpValue) (id : ℤ) (slot : Has (db 1) (slot_row id project Dump)) (has : m.dump project ≡ Some dump) (uri : List ℕ) (p : PositionValue) (good : IsPosition p) where
+module _ (db : Trees) (m : State) (s : StandsFor db m) (project : List ℕ) (dump : DumpValue) (id : ℤ) (slot : Has (db slot_tree) (slot_row id project Dump)) (has : m.dump project ≡ Some dump) (uri : List ℕ) (p : PositionValue) (good : IsPosition p) where
   abbrev asked : Row
   asked = Int id ∷ Text uri ∷ position p ∷ []
 
@@ -196,16 +197,16 @@ module _ (db : Trees) (m : State) (s : StandsFor db m) (project : List ℕ) (dum
   bounded = numbered db m project dump s has
 
   -- the row of a range of the dump
-  there_is : (r : RangeRowValue) → IsRange dump r → (rowid : ℤ) × Has (db 7) (row_of rowid id r)
+  there_is : (r : RangeRowValue) → IsRange dump r → (rowid : ℤ) × Has (db range_row_tree) (row_of rowid id r)
   there_is r is = held db m s IsRange range_columns 7 is_owned are (λ tags. refl) (entry db m s IsRange range_columns 7 is_owned are (λ tags. refl) project dump id slot has (λ r. Unit {0}) r is)
 
-  typed_row : (row : Row) → Has (db 7) row → (at : ℤ) × (e : Entries IsRange db m) × (row ≡ Int at ∷ entry_values range_columns IsRange db m e)
+  typed_row : (row : Row) → Has (db range_row_tree) row → (at : ℤ) × (e : Entries IsRange db m) × (row ≡ Int at ∷ entry_values range_columns IsRange db m e)
   typed_row = typed db m s IsRange range_columns 7 is_owned are (λ tags. refl)
 
   of_dump : (e : Entries IsRange db m) → e.0.slot ≡ id → IsRange dump e.0.value
   of_dump = in_dump db m s IsRange range_columns 7 is_owned are (λ tags. refl) project dump id slot has (λ r. Unit {0})
 
-  start_is : (rows : List Row) (found : Option SlotRange) → IsFirst start_tests range_terms start_order asked (db 7) rows → IsFirstRead found_columns rows found → IfSome found IsSound → IsStart dump uri p found
+  start_is : (rows : List Row) (found : Option SlotRange) → IsFirst start_tests range_terms start_order asked (db range_row_tree) rows → IsFirstRead found_columns rows found → IfSome found IsSound → IsStart dump uri p found
   start_is [] None none read sound = λ r it.
       let there = there_is r it.0.0 in
       let good_row = tests_are id uri (packed_of p) there.0 id r ∙ tested_if id uri (packed_of p) id r (passing_start dump uri p id r good bounded it) in
@@ -232,8 +233,8 @@ module _ (db : Trees) (m : State) (s : StandsFor db m) (project : List ℕ) (dum
       )
 
 pub start_found : (m : State) (id : ℤ) (project : List ℕ) (dump : DumpValue) (uri : List ℕ) (p : PositionValue) (old new : Store) (rows : List Row) (found : Option SlotRange) → IsPosition p → StandsFor old.now.trees m → old.now.schema ≡ schema_two
-    → Has (old.now.trees 1) (slot_row id project Dump) → m.dump project ≡ Some dump → Shown select_start (Int id ∷ Text uri ∷ position p ∷ []) old new rows → IsFirstRead found_columns rows found → IfSome found IsSound → IsStart dump uri p found
+    → Has (old.now.trees slot_tree) (slot_row id project Dump) → m.dump project ≡ Some dump → Shown select_start (Int id ∷ Text uri ∷ position p ∷ []) old new rows → IsFirstRead found_columns rows found → IfSome found IsSound → IsStart dump uri p found
 start_found m id project dump uri p old new rows found good s schema slot has shown read sound =
     let params = Int id ∷ Text uri ∷ position p ∷ [] in
     let it = selects_in_order schema_two select_start params 7 start_tests range_terms start_order (pos 1) range_names select_start_is select_start_plain.0 select_start_plain.1 (λ db. refl) old new rows schema shown in
-    start_is old.now.trees m s project dump id slot has uri p good rows found (first_is start_tests range_terms start_order params (old.now.trees 7) it.0 rows it.1 it.2) read sound
+    start_is old.now.trees m s project dump id slot has uri p good rows found (first_is start_tests range_terms start_order params (old.now.trees range_row_tree) it.0 rows it.1 it.2) read sound

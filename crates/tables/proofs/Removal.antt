@@ -29,6 +29,7 @@ use Rattle.sqlite.specs.State.{State, Executes}
 use Rattle.sqlite.proofs.Callers.{statement_of, runs_as}
 use Rattle.tables.proofs.Select.{one_table, answers}
 use Rattle.tables.specs.Databases.{chosen, AllOrdered}
+use Rattle.tables.specs.TableTrees.{format_tree, slot_tree}
 use Rattle.std.specs.List.Sorted.{IsPermutation}
 use Rattle.sqlite_value.specs.declared.value.Value.TheVariants.{Null, Int, Text as Words}
 use Rattle.sqlite_sql.specs.Term.{Term, col}
@@ -47,7 +48,7 @@ has_mapped f (x ∷ xs) y h = elim (has_either (f x) (flat_map f xs) y h) [
 ]
 
 -- only slots are referred to
-quiet_child : (depth : ℕ) (taken : List Row) → AllByRecursion (λ t. t.tree ≢ 1 → works schema_two Enforced depth t.tree taken [] ≡ []) schema_two.tables
+quiet_child : (depth : ℕ) (taken : List Row) → AllByRecursion (λ t. t.tree ≢ slot_tree → works schema_two Enforced depth t.tree taken [] ≡ []) schema_two.tables
 unfolding same_name everything
 quiet_child depth taken = ((λ _. refl), ((λ no. absurd (no refl)), ((λ _. refl), ((λ _. refl), ((λ _. refl), ((λ _. refl), ((λ _. refl), ((λ _. refl), ((λ _. refl), ((λ _. refl), ((λ _. refl), ((λ _. refl), tt))))))))))))
 
@@ -101,24 +102,24 @@ each_leaf olds w h =
     record {
       deletes = on.deletes;
       listed = subst (Has schema_two.tables) (sym on.child) it.1;
-      unreferred = λ depth taken. subst (λ (t : Table). works schema_two Enforced depth t.tree taken [] ≡ []) (sym on.child) (all_has (λ t. t.tree ≢ 1 → works schema_two Enforced depth t.tree taken [] ≡ []) schema_two.tables it.0 (quiet_child depth taken) it.1 (is_owned it.0.tree on.owns).1.0);
+      unreferred = λ depth taken. subst (λ (t : Table). works schema_two Enforced depth t.tree taken [] ≡ []) (sym on.child) (all_has (λ t. t.tree ≢ slot_tree → works schema_two Enforced depth t.tree taken [] ≡ []) schema_two.tables it.0 (quiet_child depth taken) it.1 (is_owned it.0.tree on.owns).1.0);
     }
 
 -- rows are taken out of `slot`, and those that refer to them go too
 pub record Taken (ids : List ℤ) (old new : Trees) : Type 0 where
   pub mid : Trees
   pub slots : mid 1 ≡ without_all (old 1) ids
-  pub others : AllByRecursion (λ t. t.tree ≢ 1 → mid t.tree ≡ old t.tree) schema_two.tables
+  pub others : AllByRecursion (λ t. t.tree ≢ slot_tree → mid t.tree ≡ old t.tree) schema_two.tables
   pub cut : (t : Table) → Has schema_two.tables t → Cut mid new (works schema_two Enforced 0 1 (map (row_at (old 1)) ids) []) t
   pub ordered : AllOrdered schema_two new
 
-took : (db next : Trees) (ids : List ℤ) → Writes schema_two Enforced db (edit_of db slot ids Given 0 []) (Ok next) → AllOrdered schema_two db → Taken ids db next
+took : (db next : Trees) (ids : List ℤ) → Writes schema_two Enforced db (edit_of db slot ids Given format_tree []) (Ok next) → AllOrdered schema_two db → Taken ids db next
 took db next ids (inl refused) up = absurd (let e = refused.2 in cc)
 took db next ids (inr (inl big)) up = absurd (let e = big.3 in cc)
 took db next ids (inr (inr went)) up =
     let mid = went.0 in
     let made : AllOrdered schema_two mid = taken_ordered schema_two db mid 1 ids (up slot (inr (inl refl))) went.1.rows went.1.tables up in
-    let all = cascades schema_two went.2.0 mid next (works schema_two Enforced 0 1 (map (row_at (db 1)) ids) []) went.2.1 (each_leaf (map (row_at (db 1)) ids)) made in
+    let all = cascades schema_two went.2.0 mid next (works schema_two Enforced 0 1 (map (row_at (db slot_tree)) ids) []) went.2.1 (each_leaf (map (row_at (db slot_tree)) ids)) made in
     record { mid = mid; slots = went.1.rows; others = went.1.tables; cut = all.1; ordered = all.0 }
 
 -- the rows of `slot` that a DELETE selects are taken out
@@ -141,7 +142,7 @@ module _ (params : Row) (tests : List Term) (limit : Option ℕ) where
       let made = same_value written.2 in
       let trees : w.trees ≡ written.0 = ap (λ (it : Written). it.trees) made in (
         record { rows = rows; selected = chose; taken = subst (Taken (ids_of rows) db) (sym trees) (took db written.0 (ids_of rows) written.1 up) },
-        ap (λ (it : Written). length it.rows) made ∙ (length-map (ids_of rows) (row_at (db 1)) ∙ length-map rows (λ r. id_in (rowid r))),
+        ap (λ (it : Written). length it.rows) made ∙ (length-map (ids_of rows) (row_at (db slot_tree)) ∙ length-map rows (λ r. id_in (rowid r))),
       )
 
 -- what a DELETE of one part's slot takes out, and how many rows it answers

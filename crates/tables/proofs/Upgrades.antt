@@ -23,6 +23,7 @@ use Rattle.machine.specs.State.{State}
 use Rattle.tables.specs.Parts.{part_number}
 use Rattle.tables.specs.declared.slots.Part.{Part}
 use Rattle.tables.specs.declared.slots.Part.TheVariants.{Dump, Tags}
+use Rattle.tables.specs.TableTrees.{format_tree}
 use Rattle.tables.proofs.Empty.{one_row, version_ordered, version_is}
 use Rattle.tables.proofs.Keeping.{from_map, to_map, number_is, which_part, same_int_is, same_int_itself}
 use Rattle.tables.proofs.PartRemoved.{truly}
@@ -47,7 +48,7 @@ plainly_true true h = refl
 plainly_true false h = h
 
 module _ (old new : Trees) (parts : Contents) (replies : Replies) (is : KeepsOne old parts replies) (up : WasUpgraded old new) (besides : HasBesides parts) where
-  same : (t : Table) → Has schema_one.tables t → t.tree ≢ 0 → new t.tree ≡ old t.tree
+  same : (t : Table) → Has schema_one.tables t → t.tree ≢ format_tree → new t.tree ≡ old t.tree
   same t listed other = all_has (λ (x : Table). x.tree ≢ 0 → new x.tree ≡ old x.tree) schema_one.tables t up.others listed other
 
   slots_same : new 1 ≡ old 1
@@ -183,5 +184,5 @@ rests_upgraded s t m is up settled = record { schema_is = up.schema_is; settled 
 pub rests_one : (s : sqlite.State) (m : State) → RestsOne s m → IsFormatOne s.now
 rests_one s m is = record {
   schema_is = is.schema_is;
-  version = one_row (s.now.trees 0) (Int (pos 1) ∷ Null ∷ []) (pos 1) refl (is.stands.keeps.ordered format (inl refl)).rises (λ row h. (is.stands.keeps.version row).0 h) ((is.stands.keeps.version _).1 refl);
+  version = one_row (s.now.trees format_tree) (Int (pos 1) ∷ Null ∷ []) (pos 1) refl (is.stands.keeps.ordered format (inl refl)).rises (λ row h. (is.stands.keeps.version row).0 h) ((is.stands.keeps.version _).1 refl);
 }

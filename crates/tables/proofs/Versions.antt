@@ -18,6 +18,7 @@ use Rattle.sqlite_catalog.specs.Change.{is_used}
 use Rattle.tables.specs.Steps.Texts.{select_version}
 use Rattle.tables.specs.Schema.{schema_one, schema_two, format}
 use Rattle.tables.specs.Databases.{chosen, version_row}
+use Rattle.tables.specs.TableTrees.{format_tree}
 use Rattle.tables.proofs.Select.{one_table, selects}
 
 pub one_is : command_of (understood schema_one select_version) ≡ Select (record { lets = []; body = one_table 0 [] (col 1 0 ∷ []) }) (codes "version" ∷ [])
@@ -45,7 +46,7 @@ unchanged schema sql params old new rows has plain h =
 
 module _ (schema : Schema) (n : ℕ) (is : command_of (understood schema select_version) ≡ Select (record { lets = []; body = one_table 0 [] (col 1 0 ∷ []) }) (codes "version" ∷ []))
     (plain : IsPlain (understood schema select_version) × (reads_listing schema select_version ≡ false)) where
-  pub version_is : (old new : State) (rows : List Row) → old.now.schema ≡ schema → old.now.trees 0 ≡ version_row n → Shown select_version [] old new rows → (rows ≡ (Int (pos n) ∷ []) ∷ []) × IsUnchanged old new
+  pub version_is : (old new : State) (rows : List Row) → old.now.schema ≡ schema → old.now.trees format_tree ≡ version_row n → Shown select_version [] old new rows → (rows ≡ (Int (pos n) ∷ []) ∷ []) × IsUnchanged old new
   version_is old new rows has was h =
       let got = selects schema select_version [] 0 [] (col 1 0 ∷ []) (codes "version" ∷ []) is plain.0 plain.1 (λ db. refl) old new rows has h in
       (one_permutation (Int (pos n) ∷ []) rows (subst (λ xs. IsPermutation (chosen [] (col 1 0 ∷ []) [] xs) rows) was got), unchanged schema select_version [] old new rows has plain.0 h)

@@ -1,5 +1,5 @@
 -- The batches: format 2 from nothing, and format 2 from format 1.
-use Rattle.std.proofs.Common.{◌≡◌, ◌≢◌, inl, inr, refl, sym, ap, ◌∙◌, subst, ℕ, pos, List, [], ◌∷◌, true, false, length, Some, Ok, Err, Result, OnOk, nat_lt, if◌then◌else◌, true≢false, subst₂, ◌↔◌, ℤ, arith}
+use Rattle.std.proofs.Common.{◌≡◌, ◌≢◌, ◌/◌, map, inl, inr, refl, sym, ap, ◌∙◌, subst, ℕ, pos, List, [], ◌∷◌, true, false, length, Some, Ok, Err, Result, OnOk, nat_lt, if◌then◌else◌, true≢false, subst₂, ◌↔◌, ℤ, arith}
 use Rattle.std.specs.List.{AllByRecursion}
 use Rattle.sqlite_schema.specs.declared.schema.Table.{Table}
 use Rattle.sqlite_schema.specs.Names.{same_name}
@@ -8,7 +8,8 @@ use Rattle.sqlite_schema.specs.declared.command.Source.TheVariants.{Values}
 use Rattle.sqlite_schema.specs.declared.schema.Keys.TheVariants.{Enforced}
 use Rattle.sqlite_value.specs.Order.{Row}
 use Rattle.sqlite_value.specs.declared.value.Value.TheVariants.{Null, Int}
-use Rattle.sqlite_sql.specs.Term.{lit}
+use Rattle.sqlite_sql.specs.Term.{Term, lit}
+use Rattle.sqlite_rules.specs.Cast.{cast_row}
 use Rattle.sqlite_rules.specs.Action.{works}
 use Rattle.sqlite_rules.specs.Lists.{Has}
 use Rattle.sqlite_rules.proofs.ListLemmas.{all_has, all_from, has_left}
@@ -16,7 +17,7 @@ use Rattle.sqlite_tied.specs.Compute.{everything}
 use Rattle.sqlite_trees.specs.Tree.{Trees}
 use Rattle.sqlite_trees.specs.declared.store.Store.{Ghosts}
 use Rattle.sqlite.specs.declared.error.Error.{Error}
-use Rattle.sqlite.specs.Effect.{Database}
+use Rattle.sqlite.specs.Effect.{Database, value_rows}
 use Rattle.sqlite.specs.Listing.{understood, listing_schema}
 use Rattle.sqlite.specs.Held.{Held, state}
 use Rattle.sqlite.specs.State.{State, ExecutesIn}
@@ -26,7 +27,9 @@ use Rattle.tables.specs.Steps.Texts.{version_text, rest0, rest15, upgrade0, upgr
 use Rattle.tables.specs.Schema.{empty_schema, schema_one, schema_two, format, slot, part_profile, more}
 use Rattle.tables.specs.Steps.Kept.{IsKept, no_rows}
 use Rattle.tables.specs.Databases.{IsListed, IsMade, IsFormatOne, IsUpgraded, WasUpgraded, AreNumbered, IsOrdered, chosen, dump_tests, profile_shown, version_row}
+use Rattle.tables.specs.TableTrees.{format_tree, part_profile_tree, slot_tree}
 use Rattle.tables.proofs.Insert.{inserts}
+use Rattle.tables.proofs.Inserts.{some_rows}
 use Rattle.tables.proofs.Batches.{IsSilent, Script, done, next, also, runs, peel, from_batch}
 use Rattle.tables.proofs.Creations.{stage0, stage10, stage15, makes_one, makes_two, format_makes, slot_makes, keyed_makes, document_makes, range_row_makes, item_makes, hover_makes, mark_makes, bearer_makes, tag_makes, range_by_start_makes, bearer_by_key_makes, tag_by_name_makes, part_profile_makes, more_makes}
 use Rattle.tables.proofs.Cuts.{cut0, cut1, cut2, cut3, cut4, cut5, cut6, cut7, cut8, cut9, cut10, cut11, cut12, cut13, cut14, cut15, upgrade_cut0, upgrade_cut1, upgrade_cut2, upgrade_cut3, upgrade_cut4, upgrade_cut5, upgrade_cut6}
@@ -53,7 +56,10 @@ script =
     next _ _ _ _ _ _ _ cut14 more_makes refl (
     done _ _)))))))))))))))
 
-insert_is : command_of (understood schema_two version_text) ≡ Insert 0 (Values (lit (Int (pos 2)) ∷ lit Null ∷ []) 2)
+abbrev version_terms : List Term
+version_terms = lit (Int (pos 2)) ∷ lit Null ∷ []
+
+insert_is : command_of (understood schema_two version_text) ≡ Insert 0 (Values version_terms 2)
 unfolding understood everything
 insert_is = refl
 
@@ -61,22 +67,25 @@ insert_quiet : IsPlain (understood schema_two version_text) × IsSilent (underst
 unfolding understood everything listing_schema
 insert_quiet = ((refl, refl), (refl, refl))
 
-quiet : (row : Row) → works schema_two Enforced 0 0 [] (row ∷ []) ≡ []
+quiet : (row : Row) (more : List Row) → works schema_two Enforced 0 format_tree [] (row ∷ more) ≡ []
 unfolding same_name
-quiet row = refl
+quiet row more = rw (some_rows row more) refl
+
+taken : map (cast_row format) (value_rows [] 2 (length version_terms / 2) version_terms) ≡ (Int (pos 2) ∷ Null ∷ []) ∷ []
+taken = rw (cast_null, cast_int (pos 2))
 
 filled : (old new : State) (count : ℕ) → IsKept schema_two no_rows old.now → ExecutesIn false version_text [] old new (Ok count) → IsMade new.now
 unfolding IsListed
 filled old new count bare h =
-    let it = inserts schema_two version_text [] 0 format (lit (Int (pos 2)) ∷ lit Null ∷ []) 2 insert_is insert_quiet.0 refl (λ p. refl) quiet old new count bare.schema_is h in
+    let it = inserts schema_two version_text [] 0 format version_terms 2 insert_is insert_quiet.0 refl quiet (Int (pos 2) ∷ Null ∷ []) [] taken old new count bare.schema_is h in
     record {
       schema_is = it.schema_is;
-      version = it.applies.rows ∙ rw (bare.rows.0, cast_null, cast_int (pos 2));
+      version = it.applies.rows ∙ rw (bare.rows.0);
       others = still old.now.trees new.now.trees schema_two.tables bare.rows it.applies.tables;
       listed = subst (λ s. IsListed s new.now.trees) it.schema_is it.sound.lists;
     }
   where
-    still : (a b : Trees) (tables : List Table) → AllByRecursion (λ t. a t.tree ≡ []) tables → AllByRecursion (λ t. t.tree ≢ 0 → b t.tree ≡ a t.tree) tables → AllByRecursion (λ t. t.tree ≢ 0 → b t.tree ≡ []) tables
+    still : (a b : Trees) (tables : List Table) → AllByRecursion (λ t. a t.tree ≡ []) tables → AllByRecursion (λ t. t.tree ≢ format_tree → b t.tree ≡ a t.tree) tables → AllByRecursion (λ t. t.tree ≢ format_tree → b t.tree ≡ []) tables
     still a b [] p q = tt
     still a b (t ∷ ts) p q = (λ other. q.0 other ∙ p.0, still a b ts p.1 q.1)
 
@@ -125,18 +134,18 @@ is_not t n low high same = true≢false (sym low ∙ ap (λ x. nat_lt x 19) same
 after_all : (was mid late end : Database) → IsKept schema_two (older was.trees) mid → Filled mid late → Risen late end → WasUpgraded was.trees end.trees
 unfolding IsListed
 after_all was mid late end grown put risen =
-    let fill = all_has (λ t. t.tree ≢ 22 → late.trees t.tree ≡ mid.trees t.tree) schema_two.tables in
-    let last = all_has (λ t. t.tree ≢ 0 → end.trees t.tree ≡ late.trees t.tree) schema_two.tables in
+    let fill = all_has (λ t. t.tree ≢ part_profile_tree → late.trees t.tree ≡ mid.trees t.tree) schema_two.tables in
+    let last = all_has (λ t. t.tree ≢ format_tree → end.trees t.tree ≡ late.trees t.tree) schema_two.tables in
     let kept = all_has (λ t. mid.trees t.tree ≡ older was.trees t.tree) schema_two.tables in
-    let slots : mid.trees 1 ≡ was.trees 1 = kept slot grown.rows (inr (inl refl)) in
-    let blank : mid.trees 22 ≡ [] = kept part_profile grown.rows (inr (inr (inr (inr (inr (inr (inr (inr (inr (inr (inl refl))))))))))) in
-    let profiles_stay : end.trees 22 ≡ late.trees 22 = last part_profile risen.others (inr (inr (inr (inr (inr (inr (inr (inr (inr (inr (inl refl))))))))))) (λ e. is_not 0 22 refl refl (sym e)) in
+    let slots : mid.trees slot_tree ≡ was.trees slot_tree = kept slot grown.rows (inr (inl refl)) in
+    let blank : mid.trees part_profile_tree ≡ [] = kept part_profile grown.rows (inr (inr (inr (inr (inr (inr (inr (inr (inr (inr (inl refl))))))))))) in
+    let profiles_stay : end.trees part_profile_tree ≡ late.trees part_profile_tree = last part_profile risen.others (inr (inr (inr (inr (inr (inr (inr (inr (inr (inr (inl refl))))))))))) (λ e. is_not 0 22 refl refl (sym e)) in
     let has_more : Has schema_two.tables more = inr (inr (inr (inr (inr (inr (inr (inr (inr (inr (inr (inl refl))))))))))) in
     record {
       version = risen.version;
-      others = all_from (λ t. t.tree ≢ 0 → end.trees t.tree ≡ was.trees t.tree) schema_one.tables (λ t there other.
+      others = all_from (λ t. t.tree ≢ format_tree → end.trees t.tree ≡ was.trees t.tree) schema_one.tables (λ t there other.
           let low = all_has (λ t. nat_lt t.tree 19 ≡ true) schema_one.tables t all_old there in
-          last t risen.others (in_both t there) other ∙ fill t put.applies.tables (in_both t there) (is_not t.tree 22 low refl) ∙ kept t grown.rows (in_both t there) ∙ older_is was.trees t.tree low);
+          last t risen.others (in_both t there) other ∙ fill t put.applies.tables (in_both t there) (is_not t.tree part_profile_tree low refl) ∙ kept t grown.rows (in_both t there) ∙ older_is was.trees t.tree low);
       profiles = λ ids row. subst₂ (λ (rows profile : List Row). ((id : ℤ) × Has profile (Int id ∷ row)) ↔ Has (chosen dump_tests profile_shown [] rows) row) slots (sym profiles_stay)
           (profiles mid late blank put (subst AreNumbered (sym slots) ids) row);
       ordered = λ ids. subst IsOrdered (sym profiles_stay) (profiles_ordered mid late blank put (subst AreNumbered (sym slots) ids));
@@ -156,7 +165,7 @@ upgraded g old new is h =
     let last = peel g (Some 0) fill.2 upgrade6 set_version [] upgrade_cut6 fill.0 new fill.4 in
     let mid = (state g tables.0).now in
     let late = (state g fill.0).now in
-    let format_is : late.trees 0 ≡ version_row 1 = all_has (λ t. t.tree ≢ 22 → late.trees t.tree ≡ mid.trees t.tree) schema_two.tables format put.applies.tables (inl refl) (is_not 0 22 refl refl) ∙ grown.rows.0 ∙ is.version in
+    let format_is : late.trees format_tree ≡ version_row 1 = all_has (λ t. t.tree ≢ part_profile_tree → late.trees t.tree ≡ mid.trees t.tree) schema_two.tables format put.applies.tables (inl refl) (is_not 0 22 refl refl) ∙ grown.rows.0 ∙ is.version in
     let risen = rises (state g fill.0) (state g last.0) last.1 put.schema_is format_is last.3.runs in
     subst (λ x. IsUpgraded was (state g x).now) (sym last.4.1) (record {
       schema_is = risen.schema_is;

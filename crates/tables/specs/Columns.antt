@@ -92,8 +92,12 @@ optional_text = or_null Text
 abbrev pub fields_text : List FieldValue → List ℕ
 fields_text fields = compact_text (array (items_of (map field_data fields)))
 
+-- those of a tag whose fields have this text
+abbrev pub columns_with : TagValue → List ℕ → Row
+columns_with t fields = number t.line ∷ Text t.name ∷ Text t.file ∷ Text t.address ∷ optional_text t.kind ∷ Text fields ∷ []
+
 abbrev pub tag_columns : TagValue → Row
-tag_columns t = number t.line ∷ Text t.name ∷ Text t.file ∷ Text t.address ∷ optional_text t.kind ∷ Text (fields_text t.fields) ∷ []
+tag_columns t = columns_with t (fields_text t.fields)
 
 -- the rows of tags, all in `tag`
 abbrev pub tag_rows : List TagValue → ℕ → List Row

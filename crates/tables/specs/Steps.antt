@@ -2,6 +2,7 @@
 pub mod Clauses
 pub mod Climbs
 pub mod DumpEntries
+pub mod Inserts
 pub mod Kept
 pub mod Known
 pub mod Puts

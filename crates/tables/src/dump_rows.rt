@@ -1,4 +1,4 @@
-//! The rows of a dump's tables, one type each, and the statements that insert them. What they hold is in `specs/Columns`.
+//! The rows of a dump's tables, one type each, with the statements that insert them and the values of these. What they hold is in `specs/Columns`.
 ghost use Rattle.std.specs.Prelude.{◌≡◌};
 ghost use Rattle.flatten.specs.Flat.{role_index, kind_index};
 ghost use Rattle.flatten.specs.Rows.{document_value, range_value, item_value, hover_value, mark_value, bearer_value};
@@ -9,7 +9,9 @@ use crate::part_rows::PartRow;
 use dump::Role;
 use flatten::{BearerRow, DocRow, HoverRow, ItemRow, MarkRow, RangeRow};
 use lsif::MonikerKind;
-use sqlite::{Alter, Error, Transaction, params};
+use sqlite::params;
+use sqlite::types::ValueRef;
+use std::alloc::AllocError;
 
 /// The number that a row has for a role.
 pub(crate) fn role_number(role: Role) -> u32
@@ -32,16 +34,49 @@ pub(crate) fn kind_number(kind: MonikerKind) -> u32
     }
 }
 
+// ---- the statements that insert one row, and eight
+
+pub(crate) const INSERT_DOCUMENT: &str = "INSERT INTO document (slot, uri) VALUES (?1, ?2)";
+
+pub(crate) const INSERT_RANGE: &str =
+    "INSERT INTO range_row (slot, line, uri, first, last, parent, def, refs, hover) VALUES (?1, ?2, ?3, ?4, ?5, ?6, ?7, ?8, ?9)";
+
+pub(crate) const INSERT_EIGHT_RANGES: &str =
+    "INSERT INTO range_row (slot, line, uri, first, last, parent, def, refs, hover) VALUES (?,?,?,?,?,?,?,?,?),(?,?,?,?,?,?,?,?,?),(?,?,?,?,?,?,?,?,?),(?,?,?,?,?,?,?,?,?),(?,?,?,?,?,?,?,?,?),(?,?,?,?,?,?,?,?,?),(?,?,?,?,?,?,?,?,?),(?,?,?,?,?,?,?,?,?)";
+
+pub(crate) const INSERT_ITEM: &str =
+    "INSERT INTO item (slot, result, role, uri, first, last) VALUES (?1, ?2, ?3, ?4, ?5, ?6)";
+
+pub(crate) const INSERT_EIGHT_ITEMS: &str =
+    "INSERT INTO item (slot, result, role, uri, first, last) VALUES (?,?,?,?,?,?),(?,?,?,?,?,?),(?,?,?,?,?,?),(?,?,?,?,?,?),(?,?,?,?,?,?),(?,?,?,?,?,?),(?,?,?,?,?,?),(?,?,?,?,?,?)";
+
+pub(crate) const INSERT_HOVER: &str =
+    "INSERT INTO hover (slot, result, contents) VALUES (?1, ?2, ?3)";
+
+pub(crate) const INSERT_EIGHT_HOVERS: &str =
+    "INSERT INTO hover (slot, result, contents) VALUES (?,?,?),(?,?,?),(?,?,?),(?,?,?),(?,?,?),(?,?,?),(?,?,?),(?,?,?)";
+
+pub(crate) const INSERT_MARK: &str =
+    "INSERT INTO mark (slot, line, kind, keytext) VALUES (?1, ?2, ?3, ?4)";
+
+pub(crate) const INSERT_EIGHT_MARKS: &str =
+    "INSERT INTO mark (slot, line, kind, keytext) VALUES (?,?,?,?),(?,?,?,?),(?,?,?,?),(?,?,?,?),(?,?,?,?),(?,?,?,?),(?,?,?,?),(?,?,?,?)";
+
+pub(crate) const INSERT_BEARER: &str =
+    "INSERT INTO bearer (slot, line, keytext, kind, def, refs, hover) VALUES (?1, ?2, ?3, ?4, ?5, ?6, ?7)";
+
+pub(crate) const INSERT_EIGHT_BEARERS: &str =
+    "INSERT INTO bearer (slot, line, keytext, kind, def, refs, hover) VALUES (?,?,?,?,?,?,?),(?,?,?,?,?,?,?),(?,?,?,?,?,?,?),(?,?,?,?,?,?,?),(?,?,?,?,?,?,?),(?,?,?,?,?,?,?),(?,?,?,?,?,?,?),(?,?,?,?,?,?,?)";
+
+// ---- the rows
+
 impl PartRow for DocRow<'_> {
     ghost tree = { document_tree };
 
     ghost columns = { λ row. document_columns (document_value row) };
 
-    fn insert<S: Alter>(&self, tx: &mut Transaction<'_, S>, slot: i64) -> Result<usize, Error> {
-        tx.execute(
-            "INSERT INTO document (slot, uri) VALUES (?1, ?2)",
-            params![slot, self.uri],
-        )
+    fn bind<'a>(&'a self, slot: i64, values: &mut Vec<ValueRef<'a>>) -> Result<(), AllocError> {
+        values.extend_from_slice(params![slot, self.uri])
     }
 }
 
@@ -50,23 +85,19 @@ impl PartRow for RangeRow<'_> {
 
     ghost columns = { λ row. range_columns (range_value row) };
 
-    fn insert<S: Alter>(&self, tx: &mut Transaction<'_, S>, slot: i64) -> Result<usize, Error> {
-        let first = self.span.start().pack();
-        let last = self.span.end().pack();
-        tx.execute(
-            "INSERT INTO range_row (slot, line, uri, first, last, parent, def, refs, hover) VALUES (?1, ?2, ?3, ?4, ?5, ?6, ?7, ?8, ?9)",
-            params![
-                slot,
-                self.line,
-                self.uri,
-                first,
-                last,
-                self.parent,
-                self.def,
-                self.refs,
-                self.hover
-            ],
-        )
+    fn bind<'a>(&'a self, slot: i64, values: &mut Vec<ValueRef<'a>>) -> Result<(), AllocError> {
+        let (first, last) = (self.span.start().pack(), self.span.end().pack());
+        values.extend_from_slice(params![
+            slot,
+            self.line,
+            self.uri,
+            first,
+            last,
+            self.parent,
+            self.def,
+            self.refs,
+            self.hover
+        ])
     }
 }
 
@@ -75,14 +106,10 @@ impl PartRow for ItemRow<'_> {
 
     ghost columns = { λ row. item_columns (item_value row) };
 
-    fn insert<S: Alter>(&self, tx: &mut Transaction<'_, S>, slot: i64) -> Result<usize, Error> {
-        let first = self.span.start().pack();
-        let last = self.span.end().pack();
+    fn bind<'a>(&'a self, slot: i64, values: &mut Vec<ValueRef<'a>>) -> Result<(), AllocError> {
+        let (first, last) = (self.span.start().pack(), self.span.end().pack());
         let role = role_number(self.role);
-        tx.execute(
-            "INSERT INTO item (slot, result, role, uri, first, last) VALUES (?1, ?2, ?3, ?4, ?5, ?6)",
-            params![slot, self.result, role, self.uri, first, last],
-        )
+        values.extend_from_slice(params![slot, self.result, role, self.uri, first, last])
     }
 }
 
@@ -91,11 +118,8 @@ impl PartRow for HoverRow<'_> {
 
     ghost columns = { λ row. hover_columns (hover_value row) };
 
-    fn insert<S: Alter>(&self, tx: &mut Transaction<'_, S>, slot: i64) -> Result<usize, Error> {
-        tx.execute(
-            "INSERT INTO hover (slot, result, contents) VALUES (?1, ?2, ?3)",
-            params![slot, self.result, self.contents],
-        )
+    fn bind<'a>(&'a self, slot: i64, values: &mut Vec<ValueRef<'a>>) -> Result<(), AllocError> {
+        values.extend_from_slice(params![slot, self.result, self.contents])
     }
 }
 
@@ -104,12 +128,9 @@ impl PartRow for MarkRow {
 
     ghost columns = { λ row. mark_columns (mark_value row) };
 
-    fn insert<S: Alter>(&self, tx: &mut Transaction<'_, S>, slot: i64) -> Result<usize, Error> {
+    fn bind<'a>(&'a self, slot: i64, values: &mut Vec<ValueRef<'a>>) -> Result<(), AllocError> {
         let kind = kind_number(self.kind);
-        tx.execute(
-            "INSERT INTO mark (slot, line, kind, keytext) VALUES (?1, ?2, ?3, ?4)",
-            params![slot, self.range, kind, self.key.as_str()],
-        )
+        values.extend_from_slice(params![slot, self.range, kind, self.key.as_str()])
     }
 }
 
@@ -118,11 +139,10 @@ impl PartRow for BearerRow {
 
     ghost columns = { λ row. bearer_columns (bearer_value row) };
 
-    fn insert<S: Alter>(&self, tx: &mut Transaction<'_, S>, slot: i64) -> Result<usize, Error> {
+    fn bind<'a>(&'a self, slot: i64, values: &mut Vec<ValueRef<'a>>) -> Result<(), AllocError> {
         let (kind, key) = (kind_number(self.kind), self.key.as_str());
-        tx.execute(
-            "INSERT INTO bearer (slot, line, keytext, kind, def, refs, hover) VALUES (?1, ?2, ?3, ?4, ?5, ?6, ?7)",
-            params![slot, self.line, key, kind, self.def, self.refs, self.hover],
-        )
+        values.extend_from_slice(params![
+            slot, self.line, key, kind, self.def, self.refs, self.hover
+        ])
     }
 }

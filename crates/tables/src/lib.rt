@@ -26,6 +26,7 @@ mod replies;
 mod results;
 mod selection;
 mod slots;
+mod statements;
 mod tables;
 mod tags_part;
 

@@ -14,6 +14,7 @@ ghost use Rattle.tables.specs.Steps.Puts.{PutsAll, Steps};
 ghost use Rattle.tables.specs.Steps.Clauses.{Edits};
 ghost use Rattle.tables.specs.TableTrees.{more_tree};
 
+use crate::statements::run;
 use flatten::{BearerRow, RangeRow, Rows};
 use sqlite::{Alter, Error, Transaction, params};
 
@@ -31,7 +32,8 @@ fn insert_row<S: Alter>(
     ensures kept { HasCleanDisk (state S.Store tx.new.conn.now) → KeepsCommit (state S.Store tx.old.conn.now) (state S.Store tx.new.conn.now) }
     ensures survives { Survives (state S.Store tx.old.conn.now) (state S.Store tx.new.conn.now) (λ _. ⊥) }
 {
-    tx.execute(
+    run(
+        tx,
         "INSERT INTO more (slot, line, decl, imp) VALUES (?1, ?2, ?3, ?4)",
         params![slot, line, decl, imp],
     )

@@ -1,13 +1,24 @@
-//! The trait of the rows of a part, and how a list of them is put into its table.
-ghost use Rattle.std.specs.Prelude.{◌≡◌, ◌∷◌, [], ℕ, map};
+//! The trait of the rows of a part, and how a list of them is put into its table: eight by one statement, as long as there are so many, and the last
+//! ones one by one. What the rows hold is in `specs/Columns`, what a statement makes of its values in `specs/Steps/Inserts`.
+ghost use Rattle.std.specs.Prelude.{◌≡◌, ◌∷◌, ◌++◌, ℕ, map, IfSome, OnOk};
+ghost use Rattle.std.specs.List.{flat_map};
 ghost use Rattle.sqlite_value.specs.declared.value.Value.TheVariants.{Int};
 ghost use Rattle.sqlite_value.specs.Order.{Row as Columns};
+ghost use Rattle.sqlite.specs.Values.{bound};
 ghost use Rattle.sqlite.specs.State.{HasCleanDisk, Survives, KeepsCommit};
 ghost use Rattle.sqlite.specs.Held.{state};
 ghost use Rattle.tables.specs.Steps.Puts.{PutsAll};
+ghost use Rattle.tables.specs.Steps.Inserts.{Inserts, InsertsOne, InsertsEight};
 ghost use Rattle.tables.specs.Steps.Clauses.{Edits};
 
+use crate::statements::run;
+use sqlite::types::ValueRef;
 use sqlite::{Alter, Error, Transaction};
+use std::alloc::{AllocError, Global};
+use std::slice::from_ref;
+
+/// How many rows a statement for several rows inserts.
+pub(crate) const EIGHT: usize = 8;
 
 /// A row that a part has in one of its tables.
 pub(crate) trait PartRow {
@@ -17,21 +28,43 @@ pub(crate) trait PartRow {
     /// The row's columns behind that of the slot.
     ghost columns: { Self → Columns };
 
-    /// Puts the row into its table, under this slot.
-    fn insert<S: Alter>(&self, tx: &mut Transaction<'_, S>, slot: i64) -> Result<usize, Error>
-        ensures same_reference { tx.new.conn.ghost_name ≡ tx.old.conn.ghost_name }
-        ensures put { Edits result tx.old.conn.now.in_transaction (state S.Store tx.old.conn.now) (state S.Store tx.new.conn.now)
-            (PutsAll tree ((Int slot ∷ columns self.now) ∷ [])) }
-        ensures kept { HasCleanDisk (state S.Store tx.new.conn.now) → KeepsCommit (state S.Store tx.old.conn.now) (state S.Store tx.new.conn.now) }
-        ensures survives { Survives (state S.Store tx.old.conn.now) (state S.Store tx.new.conn.now) (λ _. ⊥) };
+    /// Adds the row's values, the slot first, to those of a statement.
+    fn bind<'a>(&'a self, slot: i64, values: &mut Vec<ValueRef<'a>>) -> Result<(), AllocError>
+        ensures { OnOk result (bound values.new.items ≡ bound values.old.items ++ (Int slot ∷ columns self.now)) };
 }
 
-/// Puts the rows into their table, under this slot.
-pub(crate) fn insert_all<S: Alter, R: PartRow>(
+/// Puts the rows into their table, under this slot, by a statement for so many. The values that are there are those of rows before.
+fn insert_by<'a, S: Alter, R: PartRow>(
     tx: &mut Transaction<'_, S>,
     slot: i64,
-    rows: &[R],
+    text: &str,
+    rows: &'a [R],
+    values: &mut Vec<ValueRef<'a>>,
 ) -> Result<(), Error>
+    requires inserts { Inserts text.now R.tree (flat_map (λ row. Int slot ∷ R.columns row) rows.now) (map (λ row. Int slot ∷ R.columns row) rows.now) }
+    ensures same_reference { tx.new.conn.ghost_name ≡ tx.old.conn.ghost_name }
+    ensures put { Edits result tx.old.conn.now.in_transaction (state S.Store tx.old.conn.now) (state S.Store tx.new.conn.now)
+        (PutsAll R.tree (map (λ row. Int slot ∷ R.columns row) rows.now)) }
+    ensures kept { HasCleanDisk (state S.Store tx.new.conn.now) → KeepsCommit (state S.Store tx.old.conn.now) (state S.Store tx.new.conn.now) }
+    ensures survives { Survives (state S.Store tx.old.conn.now) (state S.Store tx.new.conn.now) (λ _. ⊥) }
+{
+    values.clear();
+    for row in rows {
+        row.bind(slot, values)?;
+    }
+    run(tx, text, values)?;
+    Ok(())
+}
+
+/// Puts the rows into their table, under this slot, one by one by a statement for one row.
+fn insert_each<'a, S: Alter, R: PartRow>(
+    tx: &mut Transaction<'_, S>,
+    slot: i64,
+    text: &str,
+    rows: &'a [R],
+    values: &mut Vec<ValueRef<'a>>,
+) -> Result<(), Error>
+    requires inserts { InsertsOne text.now R.tree R.columns }
     ensures same_reference { tx.new.conn.ghost_name ≡ tx.old.conn.ghost_name }
     ensures put { Edits result tx.old.conn.now.in_transaction (state S.Store tx.old.conn.now) (state S.Store tx.new.conn.now)
         (PutsAll R.tree (map (λ row. Int slot ∷ R.columns row) rows.now)) }
@@ -39,7 +72,34 @@ pub(crate) fn insert_all<S: Alter, R: PartRow>(
     ensures survives { Survives (state S.Store tx.old.conn.now) (state S.Store tx.new.conn.now) (λ _. ⊥) }
 {
     for row in rows {
-        row.insert(tx, slot)?;
+        insert_by(tx, slot, text, from_ref(row), values)?;
+    }
+    Ok(())
+}
+
+/// Puts the rows into their table, under this slot, by a statement for one row and, where there is such a one, a statement for eight.
+pub(crate) fn insert_all<S: Alter, R: PartRow>(
+    alloc: Global,
+    tx: &mut Transaction<'_, S>,
+    slot: i64,
+    one: &str,
+    eight: Option<&str>,
+    rows: &[R],
+) -> Result<(), Error>
+    requires one { InsertsOne one.now R.tree R.columns }
+    requires eight { IfSome eight (λ text. InsertsEight text.now R.tree R.columns) }
+    ensures same_reference { tx.new.conn.ghost_name ≡ tx.old.conn.ghost_name }
+    ensures put { Edits result tx.old.conn.now.in_transaction (state S.Store tx.old.conn.now) (state S.Store tx.new.conn.now)
+        (PutsAll R.tree (map (λ row. Int slot ∷ R.columns row) rows.now)) }
+    ensures kept { HasCleanDisk (state S.Store tx.new.conn.now) → KeepsCommit (state S.Store tx.old.conn.now) (state S.Store tx.new.conn.now) }
+    ensures survives { Survives (state S.Store tx.old.conn.now) (state S.Store tx.new.conn.now) (λ _. ⊥) }
+{
+    let mut values = Vec::new(alloc);
+    for group in rows.chunks(EIGHT) {
+        match eight {
+            Some(text) if group.len() == EIGHT => insert_by(tx, slot, text, group, &mut values)?,
+            _ => insert_each(tx, slot, one, group, &mut values)?,
+        }
     }
     Ok(())
 }

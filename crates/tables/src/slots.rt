@@ -11,6 +11,7 @@ ghost use Rattle.tables.specs.Steps.Puts.{Puts, PutsAll, Steps, GoesOn};
 ghost use Rattle.tables.specs.Steps.Clauses.{Edits};
 ghost use Rattle.tables.specs.TableTrees.{keyed_tree, slot_tree};
 
+use crate::statements::run;
 use sqlite::{Alter, Error, Transaction, params};
 
 /// A kind of part of a project.
@@ -47,7 +48,8 @@ pub(crate) fn remove_slot<S: Alter>(
     ensures survives { Survives (state S.Store tx.old.conn.now) (state S.Store tx.new.conn.now) (λ _. ⊥) }
 {
     let number = part_number(part);
-    tx.execute(
+    run(
+        tx,
         "DELETE FROM slot WHERE project = ?1 AND part = ?2",
         params![project, number],
     )
@@ -68,7 +70,8 @@ pub(crate) fn insert_slot<S: Alter>(
     ensures survives { Survives (state S.Store tx.old.conn.now) (state S.Store tx.new.conn.now) (λ _. ⊥) }
 {
     let number = part_number(part);
-    tx.execute(
+    run(
+        tx,
         "INSERT INTO slot (project, part) VALUES (?1, ?2)",
         params![project, number],
     )?;
@@ -91,7 +94,8 @@ pub(crate) fn insert_reply<S: Alter>(
     ensures kept { HasCleanDisk (state S.Store tx.new.conn.now) → KeepsCommit (state S.Store tx.old.conn.now) (state S.Store tx.new.conn.now) }
     ensures survives { Survives (state S.Store tx.old.conn.now) (state S.Store tx.new.conn.now) (λ _. ⊥) }
 {
-    tx.execute(
+    run(
+        tx,
         "INSERT INTO keyed (project, cmdkey, reply) VALUES (?1, ?2, ?3)",
         params![project, key, reply],
     )

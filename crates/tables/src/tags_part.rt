@@ -1,22 +1,31 @@
 //! The rows of tags, put under a slot of their own; the fields are written as JSON. A dump's rows are in `dump_part.rt`.
-ghost use Rattle.std.specs.Prelude.{◌≡◌, ◌∷◌, [], map, string_bytes, Some, None, IsTrue, IfOk, OnOk};
+ghost use Rattle.std.specs.Prelude.{◌≡◌, ◌∷◌, map, string_bytes, Some, None, IsTrue, IfOk, OnOk};
 ghost use Rattle.sqlite_value.specs.declared.value.Value.TheVariants.{Int};
 ghost use Rattle.sqlite.specs.State.{HasCleanDisk, Survives, KeepsCommit};
 ghost use Rattle.sqlite.specs.Held.{state};
 ghost use Rattle.tags.specs.Views.{field_value, tag_value, tag_values};
 ghost use Rattle.tables.specs.Schema.{schema_two};
-ghost use Rattle.tables.specs.Columns.{fields_text, tag_columns, tag_rows};
+ghost use Rattle.tables.specs.Columns.{columns_with, fields_text, tag_columns, tag_rows};
 ghost use Rattle.tables.specs.Contents.{Contents, Replies, Keeps, changed};
 ghost use Rattle.tables.specs.Steps.Puts.{PutsAll, GoesOn};
 ghost use Rattle.tables.specs.Steps.Clauses.{Edits};
 ghost use Rattle.tables.specs.TableTrees.{tag_tree};
 ghost use Rattle.tables.specs.declared.slots.Part.TheVariants.{Tags};
 
+use crate::part_rows::{EIGHT, PartRow, insert_all};
 use crate::slots::{Part, insert_slot};
 use machine::fields_value;
+use sqlite::types::ValueRef;
 use sqlite::{Alter, Error, Transaction, params};
 use std::alloc::{AllocError, Global};
 use tags::{Field, Tag};
+
+/// The statements that insert one row, and eight.
+const INSERT_TAG: &str =
+    "INSERT INTO tag (slot, line, name, file, address, kind, fields) VALUES (?1, ?2, ?3, ?4, ?5, ?6, ?7)";
+
+const INSERT_EIGHT_TAGS: &str =
+    "INSERT INTO tag (slot, line, name, file, address, kind, fields) VALUES (?,?,?,?,?,?,?),(?,?,?,?,?,?,?),(?,?,?,?,?,?,?),(?,?,?,?,?,?,?),(?,?,?,?,?,?,?),(?,?,?,?,?,?,?),(?,?,?,?,?,?,?),(?,?,?,?,?,?,?)";
 
 /// The text of the fields of a tag.
 fn fields_text(alloc: Global, fields: &[Field]) -> Result<String, AllocError>
@@ -25,54 +34,47 @@ fn fields_text(alloc: Global, fields: &[Field]) -> Result<String, AllocError>
     fields_value(alloc, fields)?.to_string(alloc)
 }
 
-/// Puts the row of a tag, whose fields have this text.
-fn insert_row<S: Alter>(
-    tx: &mut Transaction<'_, S>,
-    slot: i64,
-    tag: &Tag,
-    fields: &str,
-) -> Result<usize, Error>
-    requires { fields.now ≡ fields_text (tag_value tag.now).fields }
-    ensures same_reference { tx.new.conn.ghost_name ≡ tx.old.conn.ghost_name }
-    ensures put { Edits result tx.old.conn.now.in_transaction (state S.Store tx.old.conn.now) (state S.Store tx.new.conn.now)
-        (PutsAll tag_tree ((Int slot ∷ tag_columns (tag_value tag.now)) ∷ [])) }
-    ensures kept { HasCleanDisk (state S.Store tx.new.conn.now) → KeepsCommit (state S.Store tx.old.conn.now) (state S.Store tx.new.conn.now) }
-    ensures survives { Survives (state S.Store tx.old.conn.now) (state S.Store tx.new.conn.now) (λ _. ⊥) }
-{
-    tx.execute(
-        "INSERT INTO tag (slot, line, name, file, address, kind, fields) VALUES (?1, ?2, ?3, ?4, ?5, ?6, ?7)",
-        params![
+/// A tag, with the text of its fields.
+#[derive(Drop)]
+struct WrittenTag<'a> {
+    tag: &'a Tag,
+    fields: String,
+}
+
+impl PartRow for WrittenTag<'_> {
+    ghost tree = { tag_tree };
+
+    ghost columns = { λ row. columns_with (tag_value row.tag.now) (string_bytes row.fields) };
+
+    fn bind<'a>(&'a self, slot: i64, values: &mut Vec<ValueRef<'a>>) -> Result<(), AllocError> {
+        let tag = self.tag;
+        values.extend_from_slice(params![
             slot,
             tag.line,
             &tag.name,
             &tag.file,
             &tag.address,
             &tag.kind,
-            fields
-        ],
-    )
+            &self.fields
+        ])
+    }
 }
 
-/// Puts the row of a tag.
-fn insert_tag<S: Alter>(
-    alloc: Global,
-    tx: &mut Transaction<'_, S>,
-    slot: i64,
-    tag: &Tag,
-) -> Result<(), Error>
-    ensures same_reference { tx.new.conn.ghost_name ≡ tx.old.conn.ghost_name }
-    ensures put { Edits result tx.old.conn.now.in_transaction (state S.Store tx.old.conn.now) (state S.Store tx.new.conn.now)
-        (PutsAll tag_tree ((Int slot ∷ tag_columns (tag_value tag.now)) ∷ [])) }
-    ensures kept { HasCleanDisk (state S.Store tx.new.conn.now) → KeepsCommit (state S.Store tx.old.conn.now) (state S.Store tx.new.conn.now) }
-    ensures survives { Survives (state S.Store tx.old.conn.now) (state S.Store tx.new.conn.now) (λ _. ⊥) }
+/// The tags with the texts of their fields.
+fn written<'a>(alloc: Global, tags: &'a [Tag]) -> Result<Vec<WrittenTag<'a>>, AllocError>
+    ensures { IfOk result (λ rows. map (λ row. columns_with (tag_value row.tag.now) (string_bytes row.fields)) rows.items
+        ≡ map (λ tag. tag_columns (tag_value tag)) tags.now) }
 {
-    let fields = fields_text(alloc, &tag.fields)?;
-    insert_row(tx, slot, tag, &fields)?;
-    Ok(())
+    let mut rows = Vec::new(alloc);
+    for tag in tags {
+        let fields = fields_text(alloc, &tag.fields)?;
+        rows.push(WrittenTag { tag, fields })?;
+    }
+    Ok(rows)
 }
 
-/// Puts the rows of tags.
-fn insert_all<S: Alter>(
+/// Puts the rows of tags: so many at once as one statement takes, so that the texts of few fields are held.
+fn insert_rows<S: Alter>(
     alloc: Global,
     tx: &mut Transaction<'_, S>,
     slot: i64,
@@ -84,8 +86,9 @@ fn insert_all<S: Alter>(
     ensures kept { HasCleanDisk (state S.Store tx.new.conn.now) → KeepsCommit (state S.Store tx.old.conn.now) (state S.Store tx.new.conn.now) }
     ensures survives { Survives (state S.Store tx.old.conn.now) (state S.Store tx.new.conn.now) (λ _. ⊥) }
 {
-    for tag in tags {
-        insert_tag(alloc, tx, slot, tag)?;
+    for group in tags.chunks(EIGHT) {
+        let rows = written(alloc, group)?;
+        insert_all(alloc, tx, slot, INSERT_TAG, Some(INSERT_EIGHT_TAGS), &rows)?;
     }
     Ok(())
 }
@@ -106,5 +109,5 @@ pub(crate) fn insert_tags<S: Alter>(
     ensures survives { Survives (state S.Store tx.old.conn.now) (state S.Store tx.new.conn.now) (λ _. ⊥) }
 {
     let slot = insert_slot(tx, project, Part::Tags)?;
-    insert_all(alloc, tx, slot, tags)
+    insert_rows(alloc, tx, slot, tags)
 }

@@ -7,6 +7,7 @@ use Rattle.tables.specs.declared.slots.Part.TheVariants.{Dump}
 use Rattle.tables.specs.Contents.{Keeps, slot_row}
 use Rattle.tables.specs.Stands.{replies_of}
 use Rattle.tables.specs.Selections.{bearer_row}
+use Rattle.tables.specs.TableTrees.{slot_tree}
 use Rattle.tables.proofs.Looking.{looks_then, still, survives_clean}
 use Rattle.tables.proofs.bearers.complete.Goals as goal
 
@@ -24,7 +25,7 @@ returns-clause-whole g c clean has m s key v t =
     let row = c.args.row in
     let fits : SFits w64 row.slot = search rules in
     let more = (rw (to_z-of_z fits) at c.in_ok-more.ensures.more) (survives_clean mid new c.slot_project.ensures.looks clean) has m s v.project t.dump t.slot t.has v.results (inr (bearer_row key v, t.is, sym t.line, refl)) in
-    let project = still old mid new (λ db. Keeps db s.parts (replies_of m) × Has (db 1) (slot_row row.slot v.project Dump)) (λ db. string_bytes c.in_ok-project.project ≡ v.project) c.in_ok-more.ensures.kept c.slot_project.ensures.looks
+    let project = still old mid new (λ db. Keeps db s.parts (replies_of m) × Has (db slot_tree) (slot_row row.slot v.project Dump)) (λ db. string_bytes c.in_ok-project.project ≡ v.project) c.in_ok-more.ensures.kept c.slot_project.ensures.looks
     (λ cleaner schema known. (rw (to_z-of_z fits) at c.in_ok-project.ensures.project) cleaner schema s.parts (replies_of m) known.0 v.project Dump known.1) clean has (s.keeps, t.slot) in
     λ i. record {
       project = project i;

@@ -6,6 +6,7 @@ use Rattle.tables.specs.declared.slots.Part.TheVariants.{Dump}
 use Rattle.tables.specs.Contents.{slot_row}
 use Rattle.tables.specs.Stands.{StandsFor}
 use Rattle.tables.specs.Steps.Climbs.{IsNamed}
+use Rattle.tables.specs.TableTrees.{slot_tree}
 use Rattle.tables.proofs.Climbing.{ClimbsTo, begins, takes, passes, ended}
 use Rattle.tables.proofs.DumpEntries.{rows_of}
 use Rattle.tables.proofs.Looking.{looks_then, kept_on, still, survives_clean}
@@ -45,7 +46,7 @@ loop-next-preserved g c = rw (to_z-of_z c.ranges.slot) (
       mode = λ h. c.parent_of.ensures.mode (was.mode h);
       climbs = λ clean has m s project dump slot is.
           let d = (rows_of old.now.trees m s project dump is).2 in
-          let named = still old mid new (λ db. StandsFor db m × Has (db 1) (slot_row c.args.slot project Dump)) (λ db. IsNamed dump uri range next) was.kept c.parent_of.ensures.looks
+          let named = still old mid new (λ db. StandsFor db m × Has (db slot_tree) (slot_row c.args.slot project Dump)) (λ db. IsNamed dump uri range next) was.kept c.parent_of.ensures.looks
           (λ cleaner schema known. (rw (to_z-of_z c.ranges.slot) at c.in_ok-next-2.ensures.named) cleaner schema m known.0 project dump known.1 is) clean has (s, slot) in
           let here = subst (ClimbsTo dump uri c.args.at found) at_range ((rw (to_z-of_z c.ranges.slot) at was.climbs) (survives_clean mid new c.parent_of.ensures.looks clean) has m s project dump slot is) in
           elim c.else-covers.branch [

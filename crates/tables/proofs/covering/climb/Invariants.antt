@@ -10,6 +10,7 @@ use Rattle.machine.specs.State.{State}
 use Rattle.tables.specs.Stands.{IsAsBefore, StandsFor}
 use Rattle.tables.specs.Steps.Climbs.{weight}
 use Rattle.tables.specs.Steps.Selected.{Looks}
+use Rattle.tables.specs.TableTrees.{slot_tree}
 use Rattle.tables.proofs.Climbing.{ClimbsTo}
 use Rattle.tables.proofs.covering.climb.Given as goal
 
@@ -21,7 +22,7 @@ invariant-loop-next g l =
       looks : Looks old now;
       kept : HasCleanDisk now → old.now.schema ≡ schema_two → IsAsBefore old now;
       mode : l.fn.conn.in_transaction ≡ false → l.conn.in_transaction ≡ false;
-      climbs : HasCleanDisk now → old.now.schema ≡ schema_two → (m : State) → StandsFor old.now.trees m → (project : List ℕ) (dump : DumpValue) → Has (old.now.trees 1) (slot_row l.fn.slot project Dump) → m.dump project ≡ Some dump
+      climbs : HasCleanDisk now → old.now.schema ≡ schema_two → (m : State) → StandsFor old.now.trees m → (project : List ℕ) (dump : DumpValue) → Has (old.now.trees slot_tree) (slot_row l.fn.slot project Dump) → m.dump project ≡ Some dump
           → ClimbsTo dump l.uri l.fn.at l.found.items l.next;
     }
 

@@ -7,6 +7,7 @@ use Rattle.tables.specs.Contents.{slot_row}
 use Rattle.tables.specs.Stands.{StandsFor}
 use Rattle.tables.specs.Selections.{FindsCover, range_found}
 use Rattle.tables.specs.Steps.Climbs.{TellsRange, row_found}
+use Rattle.tables.specs.TableTrees.{slot_tree}
 use Rattle.tables.proofs.CoverLists.{covers_all, taken_all, told_at, told_next, rows_are}
 use Rattle.tables.proofs.DumpEntries.{rows_of}
 use Rattle.tables.proofs.Looking.{looks_then, kept_on, still, survives_clean}
@@ -45,7 +46,7 @@ loop-row-preserved g c = rw (to_z-of_z c.ranges.slot) (
           let it = told_at c.deref-row-items.result.now rows c.loop-row.row-index c.row-item.result told (omega (arith, c.loop-row-test.true)) in
           let r = it.0 in
           let tells : TellsRange c.row-item.result r = subst (λ x. TellsRange x r) (sym c.row-item.is) it.2 in
-          let whole = still old mid new (λ db. StandsFor db m × Has (db 1) (slot_row c.args.slot project Dump)) (λ db. range_found range ≡ row_found c.args.request r) was.kept c.complete.ensures.looks
+          let whole = still old mid new (λ db. StandsFor db m × Has (db slot_tree) (slot_row c.args.slot project Dump)) (λ db. range_found range ≡ row_found c.args.request r) was.kept c.complete.ensures.looks
           (λ cleaner schema known. (rw (to_z-of_z c.ranges.slot) at c.in_ok-range.ensures.whole) cleaner schema m known.0 project dump known.1 is r (of_all _ rows r are it.1) tells) clean has (s, slot) in
           let before = (rw (to_z-of_z c.ranges.slot) at was.found) (survives_clean mid new c.complete.ensures.looks clean) has m s project dump slot is rows told are in
           ap (map range_found) pushed ∙ told_next c.args.request c.loop-row.found.items range rows r c.loop-row.row-index before whole it.3;

@@ -13,6 +13,7 @@ use Rattle.tables.specs.Stands.{IsAsBefore, StandsFor}
 use Rattle.tables.specs.Selections.{range_found}
 use Rattle.tables.specs.Steps.Climbs.{TellsRange, row_found}
 use Rattle.tables.specs.Steps.Selected.{Looks}
+use Rattle.tables.specs.TableTrees.{slot_tree}
 use Rattle.tables.proofs.covering.ranges_in.Given as goal
 
 abbrev pub invariant-loop-row : goal.invariant-loop-row
@@ -24,6 +25,6 @@ invariant-loop-row g l =
       kept : HasCleanDisk now → old.now.schema ≡ schema_two → IsAsBefore old now;
       cleans : HasCleanDisk now → HasCleanDisk (state g.S.Store l.initial.conn);
       mode : l.fn.conn.in_transaction ≡ false → l.conn.in_transaction ≡ false;
-      found : HasCleanDisk now → old.now.schema ≡ schema_two → (m : State) → StandsFor old.now.trees m → (project : List ℕ) (dump : DumpValue) → Has (old.now.trees 1) (slot_row l.fn.slot project Dump) → m.dump project ≡ Some dump
+      found : HasCleanDisk now → old.now.schema ≡ schema_two → (m : State) → StandsFor old.now.trees m → (project : List ℕ) (dump : DumpValue) → Has (old.now.trees slot_tree) (slot_row l.fn.slot project Dump) → m.dump project ≡ Some dump
           → (rows : List RangeRowValue) → AllZip TellsRange l.row-items rows → AllByRecursion (IsRangeRow dump.elements) rows → map range_found l.found.items ≡ map (row_found l.fn.request) (take l.row-index rows);
     }

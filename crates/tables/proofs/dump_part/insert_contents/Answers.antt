@@ -4,15 +4,26 @@ use Rattle.sqlite.specs.State.{HasCleanDisk}
 use Rattle.sqlite.specs.Held.{state}
 use Rattle.flatten.specs.Rows.{hover_value, mark_value, bearer_value}
 use Rattle.tables.specs.Columns.{hover_columns, mark_columns, bearer_columns}
+use Rattle.tables.specs.TableTrees.{bearer_tree, hover_tree, mark_tree}
+use Rattle.tables.proofs.Inserts.{hover_put, hovers_put, mark_put, marks_put, bearer_put, bearers_put}
 use Rattle.tables.proofs.Filling.{three_puts, put_values}
 use Rattle.tables.proofs.dump_part.insert_contents.Goals as goal
+
+pub insert_all-requires : goal.insert_all-requires
+insert_all-requires g c = record { one = λ slot row. hover_put slot (hover_value row); eight = λ slot rows. hovers_put hover_value slot rows }
+
+pub insert_all-requires-2 : goal.insert_all-requires-2
+insert_all-requires-2 g c = record { one = λ slot row. mark_put slot (mark_value row); eight = λ slot rows. marks_put mark_value slot rows }
+
+pub insert_all-requires-3 : goal.insert_all-requires-3
+insert_all-requires-3 g c = record { one = λ slot row. bearer_put slot (bearer_value row); eight = λ slot rows. bearers_put bearer_value slot rows }
 
 pub returns-clause-put : goal.returns-clause-put
 returns-clause-put g c clean inside has =
     let second : HasCleanDisk (state g.S.Store c.insert_all-2.new.tx.conn.now) = omega (arith, c.insert_all-3.ensures.survives.clean) in
     let first : HasCleanDisk (state g.S.Store c.insert_all.new.tx.conn.now) = omega (arith, c.insert_all-2.ensures.survives.clean) in
-    let p = put_values 11 c.args.slot hover_columns hover_value _ c.args.rows.now.hovers.items _ _ c.as_slice.ensures.value (rw (to_z-of_z c.ranges.slot) at (c.in_ok-insert_all.ensures.put first inside has)) in
-    let q = put_values 13 c.args.slot mark_columns mark_value _ c.args.rows.now.marks.items _ _ c.as_slice-2.ensures.value (rw (to_z-of_z c.ranges.slot) at (c.in_ok-insert_all-2.ensures.put second p.0.inside p.0.schema)) in
+    let p = put_values hover_tree c.args.slot hover_columns hover_value _ c.args.rows.now.hovers.items _ _ c.as_slice.ensures.value (rw (to_z-of_z c.ranges.slot) at (c.in_ok-insert_all.ensures.put first inside has)) in
+    let q = put_values mark_tree c.args.slot mark_columns mark_value _ c.args.rows.now.marks.items _ _ c.as_slice-2.ensures.value (rw (to_z-of_z c.ranges.slot) at (c.in_ok-insert_all-2.ensures.put second p.0.inside p.0.schema)) in
     on_ok_weaker c.insert_all-3.result
-    (λ r. three_puts _ _ _ _ _ _ _ _ _ _ p q (put_values 15 c.args.slot bearer_columns bearer_value _ c.args.rows.now.bearers.items _ _ c.as_slice-3.ensures.value r))
+    (λ r. three_puts _ _ _ _ _ _ _ _ _ _ p q (put_values bearer_tree c.args.slot bearer_columns bearer_value _ c.args.rows.now.bearers.items _ _ c.as_slice-3.ensures.value r))
     (rw (to_z-of_z c.ranges.slot) at (c.insert_all-3.ensures.put clean q.0.inside q.0.schema))

@@ -10,6 +10,7 @@ use Rattle.tables.specs.Schema.{schema_two}
 use Rattle.tables.specs.Databases.{Holds}
 use Rattle.tables.specs.Columns.{range_more, bearer_more}
 use Rattle.tables.specs.Steps.Puts.{PutsAll, Steps}
+use Rattle.tables.specs.TableTrees.{more_tree}
 use Rattle.tables.proofs.more.insert_bearers.Given as goal
 
 abbrev pub invariant-loop-at : goal.invariant-loop-at
@@ -18,6 +19,6 @@ invariant-loop-at g l = record {
   survives : Survives (state g.S.Store l.fn.tx.conn.now) (state g.S.Store l.tx.conn.now) (λ _. ⊥);
   commit : HasCleanDisk (state g.S.Store l.tx.conn.now) → KeepsCommit (state g.S.Store l.fn.tx.conn.now) (state g.S.Store l.tx.conn.now);
   put : HasCleanDisk (state g.S.Store l.tx.conn.now) → IsTrue l.fn.tx.conn.now.in_transaction → (state g.S.Store l.fn.tx.conn.now).now.schema ≡ schema_two
-      → ((row : Columns) → Has (map (λ columns. Int l.fn.slot ∷ columns) (flat_map (λ r. range_more (range_value r)) l.rows.ranges.items)) row → Holds (state g.S.Store l.fn.tx.conn.now).now.trees 24 row)
-      → Steps (PutsAll 24 (flat_map (λ b. map (λ columns. Int l.fn.slot ∷ columns) (bearer_more (bearer_value b))) (take l.at l.rows.bearers.items))) (state g.S.Store l.fn.tx.conn.now) (state g.S.Store l.tx.conn.now);
+      → ((row : Columns) → Has (map (λ columns. Int l.fn.slot ∷ columns) (flat_map (λ r. range_more (range_value r)) l.rows.ranges.items)) row → Holds (state g.S.Store l.fn.tx.conn.now).now.trees more_tree row)
+      → Steps (PutsAll more_tree (flat_map (λ b. map (λ columns. Int l.fn.slot ∷ columns) (bearer_more (bearer_value b))) (take l.at l.rows.bearers.items))) (state g.S.Store l.fn.tx.conn.now) (state g.S.Store l.tx.conn.now);
 }

@@ -7,6 +7,7 @@ use Rattle.flatten.specs.Rows.{range_value}
 use Rattle.tables.specs.Columns.{range_more}
 use Rattle.tables.specs.Schema.{schema_two}
 use Rattle.tables.specs.Steps.Puts.{Steps, PutsAll}
+use Rattle.tables.specs.TableTrees.{more_tree}
 use Rattle.tables.proofs.more.insert_ranges.Given as goal
 
 abbrev pub invariant-loop-row : goal.invariant-loop-row
@@ -15,5 +16,5 @@ invariant-loop-row g l = record {
   survives : Survives (state g.S.Store l.fn.tx.conn.now) (state g.S.Store l.tx.conn.now) (λ _. ⊥);
   commit : HasCleanDisk (state g.S.Store l.tx.conn.now) → KeepsCommit (state g.S.Store l.fn.tx.conn.now) (state g.S.Store l.tx.conn.now);
   put : HasCleanDisk (state g.S.Store l.tx.conn.now) → IsTrue l.fn.tx.conn.now.in_transaction → (state g.S.Store l.fn.tx.conn.now).now.schema ≡ schema_two
-      → Steps (PutsAll 24 (flat_map (λ row. map (λ columns. Int l.fn.slot ∷ columns) (range_more (range_value row))) (take l.row-index l.ranges))) (state g.S.Store l.fn.tx.conn.now) (state g.S.Store l.tx.conn.now);
+      → Steps (PutsAll more_tree (flat_map (λ row. map (λ columns. Int l.fn.slot ∷ columns) (range_more (range_value row))) (take l.row-index l.ranges))) (state g.S.Store l.fn.tx.conn.now) (state g.S.Store l.tx.conn.now);
 }

@@ -1,19 +1,71 @@
-use Rattle.std.proofs.Common.{rules, arith, ◌∷◌, take_all, to_z-of_z}
-use Rattle.sqlite_value.specs.declared.value.Value.TheVariants.{Int}
-use Rattle.tables.proofs.Puts.{rows_more, quiet_then, commit_then}
+use Rattle.std.proofs.Common.{rules, arith, ◌≡◌, ◌++◌, ◌∙◌, [], List, sym, ap, subst, append_assoc, append-nil, to_z-of_z}
+use Rattle.std.proofs.lemmas.List.{map-append, nil_from_length}
+use Rattle.sqlite.specs.Held.{state}
+use Rattle.tables.specs.Steps.Puts.{Steps, PutsAll}
+use Rattle.tables.proofs.Puts.{puts_none, puts_then, quiet_then, commit_then, commit_same}
 use Rattle.tables.proofs.part_rows.insert_all.Goals as goal
 
-pub loop-row-preserved : goal.loop-row-preserved
-loop-row-preserved g c = record {
+pub loop-group-init : goal.loop-group-init
+loop-group-init g c = record {
+  can_next = search rules;
+  is_finite = tt;
+  size = search rules;
   same = search rules;
-  survives = quiet_then _ _ _ c.loop-row.invariant.survives c.insert.ensures.survives;
-  commit = λ clean. commit_then _ _ _ (c.loop-row.invariant.commit (omega (arith, c.insert.ensures.survives.clean))) (c.insert.ensures.kept clean);
-  put = λ clean inside has.
-      let was = c.loop-row.invariant.put (omega (arith, c.insert.ensures.survives.clean)) inside has in
-      let put = c.in_ok-insert.ensures.put clean was.0.inside was.0.schema in
-      rows_more (λ row. Int _ ∷ g.R.PartRow.columns row) g.R.PartRow.tree c.args.rows.now c.loop-row.row-index c.row-item.result c.loop-row-test.true (search rules) _ (search rules) _ _ _ was put;
+  survives = search rules;
+  commit = λ clean. commit_same _;
+  put = ([], search rules, λ clean inside has. puts_none _ _ has inside);
 }
+
+pub insert_by-requires : goal.insert_by-requires
+insert_by-requires g c = record { inserts = (rw c.in-Some-eight.is at c.requires.eight) _ _ c.if-group-eq-EIGHT.true }
+
+pub loop-group-preserved : goal.loop-group-preserved
+loop-group-preserved g c =
+    let so_far = c.loop-group.invariant.put in
+    let steps = c.in-Some.ensures.steps in
+    let group = c.in-Some.group.now in
+    record {
+      can_next = search rules;
+      is_finite = tt;
+      size = steps.0 ∙ c.loop-group.invariant.size;
+      same = search rules;
+      survives = quiet_then _ _ _ c.loop-group.invariant.survives c.insert_each.ensures.survives;
+      commit = λ clean. commit_then _ _ _ (c.loop-group.invariant.commit (omega (arith, c.insert_each.ensures.survives.clean))) (c.insert_each.ensures.kept clean);
+      put = (
+        so_far.0 ++ group,
+        append_assoc so_far.0 _ _ ∙ (ap (λ (rest : List g.row.R.Denot). so_far.0 ++ rest) (sym steps.1.0) ∙ so_far.1),
+        λ clean inside has.
+            let was = so_far.2 (omega (arith, c.insert_each.ensures.survives.clean)) inside has in
+            let put = c.in_ok-insert_each-in_default.ensures.put clean was.0.inside was.0.schema in
+            subst (λ list. Steps (PutsAll g.R.PartRow.tree list) (state g.S.Store c.args.tx.now.conn.now) (state g.S.Store c.insert_each.new.tx.conn.now)) (sym (map-append _ so_far.0 group)) (puts_then _ _ _ _ _ _ was put),
+      );
+    }
+
+pub loop-group-preserved-then-group-eq-EIGHT : goal.loop-group-preserved-then-group-eq-EIGHT
+loop-group-preserved-then-group-eq-EIGHT g c =
+    let so_far = c.loop-group.invariant.put in
+    let steps = c.in-Some.ensures.steps in
+    let group = c.in-Some.group.now in
+    record {
+      can_next = search rules;
+      is_finite = tt;
+      size = steps.0 ∙ c.loop-group.invariant.size;
+      same = search rules;
+      survives = quiet_then _ _ _ c.loop-group.invariant.survives c.insert_by.ensures.survives;
+      commit = λ clean. commit_then _ _ _ (c.loop-group.invariant.commit (omega (arith, c.insert_by.ensures.survives.clean))) (c.insert_by.ensures.kept clean);
+      put = (
+        so_far.0 ++ group,
+        append_assoc so_far.0 _ _ ∙ (ap (λ (rest : List g.row.R.Denot). so_far.0 ++ rest) (sym steps.1.0) ∙ so_far.1),
+        λ clean inside has.
+            let was = so_far.2 (omega (arith, c.insert_by.ensures.survives.clean)) inside has in
+            let put = c.in_ok-insert_by-in-Some-eight.ensures.put clean was.0.inside was.0.schema in
+            subst (λ list. Steps (PutsAll g.R.PartRow.tree list) (state g.S.Store c.args.tx.now.conn.now) (state g.S.Store c.insert_by.new.tx.conn.now)) (sym (map-append _ so_far.0 group)) (puts_then _ _ _ _ _ _ was put),
+      );
+    }
 
 pub returns-clause-put : goal.returns-clause-put
 returns-clause-put g c clean inside has =
-    rw (to_z-of_z c.ranges.slot, take_all c.loop-row.row-index c.args.rows.now (omega (arith, c.loop-row-test.false))) at (c.loop-row.invariant.put clean inside has)
+    let so_far = c.loop-group.invariant.put in
+    let none = nil_from_length _ c.in-None.ensures.steps.1.0 in
+    let all : so_far.0 ≡ c.args.rows.now = rw (none, append-nil) at so_far.1 in
+    rw (to_z-of_z c.ranges.slot, all) at (so_far.2 clean inside has)

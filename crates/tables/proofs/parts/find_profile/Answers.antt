@@ -8,6 +8,7 @@ use Rattle.lsif.specs.declared.element.Profile.{Profile}
 use Rattle.tables.specs.declared.slots.Part.TheVariants.{Dump}
 use Rattle.tables.specs.Stands.{StandsFor}
 use Rattle.tables.specs.Contents.{slot_row}
+use Rattle.tables.specs.TableTrees.{slot_tree}
 use Rattle.tables.proofs.Looking.{looks_then, still, survives_clean}
 use Rattle.tables.proofs.FoundSlots.{no_slot, the_slot}
 use Rattle.tables.proofs.DumpEntries.{no_dump, dump_slot}
@@ -38,6 +39,6 @@ returns-in_ok-profile_in-in-Some-clause-found g c clean has m s =
     let mid_clean = survives_clean mid new c.profile_in.ensures.looks clean in
     let slot = the_slot old.now.trees s.parts project Dump id c.in_ok-slot.field-0 (c.in_ok-slot.ensures.slot mid_clean has s.parts _ s.keeps) some in
     let dump = dump_slot old.now.trees m s project id slot in
-    let profile = still old mid new (λ db. StandsFor db m × Has (db 1) (slot_row id project Dump)) (λ db. c.in_ok-profile_in-in-Some.field-0 ≡ dump.0.profile) c.in_ok-slot.ensures.kept c.profile_in.ensures.looks
+    let profile = still old mid new (λ db. StandsFor db m × Has (db slot_tree) (slot_row id project Dump)) (λ db. c.in_ok-profile_in-in-Some.field-0 ≡ dump.0.profile) c.in_ok-slot.ensures.kept c.profile_in.ensures.looks
     (λ cleaner schema known. (rw (to_z-of_z fits) at c.in_ok-profile_in-in-Some.ensures.profile) cleaner schema m known.0 project dump.0 known.1 dump.1) clean has (s, slot) in
     ap (λ (p : Profile). Some p) profile ∙ sym (ap (option_map (λ (d : DumpValue). d.profile)) dump.1)

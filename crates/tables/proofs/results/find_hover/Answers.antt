@@ -7,6 +7,7 @@ use Rattle.tables.specs.declared.slots.Part.TheVariants.{Dump}
 use Rattle.tables.specs.Stands.{StandsFor}
 use Rattle.tables.specs.Contents.{slot_row}
 use Rattle.tables.specs.Selections.{FindsHover}
+use Rattle.tables.specs.TableTrees.{slot_tree}
 use Rattle.tables.proofs.Looking.{looks_then, still, survives_clean}
 use Rattle.tables.proofs.FoundSlots.{no_slot, the_slot}
 use Rattle.tables.proofs.DumpEntries.{no_dump}
@@ -33,5 +34,5 @@ returns-in-Some-clause-found g c clean has m s =
     let fits : SFits w64 id = search rules in
     let some : c.in_ok-slot.field-0 ≡ Some id = search rules in
     let slot = the_slot old.now.trees s.parts project Dump id c.in_ok-slot.field-0 (c.in_ok-slot.ensures.slot (survives_clean mid new c.hover_in.ensures.looks clean) has s.parts _ s.keeps) some in
-    still old mid new (λ db. StandsFor db m × Has (db 1) (slot_row id project Dump)) (λ db. IfOk c.hover_in.result (λ found. FindsHover m project c.args.result_number (option_map string_bytes found))) c.in_ok-slot.ensures.kept c.hover_in.ensures.looks
+    still old mid new (λ db. StandsFor db m × Has (db slot_tree) (slot_row id project Dump)) (λ db. IfOk c.hover_in.result (λ found. FindsHover m project c.args.result_number (option_map string_bytes found))) c.in_ok-slot.ensures.kept c.hover_in.ensures.looks
     (λ cleaner schema known. (rw (to_z-of_z fits) at c.hover_in.ensures.found) cleaner schema m known.0 project known.1) clean has (s, slot)
