@@ -287,5 +287,7 @@ pub fn read_call<'a, S: AsStr>(alloc: Global, words: &'a [S]) -> Result<Call<'a>
     ensures fault { IfErr result (IsRefused (map S.text words.entry.now)) }
 {
     let mut command = command(alloc)?;
-    read_words(&mut command, words)
+    let call = read_words(&mut command, words);
+    drop(command);
+    call
 }

@@ -29,9 +29,9 @@ pub(crate) fn items_of(
 ) -> Result<Vec<FoundItem>, FlattenFault>
     ensures { IfOk result (λ found. IsListing place_cmp (IsItemOf dump.now.elements result_number role) (map item_found found.items)) }
 {
-    let rows = flatten(alloc, dump)?;
+    let rows = flatten(alloc, dump)?.items;
     let mut found = Vec::new(alloc);
-    for row in &rows.items {
+    for row in &rows {
         if row.result == result_number && row.role == role {
             let uri = RcStr::from_string(String::from_str(alloc, row.uri)?)?;
             found.push(FoundItem {
@@ -51,9 +51,9 @@ pub(crate) fn marks_of(
 ) -> Result<Vec<FoundMark>, FlattenFault>
     ensures { IfOk result (λ found. IsListing mark_text_cmp (IsMarkOf dump.now.elements line) (map mark_found found.items)) }
 {
-    let rows = flatten(alloc, dump)?;
+    let rows = flatten(alloc, dump)?.marks;
     let mut found = Vec::new(alloc);
-    for row in &rows.marks {
+    for row in &rows {
         if row.range == line {
             let key = String::from_str(alloc, row.key.as_str())?;
             found.push(FoundMark {
@@ -73,8 +73,8 @@ pub(crate) fn hover_of(
 ) -> Result<Option<String>, FlattenFault>
     ensures { IfOk result (λ found. IsHoverOf dump.now.elements result_number (option_map string_bytes found)) }
 {
-    let rows = flatten(alloc, dump)?;
-    for row in &rows.hovers {
+    let rows = flatten(alloc, dump)?.hovers;
+    for row in &rows {
         if row.result == result_number {
             return Ok(Some(String::from_str(alloc, row.contents)?));
         }
@@ -91,9 +91,9 @@ pub(crate) fn bearers_of(
 ) -> Result<Vec<FoundBearer>, FlattenFault>
     ensures { IfOk result (λ found. IsListing bearer_in_cmp (IsBearerOf dump.now.elements project.now key.now) (map bearer_found found.items)) }
 {
-    let rows = flatten(alloc, dump)?;
+    let rows = flatten(alloc, dump)?.bearers;
     let mut found = Vec::new(alloc);
-    for row in &rows.bearers {
+    for row in &rows {
         if row.key.as_str() == key {
             let project = String::from_str(alloc, project)?;
             found.push(FoundBearer {
@@ -178,8 +178,8 @@ pub(crate) fn covering_of(
     nesting_law();
     uri_law();
     let _faultless = dump.elements();
-    let rows = flatten(alloc, dump)?;
-    let mut covering = covering_rows(alloc, &rows.ranges, uri, at)?;
+    let rows = flatten(alloc, dump)?.ranges;
+    let mut covering = covering_rows(alloc, &rows, uri, at)?;
     list_rows(&mut covering);
     let mut found = Vec::new(alloc);
     for row in &covering {

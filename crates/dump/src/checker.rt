@@ -68,6 +68,7 @@ impl Checker {
         ensures profile { self.new.profile ≡ self.old.profile }
     {
         if let Some(fault) = self.fault {
+            drop(reading);
             return Err(FeedFault::Line(fault));
         }
         let line = self.graph.len() as u32 + 1;

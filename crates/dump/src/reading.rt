@@ -1,4 +1,5 @@
-//! The dump that a reader's bytes are: each line is read and handed to the checker (`checker.rt`). An upload's lines come from the crate `machine`, and are read by `read_line` too.
+//! The dump that a reader's bytes are: each line is read and handed to the checker (`checker.rt`). An upload's lines come from the crate `machine`, and are
+//! read by `read_line` too.
 ghost use Rattle.std.specs.Prelude.{◌≡◌, ◌-◌, ◌^◌, ◌<◌, ℕ, List, IfOk, IfErr, option_map, true};
 ghost use Rattle.std.specs.Result.{ForErr};
 ghost use Rattle.lsif.specs.Code.{is_shape_code};
@@ -38,7 +39,8 @@ impl From<FeedFault> for DumpFault {
     }
 }
 
-/// What is read of a line of a dump by a profile: its element, or the code of its shape. Of a line that isn't given, since it's longer than the longest, it's L01.
+/// What is read of a line of a dump by a profile: its element, or the code of its shape. Of a line that isn't given, since it's longer than the longest, it's
+/// L01.
 pub fn read_line(
     alloc: Global,
     profile: Profile,

@@ -1,5 +1,5 @@
-//! The kinds of requests that results of vertices answer: the label of the edges that name their results, the kinds of monikers by which they join dumps, and the
-//! roles of the places that they ask for. `label_of`, `follows`, `finds` and `roles_of` in `specs/Requests`.
+//! The kinds of requests that results of vertices answer: the label of the edges that name their results, the kinds of monikers by which they join dumps, and
+//! the roles of the places that they ask for. `label_of`, `follows`, `finds` and `roles_of` in `specs/Requests`.
 ghost use Rattle.std.specs.Prelude.{◌≡◌};
 ghost use Rattle.dump.specs.Requests.{finds, follows, label_of, roles_of};
 

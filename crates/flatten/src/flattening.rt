@@ -1,7 +1,9 @@
 //! A checked dump, made flat: the rows of all kinds, made one kind after the other, and the limit of their number. `IsFlat` in `specs/Flat`.
-ghost use Rattle.std.specs.Prelude.{◌≡◌, IfOk};
-ghost use Rattle.flatten.specs.Flat.{HasPositions, IsFlat};
-ghost use Rattle.flatten.specs.Rows.{rows_value};
+ghost use Rattle.std.specs.Prelude.{◌≡◌, IfOk, map};
+ghost use Rattle.dump.specs.Places.{IsListing};
+ghost use Rattle.flatten.specs.Flat.{HasPositions, IsBearerRow, IsFlat, IsMarkRow, bearer_cmp, mark_cmp};
+ghost use Rattle.flatten.specs.Rows.{bearer_value, mark_value, rows_value};
+ghost use Rattle.flatten.specs.Steps.Kinds.{AreKinds};
 
 use crate::borne::{borne, moniker_marks};
 use crate::budget::Budget;
@@ -9,15 +11,15 @@ use crate::chains::Chains;
 use crate::documents::document_rows;
 use crate::fault::FlattenFault;
 use crate::items::item_rows;
-use crate::kinds::{Gathered, gather};
+use crate::kinds::{Gathered, Kinds, gather};
 use crate::marks::{bearer_rows, mark_rows};
 use crate::ranges::range_rows;
-use crate::rows::{RangeRow, Rows};
+use crate::rows::{BearerRow, MarkRow, RangeRow, Rows};
 use dump::CheckedDump;
 use std::alloc::Global;
 
-/// How many rows of a kind there may be, and how many pairs the walks for them may go over. Each 128 bytes of the texts of rows, which the tables keep row by row, count as
-/// a row more: so the texts of a kind have some 512 MB at most.
+/// How many rows of a kind there may be, and how many pairs the walks for them may go over. Each 128 bytes of the texts of rows, which the tables keep row by
+/// row, count as a row more: so the texts of a kind have some 512 MB at most.
 const MOST_ROWS: usize = 4000000;
 
 /// Takes the documents' URLs of these rows from a budget of so many.
@@ -27,6 +29,23 @@ fn take_uris(ranges: &[RangeRow<'_>], limit: usize) -> Result<(), FlattenFault> 
         budget.take_text(range.uri.len())?;
     }
     Ok(())
+}
+
+/// The rows of the marks, and those of the bearers.
+fn moniker_rows(
+    alloc: Global,
+    kinds: &Kinds<'_>,
+    limit: usize,
+) -> Result<(Vec<MarkRow>, Vec<BearerRow>), FlattenFault>
+    requires { AreKinds kinds.now }
+    ensures marks { IfOk result (λ rows. IsListing mark_cmp (IsMarkRow kinds.now.dump.now.elements) (map mark_value rows.0.items)) }
+    ensures bearers { IfOk result (λ rows. IsListing bearer_cmp (IsBearerRow kinds.now.dump.now.elements) (map bearer_value rows.1.items)) }
+{
+    let mut chains = Chains::new(alloc, kinds.dump, borne(alloc, kinds, limit)?)?;
+    let borne_marks = moniker_marks(alloc, kinds.dump)?;
+    let marks = mark_rows(alloc, &borne_marks, &mut chains, &kinds.ranges, limit)?;
+    let bearers = bearer_rows(alloc, &borne_marks, &mut chains, limit)?;
+    Ok((marks, bearers))
 }
 
 /// The rows of the dump, where no more than so many of a kind come, and the walks for them go over no more than so many pairs. `flatten` calls it with the
@@ -49,10 +68,7 @@ pub fn flatten_within<'a>(
     let documents = document_rows(alloc, &kinds)?;
     let ranges = range_rows(alloc, dump, ranges, intervals)?;
     take_uris(&ranges, limit)?;
-    let mut chains = Chains::new(alloc, dump, borne(alloc, &kinds, limit)?)?;
-    let borne_marks = moniker_marks(alloc, dump)?;
-    let marks = mark_rows(alloc, &borne_marks, &mut chains, &kinds.ranges, limit)?;
-    let bearers = bearer_rows(alloc, &borne_marks, &mut chains, limit)?;
+    let (marks, bearers) = moniker_rows(alloc, &kinds, limit)?;
     let items = item_rows(alloc, &mut kinds, limit)?;
     Ok(Rows {
         profile: dump.profile(),

@@ -5,7 +5,7 @@ ghost use Rattle.lsif.specs.Element.{element_value};
 ghost use Rattle.dump.specs.Places.{IsListing};
 ghost use Rattle.flatten.specs.Flat.{HasPositions, IsHoverRow, by_result};
 ghost use Rattle.flatten.specs.Rows.{hover_value, range_value};
-ghost use Rattle.flatten.specs.Steps.Kinds.{AreKinds, Takes, is_document, is_moniker_edge, is_range, kept, said};
+ghost use Rattle.flatten.specs.Steps.Kinds.{AreKinds, HasNone, Takes, is_document, is_moniker_edge, is_range, kept, said};
 ghost use Rattle.flatten.specs.Steps.Parents.{IsWithinLimit, interval_value, intervals_in};
 ghost use Rattle.flatten.specs.Steps.Ranges.{AreFoundRanges};
 
@@ -99,9 +99,38 @@ pub(crate) struct Gathered<'a> {
     pub(crate) intervals: Vec<Interval>,
 }
 
-/// The elements of the dump, gone over once. What stands together there is read together: the range, the edges that leave it,
-/// and what they lead to. There's room for as many ranges and items as a quarter of the elements, which is more than most dumps
-/// have, so that lists of these are seldom moved as they grow.
+/// Goes over the elements once. What stands together there is read together: the range, the edges that leave it, and what they lead to. There's room for as
+/// many ranges and items as a quarter of the elements, which is more than most dumps have, so that lists of these are seldom moved as they grow.
+fn add_all(alloc: Global, gathered: &mut Gathered<'_>) -> Result<(), AllocError>
+    requires { HasNone gathered.old }
+    ensures dump { OnOk result (gathered.new.kinds.dump.now ≡ gathered.old.kinds.dump.now) }
+    ensures kinds { OnOk result (AreKinds gathered.new.kinds) }
+    ensures hovers { OnOk result (IsListing by_result (IsHoverRow gathered.old.kinds.dump.now.elements) (map hover_value gathered.new.hovers.items)) }
+    ensures ranges { OnOk result (AreFoundRanges gathered.old.kinds.dump.now.elements (map range_value gathered.new.ranges.items)) }
+    ensures intervals { OnOk result (map interval_value gathered.new.intervals.items
+        ≡ flat_map (intervals_in gathered.old.kinds.dump.now.elements) gathered.old.kinds.dump.now.elements) }
+    ensures within { OnOk result (All IsWithinLimit gathered.old.kinds.dump.now.elements) }
+    ensures located { OnOk result (HasPositions gathered.old.kinds.dump.now.elements) }
+{
+    vertex_law();
+    let dump = gathered.kinds.dump;
+    let room = dump.elements().len() / 4;
+    gathered.kinds.ranges.reserve(room)?;
+    gathered.kinds.definitions.reserve(room)?;
+    gathered.kinds.references.reserve(room)?;
+    gathered.ranges.reserve(room)?;
+    gathered.intervals.reserve(room)?;
+    let mut chains = Chains::new(alloc, dump, Vec::new(alloc))?;
+    for element in dump.elements() {
+        add(&mut gathered.kinds, element)?;
+        add_hover(&mut gathered.hovers, dump, element)?;
+        add_found(alloc, &mut gathered.ranges, &mut chains, element)?;
+        add_interval(&mut gathered.intervals, dump, element)?;
+    }
+    Ok(())
+}
+
+/// What a dump's rows are made of.
 pub(crate) fn gather<'a>(alloc: Global, dump: &'a CheckedDump) -> Result<Gathered<'a>, AllocError>
     ensures kinds { IfOk result (λ gathered. AreKinds gathered.kinds) }
     ensures hovers { IfOk result (λ gathered. IsListing by_result (IsHoverRow dump.now.elements) (map hover_value gathered.hovers.items)) }
@@ -111,32 +140,21 @@ pub(crate) fn gather<'a>(alloc: Global, dump: &'a CheckedDump) -> Result<Gathere
     ensures located { IfOk result (λ gathered. HasPositions dump.now.elements) }
     ensures dump { IfOk result (λ gathered. gathered.kinds.dump.now ≡ dump.now) }
 {
-    vertex_law();
-    let room = dump.elements().len() / 4;
-    let mut kinds = Kinds {
-        dump,
-        documents: Vec::new(alloc),
-        ranges: Vec::with_capacity(alloc, room)?,
-        results: Vec::new(alloc),
-        result_pairs: Vec::new(alloc),
-        definitions: Vec::with_capacity(alloc, room)?,
-        references: Vec::with_capacity(alloc, room)?,
-        moniker_edges: Vec::new(alloc),
+    let mut gathered = Gathered {
+        kinds: Kinds {
+            dump,
+            documents: Vec::new(alloc),
+            ranges: Vec::new(alloc),
+            results: Vec::new(alloc),
+            result_pairs: Vec::new(alloc),
+            definitions: Vec::new(alloc),
+            references: Vec::new(alloc),
+            moniker_edges: Vec::new(alloc),
+        },
+        hovers: Vec::new(alloc),
+        ranges: Vec::new(alloc),
+        intervals: Vec::new(alloc),
     };
-    let mut chains = Chains::new(alloc, dump, Vec::new(alloc))?;
-    let mut hovers = Vec::new(alloc);
-    let mut ranges = Vec::with_capacity(alloc, room)?;
-    let mut intervals = Vec::with_capacity(alloc, room)?;
-    for element in dump.elements() {
-        add(&mut kinds, element)?;
-        add_hover(&mut hovers, dump, element)?;
-        add_found(alloc, &mut ranges, &mut chains, element)?;
-        add_interval(&mut intervals, dump, element)?;
-    }
-    Ok(Gathered {
-        kinds,
-        hovers,
-        ranges,
-        intervals,
-    })
+    add_all(alloc, &mut gathered)?;
+    Ok(gathered)
 }

@@ -1,9 +1,9 @@
 //! What a request asks of the desk, by its method and its target.
 ghost use Rattle.std.specs.Prelude.{◌≡◌, ℕ, List, [], Some, IfOk, IfSome, option_map};
 ghost use Rattle.std.specs.Str.{bytes_eq};
-ghost use Rattle.machine.specs.Requests.{command, command_value, query, query_value};
+ghost use Rattle.machine.specs.Requests.{command, command_value, position_query, query, query_value};
 ghost use Rattle.machine.specs.Uploads.{HasRead};
-ghost use Rattle.http_edge.specs.Requests.{path_in, query_in, request_of, route_in};
+ghost use Rattle.http_edge.specs.Requests.{path_in, place_in, query_in, request_of, route_in};
 ghost use Rattle.http_edge.specs.Steps.Requests.{Asks, AsksFor, upload_request};
 ghost use Rattle.http_edge.specs.Routes.{method_of};
 ghost use Rattle.http_edge.specs.Steps.Routes.{named_route, routes};
@@ -89,6 +89,18 @@ fn asked_query<'b>(asked: Option<Query>) -> Asked<'b>
     }
 }
 
+/// What a route asks at a position.
+fn ask_at<'b>(
+    alloc: Global,
+    kind: RequestKind,
+    project: &str,
+    parameters: &Parameters<'_>,
+) -> Result<Asked<'b>, AllocError>
+    ensures { IfOk result (λ asked. AsksFor asked (λ _. option_map query (option_map (position_query kind) (place_in project.now parameters.now)))) }
+{
+    Ok(asked_query(read_position_query(alloc, kind, project, parameters)?))
+}
+
 /// What a route asks with its project's name and its parameters. Refused where one of these is missing, there twice, or not of
 /// its form.
 #[tactic(auto, unfolding(crate::specs::Requests::request_of))]
@@ -100,26 +112,19 @@ fn read_route<'b>(
 ) -> Result<Asked<'b>, AllocError>
     ensures { IfOk result (λ asked. AsksFor asked (request_of route project.now parameters.now)) }
 {
-    let query = match route {
-        Route::Lsif => return Ok(asked_upload(read_dump(alloc, project, parameters)?)),
-        Route::Tags => return Ok(asked_upload(read_tags(alloc, project, parameters)?)),
-        Route::Project => return Ok(asked_command(read_removal(alloc, project, parameters)?)),
-        Route::Definition => {
-            read_position_query(alloc, RequestKind::Definition, project, parameters)?
-        }
-        Route::References => read_references(alloc, project, parameters)?,
-        Route::Hover => read_position_query(alloc, RequestKind::Hover, project, parameters)?,
-        Route::Declaration => {
-            read_position_query(alloc, RequestKind::Declaration, project, parameters)?
-        }
-        Route::Implementation => {
-            read_position_query(alloc, RequestKind::Implementation, project, parameters)?
-        }
-        Route::Profile => read_profile_query(alloc, project)?,
-        Route::Names => read_tags_query(alloc, parameters)?,
-        Route::Projects => Some(Query::Projects),
-    };
-    Ok(asked_query(query))
+    match route {
+        Route::Lsif => Ok(asked_upload(read_dump(alloc, project, parameters)?)),
+        Route::Tags => Ok(asked_upload(read_tags(alloc, project, parameters)?)),
+        Route::Project => Ok(asked_command(read_removal(alloc, project, parameters)?)),
+        Route::Definition => { ask_at(alloc, RequestKind::Definition, project, parameters) }
+        Route::References => Ok(asked_query(read_references(alloc, project, parameters)?)),
+        Route::Hover => ask_at(alloc, RequestKind::Hover, project, parameters),
+        Route::Declaration => { ask_at(alloc, RequestKind::Declaration, project, parameters) }
+        Route::Implementation => { ask_at(alloc, RequestKind::Implementation, project, parameters) }
+        Route::Profile => Ok(asked_query(read_profile_query(alloc, project)?)),
+        Route::Names => Ok(asked_query(read_tags_query(alloc, parameters)?)),
+        Route::Projects => Ok(asked_query(Some(Query::Projects))),
+    }
 }
 
 /// What a method and a target ask: by the path's route, then its method, then the parameters. An upload's body hasn't come yet.

@@ -217,13 +217,11 @@ fn tag(alloc: Global, found: &FoundTag) -> Result<Value, AllocError>
     ensures { IfOk result (λ v. view v ≡ tag_data (tag_found found.now)) }
 {
     let tag = &found.tag;
-    let fields = fields_value(alloc, &tag.fields)?;
-    let kind = kind(alloc, &tag.kind)?;
     json!(in alloc; {
         "address": &tag.address,
-        "fields": fields,
+        "fields": fields_value(alloc, &tag.fields)?,
         "file": &tag.file,
-        "kind": kind,
+        "kind": kind(alloc, &tag.kind)?,
         "line": tag.line,
         "name": &tag.name,
         "project": found.project.as_str()
@@ -298,7 +296,8 @@ pub fn projects_found(alloc: Global, projects: &[FoundProject]) -> Result<Reply,
     Ok(reply)
 }
 
-fn profile_number(profile: Profile) -> u32
+/// The number by which replies and tables name a profile.
+pub fn profile_number(profile: Profile) -> u32
     ensures { result ≡ profile_number profile }
 {
     match profile {

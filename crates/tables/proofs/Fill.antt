@@ -1,25 +1,22 @@
 -- What the last two statements of the migration do.
-use Rattle.std.proofs.Common.{◌≡◌, ◌≢◌, inl, inr, ◌↔◌, ℕ, ℤ, pos, List, [], ◌∷◌, ◌++◌, map, drop, length, Bool, true, false, None, Ok, Option, refl, sym, ap, subst, ◌∙◌}
+use Rattle.std.proofs.Common.{◌≡◌, ◌≢◌, inl, inr, ◌↔◌, ℕ, ℤ, pos, List, [], ◌∷◌, ◌++◌, map, drop, length, true, None, Ok, Option, refl, sym, ap, subst, ◌∙◌}
 use Rattle.std.proofs.Math.Dec.{eqb-suc-zero}
 use Rattle.std.specs.List.Sorted.{IsPermutation}
 use Rattle.std.proofs.lemmas.List.Sorted.{IsPermutation-sym, Contains-permutation}
 use Rattle.sqlite_value.specs.Order.{Row, value_cmp}
-use Rattle.sqlite_value.specs.declared.value.Value.{Value}
 use Rattle.sqlite_value.specs.declared.value.Value.TheVariants.{Null, Int}
 use Rattle.sqlite_value.specs.declared.keys.Collation.{Collation}
 use Rattle.sqlite_value.specs.declared.keys.Collation.TheVariants.{Binary}
-use Rattle.sqlite_sql.specs.Ops.{unary}
 use Rattle.sqlite_sql.specs.Term.{Term, lit, col, eval_all}
 use Rattle.sqlite_sql.specs.Program.{overlay}
 use Rattle.sqlite_schema.specs.Names.{same_name}
 use Rattle.sqlite_schema.specs.declared.program.Program.{Program}
-use Rattle.sqlite_schema.specs.declared.schema.Kind.TheVariants.{Integer}
 use Rattle.sqlite_schema.specs.declared.schema.Keys.TheVariants.{Enforced}
 use Rattle.sqlite_schema.specs.declared.command.Source.TheVariants.{Query}
 use Rattle.sqlite_schema.specs.declared.command.Command.TheVariants.{Insert, Update}
 use Rattle.sqlite_trees.specs.Tree.{Trees, put_row, rowid}
 use Rattle.sqlite_rules.specs.Lists.{Has}
-use Rattle.sqlite_rules.specs.Cast.{cast, cast_row}
+use Rattle.sqlite_rules.specs.Cast.{cast_row}
 use Rattle.sqlite_rules.specs.Edit.{Edit, edit_of, edited, numbered, with_rowid, Applies, taken_by}
 use Rattle.sqlite_rules.specs.Action.{works}
 use Rattle.sqlite_rules.specs.Calls.{ids_of}
@@ -37,6 +34,7 @@ use Rattle.tables.specs.Steps.Texts.{fill_profiles, set_version, semicolon}
 use Rattle.tables.specs.Schema.{schema_two, part_profile, format}
 use Rattle.tables.specs.Databases.{chosen, dump_tests, profile_shown, version_row, Holds, AreNumbered, IsOrdered}
 use Rattle.tables.specs.TableTrees.{format_tree, part_profile_tree, slot_tree}
+use Rattle.tables.proofs.Inserts.{cast_null, cast_int}
 use Rattle.tables.proofs.Insert.{went, same_value, concluded, plain_mode}
 use Rattle.tables.proofs.Puts.{ordered_all}
 use Rattle.tables.proofs.Select.{one_table, collated_table, answers, passing}
@@ -152,18 +150,6 @@ map_has : (f : Row → Row) (xs : List Row) (x : Row) → Has xs x → Has (map 
 map_has f [] x h = absurd h
 map_has f (y ∷ xs) x (inl same) = inl (ap f same)
 map_has f (y ∷ xs) x (inr later) = inr (map_has f xs x later)
-
-either : (b : Bool) (x : Value) → Rattle.std.specs.Prelude.cond b x x ≡ x
-either true x = refl
-either false x = refl
-
-pub cast_null : cast Integer Null ≡ Null
-unfolding unary
-cast_null = either _ Null
-
-pub cast_int : (n : ℤ) → cast Integer (Int n) ≡ Int n
-unfolding unary
-cast_int n = either _ (Int n)
 
 -- each source is a slot's id and profile 1
 from_slot : (db : Trees) (sources : List Row) → IsPermutation (chosen dump_tests fill_shown [] (db slot_tree)) sources → AreNumbered (db slot_tree) → (s : Row) → Has sources s

@@ -2,6 +2,7 @@
 use Rattle.std.proofs.Common.{◌≡◌, ◌⊎◌, ◌++◌, inl, inr, pos, IsTrue, ℕ, ℤ, List, [], ◌∷◌, map, Some, None, refl, sym, ap, subst, ◌∙◌}
 use Rattle.std.specs.List.{flat_map}
 use Rattle.std.proofs.lemmas.List.{map-append}
+use Rattle.std.proofs.lemmas.Simd.{map-map}
 use Rattle.sqlite_value.specs.Order.{Row}
 use Rattle.sqlite_value.specs.declared.value.Value.TheVariants.{Int, Text, Null}
 use Rattle.sqlite_trees.specs.Tree.{Trees}
@@ -31,18 +32,17 @@ pub three_puts : (first second third : ℕ) (xs ys zs : List Row) (a b c d : Sta
 three_puts first second third xs ys zs a b c d p q r = (goes_then a c d (goes_then a b c p.0 q.0) r.0, (b.now.trees, p.1, (c.now.trees, q.1, r.1)))
 
 -- the id of the slot is before the columns
-pub with_slot : {X Y : Type 0} (id : ℤ) (columns : Y → Row) (value : X → Y) (xs : List X) → map (λ x. Int id ∷ columns (value x)) xs ≡ map (λ values. Int id ∷ values) (map columns (map value xs))
-with_slot id columns value [] = refl
-with_slot id columns value (x ∷ xs) = ap (λ l. (Int id ∷ columns (value x)) ∷ l) (with_slot id columns value xs)
+slot_before : {X : Type 0} (id : ℤ) (columns : X → Row) (xs : List X) → map (λ x. Int id ∷ columns x) xs ≡ map (λ values. Int id ∷ values) (map columns xs)
+slot_before id columns [] = refl
+slot_before id columns (x ∷ xs) = ap (λ l. (Int id ∷ columns x) ∷ l) (slot_before id columns xs)
+
+with_slot : {X Y : Type 0} (id : ℤ) (columns : Y → Row) (value : X → Y) (xs : List X) → map (λ x. Int id ∷ columns (value x)) xs ≡ map (λ values. Int id ∷ values) (map columns (map value xs))
+with_slot id columns value xs = sym (map-map (λ y. Int id ∷ columns y) value xs) ∙ slot_before id columns (map value xs)
 
 -- rows that were put, by their values
 pub put_values : {X Y : Type 0} (tree : ℕ) (id : ℤ) (columns : Y → Row) (value : X → Y) (given xs : List X) (old new : State) → given ≡ xs → Steps (PutsAll tree (map (λ x. Int id ∷ columns (value x)) given)) old new
     → Steps (PutsAll tree (map (λ values. Int id ∷ values) (map columns (map value xs)))) old new
 put_values tree id columns value given xs old new same puts = subst (λ l. Steps (PutsAll tree l) old new) (ap (map (λ x. Int id ∷ columns (value x))) same ∙ with_slot id columns value xs) puts
-
-slot_before : {X : Type 0} (id : ℤ) (columns : X → Row) (xs : List X) → map (λ x. Int id ∷ columns x) xs ≡ map (λ values. Int id ∷ values) (map columns xs)
-slot_before id columns [] = refl
-slot_before id columns (x ∷ xs) = ap (λ l. (Int id ∷ columns x) ∷ l) (slot_before id columns xs)
 
 -- rows that were put, by others that have the same columns
 pub put_same : {X Y : Type 0} (tree : ℕ) (id : ℤ) (f : X → Row) (g : Y → Row) (xs : List X) (ys : List Y) (old new : State) → map f xs ≡ map g ys → Steps (PutsAll tree (map (λ x. Int id ∷ f x) xs)) old new

@@ -29,11 +29,11 @@ use Rattle.tables.specs.Steps.Kept.{IsKept, no_rows}
 use Rattle.tables.specs.Databases.{IsListed, IsMade, IsFormatOne, IsUpgraded, WasUpgraded, AreNumbered, IsOrdered, chosen, dump_tests, profile_shown, version_row}
 use Rattle.tables.specs.TableTrees.{format_tree, part_profile_tree, slot_tree}
 use Rattle.tables.proofs.Insert.{inserts}
-use Rattle.tables.proofs.Inserts.{some_rows}
+use Rattle.tables.proofs.Inserts.{cast_null, cast_int, some_rows}
 use Rattle.tables.proofs.Batches.{IsSilent, Script, done, next, also, runs, peel, from_batch}
 use Rattle.tables.proofs.Creations.{stage0, stage10, stage15, makes_one, makes_two, format_makes, slot_makes, keyed_makes, document_makes, range_row_makes, item_makes, hover_makes, mark_makes, bearer_makes, tag_makes, range_by_start_makes, bearer_by_key_makes, tag_by_name_makes, part_profile_makes, more_makes}
 use Rattle.tables.proofs.Cuts.{cut0, cut1, cut2, cut3, cut4, cut5, cut6, cut7, cut8, cut9, cut10, cut11, cut12, cut13, cut14, cut15, upgrade_cut0, upgrade_cut1, upgrade_cut2, upgrade_cut3, upgrade_cut4, upgrade_cut5, upgrade_cut6}
-use Rattle.tables.proofs.Fill.{fill_text, cast_null, cast_int, Filled, Risen, fills, profiles, profiles_ordered, rises}
+use Rattle.tables.proofs.Fill.{fill_text, Filled, Risen, fills, profiles, profiles_ordered, rises}
 
 -- ---- from nothing
 

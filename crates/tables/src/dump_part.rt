@@ -5,7 +5,6 @@ ghost use Rattle.sqlite.specs.State.{HasCleanDisk, Survives, KeepsCommit};
 ghost use Rattle.sqlite.specs.Held.{state};
 ghost use Rattle.flatten.specs.Rows.{rows_value};
 ghost use Rattle.tables.specs.Schema.{schema_two};
-ghost use Rattle.machine.specs.Reply.{profile_number};
 ghost use Rattle.tables.specs.Columns.{document_columns, range_columns, item_columns, hover_columns, mark_columns, bearer_columns, profile_columns, dump_rows};
 ghost use Rattle.tables.specs.Contents.{Contents, Replies, Keeps, changed, kept};
 ghost use Rattle.tables.specs.Steps.Puts.{PutsAll, Then, GoesOn};
@@ -23,6 +22,7 @@ use crate::slots::{Part, insert_slot};
 use crate::statements::run;
 use flatten::Rows;
 use lsif::Profile;
+use machine::profile_number;
 use sqlite::{Alter, Error, Transaction, params};
 
 /// Puts the documents, the ranges and the items of a dump.
@@ -107,15 +107,6 @@ fn insert_contents<S: Alter>(
     )
 }
 
-fn number_of_profile(profile: Profile) -> u32
-    ensures { result ≡ profile_number profile }
-{
-    match profile {
-        Profile::One => 1,
-        Profile::Two => 2,
-    }
-}
-
 /// Puts the profile of a dump.
 fn insert_profile<S: Alter>(
     tx: &mut Transaction<'_, S>,
@@ -128,7 +119,7 @@ fn insert_profile<S: Alter>(
     ensures kept { HasCleanDisk (state S.Store tx.new.conn.now) → KeepsCommit (state S.Store tx.old.conn.now) (state S.Store tx.new.conn.now) }
     ensures survives { Survives (state S.Store tx.old.conn.now) (state S.Store tx.new.conn.now) (λ _. ⊥) }
 {
-    let number = number_of_profile(profile);
+    let number = profile_number(profile);
     run(
         tx,
         "INSERT INTO part_profile (slot, profile) VALUES (?1, ?2)",

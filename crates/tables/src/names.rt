@@ -15,7 +15,7 @@ ghost use Rattle.tables.specs.Steps.Clauses.{OfState, StaysAsBefore};
 
 use crate::fault::{Refusal, TablesFault};
 use crate::found_tags::{TagRow, complete_all};
-use crate::selection::{Listed, select_all};
+use crate::selection::{add_row, select_all};
 use crate::tables::Tables;
 use machine::FoundTag;
 use sqlite::types::ValueRef;
@@ -135,8 +135,7 @@ fn select_prefixed<S: Alter>(
         if !has_prefix(row, prefix) {
             return Ok(found);
         }
-        let tag = TagRow::read(row)?;
-        found.push(tag)?;
+        add_row(&mut found, row)?;
     }
     Err(Refusal::Memory)
 }

@@ -1,6 +1,6 @@
 //! Selections of typed rows: a statement is run, and each row read by its type's columns, or refused. The statements are in the files of what they
 //! select.
-ghost use Rattle.std.specs.Prelude.{◌≡◌, ⊤, List, false, IfOk, IfSome};
+ghost use Rattle.std.specs.Prelude.{◌≡◌, ◌++◌, ◌∷◌, [], ⊤, List, false, IfOk, IfSome, OnOk};
 ghost use Rattle.std.specs.List.{AllByRecursion};
 ghost use Rattle.sqlite_value.specs.Order.{Row as Columns};
 ghost use Rattle.sqlite.specs.Values.{bound};
@@ -58,6 +58,16 @@ fn rows_of<S: Alter>(
     }
 }
 
+/// Adds what a row reads as, behind what the rows before it read as.
+pub(crate) fn add_row<T: Listed>(found: &mut Vec<T>, row: &Row) -> Result<(), Refusal>
+    ensures read { OnOk result ((rows : List Columns) → AreRead T.columns rows found.old.items → AreRead T.columns (rows ++ row.now ∷ []) found.new.items) }
+    ensures sound { OnOk result (AllByRecursion T.is_sound found.old.items → AllByRecursion T.is_sound found.new.items) }
+{
+    let item = T::read(row)?.after(found.last())?;
+    found.push(item)?;
+    Ok(())
+}
+
 /// What the rows of the answer to a query that writes nothing read as. Each is read as it comes, so that no row is held beside what it reads as.
 pub(crate) fn select_all<S: Alter, T: Listed>(
     alloc: Global,
@@ -79,8 +89,7 @@ pub(crate) fn select_all<S: Alter, T: Listed>(
         let Some(row) = rows.next()? else {
             return Ok(found);
         };
-        let item = T::read(row)?.after(found.last())?;
-        found.push(item)?;
+        add_row(&mut found, row)?;
     }
     Err(Refusal::Memory)
 }

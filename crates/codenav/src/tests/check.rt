@@ -102,8 +102,11 @@ pub(crate) fn expect_text<R: AllocGlobal + Abort>(
         Ok(status) => Some(status.exit_code()),
         Err(_) => None,
     };
-    assert_eq!(rt; written.as_slice(), wanted.as_bytes(), "{kind:?}: {wanted}");
-    assert_eq!(rt; found, Some(status), "{kind:?}: {wanted}");
+    assert_eq!(rt;
+        (found, written.as_slice()),
+        (Some(status), wanted.as_bytes()),
+        "{kind:?}: {wanted}"
+    );
 }
 
 /// Asserts the report, which a row begins with, of a dump that is read in pieces of 4,096 bytes, in both profiles.

@@ -24,17 +24,12 @@ Some(Line(LineFault { line: 2, code: L02 })) Some(Line(LineFault { line: 1, code
 
 /// The same as it's found.
 fn fed(alloc: Global, profile: Profile) -> Result<String, Fail> {
-    let first = read_line(alloc, profile, Some(META_DATA.as_bytes()))?;
-    let second = read_line(alloc, profile, Some(b"{".as_slice()))?;
-    let third = read_line(alloc, profile, Some(DOCUMENT.as_bytes()))?;
-    let fourth = read_line(alloc, profile, None)?;
     let mut checker = Checker::new(alloc, profile);
-    let answers = [
-        checker.feed(first),
-        checker.feed(second),
-        checker.feed(third),
-        checker.feed(fourth),
-    ];
+    let mut answers = Vec::new(alloc);
+    for line in [Some(META_DATA), Some("{"), Some(DOCUMENT), None] {
+        let reading = read_line(alloc, profile, line.map(str::as_bytes))?;
+        answers.push(checker.feed(reading))?;
+    }
     let end = checker.finish().err();
     let of_none = Checker::new(alloc, profile).finish().err();
     Ok(format!(in alloc; "{answers:?} {end:?} {of_none:?}")?)
@@ -62,7 +57,8 @@ fn fed_and_read_dumps(rt: HostRuntime) -> Result<(), Fail> {
     Ok(())
 }
 
-/// A dump with answers to all that is asked. Range 3 begins a chain of 5 and 6, of which either has results. The last `contains` edge is the element of line 23.
+/// A dump with answers to all that is asked. Range 3 begins a chain of 5 and 6, of which either has results. The last `contains` edge is the element of line
+/// 23.
 const FULL: &str = r#"metaData 0.6.0
 document file:///a.ts
 range 0:4 0:7

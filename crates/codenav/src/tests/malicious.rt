@@ -60,8 +60,12 @@ fn lines_beyond_the_limits(rt: HostRuntime) -> Result<(), Fail> {
 fn arrays(alloc: Global, depth: usize) -> Result<String, Fail> {
     let mut text = text_of(alloc, META_DATA)?;
     text.push_str(r#"{"id":2,"type":"vertex","label":"note","deep":"#)?;
-    text.push_str("[".repeat(alloc, depth)?.as_str())?;
-    text.push_str("]".repeat(alloc, depth)?.as_str())?;
+    for _ in 0..depth {
+        text.push('[')?;
+    }
+    for _ in 0..depth {
+        text.push(']')?;
+    }
     text.push('}')?;
     Ok(text)
 }

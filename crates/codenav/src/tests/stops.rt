@@ -1,5 +1,5 @@
-//! Stores that stop at a call: what is answered, what a new start finds, and what comes of uploads that are sent again. In the midst of two uploads over the whole way, of changes of
-//! the tables, and of a migration.
+//! Stores that stop at a call: what is answered, what a new start finds, and what comes of uploads that are sent again. In the midst of two uploads over the
+//! whole way, of changes of the tables, and of a migration.
 use super::databases::changes::ROWS;
 use super::databases::migrated::{is_migrated, made_and_migrated};
 use super::databases::stops::{first_calls, have_taken, steps_taken};
@@ -201,8 +201,8 @@ fn is_recovered(
     is_whole(alloc, reopened(alloc, files)?, life, count)
 }
 
-/// Asserts of a life of so many steps, where each call of one of the files stops the store in turn: what is left is what was before the step that was refused, or
-/// what comes after it, and a step that was accepted isn't lost. What is refused answers that the store refused.
+/// Asserts of a life of so many steps, where each call of one of the files stops the store in turn: what is left is what was before the step that was
+/// refused, or what comes after it, and a step that was accepted isn't lost. What is refused answers that the store refused.
 fn expect_stops<R: AllocGlobal + Abort>(rt: &R, life: Life, steps: usize) -> Result<(), Fail> {
     for is_log in [true, false] {
         let mut taken = 0;

@@ -10,6 +10,7 @@ use Rattle.std.specs.List.{flat_map}
 use Rattle.flatten.specs.Steps.Items.{numbers_in, placed_by, placed_in}
 use Rattle.flatten.specs.Steps.Numbers.{pairs_in, pairs_of}
 use Rattle.flatten.specs.Steps.Places.{placed_values}
+use Rattle.flatten.specs.declared.kinds.Gathered.{Gathered}
 use Rattle.flatten.specs.declared.kinds.Kinds.{Kinds}
 
 abbrev pub said : Bor Element → ElementValue
@@ -60,3 +61,16 @@ pub record Takes (old : Kinds) (x : ElementValue) (new : Kinds) : Type 0 where
   pub result_pairs : new.result_pairs.items ≡ old.result_pairs.items ++ pairs_in result_pairs_of old.dump.now.elements x
   pub definitions : map placed_values new.definitions.items ≡ map placed_values old.definitions.items ++ placed_in Definitions old.dump.now.elements x
   pub references : map placed_values new.references.items ≡ map placed_values old.references.items ++ placed_in References old.dump.now.elements x
+
+-- the lists before the first element
+pub record HasNone (gathered : Gathered) : Type 0 where
+  pub documents : gathered.kinds.documents.items ≡ []
+  pub kept_ranges : gathered.kinds.ranges.items ≡ []
+  pub results : gathered.kinds.results.items ≡ []
+  pub moniker_edges : gathered.kinds.moniker_edges.items ≡ []
+  pub result_pairs : gathered.kinds.result_pairs.items ≡ []
+  pub definitions : gathered.kinds.definitions.items ≡ []
+  pub references : gathered.kinds.references.items ≡ []
+  pub hovers : gathered.hovers.items ≡ []
+  pub ranges : gathered.ranges.items ≡ []
+  pub intervals : gathered.intervals.items ≡ []

@@ -1,10 +1,12 @@
 //! Names, keys, URLs and numbers as they are read; codes and their replies; and what a command is of.
 use super::{project, text_of};
 use desk::{Code, Command, DocUri, Key, ProjectName, Reply, read_number};
+use lsif::Profile;
+use machine::profile_number;
 use std::alloc::Global;
 use std::test::Fail;
 
-/// The project and the key of a command, and the statuses of the codes and the replies that they refuse with.
+/// The project and the key of a command, the numbers of the profiles, and the statuses of the codes and the replies that they refuse with.
 fn found_texts(alloc: Global) -> Result<String, Fail> {
     let command = Command::Remove {
         project: project(alloc, "app")?,
@@ -12,6 +14,8 @@ fn found_texts(alloc: Global) -> Result<String, Fail> {
     };
     let (project, key) = (command.project().as_str(), command.key().as_str());
     let mut found = format!(in alloc; "{project} {key}\n")?;
+    let (one, two) = (profile_number(Profile::One), profile_number(Profile::Two));
+    found.push_str(format!(in alloc; "{one} {two}\n")?.as_str())?;
     for code in [Code::D01, Code::D02, Code::D03, Code::S01, Code::S02] {
         let reply = text_of(alloc, &Reply::refused(code))?;
         found.push_str(format!(in alloc; "{}, {reply}\n", code.status())?.as_str())?;
@@ -23,6 +27,7 @@ fn found_texts(alloc: Global) -> Result<String, Fail> {
 #[test]
 fn replies_of_codes(rt: HostRuntime) -> Result<(), Fail> {
     let wanted = r#"app K-1
+1 2
 404, 404 {"fault":"D01","text":"project has no dump"}
 404, 404 {"fault":"D02","text":"no such document"}
 400, 400 {"fault":"D03","text":"bad parameter"}

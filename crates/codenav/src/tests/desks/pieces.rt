@@ -46,6 +46,17 @@ fn reply_in_pieces(
     }
 }
 
+/// The same of a new desk.
+fn first_reply_in_pieces(
+    alloc: Global,
+    row: &'static str,
+    body: &[u8],
+    first: usize,
+    most: usize,
+) -> Result<String, Fail> {
+    reply_in_pieces(alloc, &mut PlainDesk::new(alloc), row, body, first, most)
+}
+
 /// Asserts the reply of a new desk to a body that is cut at each byte, and that comes in pieces of 1, 2 and 7 bytes.
 fn expect_reply<R: AllocGlobal + Abort>(
     rt: &R,
@@ -54,13 +65,11 @@ fn expect_reply<R: AllocGlobal + Abort>(
     wanted: &str,
 ) -> Result<(), Fail> {
     for first in 0..=body.len() {
-        let mut desk = PlainDesk::new(rt.alloc());
-        let found = reply_in_pieces(rt.alloc(), &mut desk, row, body, first, body.len())?;
+        let found = first_reply_in_pieces(rt.alloc(), row, body, first, body.len())?;
         assert_eq!(rt; (row, first, found.as_str()), (row, first, wanted));
     }
     for most in [1, 2, 7] {
-        let mut desk = PlainDesk::new(rt.alloc());
-        let found = reply_in_pieces(rt.alloc(), &mut desk, row, body, 0, most)?;
+        let found = first_reply_in_pieces(rt.alloc(), row, body, 0, most)?;
         assert_eq!(rt; (row, most, found.as_str()), (row, most, wanted));
     }
     Ok(())
@@ -195,9 +204,8 @@ fn expect_large<R: AllocGlobal + Abort>(
     last: &str,
     wanted: &str,
 ) -> Result<(), Fail> {
-    let mut desk = PlainDesk::new(rt.alloc());
     let whole = format!(in rt.alloc(); "{text}{last}")?;
-    let found = reply_in_pieces(rt.alloc(), &mut desk, row, whole.as_bytes(), 0, 8192)?;
+    let found = first_reply_in_pieces(rt.alloc(), row, whole.as_bytes(), 0, 8192)?;
     assert_eq!(rt;
         (row, whole.len(), found.as_str()),
         (row, whole.len(), wanted)

@@ -188,8 +188,8 @@ fn is_enough(alloc: Global, text: &str, limit: usize) -> Result<bool, Fail> {
     }
 }
 
-/// The same where a text of 300 bytes stands behind another: the text of a row counts as two rows more then. Of the first dump it's that of the ranges that is too much, of the second that of
-/// items, and of the others those of marks and of bearers.
+/// The same where a text of 300 bytes stands behind another: the text of a row counts as two rows more then. Of the first dump it's that of the ranges that
+/// is too much, of the second that of items, and of the others those of marks and of bearers.
 const LONG: [(&str, &str, usize); 4] = [
     (NESTED, "file:///", 4),
     (RING, "file:///", 18),

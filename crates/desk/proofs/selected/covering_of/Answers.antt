@@ -23,4 +23,4 @@ returns c =
     let all = told ∙ rows_told c.args.request c.list_rows.new.rows.items in
     subst (FindsCover c.args.request dump.elements uri at) (sym all)
     (rows_cover dump uri at (c.nesting_law.ensures dump.elements free) (c.uri_law.ensures dump.elements free) c.in_ok-covering.covering.items c.list_rows.new.rows.items listed c.list_rows.ensures.rises c.list_rows.ensures.from
-    c.list_rows.ensures.each c.args.request free (rows_value c.in_ok-rows.rows) flat)
+    c.list_rows.ensures.each c.args.request free (rows_value c.in_ok-rows.field-0) flat)

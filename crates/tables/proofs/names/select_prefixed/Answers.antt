@@ -1,15 +1,14 @@
-use Rattle.std.proofs.Common.{◌≡◌, ◌++◌, [], ◌∷◌, true, false, refl, sym, subst, rules, arith}
+use Rattle.std.proofs.Common.{◌≡◌, ◌++◌, [], ◌∷◌, true, false, refl, subst, rules, arith}
 use Rattle.sqlite_value.specs.declared.value.Value.TheVariants.{Text}
 use Rattle.sqlite.specs.State.{HasCleanDisk, IsUnchanged}
 use Rattle.sqlite.specs.Held.{state}
 use Rattle.sqlite.specs.Given.{HasGiven}
 use Rattle.sqlite.proofs.Callers.{given_begin, begun_plain, unchanged_then}
 use Rattle.tables.specs.Schema.{schema_two}
-use Rattle.tables.specs.Steps.Selected.{AreRead, Looks}
+use Rattle.tables.specs.Steps.Selected.{Looks}
 use Rattle.tables.specs.Steps.SelectionTexts.{select_prefixed}
-use Rattle.tables.specs.Steps.TagRows.{tag_row_columns, with_prefix}
+use Rattle.tables.specs.Steps.TagRows.{with_prefix}
 use Rattle.tables.proofs.PrefixedTags.{select_prefixed_plain, ended, stopped, told_prefixed}
-use Rattle.tables.proofs.Reading.{are_read_push}
 use Rattle.tables.proofs.Selecting.{all_last}
 use Rattle.tables.proofs.Streaming.{plain_at, refused_looks, begun_looks, looks_on}
 use Rattle.tables.proofs.names.select_prefixed.Goals as goal
@@ -46,7 +45,6 @@ rows-preserved g c =
     let old = state g.S.Store c.args.conn.now in
     let new = state g.S.Store now in
     let row = c.in-Some.row.now in
-    let pushed : c.push.new.self.items ≡ c.rows.found.items ++ c.in_ok-tag.tag ∷ [] = search rules in
     let good : with_prefix c.args.prefix.now row ≡ true = search rules in
     record {
       same_reference = search rules;
@@ -58,7 +56,7 @@ rows-preserved g c =
           let given = (rw (c.in_ok-row.was, c.in-Some.is) at (moved.ok clean)) select_prefixed (Text c.args.prefix.now ∷ []) was.given before.0 in
           (given, unchanged_then _ _ _ before.1 ((rw (c.in_ok-row.was) at moved.same) clean));
       each = all_last _ was.given row was.each good;
-      read = subst (AreRead tag_row_columns (was.given ++ row ∷ [])) (sym pushed) (are_read_push tag_row_columns was.given c.rows.found.items row c.in_ok-tag.tag was.read c.in_ok-tag.ensures.columns);
+      read = c.in_ok-add_row.ensures.read was.given was.read;
     }
 
 pub returns-in_err-row-clause-looks : goal.returns-in_err-row-clause-looks
@@ -88,22 +86,13 @@ returns-then-not-has_prefix-clause-looks g c =
     let last : now ≡ c.conn-then-not-has_prefix-1.given.0 = search rules in
     subst (λ h. Looks old (state g.S.Store h)) last (looks_on old (state g.S.Store c.rows.rows.conn.now) (state g.S.Store now) c.next.result was.looks was.is_given moved.survives moved.same moved.kept)
 
-pub returns-in_err-tag-clause-looks : goal.returns-in_err-tag-clause-looks
-returns-in_err-tag-clause-looks g c =
+pub returns-in_err-add_row-clause-looks : goal.returns-in_err-add_row-clause-looks
+returns-in_err-add_row-clause-looks g c =
     let was = c.rows.invariant in
     let moved = c.next.follows.holds-at-none in
     let now = c.next.follows.lender-at-none.conn.now in
     let old = state g.S.Store c.args.conn.now in
-    let last : now ≡ c.conn-in_err-tag-1.given.0 = search rules in
-    subst (λ h. Looks old (state g.S.Store h)) last (looks_on old (state g.S.Store c.rows.rows.conn.now) (state g.S.Store now) c.next.result was.looks was.is_given moved.survives moved.same moved.kept)
-
-pub returns-in_err-push-clause-looks : goal.returns-in_err-push-clause-looks
-returns-in_err-push-clause-looks g c =
-    let was = c.rows.invariant in
-    let moved = c.next.follows.holds-at-none in
-    let now = c.next.follows.lender-at-none.conn.now in
-    let old = state g.S.Store c.args.conn.now in
-    let last : now ≡ c.conn-in_err-push-1.given.0 = search rules in
+    let last : now ≡ c.conn-in_err-add_row-1.given.0 = search rules in
     subst (λ h. Looks old (state g.S.Store h)) last (looks_on old (state g.S.Store c.rows.rows.conn.now) (state g.S.Store now) c.next.result was.looks was.is_given moved.survives moved.same moved.kept)
 
 pub returns-in_default-clause-rows : goal.returns-in_default-clause-rows

@@ -1,5 +1,4 @@
 use Rattle.std.proofs.Common.{◌≡◌, ◌∙◌, ◌++◌, [], ◌∷◌, ap, refl, subst, sym, rules, arith}
-use Rattle.std.specs.List.{AllByRecursion}
 use Rattle.sqlite.specs.Effect.{Database}
 use Rattle.sqlite.specs.Values.{bound}
 use Rattle.sqlite.specs.State.{HasCleanDisk, IsUnchanged, Shown}
@@ -7,9 +6,7 @@ use Rattle.sqlite.specs.Held.{state}
 use Rattle.sqlite.specs.Given.{HasGiven}
 use Rattle.sqlite.proofs.Callers.{begun_plain, unchanged_then}
 use Rattle.tables.specs.Schema.{schema_two}
-use Rattle.tables.specs.Steps.Selected.{AreColumns, AreRead, Looks}
-use Rattle.tables.proofs.Reading.{are_read_push}
-use Rattle.tables.proofs.Selecting.{all_last}
+use Rattle.tables.specs.Steps.Selected.{Looks}
 use Rattle.tables.proofs.Streaming.{plain_at, refused_looks, begun_looks, looks_on, shown_from}
 use Rattle.tables.proofs.selection.select_all.Goals as goal
 
@@ -45,10 +42,6 @@ rows-preserved g c =
     let old = state g.S.Store c.args.conn.now in
     let new = state g.S.Store now in
     let row = c.in-Some.row.now in
-    let item = c.in_ok-item.item in
-    let columns = subst (λ vs. AreColumns 0 vs row) (sym c.in_ok-item.ensures.columns) c.in_ok-read.ensures.columns in
-    let sound = c.in_ok-item.ensures.sound c.in_ok-read.ensures.sound in
-    let pushed : c.push.new.self.items ≡ c.rows.found.items ++ item ∷ [] = search rules in
     record {
       same_reference = search rules;
       looks = looks_on old (state g.S.Store c.rows.rows.conn.now) new c.next.result was.looks was.is_given moved.survives moved.same moved.kept;
@@ -58,8 +51,8 @@ rows-preserved g c =
           let before = was.is_given (omega (arith, moved.survives.clean)) has in
           let given = (rw (c.in_ok-row.was, c.in-Some.is) at (moved.ok clean)) c.args.sql.now (bound c.args.params.now) was.given before.0 in
           (given, unchanged_then _ _ _ before.1 ((rw (c.in_ok-row.was) at moved.same) clean));
-      read = subst (AreRead g.T.Listed.columns (was.given ++ row ∷ [])) (sym pushed) (are_read_push g.T.Listed.columns was.given c.rows.found.items row item was.read columns);
-      sound = subst (AllByRecursion g.T.Listed.is_sound) (sym pushed) (all_last g.T.Listed.is_sound c.rows.found.items item was.sound sound);
+      read = c.in_ok-add_row.ensures.read was.given was.read;
+      sound = c.in_ok-add_row.ensures.sound was.sound;
     }
 
 pub returns-in_err-row-clause-looks : goal.returns-in_err-row-clause-looks
@@ -80,31 +73,13 @@ returns-in_default-clause-looks g c =
     let last : now ≡ c.conn-in_default-1.given.0 = search rules in
     subst (λ h. Looks old (state g.S.Store h)) last (looks_on old (state g.S.Store c.rows.rows.conn.now) (state g.S.Store now) c.next.result was.looks was.is_given moved.survives moved.same moved.kept)
 
-pub returns-in_err-read-clause-looks : goal.returns-in_err-read-clause-looks
-returns-in_err-read-clause-looks g c =
+pub returns-in_err-add_row-clause-looks : goal.returns-in_err-add_row-clause-looks
+returns-in_err-add_row-clause-looks g c =
     let was = c.rows.invariant in
     let moved = c.next.follows.holds-at-none in
     let now = c.next.follows.lender-at-none.conn.now in
     let old = state g.S.Store c.args.conn.now in
-    let last : now ≡ c.conn-in_err-read-1.given.0 = search rules in
-    subst (λ h. Looks old (state g.S.Store h)) last (looks_on old (state g.S.Store c.rows.rows.conn.now) (state g.S.Store now) c.next.result was.looks was.is_given moved.survives moved.same moved.kept)
-
-pub returns-in_err-item-clause-looks : goal.returns-in_err-item-clause-looks
-returns-in_err-item-clause-looks g c =
-    let was = c.rows.invariant in
-    let moved = c.next.follows.holds-at-none in
-    let now = c.next.follows.lender-at-none.conn.now in
-    let old = state g.S.Store c.args.conn.now in
-    let last : now ≡ c.conn-in_err-item-1.given.0 = search rules in
-    subst (λ h. Looks old (state g.S.Store h)) last (looks_on old (state g.S.Store c.rows.rows.conn.now) (state g.S.Store now) c.next.result was.looks was.is_given moved.survives moved.same moved.kept)
-
-pub returns-in_err-push-clause-looks : goal.returns-in_err-push-clause-looks
-returns-in_err-push-clause-looks g c =
-    let was = c.rows.invariant in
-    let moved = c.next.follows.holds-at-none in
-    let now = c.next.follows.lender-at-none.conn.now in
-    let old = state g.S.Store c.args.conn.now in
-    let last : now ≡ c.conn-in_err-push-1.given.0 = search rules in
+    let last : now ≡ c.conn-in_err-add_row-1.given.0 = search rules in
     subst (λ h. Looks old (state g.S.Store h)) last (looks_on old (state g.S.Store c.rows.rows.conn.now) (state g.S.Store now) c.next.result was.looks was.is_given moved.survives moved.same moved.kept)
 
 pub returns-in_default-clause-read : goal.returns-in_default-clause-read

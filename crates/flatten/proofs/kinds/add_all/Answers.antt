@@ -17,7 +17,7 @@ use Rattle.flatten.specs.Steps.Ranges.{IsFoundRange, range_lines}
 use Rattle.flatten.proofs.DocumentLists.{hover_listing}
 use Rattle.flatten.proofs.Members.{contains_map}
 use Rattle.flatten.proofs.OfKinds.{AreTaken, HasSaid, said_all, said_at, said_more, taken_all, taken_more}
-use Rattle.flatten.proofs.kinds.gather.Goals as goal
+use Rattle.flatten.proofs.kinds.add_all.Goals as goal
 
 pub add_found-requires-clause-faultless : goal.add_found-requires-clause-faultless
 add_found-requires-clause-faultless c = subst (λ d. IsFaultless (map Ok d)) (sym (ap (λ v. v.elements) c.loop-element.invariant.5)) c.elements-element-items.ensures.faultless
@@ -31,34 +31,34 @@ add_found-requires-clause-element c =
     subst (λ l. Contains l (element_value x)) (c.elements-element-items.ensures.value ∙ ap (λ v. v.elements) (sym c.loop-element.invariant.5)) here
 
 pub add_found-requires-clause-found : goal.add_found-requires-clause-found
-add_found-requires-clause-found c = subst (λ v. All (IsFoundRange v.elements) (map range_value c.loop-element.ranges.items)) (sym c.loop-element.invariant.5) c.loop-element.invariant.3
+add_found-requires-clause-found c = subst (λ v. All (IsFoundRange v.elements) (map range_value c.loop-element.gathered.ranges.items)) (sym c.loop-element.invariant.5) c.loop-element.invariant.3
 
 pub loop-element-preserved : goal.loop-element-preserved
 loop-element-preserved c =
-    let d = c.args.dump.now.elements in
+    let d = c.args.gathered.now.kinds.dump.now.elements in
     let items = c.elements-element-items.result.now in
     let k = c.loop-element.element-index in
     let x = c.element-item.result in
     let rest = map element_value (drop (k + 1) items) in
     let same = ap (λ v. v.elements) c.loop-element.invariant.5 in
     let left : map element_value (drop k items) ≡ element_value x ∷ rest = ap (map element_value) (drop_next items k x c.loop-element-test.true c.element-item.is) in
-    let old = map (λ r. r.line) (map range_value c.loop-element.ranges.items) in
+    let old = map (λ r. r.line) (map range_value c.loop-element.gathered.ranges.items) in
     let new = map (λ r. r.line) (map range_value c.add_found.new.found.items) in (
-      taken_more d rest (element_value x) c.loop-element.kinds c.add.new.kinds (ap (λ v. v.elements) c.loop-element.invariant.1) (subst (λ l. AreTaken d l c.loop-element.kinds) left c.loop-element.invariant.0) c.in_ok-add.ensures.takes,
+      taken_more d rest (element_value x) c.loop-element.gathered.kinds c.add.new.kinds (ap (λ v. v.elements) c.loop-element.invariant.1) (subst (λ l. AreTaken d l c.loop-element.gathered.kinds) left c.loop-element.invariant.0) c.in_ok-add.ensures.takes,
       ap (λ (b : Bor CheckedDump). b.now) c.in_ok-add.ensures.dump ∙ c.loop-element.invariant.1,
       said_more (range_lines d) d rest (element_value x) old new (subst (λ l. HasSaid (range_lines d) d l old) left c.loop-element.invariant.2) (said_at range_lines d _ (element_value x) old new same c.in_ok-add_found.ensures.lines),
       subst (λ e. All (IsFoundRange e) (map range_value c.add_found.new.found.items)) same c.in_ok-add_found.ensures.found,
       c.in_ok-add_found.ensures.chains,
       ap (λ (b : Bor CheckedDump). b.now) c.in_ok-add_found.ensures.dump ∙ c.loop-element.invariant.5,
-      said_more (hovers_in d) d rest (element_value x) _ _ (subst (λ l. HasSaid (hovers_in d) d l (map hover_value c.loop-element.hovers.items)) left c.loop-element.invariant.6) c.in_ok-add_hover.ensures,
-      said_more (intervals_in d) d rest (element_value x) _ _ (subst (λ l. HasSaid (intervals_in d) d l (map interval_value c.loop-element.intervals.items)) left c.loop-element.invariant.7) c.in_ok-add_interval.ensures.intervals,
+      said_more (hovers_in d) d rest (element_value x) _ _ (subst (λ l. HasSaid (hovers_in d) d l (map hover_value c.loop-element.gathered.hovers.items)) left c.loop-element.invariant.6) c.in_ok-add_hover.ensures,
+      said_more (intervals_in d) d rest (element_value x) _ _ (subst (λ l. HasSaid (intervals_in d) d l (map interval_value c.loop-element.gathered.intervals.items)) left c.loop-element.invariant.7) c.in_ok-add_interval.ensures.intervals,
       λ all. c.loop-element.invariant.8 (subst (All IsWithinLimit) (sym left) (All-cons IsWithinLimit (element_value x) rest c.in_ok-add_interval.ensures.within all)),
     )
 
 pub returns-clause-kinds : goal.returns-clause-kinds
 returns-clause-kinds c =
-    let d = c.args.dump.now.elements in
-    let kinds = c.loop-element.kinds in
+    let d = c.args.gathered.now.kinds.dump.now.elements in
+    let kinds = c.loop-element.gathered.kinds in
     let same : kinds.dump.now.elements ≡ d = ap (λ v. v.elements) c.loop-element.invariant.1 in
     let empty = drop_of_length-le c.elements-element-items.result.now c.loop-element-test.false in
     let all : AreTaken d [] kinds = subst (λ es. AreTaken d (map element_value es) kinds) empty c.loop-element.invariant.0 in
@@ -66,17 +66,17 @@ returns-clause-kinds c =
 
 pub returns-clause-hovers : goal.returns-clause-hovers
 returns-clause-hovers c =
-    let d = c.args.dump.now.elements in
+    let d = c.args.gathered.now.kinds.dump.now.elements in
     let free = c.elements-element-items.ensures.faultless in
-    let rows = map hover_value c.loop-element.hovers.items in
+    let rows = map hover_value c.loop-element.gathered.hovers.items in
     let empty = drop_of_length-le c.elements-element-items.result.now c.loop-element-test.false in
     let all = said_all (hovers_in d) d rows (subst (λ es. HasSaid (hovers_in d) d (map element_value es) rows) empty c.loop-element.invariant.6) in
     subst (IsListing by_result (IsHoverRow d)) (sym all) (hover_listing d (c.vertex_law.ensures d free) free)
 
 pub returns-clause-ranges : goal.returns-clause-ranges
 returns-clause-ranges c =
-    let d = c.args.dump.now.elements in
-    let lines = map (λ r. r.line) (map range_value c.loop-element.ranges.items) in
+    let d = c.args.gathered.now.kinds.dump.now.elements in
+    let lines = map (λ r. r.line) (map range_value c.loop-element.gathered.ranges.items) in
     let empty = drop_of_length-le c.elements-element-items.result.now c.loop-element-test.false in
     record {
       lines = said_all (range_lines d) d lines (subst (λ es. HasSaid (range_lines d) d (map element_value es) lines) empty c.loop-element.invariant.2);
@@ -85,8 +85,8 @@ returns-clause-ranges c =
 
 pub returns-clause-intervals : goal.returns-clause-intervals
 returns-clause-intervals c =
-    let d = c.args.dump.now.elements in
-    let intervals = map interval_value c.loop-element.intervals.items in
+    let d = c.args.gathered.now.kinds.dump.now.elements in
+    let intervals = map interval_value c.loop-element.gathered.intervals.items in
     let empty = drop_of_length-le c.elements-element-items.result.now c.loop-element-test.false in
     said_all (intervals_in d) d intervals (subst (λ es. HasSaid (intervals_in d) d (map element_value es) intervals) empty c.loop-element.invariant.7)
 
@@ -97,7 +97,7 @@ returns-clause-within c =
 
 pub returns-clause-located : goal.returns-clause-located
 returns-clause-located c = λ r span is.
-    let d = c.args.dump.now.elements in
+    let d = c.args.gathered.now.kinds.dump.now.elements in
     let free = c.elements-element-items.ensures.faultless in
     let empty = drop_of_length-le c.elements-element-items.result.now c.loop-element-test.false in
     let within = c.loop-element.invariant.8 (subst (λ es. All IsWithinLimit (map element_value es)) (sym empty) (All-nil IsWithinLimit)) in
