@@ -75,6 +75,10 @@ measure_dumps() {
         make_nested 49000 49000 "$order" all >"$folder/nested.lsif"
         measure_dump "all nest, $order" "$folder/nested.lsif"
     done
+    for id in 4 '"r"'; do
+        make_items 64 "$id" >"$folder/items.lsif"
+        measure_dump "item targets $id" "$folder/items.lsif"
+    done
     make_texts 100000 >"$folder/texts.lsif"
     measure_dump "ids of 48 bytes" "$folder/texts.lsif"
     for order in rising falling; do

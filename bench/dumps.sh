@@ -117,6 +117,22 @@ make_texts() {
     }'
 }
 
+# A dump of one range with this id, a number or a text in quotes, and of so many `item` edges of half a megabyte each, which name the range over and over.
+make_items() {
+    awk -v edges="$1" -v id="$2" 'BEGIN {
+        print "{\"id\":1,\"type\":\"vertex\",\"label\":\"metaData\",\"version\":\"0.6.0\",\"positionEncoding\":\"utf-16\"}"
+        print "{\"id\":2,\"type\":\"vertex\",\"label\":\"document\",\"uri\":\"file:///src/part.rs\",\"languageId\":\"rust\"}"
+        print "{\"id\":3,\"type\":\"vertex\",\"label\":\"definitionResult\"}"
+        print "{\"id\":" id ",\"type\":\"vertex\",\"label\":\"range\",\"start\":{\"line\":0,\"character\":0},\"end\":{\"line\":0,\"character\":8}}"
+        print "{\"id\":5,\"type\":\"edge\",\"label\":\"contains\",\"inVs\":[" id "],\"outV\":2}"
+        targets = id
+        while (2 * length(targets) < 1048000)
+            targets = targets "," targets
+        for (n = 0; n < edges; n++)
+            printf "{\"id\":%d,\"type\":\"edge\",\"label\":\"item\",\"document\":2,\"inVs\":[%s],\"outV\":3}\n", 10 + n, targets
+    }'
+}
+
 # A dump of so many result sets in one chain of `next` edges, which begins to be joined at its end where the order falls.
 make_chain() {
     awk -v count="$1" -v order="$2" "$print_elements"'BEGIN {
