@@ -1,11 +1,10 @@
 -- Indices that are entered in the rows of ids.
-use Rattle.std.proofs.Common.{◌≡◌, ◌≢◌, ◌∙◌, ◌&&◌, ◌<◌, ◌+◌, ℕ, zero, suc, Bool, true, false, nat_eq, List, [], ◌∷◌, length, take, get_or, set, Option, Some, None, refl, sym, ap, arith, option_and_then}
+use Rattle.std.proofs.Common.{◌++◌, ◌≡◌, ◌≢◌, ◌∙◌, ◌&&◌, ◌<◌, ℕ, Bool, true, false, nat_eq, List, [], ◌∷◌, length, get_or, set, Option, Some, None, refl, sym, ap, arith, option_and_then}
 use Rattle.std.specs.Prelude.{is_some}
 use Rattle.std.specs.List.{list_all}
 use Rattle.std.proofs.lemmas.List.{get_or-set_other}
 use Rattle.std.proofs.lemmas.Grind.{get_or-set_at}
-use Rattle.lsif.specs.declared.id.Id.{Id}
-use Rattle.lsif.specs.Element.{IdValue, id_value, id_values, same_id}
+use Rattle.lsif.specs.Element.{IdValue, same_id}
 use Rattle.dump.specs.declared.links.Link.{Link}
 use Rattle.dump.specs.declared.index_map.IndexMap.{IndexMap}
 use Rattle.dump.specs.Graph.{is_among}
@@ -103,23 +102,20 @@ module _ (table : IndexMap) (bound : ℕ) (has : HasRows table bound) (old new :
       by None none = no_row (same_id x i) refl none
       by (Some n) is = cells n m ∙ ap (λ b. entered b index (cell old n m)) (ap (λ b. b && same_link l m) (same_row n is (same_id x i) refl) ∙ swap (same_id x i) (same_link l m))
 
--- the same at the ids up to an index, and at one more
-pub links_more : (xs : List Id) (k : ℕ) (x : Id) (index : ℕ) (b : Bool) (first old new : IdValue → Option ℕ) → k < length xs → x ≡ get_or xs k x
-    → ((i : IdValue) → old i ≡ entered (b && is_among i (id_values (take k xs))) index (first i))
-    → ((i : IdValue) → new i ≡ entered (b && same_id (id_value x) i) index (old i))
-    → (i : IdValue) → new i ≡ entered (b && is_among i (id_values (take (k + 1) xs))) index (first i)
-links_more xs k x index true first old new lt e before is i = entered_more xs k x index first old new lt e before is i
-links_more xs k x index false first old new lt e before is i = is i ∙ entered_not index (old i) ∙ before i
+-- the same at the ids that were passed, and at one more
+pub links_more : (front : List IdValue) (x : IdValue) (index : ℕ) (b : Bool) (first old new : IdValue → Option ℕ)
+    → ((i : IdValue) → old i ≡ entered (b && is_among i front) index (first i))
+    → ((i : IdValue) → new i ≡ entered (b && same_id x i) index (old i))
+    → (i : IdValue) → new i ≡ entered (b && is_among i (front ++ x ∷ [])) index (first i)
+links_more front x index true first old new before is i = entered_more front x index first old new before is i
+links_more front x index false first old new before is i = is i ∙ entered_not index (old i) ∙ before i
 
--- each of some ids has an index
-pub known_at : (table : IndexMap) (xs : List Id) (k : ℕ) (x : Id) → k < length xs → x ≡ get_or xs k x → list_all (λ i. is_some (index_at table i)) (id_values xs) ≡ true → is_some (index_at table (id_value x)) ≡ true
-known_at table [] k x lt e h = absurd (omega (arith, lt))
-known_at table (y ∷ ys) k x lt e h = at k (known_at table ys) lt e
-  where
-    both : (is_some (index_at table (id_value y)) ≡ true) × (list_all (λ i. is_some (index_at table i)) (id_values ys) ≡ true)
-    both = and_both (is_some (index_at table (id_value y))) (list_all (λ i. is_some (index_at table i)) (id_values ys)) h
+-- each of the ids that are left has an index
+pub known_first : (table : IndexMap) (whole rest : List IdValue) (x : IdValue) → whole ≡ x ∷ rest → list_all (λ i. is_some (index_at table i)) whole ≡ true
+    → (is_some (index_at table x) ≡ true) × (list_all (λ i. is_some (index_at table i)) rest ≡ true)
+known_first table whole rest x next h = and_both (is_some (index_at table x)) (list_all (λ i. is_some (index_at table i)) rest) (ap (list_all (λ i. is_some (index_at table i))) (sym next) ∙ h)
 
-    at : (j : ℕ) → ((i : ℕ) (z : Id) → i < length ys → z ≡ get_or ys i z → list_all (λ i. is_some (index_at table i)) (id_values ys) ≡ true → is_some (index_at table (id_value z)) ≡ true)
-        → j < length (y ∷ ys) → x ≡ get_or (y ∷ ys) j x → is_some (index_at table (id_value x)) ≡ true
-    at zero rest less same = ap (λ (z : Id). is_some (index_at table (id_value z))) same ∙ both.0
-    at (suc j) rest less same = rest j x (omega (arith, less)) same both.1
+-- of no id nothing is entered
+pub no_entry : (b : Bool) (index : ℕ) (o : Option ℕ) → entered (b && false) index o ≡ o
+no_entry true index o = entered_not index o
+no_entry false index o = entered_not index o

@@ -1,14 +1,12 @@
 -- Repeated ids of a list that grows at its end.
-use Rattle.std.proofs.Common.{◌≡◌, ◌∙◌, ◌||◌, ℕ, ◌+◌, ◌<◌, Bool, true, false, List, [], ◌∷◌, ◌++◌, length, take, drop, get_or, Option, Some, None, if◌then◌else◌, refl, ap, sym}
+use Rattle.std.proofs.Common.{◌≡◌, ◌∙◌, ◌||◌, ℕ, Bool, true, false, List, [], ◌∷◌, ◌++◌, Option, Some, None, if◌then◌else◌, refl, ap, sym, append-nil}
 use Rattle.std.specs.Prelude.{is_some}
 use Rattle.std.proofs.lemmas.Bool.{or_parts}
-use Rattle.std.proofs.lemmas.List.{take_more, take-append-drop, map-append}
+use Rattle.std.proofs.lemmas.List.{append_assoc}
 use Rattle.std.proofs.lemmas.List.Folds.{list_any-append}
-use Rattle.lsif.specs.declared.id.Id.{Id}
-use Rattle.lsif.specs.Element.{IdValue, id_value, id_values, same_id}
+use Rattle.lsif.specs.Element.{IdValue, same_id}
 use Rattle.dump.specs.Graph.{is_among, has_repeated}
 use Rattle.dump.specs.Steps.Ids.{entered}
-use Rattle.dump.proofs.Lists.{drop_next}
 use Rattle.dump.proofs.SameIds.{same_id_swap}
 
 or_true : (b : Bool) → (b || true) ≡ true
@@ -42,31 +40,28 @@ repeated_push (x ∷ is) i none new =
     let news = or_parts (same_id x i) (is_among i is) new in
     or_false _ _ (among_push is i x ∙ rw (nones.0, same_id_swap i x, news.0) refl) (repeated_push is i nones.1 news.1)
 
--- ---- the same of the first ids of a list
+-- ---- the same of a list that is gone over, of which these were passed and this is the next
 
--- the ids up to an index and the one there
-ids_more : (xs : List Id) (k : ℕ) (x : Id) → k < length xs → x ≡ get_or xs k x → id_values (take (k + 1) xs) ≡ id_values (take k xs) ++ id_value x ∷ []
-ids_more xs k x lt e = ap id_values (take_more xs k x lt) ∙ map-append id_value (take k xs) (get_or xs k x ∷ []) ∙ rw (← e) refl
+-- one id was passed more
+pub one_passed : (front rest all whole : List IdValue) (x : IdValue) → whole ≡ x ∷ rest → front ++ whole ≡ all → (front ++ x ∷ []) ++ rest ≡ all
+one_passed front rest all whole x next split = append_assoc front (x ∷ []) rest ∙ ap (λ l. front ++ l) (sym next) ∙ split
 
-ids_split : (xs : List Id) (k : ℕ) (x : Id) → k < length xs → x ≡ get_or xs k x → id_values xs ≡ id_values (take k xs) ++ id_value x ∷ id_values (drop (k + 1) xs)
-ids_split xs k x lt e = ap id_values (sym (take-append-drop k xs)) ∙ map-append id_value (take k xs) (drop k xs) ∙ rw (drop_next xs k x lt e) refl
+pub all_passed : (front all whole : List IdValue) → whole ≡ [] → front ++ whole ≡ all → front ≡ all
+all_passed front all whole none split = sym (append-nil front) ∙ ap (λ l. front ++ l) (sym none) ∙ split
 
-pub again-hit : (xs : List Id) (k : ℕ) (x : Id) → k < length xs → x ≡ get_or xs k x → is_among (id_value x) (id_values (take k xs)) ≡ true → true ≡ has_repeated (id_values xs)
-again-hit xs k x lt e h = sym (ap has_repeated (ids_split xs k x lt e) ∙ repeated_again _ _ (id_value x) h)
+pub again-hit : (front rest all whole : List IdValue) (x : IdValue) → whole ≡ x ∷ rest → front ++ whole ≡ all → is_among x front ≡ true → true ≡ has_repeated all
+again-hit front rest all whole x next split h = sym (ap has_repeated (sym split ∙ ap (λ l. front ++ l) next) ∙ repeated_again front rest x h)
 
-pub again-miss : (xs : List Id) (k : ℕ) (x : Id) → k < length xs → x ≡ get_or xs k x → is_among (id_value x) (id_values (take k xs)) ≡ false → has_repeated (id_values (take k xs)) ≡ false → has_repeated (id_values (take (k + 1) xs)) ≡ false
-again-miss xs k x lt e h none = ap has_repeated (ids_more xs k x lt e) ∙ repeated_push _ (id_value x) none h
-
--- a table of the ids up to an index, and what one more makes of it
-pub seen_more : {V : Type 0} (xs : List Id) (k : ℕ) (x : Id) (v : V) (old new : IdValue → Option V) → k < length xs → x ≡ get_or xs k x
-    → ((i : IdValue) → is_some (old i) ≡ is_among i (id_values (take k xs)))
-    → ((i : IdValue) → new i ≡ (if same_id (id_value x) i then Some v else old i))
-    → (i : IdValue) → is_some (new i) ≡ is_among i (id_values (take (k + 1) xs))
-seen_more xs k x v old new lt e before is i = ap is_some (is i) ∙ by (same_id (id_value x) i) refl ∙ sym (ap (is_among i) (ids_more xs k x lt e) ∙ among_push _ (id_value x) i)
+-- a table of the ids that were passed, and what one more makes of it
+pub seen_more : {V : Type 0} (front : List IdValue) (x : IdValue) (v : V) (old new : IdValue → Option V)
+    → ((i : IdValue) → is_some (old i) ≡ is_among i front)
+    → ((i : IdValue) → new i ≡ (if same_id x i then Some v else old i))
+    → (i : IdValue) → is_some (new i) ≡ is_among i (front ++ x ∷ [])
+seen_more front x v old new before is i = ap is_some (is i) ∙ by (same_id x i) refl ∙ sym (among_push front x i)
   where
-    by : (b : Bool) → same_id (id_value x) i ≡ b → is_some (if b then Some v else old i) ≡ (is_among i (id_values (take k xs)) || (b || false))
+    by : (b : Bool) → same_id x i ≡ b → is_some (if b then Some v else old i) ≡ (is_among i front || (b || false))
     by true h = sym (or_true _)
-    by false h = before i ∙ sym (plain (is_among i (id_values (take k xs))))
+    by false h = before i ∙ sym (plain (is_among i front))
       where
         plain : (c : Bool) → (c || false) ≡ c
         plain true = refl
@@ -78,13 +73,13 @@ entered_twice true there index None = refl
 entered_twice false true index None = refl
 entered_twice false false index None = refl
 
--- an index entered at the first ids of a list, and at one more
-pub entered_more : (xs : List Id) (k : ℕ) (x : Id) (index : ℕ) (first old new : IdValue → Option ℕ) → k < length xs → x ≡ get_or xs k x
-    → ((i : IdValue) → old i ≡ entered (is_among i (id_values (take k xs))) index (first i))
-    → ((i : IdValue) → new i ≡ entered (same_id (id_value x) i) index (old i))
-    → (i : IdValue) → new i ≡ entered (is_among i (id_values (take (k + 1) xs))) index (first i)
-entered_more xs k x index first old new lt e before is i =
+-- an index entered at the ids that were passed, and at one more
+pub entered_more : (front : List IdValue) (x : IdValue) (index : ℕ) (first old new : IdValue → Option ℕ)
+    → ((i : IdValue) → old i ≡ entered (is_among i front) index (first i))
+    → ((i : IdValue) → new i ≡ entered (same_id x i) index (old i))
+    → (i : IdValue) → new i ≡ entered (is_among i (front ++ x ∷ [])) index (first i)
+entered_more front x index first old new before is i =
     is i
-    ∙ ap (entered (same_id (id_value x) i) index) (before i)
-    ∙ entered_twice (is_among i (id_values (take k xs))) (same_id (id_value x) i) index (first i)
-    ∙ sym (ap (λ here. entered here index (first i)) (ap (is_among i) (ids_more xs k x lt e) ∙ among_push _ (id_value x) i))
+    ∙ ap (entered (same_id x i) index) (before i)
+    ∙ entered_twice (is_among i front) (same_id x i) index (first i)
+    ∙ sym (ap (λ here. entered here index (first i)) (among_push front x i))

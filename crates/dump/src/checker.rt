@@ -13,7 +13,7 @@ use crate::request_kind::RequestKind;
 use crate::single::SingleLabel;
 use crate::vertices::vertex_at;
 use crate::walks::first_result;
-use lsif::{Code, Element, Id, Profile, Vertex};
+use lsif::{Code, Element, Id, IdRef, Profile, Vertex};
 use std::alloc::Global;
 use std::marker::Model;
 
@@ -140,6 +140,7 @@ impl CheckedDump {
     ghost use Rattle.dump.specs.Conditions.{most_elements};
     ghost use Rattle.std.specs.Prelude.{Option, Some, IfSome, IfNone, option_map};
     ghost use Rattle.lsif.specs.Element.{IdValue, document, id_value, vertex_value};
+    ghost use Rattle.lsif.specs.Lent.{lent_value};
     ghost use Rattle.dump.specs.Graph.{line_of, vertex_at};
     ghost use Rattle.dump.specs.Places.{HasDocument};
     ghost use Rattle.dump.specs.Contained.{container, is_in};
@@ -180,14 +181,14 @@ impl CheckedDump {
     pub fn next(&self, vertex: &Id) -> Option<&Id>
         ensures { option_map (λ i. id_value i.now) result ≡ first_to (next_pairs self.now.elements) (id_value vertex.now) }
     {
-        self.graph.target_of(SingleLabel::Next, vertex)
+        self.graph.target_of(SingleLabel::Next, vertex.lent())
     }
 
     /// The result that the vertex itself has for a request.
     pub fn result(&self, request: RequestKind, vertex: &Id) -> Option<&Id>
         ensures { option_map (λ i. id_value i.now) result ≡ first_to (single_pairs (label_of request) self.now.elements) (id_value vertex.now) }
     {
-        self.graph.target_of(request.label(), vertex)
+        self.graph.target_of(request.label(), vertex.lent())
     }
 
     /// The package that a `packageInformation` edge out of this moniker names.
@@ -195,19 +196,19 @@ impl CheckedDump {
         ensures { option_map (λ i. id_value i.now) result ≡ first_to (single_pairs PackageInformation self.now.elements) (id_value moniker.now) }
     {
         self.graph
-            .target_of(SingleLabel::PackageInformation, moniker)
+            .target_of(SingleLabel::PackageInformation, moniker.lent())
     }
 
     /// What the vertex of this id says. None where the id is an edge's, or nobody's.
-    pub fn vertex_at(&self, id: &Id) -> Option<&Vertex>
-        ensures { option_map (λ v. vertex_value v.now) result ≡ vertex_at self.now.elements (id_value id.now) }
+    pub fn vertex_at(&self, id: IdRef<'_>) -> Option<&Vertex>
+        ensures { option_map (λ v. vertex_value v.now) result ≡ vertex_at self.now.elements (lent_value id.entry) }
     {
         vertex_at(&self.graph, id)
     }
 
     /// The line, counted from 0, of the element of this id.
-    pub fn line_of(&self, id: &Id) -> Option<u32>
-        ensures { result ≡ line_of self.now.elements (id_value id.now) }
+    pub fn line_of(&self, id: IdRef<'_>) -> Option<u32>
+        ensures { result ≡ line_of self.now.elements (lent_value id.entry) }
     {
         match self.graph.index_of(id) {
             Some(index) => Some(index as u32),
@@ -225,15 +226,15 @@ impl CheckedDump {
     }
 
     /// The document that contains the range.
-    pub fn container(&self, range: &Id) -> Option<&Id>
-        ensures { option_map (λ i. id_value i.now) result ≡ container self.now.elements (id_value range.now) }
+    pub fn container(&self, range: IdRef<'_>) -> Option<&Id>
+        ensures { option_map (λ i. id_value i.now) result ≡ container self.now.elements (lent_value range.entry) }
     {
         self.graph.container(range)
     }
 
     /// Whether this document contains the range.
-    pub fn is_in(&self, document: &Id, range: &Id) -> bool
-        ensures { result ≡ is_in self.now.elements (id_value document.now) (id_value range.now) }
+    pub fn is_in(&self, document: IdRef<'_>, range: IdRef<'_>) -> bool
+        ensures { result ≡ is_in self.now.elements (lent_value document.entry) (lent_value range.entry) }
     {
         self.graph.is_in(document, range)
     }

@@ -1,7 +1,8 @@
 //! The elements of a dump, and what is looked up among them.
 ghost use Rattle.std.specs.Prelude.{◌≡◌, ◌++◌, ◌||◌, ◌==◌, ◌<◌, ◌∷◌, [], None, IfSome, IfOk, OnOk, OnErr, length, map, option_map, vec_capacity, vec_len};
 ghost use Rattle.std.specs.List.{list_any};
-ghost use Rattle.lsif.specs.Element.{id_value, id_values, element_value};
+ghost use Rattle.lsif.specs.Element.{id_value, element_value};
+ghost use Rattle.lsif.specs.Lent.{lent_value};
 ghost use Rattle.dump.specs.Conditions.{is_document_of, order_code};
 ghost use Rattle.dump.specs.Contained.{is_contained, is_in, spans_of, spans_in, any_conflicts, has_conflict};
 ghost use Rattle.dump.specs.Ended.{has_begun, has_ended, is_closed};
@@ -17,7 +18,7 @@ use crate::ids::is_repeating;
 use crate::links::Link;
 use crate::single::{SingleLabel, target};
 use crate::tables::{Tables, contains_source};
-use lsif::{Element, Id};
+use lsif::{Element, Id, IdRef, IdsIter};
 use std::alloc::{AllocError, Global};
 use std::marker::Model;
 
@@ -122,43 +123,45 @@ impl Graph {
     }
 
     /// The last vertex of the chain of `next` edges from this one.
-    pub(crate) fn end_of<'a>(&'a self, id: &'a Id) -> &'a Id
+    pub(crate) fn end_of<'a>(&'a self, id: IdRef<'a>) -> IdRef<'a>
         requires { IsSound self.now }
-        ensures path { Path (next_pairs self.now) (id_value id.now) (id_value result.now) }
-        ensures last { first_to (next_pairs self.now) (id_value result.now) ≡ None }
+        ensures path { Path (next_pairs self.now) (lent_value id.entry) (lent_value result) }
+        ensures last { first_to (next_pairs self.now) (lent_value result) ≡ None }
     {
         match self.tables.index_of_id(&self.elements, id) {
-            Some(index) => self.elements[end_of(&self.shortcuts, &self.elements, index)].id(),
+            Some(index) => self.elements[end_of(&self.shortcuts, &self.elements, index)]
+                .id()
+                .lent(),
             None => id,
         }
     }
 
     /// The index of the element of this id.
-    pub(crate) fn index_of(&self, id: &Id) -> Option<usize>
-        ensures value { result ≡ line_of self.now (id_value id.now) }
+    pub(crate) fn index_of(&self, id: IdRef<'_>) -> Option<usize>
+        ensures value { result ≡ line_of self.now (lent_value id.entry) }
         ensures below { IfSome result (λ index. index < length self.now) }
     {
         self.tables.index_of_id(&self.elements, id)
     }
 
     /// The element of this id.
-    pub(crate) fn element_at(&self, id: &Id) -> Option<&Element>
-        ensures { option_map (λ e. element_value e.now) result ≡ element_at self.now (id_value id.now) }
+    pub(crate) fn element_at(&self, id: IdRef<'_>) -> Option<&Element>
+        ensures { option_map (λ e. element_value e.now) result ≡ element_at self.now (lent_value id.entry) }
     {
         self.tables.element_at(&self.elements, id)
     }
 
     /// Whether a document contains the range.
-    pub(crate) fn is_contained(&self, range: &Id) -> bool
-        ensures { result ≡ is_contained self.now (id_value range.now) }
+    pub(crate) fn is_contained(&self, range: IdRef<'_>) -> bool
+        ensures { result ≡ is_contained self.now (lent_value range.entry) }
     {
         self.tables
             .is_linked(&self.elements, Link::Contained, range)
     }
 
     /// The document that contains the range.
-    pub(crate) fn container(&self, range: &Id) -> Option<&Id>
-        ensures { option_map (λ i. id_value i.now) result ≡ container self.now (id_value range.now) }
+    pub(crate) fn container(&self, range: IdRef<'_>) -> Option<&Id>
+        ensures { option_map (λ i. id_value i.now) result ≡ container self.now (lent_value range.entry) }
     {
         match self.tables.linked(&self.elements, Link::Contained, range) {
             Some(edge) => contains_source(edge),
@@ -167,53 +170,57 @@ impl Graph {
     }
 
     /// Whether this document contains the range.
-    pub(crate) fn is_in(&self, document: &Id, range: &Id) -> bool
+    pub(crate) fn is_in(&self, document: IdRef<'_>, range: IdRef<'_>) -> bool
         requires { IsSound self.now }
-        ensures { result ≡ is_in self.now (id_value document.now) (id_value range.now) }
+        ensures { result ≡ is_in self.now (lent_value document.entry) (lent_value range.entry) }
     {
         match self.container(range) {
-            Some(container) => container.is(document),
+            Some(container) => container.lent().is(document),
             None => false,
         }
     }
 
     /// Whether an id stands in the list twice.
-    pub(crate) fn is_repeating(&self, ids: &[Id]) -> Result<bool, AllocError>
-        ensures { IfOk result (λ b. b ≡ has_repeated (id_values ids.now)) }
+    pub(crate) fn is_repeating(&self, ids: IdsIter<'_>) -> Result<bool, AllocError>
+        ensures { IfOk result (λ b. b ≡ has_repeated ids.entry) }
     {
         is_repeating(*self.elements.allocator(), ids)
     }
 
     /// Whether the span of one of these ranges conflicts with that of a range that the document contains, or with
     /// another's of them.
-    pub(crate) fn conflict(&self, document: &Id, ranges: &[Id]) -> Result<bool, AllocError>
-        ensures { IfOk result (λ b. b ≡ (any_conflicts (spans_of self.now (id_values ranges.now)) (spans_in self.now (id_value document.now))
-            || has_conflict (spans_of self.now (id_values ranges.now)))) }
+    pub(crate) fn conflict(
+        &self,
+        document: IdRef<'_>,
+        ranges: IdsIter<'_>,
+    ) -> Result<bool, AllocError>
+        ensures { IfOk result (λ b. b ≡ (any_conflicts (spans_of self.now ranges.entry) (spans_in self.now (lent_value document.entry))
+            || has_conflict (spans_of self.now ranges.entry))) }
     {
         self.tables.conflict(&self.elements, document, ranges)
     }
 
     /// Whether this document has begun.
-    pub(crate) fn has_begun(&self, document: &Id) -> bool
-        ensures { result ≡ has_begun self.now (id_value document.now) }
+    pub(crate) fn has_begun(&self, document: IdRef<'_>) -> bool
+        ensures { result ≡ has_begun self.now (lent_value document.entry) }
     {
         self.tables.is_linked(&self.elements, Link::Begun, document)
     }
 
     /// Whether this document has ended.
-    pub(crate) fn has_ended(&self, document: &Id) -> bool
-        ensures { result ≡ has_ended self.now (id_value document.now) }
+    pub(crate) fn has_ended(&self, document: IdRef<'_>) -> bool
+        ensures { result ≡ has_ended self.now (lent_value document.entry) }
     {
         self.tables.is_linked(&self.elements, Link::Ended, document)
     }
 
     /// Whether a document that has ended contains the range.
-    pub(crate) fn is_closed(&self, range: &Id) -> bool
+    pub(crate) fn is_closed(&self, range: IdRef<'_>) -> bool
         requires { IsSound self.now }
-        ensures { result ≡ is_closed self.now (id_value range.now) }
+        ensures { result ≡ is_closed self.now (lent_value range.entry) }
     {
         match self.container(range) {
-            Some(document) => self.has_ended(document),
+            Some(document) => self.has_ended(document.lent()),
             None => false,
         }
     }
@@ -236,8 +243,8 @@ impl Graph {
     }
 
     /// The target of the edge of this label out of the vertex.
-    pub(crate) fn target_of(&self, label: SingleLabel, id: &Id) -> Option<&Id>
-        ensures { option_map (λ i. id_value i.now) result ≡ first_to (single_pairs label self.now) (id_value id.now) }
+    pub(crate) fn target_of(&self, label: SingleLabel, id: IdRef<'_>) -> Option<&Id>
+        ensures { option_map (λ i. id_value i.now) result ≡ first_to (single_pairs label self.now) (lent_value id.entry) }
     {
         match self.tables.linked(&self.elements, Link::Single(label), id) {
             Some(edge) => target(edge),

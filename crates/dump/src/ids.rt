@@ -1,10 +1,11 @@
 //! Tables from ids to values: numbers and texts have an ordered map each, so that no choice of ids makes look-ups slow. `specs/Steps/Ids`.
 ghost use Rattle.std.specs.Prelude.{◌≡◌, true, Some, None, IfOk, OnOk, OnErr, option_copied, if◌then◌else◌};
-ghost use Rattle.lsif.specs.Element.{IdValue, id_value, id_values, same_id};
+ghost use Rattle.lsif.specs.Element.{IdValue, same_id};
+ghost use Rattle.lsif.specs.Lent.{lent_value};
 ghost use Rattle.dump.specs.Graph.{has_repeated};
 ghost use Rattle.dump.specs.Steps.Ids.{value_at, entered};
 
-use lsif::Id;
+use lsif::{IdRef, IdsIter};
 use std::alloc::{AllocError, Global};
 use std::collections::BTreeMap;
 
@@ -29,58 +30,58 @@ impl<V> IdMap<V> {
     }
 
     /// The value at the id.
-    pub(crate) fn get(&self, id: &Id) -> Option<&V>
-        ensures { option_copied result ≡ value_at self.now (id_value id.now) }
+    pub(crate) fn get(&self, id: IdRef<'_>) -> Option<&V>
+        ensures { option_copied result ≡ value_at self.now (lent_value id.entry) }
     {
         match id {
-            Id::Number(n) => self.numbers.get(n),
-            Id::Text(text) => self.texts.get(text.as_str()),
+            IdRef::Number(n) => self.numbers.get(&n),
+            IdRef::Text(text) => self.texts.get(text),
         }
     }
 }
 
 impl<V: Drop> IdMap<V> {
     /// Puts the value at the id, and answers the one that was there.
-    pub(crate) fn insert(&mut self, id: &Id, value: V) -> Result<Option<V>, AllocError>
-        ensures old { IfOk result (λ old. old ≡ value_at self.old (id_value id.now)) }
+    pub(crate) fn insert(&mut self, id: IdRef<'_>, value: V) -> Result<Option<V>, AllocError>
+        ensures old { IfOk result (λ old. old ≡ value_at self.old (lent_value id.entry)) }
         ensures ok { OnOk result ((i : IdValue) → value_at self.new i
-            ≡ (if same_id (id_value id.now) i then Some value else value_at self.old i)) }
+            ≡ (if same_id (lent_value id.entry) i then Some value else value_at self.old i)) }
         ensures err { OnErr result ((i : IdValue) → value_at self.new i ≡ value_at self.old i) }
     {
         match id {
-            Id::Number(n) => Ok(self.numbers.insert(*n, value)?),
-            Id::Text(text) => {
-                let key = String::from_str(self.alloc, text.as_str())?;
+            IdRef::Number(n) => Ok(self.numbers.insert(n, value)?),
+            IdRef::Text(text) => {
+                let key = String::from_str(self.alloc, text)?;
                 Ok(self.texts.insert(key, value)?)
             }
         }
     }
 
     /// Takes the value at the id out of the table.
-    pub(crate) fn remove(&mut self, id: &Id)
-        ensures { (i : IdValue) → value_at self.new i ≡ (if same_id (id_value id.now) i then None else value_at self.old i) }
+    pub(crate) fn remove(&mut self, id: IdRef<'_>)
+        ensures { (i : IdValue) → value_at self.new i ≡ (if same_id (lent_value id.entry) i then None else value_at self.old i) }
     {
         match id {
-            Id::Number(n) => {
-                self.numbers.remove(n);
+            IdRef::Number(n) => {
+                self.numbers.remove(&n);
             }
-            Id::Text(text) => {
-                self.texts.remove(text.as_str());
+            IdRef::Text(text) => {
+                self.texts.remove(text);
             }
         }
     }
 
     /// Puts the value at the id where the table has none yet.
-    pub(crate) fn enter(&mut self, id: &Id, value: V) -> Result<(), AllocError>
-        ensures ok { OnOk result ((i : IdValue) → value_at self.new i ≡ entered (same_id (id_value id.now) i) value (value_at self.old i)) }
+    pub(crate) fn enter(&mut self, id: IdRef<'_>, value: V) -> Result<(), AllocError>
+        ensures ok { OnOk result ((i : IdValue) → value_at self.new i ≡ entered (same_id (lent_value id.entry) i) value (value_at self.old i)) }
         ensures err { OnErr result ((i : IdValue) → value_at self.new i ≡ value_at self.old i) }
     {
         match id {
-            Id::Number(n) => {
-                self.numbers.entry(*n)?.or_insert(value);
+            IdRef::Number(n) => {
+                self.numbers.entry(n)?.or_insert(value);
             }
-            Id::Text(text) => {
-                let key = String::from_str(self.alloc, text.as_str())?;
+            IdRef::Text(text) => {
+                let key = String::from_str(self.alloc, text)?;
                 self.texts.entry(key)?.or_insert(value);
             }
         }
@@ -89,8 +90,8 @@ impl<V: Drop> IdMap<V> {
 }
 
 /// Whether an id stands in the list twice.
-pub(crate) fn is_repeating(alloc: Global, ids: &[Id]) -> Result<bool, AllocError>
-    ensures { IfOk result (λ b. b ≡ has_repeated (id_values ids.now)) }
+pub(crate) fn is_repeating(alloc: Global, ids: IdsIter<'_>) -> Result<bool, AllocError>
+    ensures { IfOk result (λ b. b ≡ has_repeated ids.entry) }
 {
     let mut seen = IdMap::new(alloc);
     for id in ids {

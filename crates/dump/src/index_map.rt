@@ -1,10 +1,11 @@
 //! Tables from ids to indices in a list: numbers below a bound have a slot each, all other ids stand in a map (`ids.rt`). `specs/Steps/Ids`.
 ghost use Rattle.std.specs.Prelude.{◌≡◌, ◌<◌, ◌^◌, ℕ, None, OnOk, OnErr, get_or, nat_eq, if◌then◌else◌};
-ghost use Rattle.lsif.specs.Element.{IdValue, id_value, same_id};
+ghost use Rattle.lsif.specs.Element.{IdValue, same_id};
+ghost use Rattle.lsif.specs.Lent.{lent_value};
 ghost use Rattle.dump.specs.Steps.Ids.{entered, index_at};
 
 use crate::ids::IdMap;
-use lsif::Id;
+use lsif::IdRef;
 use std::alloc::{AllocError, Global};
 
 /// A table from ids to indices in a list, counted from 0. Numbers below a bound have a slot each, and all other ids are
@@ -73,37 +74,37 @@ impl IndexMap {
     }
 
     /// The index at the id.
-    pub(crate) fn get(&self, id: &Id) -> Option<usize>
-        ensures { result ≡ index_at self.now (id_value id.now) }
+    pub(crate) fn get(&self, id: IdRef<'_>) -> Option<usize>
+        ensures { result ≡ index_at self.now (lent_value id.entry) }
     {
         match id {
-            Id::Number(n) if *n < self.bound as u64 => slot(&self.slots, *n as usize),
+            IdRef::Number(n) if n < self.bound as u64 => slot(&self.slots, n as usize),
             _ => list_index(self.others.get(id).copied()),
         }
     }
 
     /// Enters the index at the id, where the table has none yet.
-    pub(crate) fn enter(&mut self, id: &Id, index: u32) -> Result<(), AllocError>
-        ensures ok { OnOk result ((i : IdValue) → index_at self.new i ≡ entered (same_id (id_value id.now) i) index (index_at self.old i)) }
+    pub(crate) fn enter(&mut self, id: IdRef<'_>, index: u32) -> Result<(), AllocError>
+        ensures ok { OnOk result ((i : IdValue) → index_at self.new i ≡ entered (same_id (lent_value id.entry) i) index (index_at self.old i)) }
         ensures err { OnErr result ((i : IdValue) → index_at self.new i ≡ index_at self.old i) }
     {
         match id {
-            Id::Number(n) if *n < self.bound as u64 => {
-                enter_slot(&mut self.slots, *n as usize, index)
+            IdRef::Number(n) if n < self.bound as u64 => {
+                enter_slot(&mut self.slots, n as usize, index)
             }
-            Id::Number(_) => self.others.enter(id, index),
-            Id::Text(_) => self.others.enter(id, index),
+            IdRef::Number(_) => self.others.enter(id, index),
+            IdRef::Text(_) => self.others.enter(id, index),
         }
     }
 
     /// Takes the index at the id out of the table.
-    pub(crate) fn remove(&mut self, id: &Id)
-        ensures { (i : IdValue) → index_at self.new i ≡ (if same_id (id_value id.now) i then None else index_at self.old i) }
+    pub(crate) fn remove(&mut self, id: IdRef<'_>)
+        ensures { (i : IdValue) → index_at self.new i ≡ (if same_id (lent_value id.entry) i then None else index_at self.old i) }
     {
         match id {
-            Id::Number(n) if *n < self.bound as u64 => empty_slot(&mut self.slots, *n as usize),
-            Id::Number(_) => self.others.remove(id),
-            Id::Text(_) => self.others.remove(id),
+            IdRef::Number(n) if n < self.bound as u64 => empty_slot(&mut self.slots, n as usize),
+            IdRef::Number(_) => self.others.remove(id),
+            IdRef::Text(_) => self.others.remove(id),
         }
     }
 }

@@ -1,14 +1,15 @@
 //! The indices of the elements that name a vertex, way by way.
 ghost use Rattle.std.specs.Prelude.{◌≡◌, ◌<◌, ◌&&◌, [], ℕ, true, get_or, is_some, length, nat_eq};
 ghost use Rattle.std.specs.List.{list_all};
-ghost use Rattle.lsif.specs.Element.{IdValue, id_value, id_values, same_id};
+ghost use Rattle.lsif.specs.Element.{IdValue, same_id};
+ghost use Rattle.lsif.specs.Lent.{lent_value};
 ghost use Rattle.dump.specs.Graph.{is_among};
 ghost use Rattle.dump.specs.Steps.Ids.{index_at, entered, HasRows};
 ghost use Rattle.dump.specs.Steps.Links.{link_index, same_link, cell, link_at};
 
 use crate::index_map::{IndexMap, list_index};
 use crate::single::SingleLabel;
-use lsif::Id;
+use lsif::{IdRef, IdsIter};
 
 /// A way in which an element names a vertex.
 #[derive(Clone, Copy)]
@@ -76,12 +77,12 @@ fn enter(rows: &mut Vec<Row>, row: usize, link: Link, index: u32)
 }
 
 /// Enters the index in the row of this id, where it has none yet.
-fn enter_at(rows: &mut Vec<Row>, indices: &IndexMap, link: Link, id: &Id, index: u32)
+fn enter_at(rows: &mut Vec<Row>, indices: &IndexMap, link: Link, id: IdRef<'_>, index: u32)
     requires rows { HasRows indices.now (length rows.old.items) }
-    requires known { is_some (index_at indices.now (id_value id.now)) ≡ true }
+    requires known { is_some (index_at indices.now (lent_value id)) ≡ true }
     ensures length { length rows.new.items ≡ length rows.old.items }
     ensures links { (other : Link) (i : IdValue) → link_at indices.now rows.new.items other i
-        ≡ entered (same_link link other && same_id (id_value id.now) i) index (link_at indices.now rows.old.items other i) }
+        ≡ entered (same_link link other && same_id (lent_value id.entry) i) index (link_at indices.now rows.old.items other i) }
 {
     if let Some(row) = indices.get(id) {
         enter(rows, row, link, index);
@@ -89,12 +90,18 @@ fn enter_at(rows: &mut Vec<Row>, indices: &IndexMap, link: Link, id: &Id, index:
 }
 
 /// Enters the index in the rows of these ids, where they have none yet.
-pub(crate) fn enter_all(rows: &mut Vec<Row>, indices: &IndexMap, link: Link, ids: &[Id], index: u32)
+pub(crate) fn enter_all(
+    rows: &mut Vec<Row>,
+    indices: &IndexMap,
+    link: Link,
+    ids: IdsIter<'_>,
+    index: u32,
+)
     requires rows { HasRows indices.now (length rows.old.items) }
-    requires known { list_all (λ i. is_some (index_at indices.now i)) (id_values ids.now) ≡ true }
+    requires known { list_all (λ i. is_some (index_at indices.now i)) ids ≡ true }
     ensures length { length rows.new.items ≡ length rows.old.items }
     ensures links { (other : Link) (i : IdValue) → link_at indices.now rows.new.items other i
-        ≡ entered (same_link link other && is_among i (id_values ids.now)) index (link_at indices.now rows.old.items other i) }
+        ≡ entered (same_link link other && is_among i ids.entry) index (link_at indices.now rows.old.items other i) }
 {
     for id in ids {
         enter_at(rows, indices, link, id, index);

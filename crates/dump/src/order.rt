@@ -121,8 +121,9 @@ fn is_contained_again(graph: &Graph, element: &Element) -> Result<bool, AllocErr
     ensures { IfOk result (λ b. b ≡ is_contained_again graph.now (element_value element.now)) }
 {
     match element {
-        Element::Edge(_, Edge::Contains(from, to)) if is_of_kind(graph, Kind::Document, from) => {
-            Ok(any_contained(graph, to) || graph.is_repeating(to)?)
+        Element::Edge(_, Edge::Contains(from, to))
+            if is_of_kind(graph, Kind::Document, from.lent()) => {
+            Ok(any_contained(graph, to.iter()) || graph.is_repeating(to.iter())?)
         }
         _ => Ok(false),
     }
@@ -133,8 +134,9 @@ fn is_conflicting(graph: &Graph, element: &Element) -> Result<bool, AllocError>
     ensures { IfOk result (λ b. b ≡ is_conflicting graph.now (element_value element.now)) }
 {
     match element {
-        Element::Edge(_, Edge::Contains(from, to)) if is_of_kind(graph, Kind::Document, from) => {
-            graph.conflict(from, to)
+        Element::Edge(_, Edge::Contains(from, to))
+            if is_of_kind(graph, Kind::Document, from.lent()) => {
+            graph.conflict(from.lent(), to.iter())
         }
         _ => Ok(false),
     }
@@ -145,7 +147,7 @@ fn leaves_again(graph: &Graph, element: &Element) -> bool
     ensures { result ≡ leaves_again graph.now (element_value element.now) }
 {
     match single_of(element) {
-        Some((label, from, _)) => graph.target_of(label, from).is_some(),
+        Some((label, from, _)) => graph.target_of(label, from.lent()).is_some(),
         _ => false,
     }
 }
@@ -157,7 +159,7 @@ fn closes_cycle(graph: &Graph, element: &Element) -> bool
     ensures { result ≡ closes_cycle graph.now (element_value element.now) }
 {
     match element {
-        Element::Edge(_, Edge::Next(from, to)) => leads(graph, to, from),
+        Element::Edge(_, Edge::Next(from, to)) => leads(graph, to.lent(), from.lent()),
         _ => false,
     }
 }
@@ -168,8 +170,8 @@ fn has_no_shard(graph: &Graph, element: &Element) -> bool
 {
     match element {
         Element::Edge(_, Edge::Item(item)) => {
-            !is_of_kind(graph, Kind::Shard, &item.shard)
-                && !is_of_kind(graph, Kind::Other, &item.source)
+            !is_of_kind(graph, Kind::Shard, item.shard.lent())
+                && !is_of_kind(graph, Kind::Other, item.source.lent())
         }
         _ => false,
     }
@@ -180,7 +182,7 @@ fn leaves_ended(graph: &Graph, element: &Element) -> bool
     ensures { result ≡ leaves_ended graph.now (element_value element.now) }
 {
     match element {
-        Element::Edge(_, Edge::Contains(from, _)) => graph.has_ended(from),
+        Element::Edge(_, Edge::Contains(from, _)) => graph.has_ended(from.lent()),
         _ => false,
     }
 }
@@ -224,7 +226,7 @@ fn order_code(graph: &Graph, element: &Element) -> Result<Option<Code>, AllocErr
     ensures value { IfOk result (λ code. code ≡ order_code graph.now (element_value element.now)) }
     ensures room { IfOk result (λ code. IfNone code (length graph.now < most_elements)) }
 {
-    let code = if graph.element_at(element.id()).is_some() {
+    let code = if graph.element_at(element.id().lent()).is_some() {
         Some(Code::L04)
     } else if is_misplaced(graph, element) {
         Some(Code::L06)
@@ -280,7 +282,7 @@ fn is_uncontained(graph: &Graph, element: &Element) -> bool
     ensures { result ≡ is_uncontained graph.now (element_value element.now) }
 {
     match element {
-        Element::Vertex(id, Vertex::Range(_)) => !graph.is_contained(id),
+        Element::Vertex(id, Vertex::Range(_)) => !graph.is_contained(id.lent()),
         _ => false,
     }
 }
@@ -293,9 +295,9 @@ fn is_misplaced_item(graph: &Graph, element: &Element) -> bool
     match element {
         Element::Edge(_, Edge::Item(item)) => {
             !matches!(item.property, Some(Property::ReferenceResults))
-                && is_of_kind(graph, Kind::Document, &item.shard)
-                && !are_in(graph, &item.shard, &item.targets)
-                && !is_of_kind(graph, Kind::Other, &item.source)
+                && is_of_kind(graph, Kind::Document, item.shard.lent())
+                && !are_in(graph, item.shard.lent(), item.targets.iter())
+                && !is_of_kind(graph, Kind::Other, item.source.lent())
         }
         _ => false,
     }

@@ -2,7 +2,8 @@
 ghost use Rattle.std.specs.Prelude.{◌≡◌, ◌++◌, ◌∷◌, ◌||◌, [], ℕ, List, Some, None, bytes_eq, IfOk, OnOk, OnErr, find, map, option_and_then, option_map, slice_get, if◌then◌else◌};
 ghost use Rattle.std.specs.BTreeMap.{get_by_text};
 ghost use Rattle.std.specs.List.{list_any};
-ghost use Rattle.lsif.specs.Element.{IdValue, id_value, id_values, element_value, element_id, same_id};
+ghost use Rattle.lsif.specs.Element.{IdValue, id_value, element_value, element_id, same_id};
+ghost use Rattle.lsif.specs.Lent.{lent_value};
 ghost use Rattle.dump.specs.Steps.Chains.{index_in, JoinsIndices};
 ghost use Rattle.dump.specs.Conditions.{is_document_of, order_code};
 ghost use Rattle.dump.specs.Contained.{spans_of, spans_in, any_conflicts, has_conflict};
@@ -19,11 +20,10 @@ use crate::index_map::IndexMap;
 use crate::links::{LINKS, Link, Row, cell, enter_all};
 use crate::single::{SingleLabel, single_of};
 use crate::sorted_spans::{SortedSpans, add, conflict_after};
-use lsif::{Edge, Element, Event, Id, Vertex};
+use lsif::{Edge, Element, Event, Id, IdRef, IdsIter, Vertex};
 use positions::Span;
 use std::alloc::{AllocError, Global};
 use std::collections::BTreeMap;
-use std::slice::from_ref;
 
 /// Ids below it have a slot each: more than a dump has elements, so that dumps whose elements are numbered in turn need
 /// nothing else.
@@ -45,8 +45,8 @@ pub(crate) struct Tables {
 }
 
 /// The spans that are kept of a document, in lists.
-fn lists<'a>(table: &'a IdMap<Vec<SortedSpans>>, document: &Id) -> &'a [SortedSpans]
-    ensures { result.now ≡ lists (value_at table.now (id_value document.now)) }
+fn lists<'a>(table: &'a IdMap<Vec<SortedSpans>>, document: IdRef<'_>) -> &'a [SortedSpans]
+    ensures { result.now ≡ lists (value_at table.now (lent_value document.entry)) }
 {
     match table.get(document) {
         Some(lists) => lists,
@@ -58,19 +58,19 @@ fn lists<'a>(table: &'a IdMap<Vec<SortedSpans>>, document: &Id) -> &'a [SortedSp
 fn fill(
     alloc: Global,
     table: &mut IdMap<Vec<SortedSpans>>,
-    document: &Id,
+    document: IdRef<'_>,
     spans: Vec<Span>,
 ) -> Result<(), AllocError>
-    ensures ok { OnOk result ((i : IdValue) → IsFilled (is_id i (Some (id_value document.now))) spans.items (value_at table.old i) (value_at table.new i)) }
+    ensures ok { OnOk result ((i : IdValue) → IsFilled (is_id i (Some (lent_value document.entry))) spans.items (value_at table.old i) (value_at table.new i)) }
     ensures err { OnErr result ((i : IdValue) → kept (value_at table.new i) ≡ kept (value_at table.old i)) }
 {
     match document {
-        Id::Number(n) => {
-            let lists = table.numbers.entry(*n)?.or_insert(Vec::new(alloc));
+        IdRef::Number(n) => {
+            let lists = table.numbers.entry(n)?.or_insert(Vec::new(alloc));
             add(alloc, lists, spans)
         }
-        Id::Text(text) => {
-            let key = String::from_str(alloc, text.as_str())?;
+        IdRef::Text(text) => {
+            let key = String::from_str(alloc, text)?;
             let lists = table.texts.entry(key)?.or_insert(Vec::new(alloc));
             add(alloc, lists, spans)
         }
@@ -111,7 +111,7 @@ fn keep(
     ensures documents_stay { OnErr result ((uri : List ℕ) → get_by_text documents.new uri ≡ get_by_text documents.old uri) }
 {
     match element {
-        Element::Edge(_, Edge::Contains(from, _)) => fill(alloc, spans, from, targets),
+        Element::Edge(_, Edge::Contains(from, _)) => fill(alloc, spans, from.lent(), targets),
         Element::Vertex(_, Vertex::Document(uri)) => {
             enter_document(alloc, documents, uri.as_str(), index)
         }
@@ -154,17 +154,21 @@ impl Tables {
     }
 
     /// The element of this id.
-    pub(crate) fn element_at<'a>(&self, elements: &'a [Element], id: &Id) -> Option<&'a Element>
+    pub(crate) fn element_at<'a>(
+        &self,
+        elements: &'a [Element],
+        id: IdRef<'_>,
+    ) -> Option<&'a Element>
         requires { AreTables self.now (map element_value elements.now) }
-        ensures { option_map (λ e. element_value e.now) result ≡ element_at (map element_value elements.now) (id_value id.now) }
+        ensures { option_map (λ e. element_value e.now) result ≡ element_at (map element_value elements.now) (lent_value id.entry) }
     {
         at(elements, self.indices.get(id))
     }
 
     /// The index of the element of this id.
-    pub(crate) fn index_of_id(&self, elements: &[Element], id: &Id) -> Option<usize>
+    pub(crate) fn index_of_id(&self, elements: &[Element], id: IdRef<'_>) -> Option<usize>
         requires { AreTables self.now (map element_value elements.now) }
-        ensures { result ≡ index_in (map element_value elements.now) (id_value id.now) }
+        ensures { result ≡ index_in (map element_value elements.now) (lent_value id.entry) }
     {
         self.indices.get(id)
     }
@@ -181,15 +185,15 @@ impl Tables {
     {
         match single_of(element) {
             Some((SingleLabel::Next, from, to)) => {
-                Some((self.indices.get(from)?, self.indices.get(to)?))
+                Some((self.indices.get(from.lent())?, self.indices.get(to.lent())?))
             }
             _ => None,
         }
     }
 
     /// The index of the first element that names the vertex in this way.
-    fn linked_index(&self, link: Link, id: &Id) -> Option<usize>
-        ensures { result ≡ link_at self.now.indices self.now.rows.items link (id_value id.now) }
+    fn linked_index(&self, link: Link, id: IdRef<'_>) -> Option<usize>
+        ensures { result ≡ link_at self.now.indices self.now.rows.items link (lent_value id.entry) }
     {
         match self.indices.get(id) {
             Some(row) => cell(&self.rows, row, link),
@@ -198,9 +202,9 @@ impl Tables {
     }
 
     /// Whether an element names the vertex in this way.
-    pub(crate) fn is_linked(&self, elements: &[Element], link: Link, id: &Id) -> bool
+    pub(crate) fn is_linked(&self, elements: &[Element], link: Link, id: IdRef<'_>) -> bool
         requires { AreTables self.now (map element_value elements.now) }
-        ensures { result ≡ list_any (is_link (map element_value elements.now) link (id_value id.now)) (map element_value elements.now) }
+        ensures { result ≡ list_any (is_link (map element_value elements.now) link (lent_value id.entry)) (map element_value elements.now) }
     {
         self.linked_index(link, id).is_some()
     }
@@ -210,10 +214,10 @@ impl Tables {
         &self,
         elements: &'a [Element],
         link: Link,
-        id: &Id,
+        id: IdRef<'_>,
     ) -> Option<&'a Element>
         requires { AreTables self.now (map element_value elements.now) }
-        ensures { option_map (λ e. element_value e.now) result ≡ find (is_link (map element_value elements.now) link (id_value id.now))
+        ensures { option_map (λ e. element_value e.now) result ≡ find (is_link (map element_value elements.now) link (lent_value id.entry))
             (map element_value elements.now) }
     {
         at(elements, self.linked_index(link, id))
@@ -236,9 +240,9 @@ impl Tables {
     }
 
     /// Whether the id is that of a document.
-    fn is_document(&self, elements: &[Element], id: &Id) -> bool
+    fn is_document(&self, elements: &[Element], id: IdRef<'_>) -> bool
         requires { AreTables self.now (map element_value elements.now) }
-        ensures { result ≡ is_document (vertex_at (map element_value elements.now) (id_value id.now)) }
+        ensures { result ≡ is_document (vertex_at (map element_value elements.now) (lent_value id.entry)) }
     {
         matches!(
             self.element_at(elements, id),
@@ -247,9 +251,9 @@ impl Tables {
     }
 
     /// The spans of the ranges among these ids.
-    fn spans_of(&self, elements: &[Element], ids: &[Id]) -> Result<Vec<Span>, AllocError>
+    fn spans_of(&self, elements: &[Element], ids: IdsIter<'_>) -> Result<Vec<Span>, AllocError>
         requires { AreTables self.now (map element_value elements.now) }
-        ensures { IfOk result (λ found. found.items ≡ spans_of (map element_value elements.now) (id_values ids.now)) }
+        ensures { IfOk result (λ found. found.items ≡ spans_of (map element_value elements.now) ids.entry) }
     {
         let mut found = Vec::new(self.alloc);
         for id in ids {
@@ -265,43 +269,49 @@ impl Tables {
     pub(crate) fn conflict(
         &self,
         elements: &[Element],
-        document: &Id,
-        ranges: &[Id],
+        document: IdRef<'_>,
+        ranges: IdsIter<'_>,
     ) -> Result<bool, AllocError>
         requires { AreTables self.now (map element_value elements.now) }
-        ensures { IfOk result (λ b. b ≡ (any_conflicts (spans_of (map element_value elements.now) (id_values ranges.now))
-            (spans_in (map element_value elements.now) (id_value document.now))
-            || has_conflict (spans_of (map element_value elements.now) (id_values ranges.now)))) }
+        ensures { IfOk result (λ b. b ≡ (any_conflicts (spans_of (map element_value elements.now) ranges.entry)
+            (spans_in (map element_value elements.now) (lent_value document.entry))
+            || has_conflict (spans_of (map element_value elements.now) ranges.entry))) }
     {
         let targets = self.spans_of(elements, ranges)?;
         conflict_after(self.alloc, lists(&self.spans, document), targets)
     }
 
     /// The ranges that the element names, where it's a `contains` edge out of a document.
-    fn ranges_of<'a>(&self, elements: &[Element], element: &'a Element) -> &'a [Id]
+    fn ranges_of<'a>(&self, elements: &[Element], element: &'a Element) -> IdsIter<'a>
         requires { AreTables self.now (map element_value elements.now) }
-        ensures { id_values result.now ≡ ranges_in (map element_value elements.now) (element_value element.now) }
+        ensures { result ≡ ranges_in (map element_value elements.now) (element_value element.now) }
     {
-        match element {
-            Element::Edge(_, Edge::Contains(from, to)) if self.is_document(elements, from) => to,
-            _ => &[],
+        if let Element::Edge(_, Edge::Contains(from, to)) = element {
+            if self.is_document(elements, from.lent()) {
+                return to.iter();
+            }
         }
+        IdsIter::none()
     }
 
     /// The way in which the element names vertices, and these.
-    fn named_by<'a>(&self, elements: &[Element], element: &'a Element) -> Option<(Link, &'a [Id])>
+    fn named_by<'a>(
+        &self,
+        elements: &[Element],
+        element: &'a Element,
+    ) -> Option<(Link, IdsIter<'a>)>
         requires { AreTables self.now (map element_value elements.now) }
-        ensures { option_map (λ n. (n.0, id_values n.1.now)) result ≡ named_by (map element_value elements.now) (element_value element.now) }
+        ensures { result ≡ named_by (map element_value elements.now) (element_value element.now) }
     {
         if let Some((label, from, _)) = single_of(element) {
-            return Some((Link::Single(label), from_ref(from)));
+            return Some((Link::Single(label), IdsIter::one(from.lent())));
         }
         match element {
             Element::Vertex(_, Vertex::Event(Event::Begin(document))) => {
-                Some((Link::Begun, from_ref(document)))
+                Some((Link::Begun, IdsIter::one(document.lent())))
             }
             Element::Vertex(_, Vertex::Event(Event::End(document))) => {
-                Some((Link::Ended, from_ref(document)))
+                Some((Link::Ended, IdsIter::one(document.lent())))
             }
             Element::Edge(_, Edge::Contains(_, _)) => {
                 Some((Link::Contained, self.ranges_of(elements, element)))
@@ -324,7 +334,7 @@ impl Tables {
         ensures spans_stay { OnErr result ((i : IdValue) → kept (value_at self.new.spans i) ≡ kept (value_at self.old.spans i)) }
         ensures documents_stay { OnErr result ((uri : List ℕ) → get_by_text self.new.documents uri ≡ get_by_text self.old.documents uri) }
     {
-        self.indices.enter(element.id(), index)?;
+        self.indices.enter(element.id().lent(), index)?;
         let kept = keep(
             self.alloc,
             &mut self.spans,
@@ -334,7 +344,7 @@ impl Tables {
             index as usize,
         );
         if kept.is_err() {
-            self.indices.remove(element.id());
+            self.indices.remove(element.id().lent());
         }
         kept
     }

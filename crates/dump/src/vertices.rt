@@ -1,17 +1,18 @@
 //! What the vertices of ids are, and of which kinds, as edges and events ask. `specs/Kinds` has the kinds and the edge table; the test of its rows
 //! is in `order.rt`.
 ghost use Rattle.std.specs.Prelude.{◌≡◌, option_map};
-ghost use Rattle.lsif.specs.Element.{id_value, id_values, vertex_value};
+ghost use Rattle.lsif.specs.Element.{vertex_value};
+ghost use Rattle.lsif.specs.Lent.{lent_value};
 ghost use Rattle.std.specs.List.{list_all};
 ghost use Rattle.dump.specs.Graph.{vertex_at};
 ghost use Rattle.dump.specs.Kinds.{is_of_kind};
 
 use crate::graph::Graph;
-use lsif::{Element, Id, Vertex};
+use lsif::{Element, IdRef, IdsIter, Vertex};
 
 /// What the vertex of this id says.
-pub(crate) fn vertex_at<'a>(graph: &'a Graph, id: &Id) -> Option<&'a Vertex>
-    ensures { option_map (λ v. vertex_value v.now) result ≡ vertex_at graph.now (id_value id.now) }
+pub(crate) fn vertex_at<'a>(graph: &'a Graph, id: IdRef<'_>) -> Option<&'a Vertex>
+    ensures { option_map (λ v. vertex_value v.now) result ≡ vertex_at graph.now (lent_value id.entry) }
 {
     match graph.element_at(id) {
         Some(Element::Vertex(_, vertex)) => Some(vertex),
@@ -44,8 +45,8 @@ pub(crate) enum Kind {
 }
 
 /// Whether the id is that of a vertex of this kind.
-pub(crate) fn is_of_kind(graph: &Graph, kind: Kind, id: &Id) -> bool
-    ensures { result ≡ is_of_kind kind (vertex_at graph.now (id_value id.now)) }
+pub(crate) fn is_of_kind(graph: &Graph, kind: Kind, id: IdRef<'_>) -> bool
+    ensures { result ≡ is_of_kind kind (vertex_at graph.now (lent_value id.entry)) }
 {
     let vertex = vertex_at(graph, id);
     match kind {
@@ -68,8 +69,8 @@ pub(crate) fn is_of_kind(graph: &Graph, kind: Kind, id: &Id) -> bool
 }
 
 /// Whether each id is that of a vertex of this kind.
-pub(crate) fn are_of_kind(graph: &Graph, kind: Kind, ids: &[Id]) -> bool
-    ensures { result ≡ list_all (λ i. is_of_kind kind (vertex_at graph.now i)) (id_values ids.now) }
+pub(crate) fn are_of_kind(graph: &Graph, kind: Kind, ids: IdsIter<'_>) -> bool
+    ensures { result ≡ list_all (λ i. is_of_kind kind (vertex_at graph.now i)) ids.entry }
 {
     for id in ids {
         if !is_of_kind(graph, kind, id) {

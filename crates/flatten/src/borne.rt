@@ -30,7 +30,7 @@ fn add_attached(
     ensures { OnOk result (pairs.new.items ≡ pairs.old.items ++ pairs_in attach_pairs_of dump.now.elements (element_value element.now)) }
 {
     if let Element::Edge(_, Edge::Attach(from, to)) = element {
-        if let Some((from, to)) = number_pair(dump, from, to) {
+        if let Some((from, to)) = number_pair(dump, from.lent(), to.lent()) {
             pairs.push((from, to))?;
             pairs.push((to, from))?;
         }
@@ -80,7 +80,7 @@ fn add_borne(
     let Element::Edge(_, Edge::Moniker(from, to)) = element else {
         return Ok(());
     };
-    let Some((vertex, moniker)) = number_pair(dump, from, to) else {
+    let Some((vertex, moniker)) = number_pair(dump, from.lent(), to.lent()) else {
         return Ok(());
     };
     let near = closed(alloc, moniker, attached, &mut budgets.pairs)?;
@@ -128,7 +128,7 @@ pub(crate) struct Mark {
 fn package_of<'a>(dump: &'a CheckedDump, moniker: &Id) -> Option<&'a Package>
     ensures { option_map (λ p. package_value p.now) result ≡ package_of dump.now.elements (id_value moniker.now) }
 {
-    match dump.vertex_at(dump.package_of(moniker)?) {
+    match dump.vertex_at(dump.package_of(moniker)?.lent()) {
         Some(Vertex::Package(package)) => Some(package),
         _ => None,
     }

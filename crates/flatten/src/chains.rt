@@ -81,7 +81,7 @@ fn is_bearing(dump: &CheckedDump, borne: &[(u32, u32)], vertex: &Id) -> bool
     requires { IsNonDecreasingBy (λ p. p.0) borne.now }
     ensures { result ≡ is_bearing dump.now.elements borne.now (id_value vertex.now) }
 {
-    match number_of(dump, vertex) {
+    match number_of(dump, vertex.lent()) {
         Some(number) => target_of(borne, number).is_some(),
         None => false,
     }
@@ -91,7 +91,7 @@ fn is_bearing(dump: &CheckedDump, borne: &[(u32, u32)], vertex: &Id) -> bool
 fn own_number(dump: &CheckedDump, request: RequestKind, vertex: &Id) -> Option<u32>
     ensures { result ≡ own_number dump.now.elements request (id_value vertex.now) }
 {
-    number_of(dump, dump.result(request, vertex)?)
+    number_of(dump, dump.result(request, vertex)?.lent())
 }
 
 /// What the vertex itself has.
@@ -147,7 +147,7 @@ impl<'a> Chains<'a> {
         requires { AreChains self.now }
         ensures { IfSome result (λ along. AreAlong self.now.dump.now.elements self.now.borne.items (id_value vertex.now) (along_value along)) }
     {
-        let number = number_of(self.dump, vertex)?;
+        let number = number_of(self.dump, vertex.lent())?;
         let place = self.places.get(number as usize)?;
         let found = self.found.get(*place as usize)?;
         if found.vertex == number {
@@ -166,7 +166,7 @@ impl<'a> Chains<'a> {
         ensures borne { self.new.borne ≡ self.old.borne }
     {
         line_law();
-        if let Some(number) = number_of(self.dump, vertex) {
+        if let Some(number) = number_of(self.dump, vertex.lent()) {
             let place = u32::try_from(self.found.len()).unwrap_or(0);
             self.found.push(VertexAlong {
                 vertex: number,

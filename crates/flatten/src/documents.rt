@@ -59,7 +59,7 @@ pub(crate) fn add_hover<'a>(
     ensures { OnOk result (map hover_value rows.new.items ≡ map hover_value rows.old.items ++ hovers_in dump.now.elements (element_value element.now)) }
 {
     if let Element::Vertex(id, Vertex::HoverResult(contents)) = element {
-        if let Some(number) = number_of(dump, id) {
+        if let Some(number) = number_of(dump, id.lent()) {
             rows.push(HoverRow {
                 result: number,
                 contents: contents.as_str(),

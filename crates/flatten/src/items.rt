@@ -1,7 +1,8 @@
 //! The rows of items: the places of each result in each role, over all results that it leads to (`closure.rt`). `IsItemRow` in `specs/Flat`.
 ghost use Rattle.std.specs.Prelude.{◌≡◌, ◌++◌, Ok, IfOk, OnOk, Contains, map, option_map};
 ghost use Rattle.std.specs.List.{All, flat_map};
-ghost use Rattle.lsif.specs.Element.{id_value, id_values, element_value, vertex_value};
+ghost use Rattle.lsif.specs.Element.{element_value, vertex_value};
+ghost use Rattle.lsif.specs.Lent.{lent_value};
 ghost use Rattle.dump.specs.Fault.{IsFaultless};
 ghost use Rattle.dump.specs.Places.{IsListing, result_pairs_of};
 ghost use Rattle.flatten.specs.Flat.{IsItemRow, is_result, item_cmp, number_of, role_index};
@@ -20,7 +21,7 @@ use crate::numbers::{number_of, number_pair};
 use crate::places::{Place, place_of, place_order};
 use crate::rows::ItemRow;
 use dump::{CheckedDump, Role, container_law, ends_law, line_law, role_of, vertex_law};
-use lsif::{Edge, Element, Id, Property, Vertex};
+use lsif::{Edge, Element, IdRef, IdsIter, Property, Vertex};
 use std::alloc::{AllocError, Global};
 use std::cmp::Ordering;
 
@@ -42,7 +43,7 @@ fn result_number(dump: &CheckedDump, element: &Element) -> Option<u32>
     ensures { result ≡ result_number dump.now.elements (element_value element.now) }
 {
     match element {
-        Element::Vertex(id, vertex) if is_result(vertex) => number_of(dump, id),
+        Element::Vertex(id, vertex) if is_result(vertex) => number_of(dump, id.lent()),
         _ => None,
     }
 }
@@ -65,11 +66,11 @@ pub(crate) fn add_number(
 fn add_pairs(
     pairs: &mut Vec<(u32, u32)>,
     dump: &CheckedDump,
-    source: &Id,
-    targets: &[Id],
+    source: IdRef<'_>,
+    targets: IdsIter<'_>,
 ) -> Result<(), AllocError>
     ensures { OnOk result (pairs.new.items ≡ pairs.old.items ++ flat_map (numbers_of_pair dump.now.elements)
-        (map (λ to. (id_value source.now, to)) (id_values targets.now))) }
+        (map (λ to. (lent_value source.entry, to)) targets.entry)) }
 {
     for target in targets {
         if let Some(pair) = number_pair(dump, source, target) {
@@ -90,7 +91,7 @@ pub(crate) fn add_results(
     match element {
         Element::Edge(_, Edge::Item(item))
             if matches!(item.property, Some(Property::ReferenceResults)) => {
-            add_pairs(pairs, dump, &item.source, &item.targets)
+            add_pairs(pairs, dump, item.source.lent(), item.targets.iter())
         }
         _ => Ok(()),
     }
@@ -104,9 +105,13 @@ fn is_role(role: Role, property: Option<Property>) -> bool
 }
 
 /// The number of the source with the place of the target, where each has one.
-fn placed<'a>(dump: &'a CheckedDump, source: &Id, target: &Id) -> Option<(u32, Place<'a>)>
-    ensures { option_map placed_values result ≡ with_places (number_of dump.now.elements (id_value source.now))
-        (option_map twice (place_of dump.now.elements (id_value target.now))) }
+fn placed<'a>(
+    dump: &'a CheckedDump,
+    source: IdRef<'_>,
+    target: IdRef<'_>,
+) -> Option<(u32, Place<'a>)>
+    ensures { option_map placed_values result ≡ with_places (number_of dump.now.elements (lent_value source.entry))
+        (option_map twice (place_of dump.now.elements (lent_value target.entry))) }
 {
     match (number_of(dump, source), place_of(dump, target)) {
         (Some(number), Some(place)) => Some((number, place)),
@@ -118,11 +123,11 @@ fn placed<'a>(dump: &'a CheckedDump, source: &Id, target: &Id) -> Option<(u32, P
 fn add_places<'a>(
     items: &mut Vec<(u32, Place<'a>)>,
     dump: &'a CheckedDump,
-    source: &Id,
-    targets: &[Id],
+    source: IdRef<'_>,
+    targets: IdsIter<'_>,
 ) -> Result<(), AllocError>
     ensures { OnOk result (map placed_values items.new.items ≡ map placed_values items.old.items
-        ++ flat_map (placed_of_pair dump.now.elements) (map (λ to. (id_value source.now, to)) (id_values targets.now))) }
+        ++ flat_map (placed_of_pair dump.now.elements) (map (λ to. (lent_value source.entry, to)) targets.entry)) }
 {
     for target in targets {
         if let Some(item) = placed(dump, source, target) {
@@ -144,7 +149,7 @@ pub(crate) fn add_items<'a>(
 {
     match element {
         Element::Edge(_, Edge::Item(item)) if is_role(role, item.property) => {
-            add_places(items, dump, &item.source, &item.targets)
+            add_places(items, dump, item.source.lent(), item.targets.iter())
         }
         _ => Ok(()),
     }

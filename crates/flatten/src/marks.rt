@@ -75,7 +75,7 @@ fn add_member(
         (IsMarkOfVertex chains.now.dump.now.elements chains.now.borne.items (mark_values marks.now) number (id_value member.now))
         (map mark_row_value rows.new.items)) }
 {
-    if let Some(vertex) = number_of(chains.dump, member) {
+    if let Some(vertex) = number_of(chains.dump, member.lent()) {
         let pairs = pairs_from(&chains.borne, vertex);
         budget.take(pairs.len())?;
         add_targets(rows, marks, number, pairs, budget)?;
@@ -153,7 +153,7 @@ fn add_range<'a>(
     let Element::Vertex(id, Vertex::Range(_)) = element else {
         return Ok(());
     };
-    match number_of(chains.dump, id) {
+    match number_of(chains.dump, id.lent()) {
         Some(number) => add_chain(alloc, rows, marks, chains, number, id, budget),
         None => Ok(()),
     }

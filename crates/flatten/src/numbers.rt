@@ -1,15 +1,16 @@
 //! Numbers of vertices: their lines in the dump, counted from 1, by which rows refer to them. `specs/Flat`.
 ghost use Rattle.std.specs.Prelude.{◌≡◌, Some, option_map};
 ghost use Rattle.lsif.specs.Element.{IdValue, id_value};
+ghost use Rattle.lsif.specs.Lent.{lent_value};
 ghost use Rattle.flatten.specs.Flat.{number_of};
 ghost use Rattle.flatten.specs.Steps.Numbers.{both_numbers};
 
 use dump::CheckedDump;
-use lsif::Id;
+use lsif::{Id, IdRef};
 
 /// The number of a vertex: its line, counted from 1.
-pub(crate) fn number_of(dump: &CheckedDump, id: &Id) -> Option<u32>
-    ensures { result ≡ number_of dump.now.elements (id_value id.now) }
+pub(crate) fn number_of(dump: &CheckedDump, id: IdRef<'_>) -> Option<u32>
+    ensures { result ≡ number_of dump.now.elements (lent_value id.entry) }
 {
     let count = dump.elements().len();
     match dump.line_of(id) {
@@ -19,8 +20,8 @@ pub(crate) fn number_of(dump: &CheckedDump, id: &Id) -> Option<u32>
 }
 
 /// The numbers of the two, where each has one.
-pub(crate) fn number_pair(dump: &CheckedDump, from: &Id, to: &Id) -> Option<(u32, u32)>
-    ensures { result ≡ both_numbers (number_of dump.now.elements (id_value from.now)) (number_of dump.now.elements (id_value to.now)) }
+pub(crate) fn number_pair(dump: &CheckedDump, from: IdRef<'_>, to: IdRef<'_>) -> Option<(u32, u32)>
+    ensures { result ≡ both_numbers (number_of dump.now.elements (lent_value from.entry)) (number_of dump.now.elements (lent_value to.entry)) }
 {
     match (number_of(dump, from), number_of(dump, to)) {
         (Some(from), Some(to)) => Some((from, to)),

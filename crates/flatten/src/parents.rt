@@ -54,8 +54,8 @@ fn interval_with(document: u32, range: u32, start: u64, end: u64) -> Option<Inte
 fn interval_of(dump: &CheckedDump, range: &Id, start: u64, end: u64) -> Option<Interval>
     ensures { option_map interval_value result ≡ interval_of dump.now.elements (id_value range.now) start «end» }
 {
-    let document = number_of(dump, dump.container(range)?)?;
-    interval_with(document, number_of(dump, range)?, start, end)
+    let document = number_of(dump, dump.container(range.lent())?.lent())?;
+    interval_with(document, number_of(dump, range.lent())?, start, end)
 }
 
 /// Adds the interval of the element, where it's a range.

@@ -1,13 +1,13 @@
 //! Places as rows are compared by them: by the document's URL, the start and the end. The rows that have them are in `items.rt` and `ranges.rt`.
 ghost use Rattle.std.specs.Prelude.{◌≡◌, option_map};
-ghost use Rattle.lsif.specs.Element.{id_value};
+ghost use Rattle.lsif.specs.Lent.{lent_value};
 ghost use Rattle.dump.specs.Graph.{vertex_at};
 ghost use Rattle.dump.specs.Places.{place_cmp, position_cmp};
 ghost use Rattle.flatten.specs.Steps.Places.{by_numbers, place_values, point_value, twice};
 ghost use Rattle.flatten.specs.Steps.Tables.{container_uri, place_of, uri_of};
 
 use dump::CheckedDump;
-use lsif::{Id, Vertex};
+use lsif::{IdRef, Vertex};
 use positions::{Position, Span};
 use std::cmp::Ordering;
 
@@ -60,8 +60,8 @@ pub(crate) fn place_order(a: &Place<'_>, b: &Place<'_>) -> Ordering
 }
 
 /// The serialized URL of a document. None where the vertex is no document.
-fn uri_of<'a>(dump: &'a CheckedDump, vertex: &Id) -> Option<&'a str>
-    ensures { option_map (λ s. s.now) result ≡ uri_of (vertex_at dump.now.elements (id_value vertex.now)) }
+fn uri_of<'a>(dump: &'a CheckedDump, vertex: IdRef<'_>) -> Option<&'a str>
+    ensures { option_map (λ s. s.now) result ≡ uri_of (vertex_at dump.now.elements (lent_value vertex.entry)) }
 {
     match dump.vertex_at(vertex) {
         Some(Vertex::Document(uri)) => Some(uri.as_str()),
@@ -70,15 +70,15 @@ fn uri_of<'a>(dump: &'a CheckedDump, vertex: &Id) -> Option<&'a str>
 }
 
 /// The serialized URL of the document that contains the range.
-pub(crate) fn container_uri<'a>(dump: &'a CheckedDump, range: &Id) -> Option<&'a str>
-    ensures { option_map (λ s. s.now) result ≡ container_uri dump.now.elements (id_value range.now) }
+pub(crate) fn container_uri<'a>(dump: &'a CheckedDump, range: IdRef<'_>) -> Option<&'a str>
+    ensures { option_map (λ s. s.now) result ≡ container_uri dump.now.elements (lent_value range.entry) }
 {
-    uri_of(dump, dump.container(range)?)
+    uri_of(dump, dump.container(range)?.lent())
 }
 
 /// The place of the vertex, where it's a range that a document contains.
-pub(crate) fn place_of<'a>(dump: &'a CheckedDump, vertex: &Id) -> Option<Place<'a>>
-    ensures { option_map place_values result ≡ option_map twice (place_of dump.now.elements (id_value vertex.now)) }
+pub(crate) fn place_of<'a>(dump: &'a CheckedDump, vertex: IdRef<'_>) -> Option<Place<'a>>
+    ensures { option_map place_values result ≡ option_map twice (place_of dump.now.elements (lent_value vertex.entry)) }
 {
     match dump.vertex_at(vertex) {
         Some(Vertex::Range(span)) => Some(Place {

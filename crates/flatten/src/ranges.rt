@@ -79,8 +79,10 @@ pub(crate) fn add_found<'a>(
     let Element::Vertex(id, Vertex::Range(span)) = element else {
         return Ok(());
     };
-    let (Some(number), Some(uri)) = (number_of(chains.dump, id), container_uri(chains.dump, id))
-    else {
+    let (Some(number), Some(uri)) = (
+        number_of(chains.dump, id.lent()),
+        container_uri(chains.dump, id.lent()),
+    ) else {
         return Ok(());
     };
     found.push(found_range(alloc, chains, number, id, span, uri)?)?;

@@ -116,11 +116,11 @@ fn read_route<'b>(
         Route::Lsif => Ok(asked_upload(read_dump(alloc, project, parameters)?)),
         Route::Tags => Ok(asked_upload(read_tags(alloc, project, parameters)?)),
         Route::Project => Ok(asked_command(read_removal(alloc, project, parameters)?)),
-        Route::Definition => { ask_at(alloc, RequestKind::Definition, project, parameters) }
+        Route::Definition => ask_at(alloc, RequestKind::Definition, project, parameters),
         Route::References => Ok(asked_query(read_references(alloc, project, parameters)?)),
         Route::Hover => ask_at(alloc, RequestKind::Hover, project, parameters),
-        Route::Declaration => { ask_at(alloc, RequestKind::Declaration, project, parameters) }
-        Route::Implementation => { ask_at(alloc, RequestKind::Implementation, project, parameters) }
+        Route::Declaration => ask_at(alloc, RequestKind::Declaration, project, parameters),
+        Route::Implementation => ask_at(alloc, RequestKind::Implementation, project, parameters),
         Route::Profile => Ok(asked_query(read_profile_query(alloc, project)?)),
         Route::Names => Ok(asked_query(read_tags_query(alloc, parameters)?)),
         Route::Projects => Ok(asked_query(Some(Query::Projects))),

@@ -1,5 +1,6 @@
 pub mod CutLines
 pub mod Floats
+pub mod IdLists
 pub mod ItemLists
 pub mod LinesOf
 pub mod NextLines

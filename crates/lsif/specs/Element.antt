@@ -1,5 +1,6 @@
 -- Vertices, edges and elements without where they lie in memory (LSIF 0.6.0, "Vertices", "Edges").
-use Rattle.std.specs.Prelude.{◌==◌, ℕ, List, [], ◌∷◌, Bool, false, map, bytes_eq, string_bytes, Option, Result, Ok, Err}
+use Rattle.std.specs.Prelude.{◌==◌, ℕ, List, [], ◌∷◌, Bool, false, bytes_eq, string_bytes, Option, Result, Ok, Err}
+pub use Rattle.lsif.specs.IdValues.{IdValue, number, text}
 use Rattle.lsif.specs.declared.code.Code.{Code}
 use Rattle.positions.specs.Span.{SpanValue}
 use Rattle.lsif.specs.declared.id.Id.{Id}
@@ -17,11 +18,6 @@ use Rattle.lsif.specs.declared.element.Item.{Item}
 use Rattle.lsif.specs.declared.element.Property.{Property}
 use Rattle.lsif.specs.declared.element.Element.{Element}
 use Rattle.lsif.specs.declared.element.Element.TheVariants as elements
-
--- an id: the number 1 and the text "1" differ
-pub data IdValue : Type 0 where
-  number : ℕ → IdValue
-  text : List ℕ → IdValue
 
 -- a moniker: the name of a symbol across projects
 pub record MonikerValue : Type 0 where
@@ -122,9 +118,6 @@ abbrev pub id_value : Id → IdValue
 id_value (ids.Number n) = number n
 id_value (ids.Text s) = text (string_bytes s)
 
-abbrev pub id_values : List Id → List IdValue
-id_values xs = map id_value xs
-
 abbrev pub moniker_value : Moniker → MonikerValue
 moniker_value m = record { scheme = string_bytes m.scheme; identifier = string_bytes m.identifier; kind = m.kind }
 
@@ -155,13 +148,13 @@ vertex_value vertices.Other = other_vertex
 abbrev pub item_value : Item → ItemValue
 item_value i = record {
   source = id_value i.source;
-  targets = id_values i.targets.items;
+  targets = i.targets;
   property = i.property;
   shard = id_value i.shard;
 }
 
 abbrev pub edge_value : Edge → EdgeValue
-edge_value (edges.Contains from to) = contains (id_value from) (id_values to.items)
+edge_value (edges.Contains from to) = contains (id_value from) to
 edge_value (edges.Next from to) = next (id_value from) (id_value to)
 edge_value (edges.Definition from to) = definition (id_value from) (id_value to)
 edge_value (edges.References from to) = references (id_value from) (id_value to)
@@ -172,7 +165,7 @@ edge_value (edges.Moniker from to) = moniker_edge (id_value from) (id_value to)
 edge_value (edges.Package from to) = package_edge (id_value from) (id_value to)
 edge_value (edges.Attach from to) = attach (id_value from) (id_value to)
 edge_value (edges.Item i) = item (item_value i)
-edge_value (edges.Other from to) = other_edge (id_value from) (id_values to.items)
+edge_value (edges.Other from to) = other_edge (id_value from) to
 
 abbrev pub element_value : Element → ElementValue
 element_value (elements.Vertex i v) = vertex (id_value i) (vertex_value v)

@@ -2,14 +2,8 @@
 use Rattle.std.specs.Prelude.{ℕ, ◌&&◌, nat_lt, nat_le, List, [], ◌∷◌, length, Option, Some, None, option_map, option_and_then, if◌then◌else◌}
 use Rattle.serde_json.specs.Data.{Data, Items, no_items, item}
 use Rattle.serde_json.specs.Find.{get, as_number, as_u64, as_str}
-use Rattle.lsif.specs.Element.{IdValue, number, text}
-
-abbrev pub greatest_id : ℕ
-greatest_id = 9007199254740991
-
--- the greatest length of an id's text, in bytes
-abbrev pub longest_id : ℕ
-longest_id = 128
+use Rattle.lsif.specs.IdValues.{IdValue, number, text}
+pub use Rattle.lsif.specs.IdValues.{greatest_id, longest_id}
 
 -- a number without fraction or exponent, up to 2 ^ 64 - 1
 abbrev pub whole_number_in : Data → Option ℕ

@@ -4,7 +4,9 @@ pub mod Edges
 pub mod Element
 pub mod Events
 pub mod Hovers
+pub mod IdValues
 pub mod Ids
+pub mod Lent
 pub mod Lines
 pub mod Monikers
 pub mod Pieces

@@ -1,7 +1,7 @@
 //! The edges that lines spell: their labels in each profile, and what they join. Whether they may join it isn't asked here, but in the crate `dump`.
 //! `specs/Edges`.
 ghost use Rattle.std.specs.Prelude.{◌≡◌, IfOk, IfErr, option_map, codes};
-ghost use Rattle.lsif.specs.Element.{id_value, id_values, item_value, edge_value};
+ghost use Rattle.lsif.specs.Element.{id_value, item_value, edge_value};
 ghost use Rattle.lsif.specs.Edges.{targets_in, ends_in, target_in, property_of, property_in, shard_in, item_in, edge_label, wider_edge_label, edge_from, edge_in};
 ghost use Rattle.lsif.specs.Reading.{labels_of};
 ghost use Rattle.lsif.specs.Shape.{Gives, IsShapeFault, some_or};
@@ -10,7 +10,8 @@ ghost use Rattle.serde_json.specs.View.{view};
 use crate::code::Code;
 use crate::element::{Edge, Item, Profile, Property};
 use crate::fault::ReadFault;
-use crate::id::{Id, ids, member_id};
+use crate::id::{Id, lent_member, member_id};
+use crate::ids::{Ids, id_alone, read_ids};
 use serde_json::Value;
 use std::alloc::{AllocError, Global};
 
@@ -83,32 +84,30 @@ pub(crate) fn label_of_edge(profile: Profile, text: &str) -> EdgeLabel
 
 /// The targets of an edge that names them in `inVs`. None where it doesn't, or names one in `inV`.
 #[tactic(auto, unfolding(crate::specs::Edges::targets_in))]
-fn targets(alloc: Global, value: &Value) -> Result<Option<Vec<Id>>, AllocError>
-    ensures { IfOk result (λ o. option_map (λ found. id_values found.items) o ≡ targets_in (view value.now)) }
+fn targets(alloc: Global, value: &Value) -> Result<Option<Ids>, AllocError>
+    ensures { IfOk result (λ o. o ≡ targets_in (view value.now)) }
 {
     if value.get("inV").is_some() {
         return Ok(None);
     }
     match value.get("inVs").and_then(Value::as_array) {
-        Some(values) => ids(alloc, values),
+        Some(values) => read_ids(alloc, values),
         None => Ok(None),
     }
 }
 
 /// The targets of an edge of another label, which names them in exactly one of `inV` and `inVs`.
 #[tactic(auto, unfolding(crate::specs::Edges::ends_in))]
-fn ends(alloc: Global, value: &Value) -> Result<Option<Vec<Id>>, AllocError>
-    ensures { IfOk result (λ o. option_map (λ found. id_values found.items) o ≡ ends_in (view value.now)) }
+fn ends(alloc: Global, value: &Value) -> Result<Option<Ids>, AllocError>
+    ensures { IfOk result (λ o. o ≡ ends_in (view value.now)) }
 {
     if value.get("inVs").is_some() {
         return targets(alloc, value);
     }
-    let Some(id) = member_id(alloc, value, "inV")? else {
-        return Ok(None);
-    };
-    let mut found = Vec::new(alloc);
-    found.push(id)?;
-    Ok(Some(found))
+    match lent_member(value, "inV") {
+        Some(id) => Ok(Some(id_alone(alloc, id)?)),
+        None => Ok(None),
+    }
 }
 
 /// The target of an edge that names it in `inV`. None where it doesn't, or names some in `inVs`.

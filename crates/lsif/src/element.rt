@@ -1,11 +1,12 @@
 //! The types of elements: vertices, edges and what they hold. How a line spells them is in `vertices.rt` and `edges.rt`; `specs/Element` has the
 //! same without where it lies in memory.
 ghost use Rattle.std.specs.Prelude.{◌≡◌};
-ghost use Rattle.lsif.specs.Element.{id_value, id_values, edge_value, element_value, element_id, ends_of};
+ghost use Rattle.lsif.specs.Element.{id_value, edge_value, element_value, element_id, ends_of};
+ghost use Rattle.lsif.specs.Lent.{lent_value};
 
-use crate::id::Id;
+use crate::id::{Id, IdRef};
+use crate::ids::{Ids, IdsIter};
 use positions::Span;
-use std::slice::from_ref;
 
 /// The part of LSIF that a dump is read by: which labels are read, and not as other labels.
 #[derive(Clone, Copy, Debug, PartialEq, Eq)]
@@ -102,7 +103,7 @@ pub struct Item {
     /// A result.
     pub source: Id,
     /// Ranges or results.
-    pub targets: Vec<Id>,
+    pub targets: Ids,
     /// What the targets are; an edge may leave it out.
     pub property: Option<Property>,
     /// The document or the project that holds the targets.
@@ -113,7 +114,7 @@ pub struct Item {
 #[derive(Debug, Drop)]
 pub enum Edge {
     /// `contains`.
-    Contains(Id, Vec<Id>),
+    Contains(Id, Ids),
     /// `next`.
     Next(Id, Id),
     /// `textDocument/definition`.
@@ -135,17 +136,19 @@ pub enum Edge {
     /// `item`.
     Item(Item),
     /// An edge of another label.
-    Other(Id, Vec<Id>),
+    Other(Id, Ids),
 }
 
 impl Edge {
     /// The source, and the target or the targets (LSIF 0.6.0, "Edges"). The shard of an `item` edge is none of them.
-    pub fn ends(&self) -> (&Id, &[Id])
-        ensures source { id_value result.0.now ≡ (ends_of (edge_value self.now)).0 }
-        ensures targets { id_values result.1.now ≡ (ends_of (edge_value self.now)).1 }
+    pub fn ends(&self) -> (IdRef<'_>, IdsIter<'_>)
+        ensures source { lent_value result.0 ≡ (ends_of (edge_value self.now)).0 }
+        ensures targets { result.1 ≡ (ends_of (edge_value self.now)).1 }
     {
         match self {
-            Edge::Contains(source, targets) | Edge::Other(source, targets) => (source, targets),
+            Edge::Contains(source, targets) | Edge::Other(source, targets) => {
+                (source.lent(), targets.iter())
+            }
             Edge::Next(source, target)
             | Edge::Definition(source, target)
             | Edge::References(source, target)
@@ -154,8 +157,8 @@ impl Edge {
             | Edge::Hover(source, target)
             | Edge::Moniker(source, target)
             | Edge::Package(source, target)
-            | Edge::Attach(source, target) => (source, from_ref(target)),
-            Edge::Item(item) => (&item.source, &item.targets),
+            | Edge::Attach(source, target) => (source.lent(), IdsIter::one(target.lent())),
+            Edge::Item(item) => (item.source.lent(), item.targets.iter()),
         }
     }
 }

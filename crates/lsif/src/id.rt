@@ -1,15 +1,17 @@
 //! Ids of vertices and edges: numbers and texts, how a line spells them and when two are the same. What has an id is in `element.rt`; which ids are
 //! read is said in `specs/Ids`.
-ghost use Rattle.std.specs.Prelude.{◌≡◌, IsTrue, ◌↔◌, IfOk, option_map, codes};
-ghost use Rattle.lsif.specs.Element.{id_value, id_values, same_id};
-ghost use Rattle.lsif.specs.Ids.{id_in, id_at, ids_in};
-ghost use Rattle.serde_json.specs.View.{view, items_view};
+ghost use Rattle.std.specs.Prelude.{◌≡◌, IsTrue, ◌↔◌, IfOk, IfSome, option_map, codes};
+ghost use Rattle.lsif.specs.Element.{id_value, same_id};
+ghost use Rattle.lsif.specs.Lent.{lent_value};
+ghost use Rattle.lsif.specs.IdValues.{IsWhole};
+ghost use Rattle.lsif.specs.Ids.{id_in, id_at};
+ghost use Rattle.serde_json.specs.View.{view};
 
 use serde_json::Value;
 use std::alloc::{AllocError, Global};
 
 /// The greatest number that is an id: the greatest that JavaScript distinguishes from its neighbours.
-const GREATEST_ID: u64 = 9007199254740991;
+pub(crate) const GREATEST_ID: u64 = 9007199254740991;
 
 /// The greatest length of an id's text, in bytes.
 const LONGEST_ID: usize = 128;
@@ -22,33 +24,62 @@ pub enum Id {
     Text(String),
 }
 
+/// An id that is lent.
+#[derive(Clone, Copy, Debug, PartialEq, Eq)]
+pub enum IdRef<'a> {
+    Number(u64),
+    Text(&'a str),
+}
+
 impl Id {
+    /// The same id, lent.
+    pub fn lent(&self) -> IdRef<'_>
+        ensures { lent_value result ≡ id_value self.now }
+    {
+        match self {
+            Id::Number(n) => IdRef::Number(*n),
+            Id::Text(text) => IdRef::Text(text.as_str()),
+        }
+    }
+}
+
+impl IdRef<'_> {
     /// Whether both are the same id.
-    pub fn is(&self, other: &Id) -> bool
-        ensures value { result ≡ same_id (id_value self.now) (id_value other.now) }
-        ensures meaning { IsTrue result ↔ (id_value self.now ≡ id_value other.now) }
+    pub fn is(self, other: IdRef<'_>) -> bool
+        ensures value { result ≡ same_id (lent_value self.entry) (lent_value other.entry) }
+        ensures meaning { IsTrue result ↔ (lent_value self.entry ≡ lent_value other.entry) }
     {
         match (self, other) {
-            (Id::Number(a), Id::Number(b)) => a == b,
-            (Id::Text(a), Id::Text(b)) => a.as_str() == b.as_str(),
+            (IdRef::Number(a), IdRef::Number(b)) => a == b,
+            (IdRef::Text(a), IdRef::Text(b)) => a == b,
             _ => false,
         }
     }
 }
 
-/// The id that a JSON value is. None where it's no id.
+/// The id that a JSON value is, lent from it. None where it's no id.
 #[tactic(auto, unfolding(crate::specs::Ids::id_in))]
-fn id_of(alloc: Global, value: &Value) -> Result<Option<Id>, AllocError>
-    ensures { IfOk result (λ o. option_map id_value o ≡ id_in (view value.now)) }
+pub(crate) fn id_in(value: &Value) -> Option<IdRef<'_>>
+    ensures id { option_map lent_value result ≡ id_in (view value.now) }
+    ensures whole { IfSome result (λ id. IsWhole (lent_value id)) }
 {
     if let Some(n) = value.as_u64() {
-        return Ok((n <= GREATEST_ID).then_some(Id::Number(n)));
+        return (n <= GREATEST_ID).then_some(IdRef::Number(n));
     }
     match value.as_str() {
-        Some(text) if !text.is_empty() && text.len() <= LONGEST_ID => {
-            Ok(Some(Id::Text(String::from_str(alloc, text)?)))
-        }
-        _ => Ok(None),
+        Some(text) if !text.is_empty() && text.len() <= LONGEST_ID => Some(IdRef::Text(text)),
+        _ => None,
+    }
+}
+
+/// The id that the member of this name is, lent from it. None where there is no such member, or it's no id.
+pub(crate) fn lent_member<'a>(value: &'a Value, name: &str) -> Option<IdRef<'a>>
+    ensures id { option_map lent_value result ≡ id_at name.now (view value.now) }
+    ensures whole { IfSome result (λ id. IsWhole (lent_value id)) }
+{
+    match value.get(name) {
+        Some(found) => id_in(found),
+        None => None,
     }
 }
 
@@ -56,22 +87,9 @@ fn id_of(alloc: Global, value: &Value) -> Result<Option<Id>, AllocError>
 pub(crate) fn member_id(alloc: Global, value: &Value, name: &str) -> Result<Option<Id>, AllocError>
     ensures { IfOk result (λ o. option_map id_value o ≡ id_at name.now (view value.now)) }
 {
-    match value.get(name) {
-        Some(found) => id_of(alloc, found),
+    match lent_member(value, name) {
+        Some(IdRef::Number(n)) => Ok(Some(Id::Number(n))),
+        Some(IdRef::Text(text)) => Ok(Some(Id::Text(String::from_str(alloc, text)?))),
         None => Ok(None),
     }
-}
-
-/// The ids that the values of an array are. None where one of them is no id.
-pub(crate) fn ids(alloc: Global, values: &[Value]) -> Result<Option<Vec<Id>>, AllocError>
-    ensures { IfOk result (λ o. option_map (λ found. id_values found.items) o ≡ ids_in (items_view values.now)) }
-{
-    let mut found = Vec::with_capacity(alloc, values.len())?;
-    for value in values {
-        let Some(id) = id_of(alloc, value)? else {
-            return Ok(None);
-        };
-        found.push(id)?;
-    }
-    Ok(Some(found))
 }

@@ -11,6 +11,7 @@ mod events;
 mod fault;
 mod hovers;
 mod id;
+mod ids;
 mod lines;
 mod monikers;
 mod reading;
@@ -25,7 +26,8 @@ pub use element::{
     Edge, Element, Event, Item, Moniker, MonikerKind, Package, Profile, Property, Vertex,
 };
 pub use fault::ReadFault;
-pub use id::Id;
+pub use id::{Id, IdRef};
+pub use ids::{Ids, IdsIter};
 pub use lines::{LineBuffer, Lines, LinesFault, lines_law};
 pub use reading::{LONGEST_LINE, profile_law, read_element};
 pub use sending::push_all;

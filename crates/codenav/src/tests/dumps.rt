@@ -9,7 +9,7 @@ use dump::{
     hover_law, line_law, listing_law, nesting_law, own_law, path_law, pick_law, read_dump,
     read_line, role_of, uri_law, vertex_law,
 };
-use lsif::{Counted, Id, Profile, Property, Vertex};
+use lsif::{Counted, Id, IdRef, Profile, Property, Vertex};
 use std::alloc::Global;
 use std::test::Fail;
 
@@ -138,7 +138,7 @@ document range none, true false, 2, 2 40 0";
 
 /// What kind of vertex the id of this number is.
 fn kind(dump: &CheckedDump, id: u64) -> &'static str {
-    match dump.vertex_at(&Id::Number(id)) {
+    match dump.vertex_at(IdRef::Number(id)) {
         Some(Vertex::Document(_)) => "document",
         Some(Vertex::Range(_)) => "range",
         Some(_) => "another",
@@ -149,9 +149,9 @@ fn kind(dump: &CheckedDump, id: u64) -> &'static str {
 /// The kinds of a document, a range and an edge; whether the range is in the document, and the document in the range; the document that contains the
 /// range; and the documents of two serialized URLs, and of one that no document has.
 fn kinds_and_documents(alloc: Global, dump: &CheckedDump) -> Result<String, Fail> {
-    let (document, range) = (Id::Number(2), Id::Number(3));
-    let (inside, around) = (dump.is_in(&document, &range), dump.is_in(&range, &document));
-    let container = number(dump.container(&range));
+    let (document, range) = (IdRef::Number(2), IdRef::Number(3));
+    let (inside, around) = (dump.is_in(document, range), dump.is_in(range, document));
+    let container = number(dump.container(range));
     let (first, second, third) = (
         number(dump.document_of("file:///a.ts")),
         number(dump.document_of("file:///b.ts")),
@@ -230,7 +230,8 @@ fn index_of_each_id(rt: HostRuntime) -> Result<(), Fail> {
     let text = text_of(rt.alloc(), IDS)?;
     let dump = dump_of(rt.alloc(), Profile::One, text.as_str())?;
     for (short, wanted) in INDEXES {
-        let found = dump.line_of(&id(rt.alloc(), short)?);
+        let id = id(rt.alloc(), short)?;
+        let found = dump.line_of(id.lent());
         assert_eq!(rt; (*short, found), (*short, *wanted));
     }
     Ok(())

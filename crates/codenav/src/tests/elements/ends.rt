@@ -1,25 +1,25 @@
 //! The ids of elements, and the ends of edges: the source and the targets, whatever the label.
-use lsif::{Element, Profile, read_element};
+use lsif::{Element, IdRef, IdsIter, Profile, read_element};
 use std::alloc::Global;
 use std::test::Fail;
 
 /// Elements behind their ids, and what is read of them: the id, and of an edge the source, and behind `>` the targets.
 const ENDS: &str = r#"
-7,"type":"edge","label":"contains","outV":1,"inVs":[2,3] => Number(7): Number(1) > [Number(2), Number(3)]
-7,"type":"edge","label":"contains","outV":1,"inVs":[0,1,"2"] => Number(7): Number(1) > [Number(0), Number(1), Text("2")]
-7,"type":"edge","label":"next","outV":1,"inV":2 => Number(7): Number(1) > [Number(2)]
-"7","type":"edge","label":"next","outV":"1","inV":"2" => Text("7"): Text("1") > [Text("2")]
-7,"type":"edge","label":"textDocument/definition","outV":1,"inV":2 => Number(7): Number(1) > [Number(2)]
-7,"type":"edge","label":"textDocument/references","outV":1,"inV":2 => Number(7): Number(1) > [Number(2)]
-7,"type":"edge","label":"textDocument/declaration","outV":1,"inV":2 => Number(7): Number(1) > [Number(2)]
-7,"type":"edge","label":"textDocument/implementation","outV":1,"inV":2 => Number(7): Number(1) > [Number(2)]
-7,"type":"edge","label":"textDocument/hover","outV":1,"inV":2 => Number(7): Number(1) > [Number(2)]
-7,"type":"edge","label":"moniker","outV":1,"inV":2 => Number(7): Number(1) > [Number(2)]
-7,"type":"edge","label":"packageInformation","outV":1,"inV":2 => Number(7): Number(1) > [Number(2)]
-7,"type":"edge","label":"attach","outV":1,"inV":2 => Number(7): Number(1) > [Number(2)]
-7,"type":"edge","label":"item","outV":1,"inVs":[2,3],"shard":4 => Number(7): Number(1) > [Number(2), Number(3)]
-7,"type":"edge","label":"note","outV":1,"inV":2 => Number(7): Number(1) > [Number(2)]
-7,"type":"edge","label":"note","outV":1,"inVs":[2,3] => Number(7): Number(1) > [Number(2), Number(3)]
+7,"type":"edge","label":"contains","outV":1,"inVs":[2,3] => Number(7): Number(1) > Number(2) Number(3)
+7,"type":"edge","label":"contains","outV":1,"inVs":[0,1,"2"] => Number(7): Number(1) > Number(0) Number(1) Text("2")
+7,"type":"edge","label":"next","outV":1,"inV":2 => Number(7): Number(1) > Number(2)
+"7","type":"edge","label":"next","outV":"1","inV":"2" => Text("7"): Text("1") > Text("2")
+7,"type":"edge","label":"textDocument/definition","outV":1,"inV":2 => Number(7): Number(1) > Number(2)
+7,"type":"edge","label":"textDocument/references","outV":1,"inV":2 => Number(7): Number(1) > Number(2)
+7,"type":"edge","label":"textDocument/declaration","outV":1,"inV":2 => Number(7): Number(1) > Number(2)
+7,"type":"edge","label":"textDocument/implementation","outV":1,"inV":2 => Number(7): Number(1) > Number(2)
+7,"type":"edge","label":"textDocument/hover","outV":1,"inV":2 => Number(7): Number(1) > Number(2)
+7,"type":"edge","label":"moniker","outV":1,"inV":2 => Number(7): Number(1) > Number(2)
+7,"type":"edge","label":"packageInformation","outV":1,"inV":2 => Number(7): Number(1) > Number(2)
+7,"type":"edge","label":"attach","outV":1,"inV":2 => Number(7): Number(1) > Number(2)
+7,"type":"edge","label":"item","outV":1,"inVs":[2,3],"shard":4 => Number(7): Number(1) > Number(2) Number(3)
+7,"type":"edge","label":"note","outV":1,"inV":2 => Number(7): Number(1) > Number(2)
+7,"type":"edge","label":"note","outV":1,"inVs":[2,3] => Number(7): Number(1) > Number(2) Number(3)
 1,"type":"vertex","label":"document","uri":"FILE:///a.ts" => Number(1)
 "1","type":"vertex","label":"document","uri":"FILE:///a.ts" => Text("1")
 "#;
@@ -30,7 +30,11 @@ fn ends_text(alloc: Global, line: &str) -> Result<String, Fail> {
         Ok(Element::Vertex(id, _)) => Ok(format!(in alloc; "{id:?}")?),
         Ok(Element::Edge(id, edge)) => {
             let (source, targets) = edge.ends();
-            Ok(format!(in alloc; "{id:?}: {source:?} > {targets:?}")?)
+            let mut text = format!(in alloc; "{id:?}: {source:?} >")?;
+            for target in targets {
+                text.push_str(format!(in alloc; " {target:?}")?.as_str())?;
+            }
+            Ok(text)
         }
         Err(_) => Err("no element")?,
     }
@@ -42,13 +46,12 @@ fn many_targets(alloc: Global) -> Result<(String, String), Fail> {
         alloc,
         r#"{"id":1,"type":"edge","label":"contains","outV":1,"inVs":[0"#,
     )?;
-    let mut wanted = String::from_str(alloc, "Number(1): Number(1) > [Number(0)")?;
+    let mut wanted = String::from_str(alloc, "Number(1): Number(1) > Number(0)")?;
     for number in 1..10000 {
         line.push_str(format!(in alloc; ",{number}")?.as_str())?;
-        wanted.push_str(format!(in alloc; ", Number({number})")?.as_str())?;
+        wanted.push_str(format!(in alloc; " Number({number})")?.as_str())?;
     }
     line.push_str("]}")?;
-    wanted.push(']')?;
     Ok((line, wanted))
 }
 
@@ -60,6 +63,11 @@ fn ends_of_edges(rt: HostRuntime) -> Result<(), Fail> {
         let found = ends_text(rt.alloc(), line.as_str())?;
         assert_eq!(rt; (part, found.as_str()), (part, wanted));
     }
+    assert_eq!(rt; IdsIter::none().next(), None);
+    assert_eq!(rt;
+        IdsIter::one(IdRef::Text("a")).next(),
+        Some(IdRef::Text("a"))
+    );
     let (line, wanted) = many_targets(rt.alloc())?;
     let found = ends_text(rt.alloc(), line.as_str())?;
     assert_eq!(rt; found.as_str(), wanted.as_str());

@@ -1,7 +1,9 @@
 //! What is read of lines: an element, or the code of its shape. Ids and ends are in `ends.rt`. A table's row is a part of a line and what is read of
 //! it, with `=>` between them: a code, what a vertex or an edge of some labels says, or `an element`; and behind a bar what
 //! profile 2 reads, where that differs.
-use lsif::{Edge, Element, Id, MonikerKind, Profile, ReadFault, Vertex, profile_law, read_element};
+use lsif::{
+    Edge, Element, Id, IdRef, MonikerKind, Profile, ReadFault, Vertex, profile_law, read_element,
+};
 use std::alloc::Global;
 use std::test::Fail;
 
@@ -160,7 +162,7 @@ fn said(vertex: &Vertex) -> &str {
 
 /// Whether these are the numbers 1 and 2.
 fn are_one_and_two(from: &Id, to: &Id) -> bool {
-    from.is(&Id::Number(1)) && to.is(&Id::Number(2))
+    from.lent().is(IdRef::Number(1)) && to.lent().is(IdRef::Number(2))
 }
 
 /// What an edge is, of the labels that the tables ask of.

@@ -1,28 +1,28 @@
 //! The rows of a dump by a plain walk: whatever is looked up, all elements are gone over.
 use dump::{CheckedDump, RequestKind, Role, role_of};
 use flatten::{BearerRow, DocRow, HoverRow, ItemRow, MarkRow, RangeRow, Rows, key_text};
-use lsif::{Edge, Element, Id, MonikerKind, Package, Property, Vertex};
+use lsif::{Edge, Element, IdRef, Ids, MonikerKind, Package, Property, Vertex};
 use positions::Span;
 use std::alloc::{AllocError, Global};
 use std::rc::RcStr;
 use std::test::Fail;
 
 /// The line of the element of this id, counted from 1.
-fn line_of(elements: &[Element], id: &Id) -> Option<u32> {
+fn line_of(elements: &[Element], id: IdRef<'_>) -> Option<u32> {
     let mut line = 0u32;
     for element in elements {
         line = line.saturating_add(1);
-        if element.id().is(id) {
+        if element.id().lent().is(id) {
             return Some(line);
         }
     }
     None
 }
 
-fn vertex_of<'a>(elements: &'a [Element], id: &Id) -> Option<&'a Vertex> {
+fn vertex_of<'a>(elements: &'a [Element], id: IdRef<'_>) -> Option<&'a Vertex> {
     for element in elements {
         if let Element::Vertex(own, vertex) = element {
-            if own.is(id) {
+            if own.lent().is(id) {
                 return Some(vertex);
             }
         }
@@ -39,25 +39,37 @@ enum Label {
 }
 
 /// The label of the edge, where it's one of these, and what it joins.
-fn joined(edge: &Edge) -> Option<(Label, &Id, &Id)> {
+fn joined(edge: &Edge) -> Option<(Label, IdRef<'_>, IdRef<'_>)> {
     match edge {
-        Edge::Next(from, to) => Some((Label::Next, from, to)),
-        Edge::Package(from, to) => Some((Label::Package, from, to)),
-        Edge::Definition(from, to) => Some((Label::Result(RequestKind::Definition), from, to)),
-        Edge::References(from, to) => Some((Label::Result(RequestKind::References), from, to)),
-        Edge::Hover(from, to) => Some((Label::Result(RequestKind::Hover), from, to)),
-        Edge::Declaration(from, to) => Some((Label::Result(RequestKind::Declaration), from, to)),
+        Edge::Next(from, to) => Some((Label::Next, from.lent(), to.lent())),
+        Edge::Package(from, to) => Some((Label::Package, from.lent(), to.lent())),
+        Edge::Definition(from, to) => Some((
+            Label::Result(RequestKind::Definition),
+            from.lent(),
+            to.lent(),
+        )),
+        Edge::References(from, to) => Some((
+            Label::Result(RequestKind::References),
+            from.lent(),
+            to.lent(),
+        )),
+        Edge::Hover(from, to) => Some((Label::Result(RequestKind::Hover), from.lent(), to.lent())),
+        Edge::Declaration(from, to) => Some((
+            Label::Result(RequestKind::Declaration),
+            from.lent(),
+            to.lent(),
+        )),
         Edge::Implementation(from, to) => Some((
             Label::Result(RequestKind::Implementation),
-            from,
-            to,
+            from.lent(),
+            to.lent(),
         )),
         _ => None,
     }
 }
 
 /// What the edge of this label leads to from the vertex.
-fn target<'a>(elements: &'a [Element], label: Label, vertex: &Id) -> Option<&'a Id> {
+fn target<'a>(elements: &'a [Element], label: Label, vertex: IdRef<'_>) -> Option<IdRef<'a>> {
     for element in elements {
         if let Element::Edge(_, edge) = element {
             if let Some((found, from, to)) = joined(edge) {
@@ -74,8 +86,8 @@ fn target<'a>(elements: &'a [Element], label: Label, vertex: &Id) -> Option<&'a 
 fn chain<'a>(
     alloc: Global,
     elements: &'a [Element],
-    vertex: &'a Id,
-) -> Result<Vec<&'a Id>, AllocError> {
+    vertex: IdRef<'a>,
+) -> Result<Vec<IdRef<'a>>, AllocError> {
     let mut members = Vec::new(alloc);
     let mut member = Some(vertex);
     for _ in elements {
@@ -88,9 +100,9 @@ fn chain<'a>(
 }
 
 /// The number of the first result that the request has along the chain.
-fn first(elements: &[Element], members: &[&Id], request: RequestKind) -> Option<u32> {
+fn first(elements: &[Element], members: &[IdRef<'_>], request: RequestKind) -> Option<u32> {
     for member in members {
-        if let Some(result) = target(elements, Label::Result(request), member) {
+        if let Some(result) = target(elements, Label::Result(request), *member) {
             return line_of(elements, result);
         }
     }
@@ -101,18 +113,28 @@ fn first(elements: &[Element], members: &[&Id], request: RequestKind) -> Option<
 #[derive(Clone, Copy)]
 struct Range<'a> {
     line: u32,
-    id: &'a Id,
+    id: IdRef<'a>,
     uri: &'a str,
     span: &'a Span,
 }
 
+/// Whether the id is one of the list.
+fn names(ids: &Ids, id: IdRef<'_>) -> bool {
+    for other in ids.iter() {
+        if other.is(id) {
+            return true;
+        }
+    }
+    false
+}
+
 /// The URL of the document that contains the range.
-fn document_of<'a>(elements: &'a [Element], range: &Id) -> Option<&'a str> {
+fn document_of<'a>(elements: &'a [Element], range: IdRef<'_>) -> Option<&'a str> {
     for element in elements {
         if let Element::Edge(_, Edge::Contains(from, ranges)) = element {
             if let (true, Some(Vertex::Document(uri))) = (
-                ranges.contains(range),
-                vertex_of(elements, from),
+                names(ranges, range),
+                vertex_of(elements, from.lent()),
             ) {
                 return Some(uri.as_str());
             }
@@ -128,10 +150,10 @@ fn ranges_of<'a>(alloc: Global, elements: &'a [Element]) -> Result<Vec<Range<'a>
     for element in elements {
         line = line.saturating_add(1);
         if let Element::Vertex(id, Vertex::Range(span)) = element {
-            if let Some(uri) = document_of(elements, id) {
+            if let Some(uri) = document_of(elements, id.lent()) {
                 ranges.push(Range {
                     line,
-                    id,
+                    id: id.lent(),
                     uri,
                     span,
                 })?;
@@ -188,7 +210,7 @@ fn range_rows<'a>(
     Ok(rows)
 }
 
-fn is_among(ids: &[&Id], id: &Id) -> bool {
+fn is_among(ids: &[IdRef<'_>], id: IdRef<'_>) -> bool {
     for other in ids {
         if other.is(id) {
             return true;
@@ -198,7 +220,7 @@ fn is_among(ids: &[&Id], id: &Id) -> bool {
 }
 
 /// Adds the id, where it isn't there yet.
-fn add<'a>(found: &mut Vec<&'a Id>, id: &'a Id) -> Result<(), AllocError> {
+fn add<'a>(found: &mut Vec<IdRef<'a>>, id: IdRef<'a>) -> Result<(), AllocError> {
     if !is_among(found, id) {
         found.push(id)?;
     }
@@ -206,26 +228,31 @@ fn add<'a>(found: &mut Vec<&'a Id>, id: &'a Id) -> Result<(), AllocError> {
 }
 
 /// Adds what an edge joins to the vertex: an `item` edge with "referenceResults", or an `attach` edge, which is read both ways.
-fn add_joined<'a>(found: &mut Vec<&'a Id>, edge: &'a Edge, vertex: &Id) -> Result<(), AllocError> {
+fn add_joined<'a>(
+    found: &mut Vec<IdRef<'a>>,
+    edge: &'a Edge,
+    vertex: IdRef<'_>,
+) -> Result<(), AllocError> {
     match edge {
         Edge::Item(item)
-            if item.property == Some(Property::ReferenceResults) && item.source.is(vertex) => {
-            for target in &item.targets {
-                add(found, target)?;
+            if item.property == Some(Property::ReferenceResults) && item.source.lent().is(vertex) =>
+            {
+                for target in item.targets.iter() {
+                    add(found, target)?;
+                }
+                Ok(())
             }
-            Ok(())
-        }
-        Edge::Attach(from, to) if from.is(vertex) => add(found, to),
-        Edge::Attach(from, to) if to.is(vertex) => add(found, from),
+        Edge::Attach(from, to) if from.lent().is(vertex) => add(found, to.lent()),
+        Edge::Attach(from, to) if to.lent().is(vertex) => add(found, from.lent()),
         _ => Ok(()),
     }
 }
 
 /// Adds what all such edges join to the vertex.
 fn add_all<'a>(
-    found: &mut Vec<&'a Id>,
+    found: &mut Vec<IdRef<'a>>,
     elements: &'a [Element],
-    vertex: &Id,
+    vertex: IdRef<'_>,
 ) -> Result<(), AllocError> {
     for element in elements {
         if let Element::Edge(_, edge) = element {
@@ -236,7 +263,10 @@ fn add_all<'a>(
 }
 
 /// These vertices, and all that such edges lead to from them.
-fn closed<'a>(elements: &'a [Element], starts: Vec<&'a Id>) -> Result<Vec<&'a Id>, AllocError> {
+fn closed<'a>(
+    elements: &'a [Element],
+    starts: Vec<IdRef<'a>>,
+) -> Result<Vec<IdRef<'a>>, AllocError> {
     let mut found = starts;
     for k in 0..elements.len() {
         if let Some(vertex) = found.get(k).copied() {
@@ -250,10 +280,10 @@ fn closed<'a>(elements: &'a [Element], starts: Vec<&'a Id>) -> Result<Vec<&'a Id
 fn add_places<'a>(
     places: &mut Vec<(&'a str, &'a Span)>,
     ranges: &[Range<'a>],
-    targets: &[Id],
+    targets: &Ids,
 ) -> Result<(), AllocError> {
     for range in ranges {
-        if targets.contains(range.id) {
+        if names(targets, range.id) {
             places.push((range.uri, range.span))?;
         }
     }
@@ -265,13 +295,13 @@ fn places<'a>(
     alloc: Global,
     elements: &'a [Element],
     ranges: &[Range<'a>],
-    results: &[&Id],
+    results: &[IdRef<'_>],
     role: Role,
 ) -> Result<Vec<(&'a str, &'a Span)>, AllocError> {
     let mut places = Vec::new(alloc);
     for element in elements {
         if let Element::Edge(_, Edge::Item(item)) = element {
-            if is_among(results, &item.source) && role_of(item.property) == Some(role) {
+            if is_among(results, item.source.lent()) && role_of(item.property) == Some(role) {
                 add_places(&mut places, ranges, &item.targets)?;
             }
         }
@@ -287,7 +317,7 @@ fn add_items<'a>(
     rows: &mut Vec<ItemRow<'a>>,
     elements: &'a [Element],
     ranges: &[Range<'a>],
-    (number, id): (u32, &'a Id),
+    (number, id): (u32, IdRef<'a>),
 ) -> Result<(), AllocError> {
     let results = closed(elements, vec![in alloc; id]?)?;
     for role in [Role::Definitions, Role::References] {
@@ -304,7 +334,7 @@ fn add_items<'a>(
 }
 
 /// The package that an edge names for the moniker.
-fn package_of<'a>(elements: &'a [Element], moniker: &Id) -> Option<&'a Package> {
+fn package_of<'a>(elements: &'a [Element], moniker: IdRef<'_>) -> Option<&'a Package> {
     match vertex_of(elements, target(elements, Label::Package, moniker)?) {
         Some(Vertex::Package(package)) => Some(package),
         _ => None,
@@ -315,13 +345,13 @@ fn package_of<'a>(elements: &'a [Element], moniker: &Id) -> Option<&'a Package> 
 fn monikers<'a>(
     alloc: Global,
     elements: &'a [Element],
-    vertex: &Id,
-) -> Result<Vec<&'a Id>, AllocError> {
+    vertex: IdRef<'_>,
+) -> Result<Vec<IdRef<'a>>, AllocError> {
     let mut found = Vec::new(alloc);
     for element in elements {
         if let Element::Edge(_, Edge::Moniker(from, to)) = element {
-            if from.is(vertex) {
-                add(&mut found, to)?;
+            if from.lent().is(vertex) {
+                add(&mut found, to.lent())?;
             }
         }
     }
@@ -333,13 +363,13 @@ fn add_keys(
     alloc: Global,
     keys: &mut Vec<String>,
     elements: &[Element],
-    monikers: &[&Id],
+    monikers: &[IdRef<'_>],
     kind: MonikerKind,
 ) -> Result<(), Fail> {
     for id in monikers {
-        if let Some(Vertex::Moniker(moniker)) = vertex_of(elements, id) {
+        if let Some(Vertex::Moniker(moniker)) = vertex_of(elements, *id) {
             if moniker.kind == kind {
-                keys.push(key_text(alloc, moniker, package_of(elements, id))?)?;
+                keys.push(key_text(alloc, moniker, package_of(elements, *id))?)?;
             }
         }
     }
@@ -350,12 +380,12 @@ fn add_keys(
 fn keys_of(
     alloc: Global,
     elements: &[Element],
-    vertices: &[&Id],
+    vertices: &[IdRef<'_>],
     kind: MonikerKind,
 ) -> Result<Vec<String>, Fail> {
     let mut keys = Vec::new(alloc);
     for vertex in vertices {
-        let monikers = monikers(alloc, elements, vertex)?;
+        let monikers = monikers(alloc, elements, *vertex)?;
         add_keys(alloc, &mut keys, elements, &monikers, kind)?;
     }
     keys.sort()?;
@@ -392,7 +422,7 @@ fn add_bearers(
     alloc: Global,
     rows: &mut Vec<BearerRow>,
     elements: &[Element],
-    (line, id): (u32, &Id),
+    (line, id): (u32, IdRef<'_>),
 ) -> Result<(), Fail> {
     let members = chain(alloc, elements, id)?;
     for kind in KINDS {
@@ -418,7 +448,7 @@ fn add_rows<'a>(
     rows: &mut Rows<'a>,
     elements: &'a [Element],
     ranges: &[Range<'a>],
-    (line, id, vertex): (u32, &'a Id, &'a Vertex),
+    (line, id, vertex): (u32, IdRef<'a>, &'a Vertex),
 ) -> Result<(), Fail> {
     match vertex {
         Vertex::Document(uri) => rows.documents.push(DocRow { uri: uri.as_str() })?,
@@ -454,7 +484,13 @@ pub(super) fn plain_rows<'a>(alloc: Global, dump: &'a CheckedDump) -> Result<Row
     for element in elements {
         line = line.saturating_add(1);
         if let Element::Vertex(id, vertex) = element {
-            add_rows(alloc, &mut rows, elements, &ranges, (line, id, vertex))?;
+            add_rows(
+                alloc,
+                &mut rows,
+                elements,
+                &ranges,
+                (line, id.lent(), vertex),
+            )?;
         }
     }
     rows.documents.sort()?;

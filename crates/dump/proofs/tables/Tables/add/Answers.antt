@@ -1,7 +1,7 @@
 use Rattle.std.proofs.Common.{◌≡◌, ◌∙◌, ◌&&◌, ◌++◌, ◌∷◌, [], Bool, List, Some, None, length, refl, sym, ap, subst, map, arith}
 use Rattle.std.proofs.lemmas.List.{length-map}
 use Rattle.positions.specs.Span.{SpanValue}
-use Rattle.lsif.specs.Element.{IdValue, id_values, element_value, element_id}
+use Rattle.lsif.specs.Element.{IdValue, element_value, element_id}
 use Rattle.dump.specs.declared.links.Link.{Link}
 use Rattle.dump.specs.Contained.{spans_of}
 use Rattle.dump.specs.Graph.{is_among}
@@ -43,9 +43,9 @@ enter_all-requires-clause-known c =
     let x = element_value c.args.element.now in
     let long = sym (length-map c.args.elements.now element_value) in
     let table = table_enters (index_at c.args.self.now.indices) (index_at c.enter.new.self.indices) has_id has_id d x _ _ long c.in_ok-enter.ensures.indices (λ i. refl) (λ i. refl) c.requires.tables.elements in
-    let named : Some (c.in-Some.link, id_values c.in-Some.ids.now) ≡ named_by d x = rw c.in-Some.is at c.named_by-named.ensures in
-    vertices_have_indices c.enter.new.self.indices (d ++ x ∷ []) table (id_values c.in-Some.ids.now)
-    (still_vertices d x (id_values c.in-Some.ids.now) (named_some d (named_by d x) (c.in-Some.link, id_values c.in-Some.ids.now) (named_known d x (no_code d x c.requires.free)) (sym named)))
+    let named : Some (c.in-Some.link, c.in-Some.ids) ≡ named_by d x = rw c.in-Some.is at c.named_by-named.ensures in
+    vertices_have_indices c.enter.new.self.indices (d ++ x ∷ []) table c.in-Some.ids
+    (still_vertices d x c.in-Some.ids (named_some d (named_by d x) (c.in-Some.link, c.in-Some.ids) (named_known d x (no_code d x c.requires.free)) (sym named)))
 
 pub returns-in-Some-clause-ok : goal.returns-in-Some-clause-ok
 returns-in-Some-clause-ok c =
@@ -59,8 +59,8 @@ returns-in-Some-clause-ok c =
     let indices = c.enter.new.self.indices in
     let kept : c.enter.new.self.rows.items ≡ c.args.self.now.rows.items = ap (λ rows. rows.items) c.in_ok-enter.ensures.rows ∙ c.reserve.ensures.items in
     let pushed : c.push_reserved.new.self.items ≡ c.args.self.now.rows.items ++ blank ∷ [] = c.push_reserved.ensures.items ∙ ap (λ rows. rows ++ blank ∷ []) kept in
-    let named : Some (c.in-Some.link, id_values c.in-Some.ids.now) ≡ named_by d x = rw c.in-Some.is at c.named_by-named.ensures in
-    let here : Link → IdValue → Bool = λ l i. same_link c.in-Some.link l && is_among i (id_values c.in-Some.ids.now) in
+    let named : Some (c.in-Some.link, c.in-Some.ids) ≡ named_by d x = rw c.in-Some.is at c.named_by-named.ensures in
+    let here : Link → IdValue → Bool = λ l i. same_link c.in-Some.link l && is_among i c.in-Some.ids in
     let more = row_more old.indices indices old.rows.items blank (element_id x) n (c.requires.tables.rows ∙ sym long) (λ l. blank_row (link_index l)) (has_rows old.indices d n (sym long) c.requires.tables.elements) c.in_ok-enter.ensures.indices in
     record {
       elements = table_enters (index_at old.indices) (index_at indices) has_id has_id d x n _ long c.in_ok-enter.ensures.indices (λ i. refl) (λ i. refl) c.requires.tables.elements;

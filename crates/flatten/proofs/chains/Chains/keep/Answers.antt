@@ -2,6 +2,7 @@ use Rattle.std.proofs.Common.{◌≡◌, ◌∙◌, ◌++◌, ◌∷◌, [], Lis
 use Rattle.std.proofs.lemmas.List.{map-append}
 use Rattle.lsif.specs.Element.{id_value}
 use Rattle.flatten.specs.declared.chains.VertexAlong.{VertexAlong}
+use Rattle.flatten.specs.Flat.{number_of}
 use Rattle.flatten.specs.Steps.Chains.{AreFound, vertex_along_value}
 use Rattle.flatten.proofs.ChainWalks.{found_more}
 use Rattle.flatten.proofs.NumberPairs.{number_ones}
@@ -19,5 +20,5 @@ returns-in_ok-set_place-clause-chains c =
     record {
       sorted = c.requires.chains.sorted;
       found = subst (AreFound d borne) (sym (grown found c.push.new.self.items v c.in_ok-push.ensures.items))
-          (found_more d borne (map vertex_along_value found) (number_ones d (c.line_law.ensures.one d)) c.requires.chains.found (id_value c.args.vertex.now) (vertex_along_value v) c.requires.along (sym c.in-Some.ensures));
+          (found_more d borne (map vertex_along_value found) (number_ones d (c.line_law.ensures.one d)) c.requires.chains.found (id_value c.args.vertex.now) (vertex_along_value v) c.requires.along (ap (number_of d) (sym c.lent.ensures) ∙ sym c.in-Some.ensures));
     }

@@ -1,21 +1,20 @@
 use Rattle.std.proofs.Common.{◌∙◌, sym, arith, append-nil}
-use Rattle.std.proofs.lemmas.List.{map-append}
-use Rattle.lsif.specs.Element.{id_value, id_values}
+use Rattle.lsif.specs.Lent.{lent_value}
 use Rattle.lsif.specs.Ids.{id_in}
 use Rattle.lsif.proofs.ItemLists.{rest_of-none, rest_of-end, front-next}
-use Rattle.lsif.proofs.id.ids.Goals as goal
+use Rattle.lsif.proofs.ids.read_ids.Goals as goal
 
 pub returns-in_default : goal.returns-in_default
 returns-in_default c =
-    let none = rw c.in_default.is at c.in_ok-id.ensures in
+    let none = rw c.in_default.is at c.id_in.ensures.id in
     let rest = rest_of-none id_in c.args.values.now c.loop-value.value-index c.value-item.result (omega arith) c.value-item.is (sym none) in
     rw rest at c.loop-value.invariant
 
 pub loop-value-preserved : goal.loop-value-preserved
 loop-value-preserved c =
-    let some = rw c.in-Some.is at c.in_ok-id.ensures in
-    let next = front-next id_in c.args.values.now c.loop-value.value-index c.value-item.result (id_value c.in-Some.id) (id_values c.loop-value.found.items) (omega arith) c.value-item.is (sym some) in
-    rw (c.in_ok-push.ensures.items, map-append) (next ∙ c.loop-value.invariant)
+    let some = rw c.in-Some.is at c.id_in.ensures.id in
+    let next = front-next id_in c.args.values.now c.loop-value.value-index c.value-item.result (lent_value c.in-Some.id) c.loop-value.found (omega arith) c.value-item.is (sym some) in
+    rw c.in_ok-push.ensures (next ∙ c.loop-value.invariant)
 
 pub returns : goal.returns
 returns c =
