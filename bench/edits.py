@@ -118,11 +118,14 @@ def batches_of(edits):
         yield batch
 
 
-def symbols_of(crate, file, name):
-    """A pattern of the names that the check gives the functions of a name in a file."""
+def words_of(said, crate, file, name):
+    """What the check says of the functions of a name in a file. A method's name there is that of its type's file, which may be another."""
     module = pathlib.PurePath(file).with_suffix("").parts[1:]
     module = [] if module in (("lib",), ("main",)) else [it for it in module if it != "mod"]
-    return re.compile("::".join([crate, *module]) + r"(?:::[A-Z]\w*)?::" + name + "$")
+    here = re.compile("::".join([crate, *module]) + r"(?:::[A-Z]\w*)?::" + name + "$")
+    elsewhere = re.compile(crate + r"(?:::\w+)*::[A-Z]\w*::" + name + "$")
+    found = [words for symbol, words in said.items() if here.match(symbol)]
+    return found or [words for symbol, words in said.items() if elsewhere.match(symbol)]
 
 
 class Copy:
@@ -153,8 +156,7 @@ def verdict_of(edit, functions, said):
         return any(NOT_PROVED.search(words) for words in said.values())
     is_open = False
     for file, name in functions:
-        pattern = symbols_of(edit.crate, file, name)
-        words = [it for symbol, it in said.items() if pattern.match(symbol) and NOT_PROVED.search(it)]
+        words = [it for it in words_of(said, edit.crate, file, name) if NOT_PROVED.search(it)]
         if any(not WAITS.match(it) for it in words):
             return True
         is_open = is_open or bool(words)

@@ -12,6 +12,8 @@ use Rattle.tables.specs.Steps.Texts.{delete_slot, insert_slot, insert_keyed, ins
 use Rattle.tables.specs.Schema.{schema_two}
 use Rattle.tables.specs.Steps.Queries.{by_project_and_key, reply_shown, by_project_and_part, id_shown}
 use Rattle.tables.proofs.Select.{one_table}
+use Rattle.tables.specs.Steps.Selected.{IsQuery}
+use Rattle.tables.proofs.Silent.{silent}
 
 -- the terms of so many rows: the rowid of each is chosen, and then come the next values
 abbrev pub row_terms : ℕ → ℕ → ℕ → List Term
@@ -169,3 +171,7 @@ select_reply_is = refl
 pub select_reply_plain : IsPlain (understood schema_two select_reply) × (reads_listing schema_two select_reply ≡ false)
 unfolding understood everything
 select_reply_plain = ((refl, refl), refl)
+
+pub select_reply_reads : IsQuery select_reply
+unfolding understood everything
+select_reply_reads = record { plain = select_reply_plain.0; silent = silent select_reply (λ schema base. refl) }

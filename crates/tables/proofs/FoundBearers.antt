@@ -26,7 +26,7 @@ use Rattle.tables.specs.Stands.{StandsFor}
 use Rattle.tables.specs.Selections.{BearerFound, Bears, FindsBearers, bearer_row, bearer_found_cmp}
 use Rattle.tables.specs.declared.bearers.SlotBearer.{SlotBearer}
 use Rattle.tables.specs.Steps.SelectionTexts.{select_bearers}
-use Rattle.tables.specs.Steps.Selected.{AreRead, Selects, equals}
+use Rattle.tables.specs.Steps.Selected.{AreRead, IsQuery, Selects, equals}
 use Rattle.tables.specs.Steps.DumpEntries.{Entries, entry_values}
 use Rattle.tables.specs.Steps.Known.{TellsBearer, Gathers}
 use Rattle.tables.specs.TableTrees.{slot_tree}
@@ -36,6 +36,7 @@ use Rattle.tables.proofs.Keeping.{same_some, from_map, to_map}
 use Rattle.tables.proofs.LineResults.{one_optional, one_known}
 use Rattle.tables.proofs.Select.{one_table}
 use Rattle.tables.proofs.Selecting.{IsSelection, selects_typed, all_of, of_all, all_last}
+use Rattle.tables.proofs.Silent.{silent}
 
 select_bearers_is : command_of (understood schema_two select_bearers) ≡ Select (record { lets = []; body = one_table 15 (equals ((3, 0) ∷ [])) (col 1 1 ∷ col 1 2 ∷ col 1 4 ∷ col 1 5 ∷ col 1 6 ∷ col 1 7 ∷ []) }) (codes "slot" ∷ codes "line" ∷ codes "kind" ∷ codes "def" ∷ codes "refs" ∷ codes "hover" ∷ [])
 unfolding understood everything
@@ -44,6 +45,10 @@ select_bearers_is = refl
 pub select_bearers_plain : IsPlain (understood schema_two select_bearers) × (reads_listing schema_two select_bearers ≡ false)
 unfolding understood everything
 select_bearers_plain = ((refl, refl), refl)
+
+pub select_bearers_reads : IsQuery select_bearers
+unfolding understood everything
+select_bearers_reads = record { plain = select_bearers_plain.0; silent = silent select_bearers (λ schema base. refl) }
 
 abbrev IsBearer : DumpValue → BearerRowValue → Type 0
 IsBearer dump row = IsBearerRow dump.elements row

@@ -20,12 +20,13 @@ use Rattle.tables.specs.Contents.{owned, slot_row}
 use Rattle.machine.specs.State.{State}
 use Rattle.tables.specs.Stands.{StandsFor}
 use Rattle.tables.specs.Steps.SelectionTexts.{select_document}
-use Rattle.tables.specs.Steps.Selected.{IsFirstRead, ShowsOne, equals}
+use Rattle.tables.specs.Steps.Selected.{IsFirstRead, IsQuery, ShowsOne, equals}
 use Rattle.tables.specs.Steps.DumpEntries.{Entries, entry_values, ShowsOneOf}
 use Rattle.tables.specs.TableTrees.{slot_tree}
 use Rattle.tables.proofs.DumpEntries.{typed, shows_one_of, listed_are}
 use Rattle.tables.proofs.Select.{one_table}
 use Rattle.tables.proofs.Selecting.{IsSelection, shows_one}
+use Rattle.tables.proofs.Silent.{silent}
 
 select_document_is : command_of (understood schema_two select_document) ≡ Select (record { lets = []; body = one_table 5 (equals ((1, 0) ∷ (2, 1) ∷ [])) (col 1 1 ∷ []) }) (codes "slot" ∷ [])
 unfolding understood everything
@@ -34,6 +35,10 @@ select_document_is = refl
 pub select_document_plain : IsPlain (understood schema_two select_document) × (reads_listing schema_two select_document ≡ false)
 unfolding understood everything
 select_document_plain = ((refl, refl), refl)
+
+pub select_document_reads : IsQuery select_document
+unfolding understood everything
+select_document_reads = record { plain = select_document_plain.0; silent = silent select_document (λ schema base. refl) }
 
 abbrev IsDocument : DumpValue → List ℕ → Type 0
 IsDocument dump uri = HasDocument dump.elements uri

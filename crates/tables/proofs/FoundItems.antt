@@ -37,13 +37,14 @@ use Rattle.tables.specs.Stands.{StandsFor}
 use Rattle.tables.specs.Selections.{HasItem, FindsItems, item_found}
 use Rattle.tables.specs.declared.items.FoundItem.{FoundItem}
 use Rattle.tables.specs.Steps.SelectionTexts.{select_items}
-use Rattle.tables.specs.Steps.Selected.{AreRead, equals}
+use Rattle.tables.specs.Steps.Selected.{AreRead, IsQuery, equals}
 use Rattle.tables.specs.Steps.DumpEntries.{Entries, entry_values, SelectsOf}
 use Rattle.tables.specs.TableTrees.{slot_tree}
 use Rattle.tables.proofs.DumpEntries.{rows_of, typed, selects_of, listed_are, dump_slot, are_values, empty_listing}
 use Rattle.tables.proofs.Keeping.{same_some, none_is_some}
 use Rattle.tables.proofs.Select.{one_table}
 use Rattle.tables.proofs.Selecting.{IsSelection, selects_typed}
+use Rattle.tables.proofs.Silent.{silent}
 
 select_items_is : command_of (understood schema_two select_items) ≡ Select (record { lets = []; body = one_table 9 (equals ((1, 0) ∷ (2, 1) ∷ (3, 2) ∷ [])) (col 1 4 ∷ col 1 5 ∷ col 1 6 ∷ []) }) (codes "uri" ∷ codes "first" ∷ codes "last" ∷ [])
 unfolding understood everything
@@ -52,6 +53,10 @@ select_items_is = refl
 pub select_items_plain : IsPlain (understood schema_two select_items) × (reads_listing schema_two select_items ≡ false)
 unfolding understood everything
 select_items_plain = ((refl, refl), refl)
+
+pub select_items_reads : IsQuery select_items
+unfolding understood everything
+select_items_reads = record { plain = select_items_plain.0; silent = silent select_items (λ schema base. refl) }
 
 -- ---- the order
 

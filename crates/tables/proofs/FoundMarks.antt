@@ -32,13 +32,14 @@ use Rattle.tables.specs.Stands.{StandsFor}
 use Rattle.tables.specs.Selections.{MarkText, HasMark, FindsMarks, mark_text_cmp, mark_found}
 use Rattle.tables.specs.declared.marks.FoundMark.{FoundMark}
 use Rattle.tables.specs.Steps.SelectionTexts.{select_marks}
-use Rattle.tables.specs.Steps.Selected.{AreRead, equals}
+use Rattle.tables.specs.Steps.Selected.{AreRead, IsQuery, equals}
 use Rattle.tables.specs.Steps.DumpEntries.{Entries, entry_values, SelectsOf}
 use Rattle.tables.specs.TableTrees.{slot_tree}
 use Rattle.tables.proofs.DumpEntries.{typed, selects_of, listed_are, dump_slot, are_values, empty_listing}
 use Rattle.tables.proofs.Keeping.{same_some, none_is_some}
 use Rattle.tables.proofs.Select.{one_table}
 use Rattle.tables.proofs.Selecting.{IsSelection, selects_typed}
+use Rattle.tables.proofs.Silent.{silent}
 
 select_marks_is : command_of (understood schema_two select_marks) ≡ Select (record { lets = []; body = one_table 13 (equals ((1, 0) ∷ (2, 1) ∷ [])) (col 1 3 ∷ col 1 4 ∷ []) }) (codes "kind" ∷ codes "keytext" ∷ [])
 unfolding understood everything
@@ -47,6 +48,10 @@ select_marks_is = refl
 pub select_marks_plain : IsPlain (understood schema_two select_marks) × (reads_listing schema_two select_marks ≡ false)
 unfolding understood everything
 select_marks_plain = ((refl, refl), refl)
+
+pub select_marks_reads : IsQuery select_marks
+unfolding understood everything
+select_marks_reads = record { plain = select_marks_plain.0; silent = silent select_marks (λ schema base. refl) }
 
 -- ---- the order
 

@@ -25,7 +25,7 @@ use Rattle.tables.specs.Stands.{StandsFor}
 use Rattle.tables.specs.declared.range_rows.SlotRange.{SlotRange}
 use Rattle.tables.specs.Steps.Climbs.{IsNamed, TellsRange}
 use Rattle.tables.specs.Steps.SelectionTexts.{select_range}
-use Rattle.tables.specs.Steps.Selected.{IsFirstRead, equals}
+use Rattle.tables.specs.Steps.Selected.{IsFirstRead, IsQuery, equals}
 use Rattle.tables.specs.Steps.DumpEntries.{Entries, entry_values, ShowsOneOf}
 use Rattle.tables.specs.TableTrees.{slot_tree}
 use Rattle.tables.proofs.DumpEntries.{rows_of, typed, shows_one_of, listed_are}
@@ -33,6 +33,7 @@ use Rattle.tables.proofs.FoundItems.{one_position}
 use Rattle.tables.proofs.LineResults.{one_optional}
 use Rattle.tables.proofs.Select.{one_table}
 use Rattle.tables.proofs.Selecting.{IsSelection, shows_one}
+use Rattle.tables.proofs.Silent.{silent}
 
 abbrev pub range_terms : List Term
 range_terms = col 1 2 ∷ col 1 4 ∷ col 1 5 ∷ col 1 6 ∷ col 1 7 ∷ col 1 8 ∷ col 1 9 ∷ []
@@ -47,6 +48,10 @@ select_range_is = refl
 pub select_range_plain : IsPlain (understood schema_two select_range) × (reads_listing schema_two select_range ≡ false)
 unfolding understood everything
 select_range_plain = ((refl, refl), refl)
+
+pub select_range_reads : IsQuery select_range
+unfolding understood everything
+select_range_reads = record { plain = select_range_plain.0; silent = silent select_range (λ schema base. refl) }
 
 -- ---- what is read of a row
 

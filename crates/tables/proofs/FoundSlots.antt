@@ -19,7 +19,7 @@ use Rattle.sqlite_rules.proofs.PlaceLemmas.{tied_same}
 use Rattle.tables.specs.Schema.{schema_two, slot}
 use Rattle.tables.specs.Contents.{Contents, Replies, Keeps, slot_row}
 use Rattle.tables.specs.Steps.SelectionTexts.{select_slot, select_project}
-use Rattle.tables.specs.Steps.Selected.{AreTyped, IsFirstRead, ShowsOne, equals}
+use Rattle.tables.specs.Steps.Selected.{AreTyped, IsFirstRead, IsQuery, ShowsOne, equals}
 use Rattle.tables.specs.Steps.Slots.{IsSlotOf}
 use Rattle.tables.specs.Parts.{part_number}
 use Rattle.tables.specs.declared.slots.Part.{Part}
@@ -28,6 +28,7 @@ use Rattle.tables.proofs.Cascade.{equal_is}
 use Rattle.tables.proofs.Keeping.{none_is_some, same_some, slot_is, number_is, same_int_itself}
 use Rattle.tables.proofs.Select.{one_table}
 use Rattle.tables.proofs.Selecting.{IsSelection, shows_one}
+use Rattle.tables.proofs.Silent.{silent}
 
 pub select_slot_is : command_of (understood schema_two select_slot) ≡ Select (record { lets = []; body = one_table 1 (equals ((2, 0) ∷ (3, 1) ∷ [])) (col 1 0 ∷ []) }) (codes "id" ∷ [])
 unfolding understood everything
@@ -36,6 +37,10 @@ select_slot_is = refl
 pub select_slot_plain : IsPlain (understood schema_two select_slot) × (reads_listing schema_two select_slot ≡ false)
 unfolding understood everything
 select_slot_plain = ((refl, refl), refl)
+
+pub select_slot_reads : IsQuery select_slot
+unfolding understood everything
+select_slot_reads = record { plain = select_slot_plain.0; silent = silent select_slot (λ schema base. refl) }
 
 pub record SlotEntry : Type 0 where
   pub project : List ℕ
@@ -113,6 +118,10 @@ select_project_is = refl
 pub select_project_plain : IsPlain (understood schema_two select_project) × (reads_listing schema_two select_project ≡ false)
 unfolding understood everything
 select_project_plain = ((refl, refl), refl)
+
+pub select_project_reads : IsQuery select_project
+unfolding understood everything
+select_project_reads = record { plain = select_project_plain.0; silent = silent select_project (λ schema base. refl) }
 
 abbrev project_columns : String Global → Row
 project_columns s = Text (string_bytes s) ∷ []

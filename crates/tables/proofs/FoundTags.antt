@@ -23,7 +23,7 @@ use Rattle.tables.specs.Stands.{StandsFor}
 use Rattle.machine.specs.FoundTags.{FoundTag}
 use Rattle.tables.specs.declared.found_tags.TagRow.{TagRow}
 use Rattle.tables.specs.Steps.SelectionTexts.{select_named}
-use Rattle.tables.specs.Steps.Selected.{AreRead, AreTyped, Selects, equals}
+use Rattle.tables.specs.Steps.Selected.{AreRead, AreTyped, IsQuery, Selects, equals}
 use Rattle.tables.specs.Steps.TagRows.{TellsTag, TellNamed, tag_row_columns}
 use Rattle.tables.specs.TableTrees.{slot_tree, tag_tree}
 use Rattle.tables.proofs.DumpEntries.{dump_of, tags_of, rows_of_tags}
@@ -31,6 +31,7 @@ use Rattle.tables.proofs.Entries.{typed_as}
 use Rattle.tables.proofs.Keeping.{from_map, to_map, table_of, which_part}
 use Rattle.tables.proofs.Select.{one_table}
 use Rattle.tables.proofs.Selecting.{IsSelection, selects_typed, all_of, of_all}
+use Rattle.tables.proofs.Silent.{silent}
 
 abbrev pub tag_terms : List Term
 tag_terms = col 1 1 ∷ col 1 2 ∷ col 1 3 ∷ col 1 4 ∷ col 1 5 ∷ col 1 6 ∷ col 1 7 ∷ []
@@ -45,6 +46,10 @@ select_named_is = refl
 pub select_named_plain : IsPlain (understood schema_two select_named) × (reads_listing schema_two select_named ≡ false)
 unfolding understood everything
 select_named_plain = ((refl, refl), refl)
+
+pub select_named_reads : IsQuery select_named
+unfolding understood everything
+select_named_reads = record { plain = select_named_plain.0; silent = silent select_named (λ schema base. refl) }
 
 -- ---- the rows of the table
 

@@ -22,13 +22,14 @@ use Rattle.machine.specs.State.{State}
 use Rattle.tables.specs.Stands.{StandsFor}
 use Rattle.tables.specs.Selections.{FindsHover}
 use Rattle.tables.specs.Steps.SelectionTexts.{select_hover}
-use Rattle.tables.specs.Steps.Selected.{IsFirstRead, equals}
+use Rattle.tables.specs.Steps.Selected.{IsFirstRead, IsQuery, equals}
 use Rattle.tables.specs.Steps.DumpEntries.{Entries, entry_values, ShowsOneOf}
 use Rattle.tables.specs.TableTrees.{slot_tree}
 use Rattle.tables.proofs.DumpEntries.{typed, shows_one_of, listed_are, dump_slot}
 use Rattle.tables.proofs.Keeping.{same_some}
 use Rattle.tables.proofs.Select.{one_table}
 use Rattle.tables.proofs.Selecting.{IsSelection, shows_one}
+use Rattle.tables.proofs.Silent.{silent}
 
 select_hover_is : command_of (understood schema_two select_hover) ≡ Select (record { lets = []; body = one_table 11 (equals ((1, 0) ∷ (2, 1) ∷ [])) (col 1 3 ∷ []) }) (codes "contents" ∷ [])
 unfolding understood everything
@@ -37,6 +38,10 @@ select_hover_is = refl
 pub select_hover_plain : IsPlain (understood schema_two select_hover) × (reads_listing schema_two select_hover ≡ false)
 unfolding understood everything
 select_hover_plain = ((refl, refl), refl)
+
+pub select_hover_reads : IsQuery select_hover
+unfolding understood everything
+select_hover_reads = record { plain = select_hover_plain.0; silent = silent select_hover (λ schema base. refl) }
 
 abbrev IsHover : DumpValue → HoverRowValue → Type 0
 IsHover dump row = IsHoverRow dump.elements row

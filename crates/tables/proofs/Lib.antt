@@ -29,6 +29,7 @@ pub mod Insert
 pub mod Inserts
 pub mod Keeping
 pub mod KeptReplies
+pub mod Knowing
 pub mod LineResults
 pub mod Looking
 pub mod Ordered
@@ -45,6 +46,7 @@ pub mod Reading
 pub mod Removal
 pub mod Select
 pub mod Selecting
+pub mod Silent
 pub mod SlotRemoved
 pub mod SpanNesting
 pub mod Standing

@@ -26,13 +26,14 @@ use Rattle.machine.specs.State.{State}
 use Rattle.tables.specs.Stands.{StandsFor}
 use Rattle.tables.specs.declared.bearers.LineMore.{LineMore}
 use Rattle.tables.specs.Steps.SelectionTexts.{select_more}
-use Rattle.tables.specs.Steps.Selected.{IsFirstRead, equals}
+use Rattle.tables.specs.Steps.Selected.{IsFirstRead, IsQuery, equals}
 use Rattle.tables.specs.Steps.DumpEntries.{Entries, entry_values, ShowsOneOf}
 use Rattle.tables.specs.Steps.Known.{IsKnown, MoreValue, IsMore, more_values}
 use Rattle.tables.specs.TableTrees.{slot_tree}
 use Rattle.tables.proofs.DumpEntries.{typed, shows_one_of}
 use Rattle.tables.proofs.Select.{one_table}
 use Rattle.tables.proofs.Selecting.{IsSelection, shows_one}
+use Rattle.tables.proofs.Silent.{silent}
 
 select_more_is : command_of (understood schema_two select_more) ≡ Select (record { lets = []; body = one_table 24 (equals ((1, 0) ∷ (2, 1) ∷ [])) (col 1 3 ∷ col 1 4 ∷ []) }) (codes "decl" ∷ codes "imp" ∷ [])
 unfolding understood everything
@@ -41,6 +42,10 @@ select_more_is = refl
 pub select_more_plain : IsPlain (understood schema_two select_more) × (reads_listing schema_two select_more ≡ false)
 unfolding understood everything
 select_more_plain = ((refl, refl), refl)
+
+pub select_more_reads : IsQuery select_more
+unfolding understood everything
+select_more_reads = record { plain = select_more_plain.0; silent = silent select_more (λ schema base. refl) }
 
 -- ---- one line's results
 

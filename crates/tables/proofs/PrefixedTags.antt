@@ -31,7 +31,7 @@ use Rattle.machine.specs.State.{State}
 use Rattle.tables.specs.Stands.{StandsFor}
 use Rattle.tables.specs.declared.found_tags.TagRow.{TagRow}
 use Rattle.tables.specs.Steps.SelectionTexts.{select_prefixed}
-use Rattle.tables.specs.Steps.Selected.{AreRead, Selects}
+use Rattle.tables.specs.Steps.Selected.{AreRead, IsQuery, Selects}
 use Rattle.tables.specs.Steps.TagRows.{TellNamed, tag_row_columns, with_prefix}
 use Rattle.tables.specs.TableTrees.{tag_tree}
 use Rattle.tables.proofs.FoundTags.{TagEntries, entry_row, tag_terms, tag_names, typed_tags, told_named}
@@ -42,6 +42,7 @@ use Rattle.tables.proofs.Prefixes.{none_after, not_below, begins_if, if_begins}
 use Rattle.tables.proofs.Reading.{rows_are}
 use Rattle.tables.proofs.Select.{passing}
 use Rattle.tables.proofs.Selecting.{show, all_of, of_all}
+use Rattle.tables.proofs.Silent.{silent}
 
 -- `name >= ?1`
 abbrev from_prefix : List Term
@@ -61,6 +62,10 @@ select_prefixed_is = refl
 pub select_prefixed_plain : IsPlain (understood schema_two select_prefixed) × (reads_listing schema_two select_prefixed ≡ false)
 unfolding understood everything
 select_prefixed_plain = ((refl, refl), refl)
+
+pub select_prefixed_reads : IsQuery select_prefixed
+unfolding understood everything
+select_prefixed_reads = record { plain = select_prefixed_plain.0; silent = silent select_prefixed (λ schema base. refl) }
 
 -- ---- the rows that were read
 

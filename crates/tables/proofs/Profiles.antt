@@ -21,12 +21,13 @@ use Rattle.tables.specs.Contents.{owned, slot_row}
 use Rattle.machine.specs.State.{State}
 use Rattle.tables.specs.Stands.{StandsFor}
 use Rattle.tables.specs.Steps.SelectionTexts.{select_profile}
-use Rattle.tables.specs.Steps.Selected.{IsFirstRead, equals}
+use Rattle.tables.specs.Steps.Selected.{IsFirstRead, IsQuery, equals}
 use Rattle.tables.specs.Steps.DumpEntries.{Entries, entry_values, ShowsOneOf}
 use Rattle.tables.specs.TableTrees.{slot_tree}
 use Rattle.tables.proofs.DumpEntries.{typed, shows_one_of}
 use Rattle.tables.proofs.Select.{one_table}
 use Rattle.tables.proofs.Selecting.{IsSelection, shows_one}
+use Rattle.tables.proofs.Silent.{silent}
 
 select_profile_is : command_of (understood schema_two select_profile) ≡ Select (record { lets = []; body = one_table 22 (equals ((1, 0) ∷ [])) (col 1 2 ∷ []) }) (codes "profile" ∷ [])
 unfolding understood everything
@@ -35,6 +36,10 @@ select_profile_is = refl
 pub select_profile_plain : IsPlain (understood schema_two select_profile) × (reads_listing schema_two select_profile ≡ false)
 unfolding understood everything
 select_profile_plain = ((refl, refl), refl)
+
+pub select_profile_reads : IsQuery select_profile
+unfolding understood everything
+select_profile_reads = record { plain = select_profile_plain.0; silent = silent select_profile (λ schema base. refl) }
 
 abbrev IsProfile : DumpValue → Profile → Type 0
 IsProfile dump profile = dump.profile ≡ profile

@@ -34,13 +34,14 @@ use Rattle.machine.specs.Found.{project_found}
 use Rattle.tables.specs.Selections.{FindsProjects}
 use Rattle.machine.specs.declared.found.FoundProject.{FoundProject}
 use Rattle.tables.specs.Steps.SelectionTexts.{select_projects}
-use Rattle.tables.specs.Steps.Selected.{AreRead, Selects, equals}
+use Rattle.tables.specs.Steps.Selected.{AreRead, IsQuery, Selects, equals}
 use Rattle.tables.specs.Steps.Slots.{IsSlotOf, HasPart, IsTold}
 use Rattle.tables.proofs.DumpEntries.{dump_of, tags_of, rows_of, rows_of_tags}
 use Rattle.tables.proofs.FoundSlots.{SlotEntry, slot_values, typed_slots}
 use Rattle.tables.proofs.Keeping.{none_is_some, from_map, to_map, which_part, slot_is}
 use Rattle.tables.proofs.Select.{one_table}
 use Rattle.tables.proofs.Selecting.{IsSelection, selects_typed, of_all, all_last}
+use Rattle.tables.proofs.Silent.{silent}
 
 select_projects_is : command_of (understood schema_two select_projects) ≡ Select (record { lets = []; body = one_table 1 (equals []) (col 1 2 ∷ []) }) (codes "project" ∷ [])
 unfolding understood everything
@@ -49,6 +50,10 @@ select_projects_is = refl
 pub select_projects_plain : IsPlain (understood schema_two select_projects) × (reads_listing schema_two select_projects ≡ false)
 unfolding understood everything
 select_projects_plain = ((refl, refl), refl)
+
+pub select_projects_reads : IsQuery select_projects
+unfolding understood everything
+select_projects_reads = record { plain = select_projects_plain.0; silent = silent select_projects (λ schema base. refl) }
 
 -- ---- the order
 

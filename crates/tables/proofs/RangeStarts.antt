@@ -40,7 +40,7 @@ use Rattle.tables.specs.declared.range_rows.SlotRange.{SlotRange}
 use Rattle.tables.specs.Steps.Climbs.{IsStart, IsStarted, ComesBefore}
 use Rattle.tables.specs.Steps.DumpEntries.{Entries, entry_values}
 use Rattle.tables.specs.Steps.Queries.{same}
-use Rattle.tables.specs.Steps.Selected.{IsFirstRead}
+use Rattle.tables.specs.Steps.Selected.{IsFirstRead, IsQuery}
 use Rattle.tables.specs.Steps.SelectionTexts.{select_start}
 use Rattle.tables.specs.TableTrees.{range_row_tree, slot_tree}
 use Rattle.tables.proofs.DumpEntries.{typed, held, in_dump, entry}
@@ -52,6 +52,7 @@ use Rattle.tables.proofs.Ordered.{in_order, selects_in_order}
 use Rattle.tables.proofs.PartRemoved.{truly}
 use Rattle.tables.proofs.Reading.{columns_are}
 use Rattle.tables.proofs.Selecting.{show}
+use Rattle.tables.proofs.Silent.{silent}
 
 -- `slot = ?1 AND uri = ?2 AND first <= ?3 AND last > first`
 abbrev start_tests : List Term
@@ -68,6 +69,10 @@ select_start_is = refl
 pub select_start_plain : IsPlain (understood schema_two select_start) × (reads_listing schema_two select_start ≡ false)
 unfolding understood everything
 select_start_plain = ((refl, refl), refl)
+
+pub select_start_reads : IsQuery select_start
+unfolding understood everything
+select_start_reads = record { plain = select_start_plain.0; silent = silent select_start (λ schema base. refl) }
 
 -- ---- numbers and texts that are compared
 

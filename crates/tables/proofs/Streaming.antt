@@ -1,64 +1,64 @@
 -- What rows that are read one at a time leave.
-use Rattle.std.proofs.Common.{◌≡◌, ◌⊎◌, inl, inr, List, ℕ, None, Result, Ok, Err, IfErr, OnOk, sym, subst, ◌∙◌}
+use Rattle.std.proofs.Common.{◌≡◌, ◌⊎◌, inl, inr, List, [], ℕ, None, Result, Ok, Err, IfErr, OnOk, sym, subst, ◌∙◌}
 use Rattle.sqlite_value.specs.Order.{Row}
 use Rattle.sqlite.specs.Clock.{timed}
 use Rattle.sqlite.specs.Effect.{Database}
 use Rattle.sqlite.specs.Listing.{IsSourceOf, reads_listing, understood}
 use Rattle.sqlite.specs.State.{State, HasCleanDisk, Survives, CommitsShowing, Fails, FailsToQuery, IsStatement, IsUnchanged, Shown, ShowsRows}
 use Rattle.sqlite.specs.declared.error.Error.{Error}
-use Rattle.sqlite.proofs.StateLemmas.{survives_weaker}
-use Rattle.sqlite.proofs.Callers.{IsPlain, never_commits, unchanged_then}
-use Rattle.tables.specs.Schema.{schema_two}
-use Rattle.tables.specs.Stands.{IsAsBefore}
-use Rattle.tables.specs.Steps.Selected.{Looks}
-use Rattle.tables.proofs.Looking.{looks, looks_then}
-
-pub plain_at : (sql : List ℕ) (s : State) → s.now.schema ≡ schema_two → IsPlain (understood schema_two sql) → IsPlain (understood s.now.schema sql)
-plain_at sql s has = subst (λ x. IsPlain (understood x sql)) (sym has)
-
-as_before : (old new : State) → IsUnchanged old new → IsAsBefore old new
-as_before old new same = (same.0.now_is, same.0.committed_is)
+use Rattle.sqlite_trees.specs.declared.store.Store.{Ghosts}
+use Rattle.sqlite.specs.Given.{HasBegun, HasGiven}
+use Rattle.sqlite.specs.Held.{Held, state}
+use Rattle.sqlite.proofs.Callers.{unchanged_then}
+use Rattle.tables.specs.Steps.Selected.{IsQuery, IsSilent, Looks}
+use Rattle.tables.proofs.Looking.{as_before, looks, looks_then}
+use Rattle.tables.proofs.Silent.{never_commits, never_returns}
+use Rattle.tables.proofs.Versions.{quieter}
 
 -- a query that doesn't begin
-pub refused_looks : (sql : List ℕ) (params : Row) (old new : State) (e : Error) → IsPlain (understood schema_two sql) → (HasCleanDisk new → FailsToQuery sql params old new e) → Survives old new (CommitsShowing sql params old) → Looks old new
-refused_looks sql params old new e plain err survives = looks sql params old new (Err e) plain (λ clean. tt) err survives
+pub refused_looks : (sql : List ℕ) (params : Row) (old new : State) (e : Error) → IsQuery sql → (HasCleanDisk new → FailsToQuery sql params old new e) → Survives old new (CommitsShowing sql params old) → Looks old new
+refused_looks sql params old new e only err survives = looks sql params old new (Err e) only (λ clean. tt) err survives
 
--- one that begins
-pub begun_looks : (sql : List ℕ) (params : Row) (old new : State) → IsPlain (understood schema_two sql) → Survives old new (CommitsShowing sql params old) → (HasCleanDisk new → old.now.schema ≡ schema_two → IsUnchanged old new) → Looks old new
-begun_looks sql params old new plain survives same = record {
-  survives = survives_weaker old new _ _ (λ _ db may has. never_commits sql params old db (plain_at sql old has plain) may) survives;
-  kept = λ clean up has settled. as_before old new (same clean has);
+-- one that begins is at its start
+pub begun : {S : Type 0} (g : Ghosts S) (sql : List ℕ) (params : Row) (old new : Held S) → IsQuery sql → HasBegun g sql params old new → HasGiven g sql params new [] × IsUnchanged (state g old) (state g new)
+begun g sql params old new only (inl it) = it
+begun g sql params old new only (inr made) = absurd (never_returns (understood old.schema sql) (only.silent old.schema) made.0)
+
+pub begun_looks : (sql : List ℕ) (params : Row) (old new : State) → IsQuery sql → Survives old new (CommitsShowing sql params old) → (HasCleanDisk new → IsUnchanged old new) → Looks old new
+begun_looks sql params old new only survives same = record {
+  survives = quieter old new _ (λ db. never_commits sql params old db (only.silent old.now.schema)) survives;
+  kept = λ clean up settled. as_before old new (same clean);
 }
 
 -- and a move to the next row
 moved_looks : {X : Type 0} (old new : State) (r : Result X Error) → Survives old new (λ _. ⊥) → (HasCleanDisk new → OnOk r (IsUnchanged old new)) → (HasCleanDisk new → IfErr r (λ e. Fails old new ⊥ e ⊎ IsUnchanged old new)) → Looks old new
 moved_looks old new (Ok x) survives same kept = record {
-  survives = survives_weaker old new _ _ (λ _ db none. absurd none) survives;
-  kept = λ clean up has settled. as_before old new (same clean);
+  survives = survives;
+  kept = λ clean up settled. as_before old new (same clean);
 }
 moved_looks old new (Err e) survives same kept = record {
-  survives = survives_weaker old new _ _ (λ _ db none. absurd none) survives;
-  kept = λ clean up has settled. elim (kept clean) [
+  survives = survives;
+  kept = λ clean up settled. elim (kept clean) [
     | inl failed ↦ let back = failed.3.undone up in (back.0 ∙ settled, back.1)
     | inr still ↦ as_before old new still
   ];
 }
 
 -- a query that goes on to the next row
-pub looks_on : {X P : Type 0} (old mid new : State) (r : Result X Error) → Looks old mid → (HasCleanDisk mid → old.now.schema ≡ schema_two → P × IsUnchanged old mid) → Survives mid new (λ _. ⊥) → (HasCleanDisk new → OnOk r (IsUnchanged mid new))
+pub looks_on : {X P : Type 0} (old mid new : State) (r : Result X Error) → Looks old mid → (HasCleanDisk mid → P × IsUnchanged old mid) → Survives mid new (λ _. ⊥) → (HasCleanDisk new → OnOk r (IsUnchanged mid new))
     → (HasCleanDisk new → IfErr r (λ e. Fails mid new ⊥ e ⊎ IsUnchanged mid new)) → Looks old new
-looks_on old mid new r was given survives same kept = looks_then old mid new was (λ clean has. as_before old mid (given clean has).1) (moved_looks mid new r survives same kept)
+looks_on old mid new r was given survives same kept = looks_then old mid new was (λ clean. as_before old mid (given clean).1) (moved_looks mid new r survives same kept)
 
 -- what is shown from where nothing has changed is shown from the start
-pub shown_from : (sql : List ℕ) (params : Row) (old mid new : State) (rows : List Row) → IsPlain (understood mid.now.schema sql) → IsUnchanged old mid → Shown sql params mid new rows → Shown sql params old new rows
+pub shown_from : (sql : List ℕ) (params : Row) (old mid new : State) (rows : List Row) → IsQuery sql → IsUnchanged old mid → Shown sql params mid new rows → Shown sql params old new rows
 unfolding Shown
-shown_from sql params old mid new rows plain same (c, it, shows) = (c, statement, subst (λ o. ShowsRows old new sql c (timed params c.formats it.now) rows o) (sym silent) from_old)
+shown_from sql params old mid new rows only same (c, it, shows) = (c, statement, subst (λ o. ShowsRows old new sql c (timed params c.formats it.now) rows o) (sym silent) from_old)
   where
     is_now : mid.now ≡ old.now
     is_now = same.0.now_is
 
     silent : c.returning ≡ None
-    silent = (subst IsPlain it.is plain).0
+    silent = subst IsSilent it.is (only.silent mid.now.schema)
 
     statement : IsStatement old sql params c
     statement = record {

@@ -1,5 +1,5 @@
 -- The version of the tables, read under either format.
-use Rattle.std.proofs.Common.{◌≡◌, ◌⊎◌, inl, inr, refl, sym, ap, subst, ◌∙◌, ℕ, List, [], ◌∷◌, true, false, pos, codes, Some, IsSome, IsPermutation, Ok, Err, Result, OnErr, IsTrue}
+use Rattle.std.proofs.Common.{◌≡◌, ◌⊎◌, inl, inr, refl, sym, ap, subst, ◌∙◌, ℕ, List, [], ◌∷◌, true, false, pos, codes, Some, IsPermutation, Ok, Err, Result, OnErr, IsTrue}
 use Rattle.sqlite.specs.Listing.{understood, reads_listing}
 use Rattle.sqlite.specs.Clock.{timed}
 use Rattle.sqlite.specs.declared.error.Error.{Error}
@@ -19,7 +19,9 @@ use Rattle.tables.specs.Steps.Texts.{select_version}
 use Rattle.tables.specs.Schema.{schema_one, schema_two, format}
 use Rattle.tables.specs.Databases.{chosen, version_row}
 use Rattle.tables.specs.TableTrees.{format_tree}
+use Rattle.tables.specs.Steps.Selected.{IsSilent}
 use Rattle.tables.proofs.Select.{one_table, selects}
+use Rattle.tables.proofs.Silent.{never_commits, plain_silent}
 
 pub one_is : command_of (understood schema_one select_version) ≡ Select (record { lets = []; body = one_table 0 [] (col 1 0 ∷ []) }) (codes "version" ∷ [])
 unfolding understood everything
@@ -71,32 +73,29 @@ pub version_at : column_named format (codes "version") ≡ Some 0
 unfolding same_name
 version_at = refl
 
+silent_at : (schema : Schema) (sql : List ℕ) (s : State) → s.now.schema ≡ schema → IsPlain (understood schema sql) → IsSilent (understood s.now.schema sql)
+silent_at schema sql s has plain = subst (λ x. IsSilent (understood x sql)) (sym has) (plain_silent (understood schema sql) plain)
+
 -- where it fails, the state is as it was or rolled back
-pub failed : (schema : Schema) (sql : List ℕ) (params : Row) (old new : State) (e : Error) → old.now.schema ≡ schema → IsPlain (understood schema sql) → IsTrue new.is_open → FailsToQuery sql params old new e
+pub failed : (sql : List ℕ) (params : Row) (old new : State) (e : Error) → IsSilent (understood old.now.schema sql) → IsTrue new.is_open → FailsToQuery sql params old new e
     → (new.committed ≡ old.committed) × ((new.now ≡ old.now) ⊎ (new.now ≡ old.committed))
 unfolding FailsToQuery IsNotRun
-failed schema sql params old new e has plain up (inl (inl same)) = (same.1.0.committed_is, inl same.1.0.now_is)
-failed schema sql params old new e has plain up (inl (inr h)) = ((h.3.undone up).1, inr (h.3.undone up).0)
-failed schema sql params old new e has plain up (inr h) =
-    let quiet = (subst IsPlain (sym (sym h.1.is ∙ ap (λ s. understood s sql) has)) plain).0 in
+failed sql params old new e silent up (inl (inl same)) = (same.1.0.committed_is, inl same.1.0.now_is)
+failed sql params old new e silent up (inl (inr h)) = ((h.3.undone up).1, inr (h.3.undone up).0)
+failed sql params old new e silent up (inr h) =
+    let quiet = subst IsSilent h.1.is silent in
     let same = (subst (FailsToShow old new sql h.0 (timed params h.0.formats h.1.now) e) quiet h.2).3 in
     (same.0.committed_is, inl same.0.now_is)
 
 pub failed_ok : (old new : State) (r : Result (Rattle.std.specs.Prelude.Vec Row Rattle.std.specs.declared.alloc.Global.Global) Error) → IsFormatOne old.now ⊎ IsFormatTwo old.now → IsTrue new.is_open → Rattle.std.specs.Prelude.IfErr r (FailsToQuery select_version [] old new)
     → OnErr r ((new.committed ≡ old.committed) × ((new.now ≡ old.now) ⊎ (new.now ≡ old.committed)))
 failed_ok old new (Ok rows) is up h = tt
-failed_ok old new (Err e) (inl one) up h = failed schema_one select_version [] old new e one.schema_is one_plain.0 up h
-failed_ok old new (Err e) (inr two) up h = failed schema_two select_version [] old new e two.schema_is two_plain.0 up h
+failed_ok old new (Err e) (inl one) up h = failed select_version [] old new e (silent_at schema_one select_version old one.schema_is one_plain.0) up h
+failed_ok old new (Err e) (inr two) up h = failed select_version [] old new e (silent_at schema_two select_version old two.schema_is two_plain.0) up h
 
-silent : (schema : Schema) (sql : List ℕ) (params : Row) (s : State) (db : Trees) → s.now.schema ≡ schema → IsPlain (understood schema sql) → CommitsShowing sql params s db → ⊥
-unfolding CommitsShowing
-silent schema sql params s db has plain h =
-    let quiet = (subst IsPlain (sym (sym h.1.is ∙ ap (λ s. understood s sql) has)) plain).0 in
-    absurd (let e = subst IsSome quiet h.2 in cc)
-
-quieter : (a b : State) (P : Trees → Type 0) → ((db : Trees) → P db → ⊥) → Survives a b P → Survives a b (λ _. ⊥)
+pub quieter : (a b : State) (P : Trees → Type 0) → ((db : Trees) → P db → ⊥) → Survives a b P → Survives a b (λ _. ⊥)
 quieter a b P never s = record { clean = s.clean; shield = s.shield; counts = s.counts; limit = s.limit; closes = s.closes; crash = λ good db left. elim (s.crash good db left) [ inl was ↦ inl was | inr p ↦ absurd (never db p) ] }
 
 pub survives : (old new : State) → IsFormatOne old.now ⊎ IsFormatTwo old.now → Survives old new (CommitsShowing select_version [] old) → Survives old new (λ _. ⊥)
-survives old new (inl one) s = quieter old new _ (λ db. silent schema_one select_version [] old db one.schema_is one_plain.0) s
-survives old new (inr two) s = quieter old new _ (λ db. silent schema_two select_version [] old db two.schema_is two_plain.0) s
+survives old new (inl one) s = quieter old new _ (λ db. never_commits select_version [] old db (silent_at schema_one select_version old one.schema_is one_plain.0)) s
+survives old new (inr two) s = quieter old new _ (λ db. never_commits select_version [] old db (silent_at schema_two select_version old two.schema_is two_plain.0)) s

@@ -208,6 +208,7 @@ fn find_bearers<S: Alter>(
 ) -> Result<Vec<FoundBearer>, Refusal>
     ensures found { OfState (state S.Store conn.old) (state S.Store conn.new) (λ m. IfOk result
         (λ found. FindsBearers m key.now (map bearer_found found.items))) }
+    ensures kept { StaysAsBefore result (state S.Store conn.old) (state S.Store conn.new) }
     ensures looks { Looks (state S.Store conn.old) (state S.Store conn.new) }
     ensures mode { conn.old.in_transaction ≡ false → conn.new.in_transaction ≡ false }
 {
@@ -238,7 +239,10 @@ impl<S: Alter> Tables<S> {
     {
         match find_bearers(alloc, &mut self.conn, key) {
             Ok(found) => Ok(found),
-            Err(refusal) => Err(refusal.fault(self.is_in_memory)),
+            Err(refusal) => {
+                self.slot = None;
+                Err(refusal.fault(self.is_in_memory))
+            }
         }
     }
 }

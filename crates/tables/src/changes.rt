@@ -1,6 +1,6 @@
 //! The changes of the index, each one transaction with its kept reply: a dump or tags replaced, and both removed. `specs/Contents` says what they
 //! leave.
-ghost use Rattle.std.specs.Prelude.{◌≡◌, ◌||◌, nat_lt, ℕ, List, Option, Some, None, is_some, false, IsTrue, IfOk, OnOk, OnErr, IfErr};
+ghost use Rattle.std.specs.Prelude.{◌≡◌, ◌||◌, ℕ, List, Option, Some, None, is_some, false, IsTrue, IfOk, OnOk, OnErr, IfErr};
 ghost use Rattle.sqlite.specs.State.{HasCleanDisk, Survives, KeepsCommit};
 ghost use Rattle.sqlite.specs.Held.{state};
 ghost use Rattle.flatten.specs.Rows.{rows_value};
@@ -139,13 +139,6 @@ fn commit_tags<S: Alter>(
 
 // ---- a removal
 
-/// Whether there was a slot of a dump, or one of tags.
-fn is_any(dumps: usize, tags: usize) -> bool
-    ensures { result ≡ (nat_lt 0 dumps || nat_lt 0 tags) }
-{
-    dumps > 0 || tags > 0
-}
-
 /// Takes out both parts of the project: whether there was one.
 fn clear_parts<S: Alter>(tx: &mut Transaction<'_, S>, project: &str) -> Result<bool, Error>
     ensures same_reference { tx.new.conn.ghost_name ≡ tx.old.conn.ghost_name }
@@ -160,7 +153,7 @@ fn clear_parts<S: Alter>(tx: &mut Transaction<'_, S>, project: &str) -> Result<b
 {
     let dumps = remove_slot(tx, project, Part::Dump)?;
     let tags = remove_slot(tx, project, Part::Tags)?;
-    Ok(is_any(dumps, tags))
+    Ok(dumps > 0 || tags > 0)
 }
 
 /// Takes out both parts of the project, and keeps under the key whether there was one.
@@ -251,6 +244,7 @@ impl<S: Alter> Tables<S> {
             → IsNew m project.now key.now reply.now (set_dump dump)
             → Survives (state S.Store self.old) (state S.Store self.new) (λ db. StandsFor db (changed m project.now key.now (set_dump dump))) }
     {
+        self.slot = None;
         match commit_dump(&mut self.conn, project, key, reply, rows) {
             Ok(()) => Ok(()),
             Err(error) => Err(fault_of(self.is_in_memory, error)),
@@ -282,6 +276,7 @@ impl<S: Alter> Tables<S> {
         ensures crash { (m : State) → Rests (state S.Store self.old) m → IsNew m project.now key.now reply.now (set_tags (tag_values tags.now))
             → Survives (state S.Store self.old) (state S.Store self.new) (λ db. StandsFor db (changed m project.now key.now (set_tags (tag_values tags.now)))) }
     {
+        self.slot = None;
         match commit_tags(alloc, &mut self.conn, project, key, reply, tags) {
             Ok(()) => Ok(()),
             Err(error) => Err(fault_of(self.is_in_memory, error)),
@@ -306,6 +301,7 @@ impl<S: Alter> Tables<S> {
         ensures crash { (m : State) → Rests (state S.Store self.old) m → m.kept project.now key.now ≡ None
             → Survives (state S.Store self.old) (state S.Store self.new) (λ db. StandsFor db (changed m project.now key.now clear)) }
     {
+        self.slot = None;
         match commit_removal(&mut self.conn, project, key) {
             Ok(was_there) => Ok(was_there),
             Err(error) => Err(fault_of(self.is_in_memory, error)),

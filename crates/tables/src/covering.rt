@@ -1,5 +1,5 @@
 //! The ranges that cover a position, as they are selected: a climb from the one that starts last at the position or before, by the parents.
-ghost use Rattle.std.specs.Prelude.{◌≡◌, List, ℕ, Some, map, false, IsTrue, IfOk, IfErr};
+ghost use Rattle.std.specs.Prelude.{◌≡◌, List, ℕ, Some, map, false, IsTrue, IfOk, IfErr, OnOk};
 ghost use Rattle.sqlite.specs.State.{HasCleanDisk, Survives};
 ghost use Rattle.sqlite.specs.Held.{state};
 ghost use Rattle.flatten.specs.Flat.{RangeRowValue, IsRangeRow, result_for};
@@ -9,6 +9,7 @@ ghost use Rattle.tables.specs.Fault.{IsStoreFault};
 ghost use Rattle.tables.specs.Stands.{IsAsBefore, Rests};
 ghost use Rattle.tables.specs.Selections.{FindsCover, FindsCovering, range_found};
 ghost use Rattle.tables.specs.Steps.Selected.{Looks};
+ghost use Rattle.tables.specs.Steps.Slots.{IsKnown};
 ghost use Rattle.tables.specs.Steps.Climbs.{IsClimbed, TellsRange, row_found};
 ghost use Rattle.tables.specs.declared.slots.Part.TheVariants.{Dump};
 ghost use Rattle.tables.specs.Steps.Clauses.{OfDump, OfState, StaysAsBefore};
@@ -16,9 +17,8 @@ ghost use Rattle.tables.specs.Steps.Clauses.{OfDump, OfState, StaysAsBefore};
 use crate::bearers::more_of;
 use crate::documents::has_document;
 use crate::fault::{Refusal, TablesFault};
-use crate::parts::find_slot;
+use crate::parts::{DumpSlot, dump_slot};
 use crate::range_rows::{SlotRange, parent_of, start_of};
-use crate::slots::Part;
 use crate::tables::Tables;
 use dump::RequestKind;
 use positions::{Position, Span};
@@ -125,6 +125,7 @@ fn ranges_in<S: Alter>(
 ) -> Result<Vec<FoundRange>, Refusal>
     ensures found { OfDump (state S.Store conn.old) (state S.Store conn.new) slot (λ dump. IfOk result
         (λ found. FindsCover request dump.elements uri.now at (map range_found found.items))) }
+    ensures kept { StaysAsBefore result (state S.Store conn.old) (state S.Store conn.new) }
     ensures looks { Looks (state S.Store conn.old) (state S.Store conn.new) }
     ensures mode { conn.old.in_transaction ≡ false → conn.new.in_transaction ≡ false }
 {
@@ -150,6 +151,7 @@ fn covering_in<S: Alter>(
 ) -> Result<Covering, Refusal>
     ensures found { OfState (state S.Store conn.old) (state S.Store conn.new) (λ m. (project : List ℕ)
         → HasSlot (state S.Store conn.old).now.trees slot project Dump → IfOk result (FindsCovering m request project uri.now at)) }
+    ensures kept { StaysAsBefore result (state S.Store conn.old) (state S.Store conn.new) }
     ensures looks { Looks (state S.Store conn.old) (state S.Store conn.new) }
     ensures mode { conn.old.in_transaction ≡ false → conn.new.in_transaction ≡ false }
 {
@@ -164,16 +166,19 @@ fn covering_in<S: Alter>(
 fn find_covering<S: Alter>(
     alloc: Global,
     conn: &mut Connection<S>,
+    known: &mut Option<DumpSlot>,
     request: RequestKind,
     project: &str,
     uri: &str,
     at: Position,
 ) -> Result<Covering, Refusal>
+    requires known { IsKnown (state S.Store conn.old) known.old }
     ensures found { OfState (state S.Store conn.old) (state S.Store conn.new) (λ m. IfOk result (FindsCovering m request project.now uri.now at)) }
+    ensures known { OnOk result (IsKnown (state S.Store conn.new) known.new) }
     ensures looks { Looks (state S.Store conn.old) (state S.Store conn.new) }
     ensures mode { conn.old.in_transaction ≡ false → conn.new.in_transaction ≡ false }
 {
-    match find_slot(conn, project, Part::Dump)? {
+    match dump_slot(alloc, conn, known, project)? {
         Some(slot) => covering_in(alloc, conn, slot, request, uri, at),
         None => Ok(Covering::NoDump),
     }
@@ -199,9 +204,20 @@ impl<S: Alter> Tables<S> {
         ensures fault { IfErr result IsStoreFault }
         ensures survives { (m : State) → Rests (state S.Store self.old) m → Survives (state S.Store self.old) (state S.Store self.new) (λ _. ⊥) }
     {
-        match find_covering(alloc, &mut self.conn, request, project, uri, position) {
+        match find_covering(
+            alloc,
+            &mut self.conn,
+            &mut self.slot,
+            request,
+            project,
+            uri,
+            position,
+        ) {
             Ok(found) => Ok(found),
-            Err(refusal) => Err(refusal.fault(self.is_in_memory)),
+            Err(refusal) => {
+                self.slot = None;
+                Err(refusal.fault(self.is_in_memory))
+            }
         }
     }
 }

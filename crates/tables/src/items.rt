@@ -1,5 +1,5 @@
 //! The items of results, as they are selected: the places of a result in a role, in order. `FindsItems` in `specs/Selections`.
-ghost use Rattle.std.specs.Prelude.{◌≡◌, ◌∷◌, [], List, ℕ, Contains, map, false, IsTrue, IfOk, IfErr};
+ghost use Rattle.std.specs.Prelude.{◌≡◌, ◌∷◌, [], List, ℕ, Contains, map, false, IsTrue, IfOk, IfErr, OnOk};
 ghost use Rattle.std.specs.Rc.{rc_str_bytes};
 ghost use Rattle.sqlite_value.specs.declared.value.Value.TheVariants.{Text};
 ghost use Rattle.sqlite.specs.State.{HasCleanDisk, Survives};
@@ -13,15 +13,15 @@ ghost use Rattle.tables.specs.Fault.{IsStoreFault};
 ghost use Rattle.tables.specs.Stands.{IsAsBefore, Rests};
 ghost use Rattle.tables.specs.Selections.{FindsItems, item_found};
 ghost use Rattle.tables.specs.Steps.Selected.{Looks};
+ghost use Rattle.tables.specs.Steps.Slots.{IsKnown};
 ghost use Rattle.tables.specs.declared.slots.Part.TheVariants.{Dump};
-ghost use Rattle.tables.specs.Steps.Clauses.{OfState};
+ghost use Rattle.tables.specs.Steps.Clauses.{OfState, StaysAsBefore};
 
 use crate::columns::{column, span_of};
 use crate::dump_rows::role_number;
 use crate::fault::{Refusal, TablesFault};
-use crate::parts::find_slot;
+use crate::parts::{DumpSlot, dump_slot};
 use crate::selection::{Listed, select_all};
-use crate::slots::Part;
 use crate::tables::Tables;
 use dump::Role;
 use positions::Span;
@@ -90,6 +90,7 @@ fn items_in<S: Alter>(
     ensures found { OfState (state S.Store conn.old) (state S.Store conn.new) (λ m. (project : List ℕ)
         → HasSlot (state S.Store conn.old).now.trees slot project Dump
         → IfOk result (λ found. FindsItems m project result_number role (map item_found found.items))) }
+    ensures kept { StaysAsBefore result (state S.Store conn.old) (state S.Store conn.new) }
     ensures looks { Looks (state S.Store conn.old) (state S.Store conn.new) }
     ensures mode { conn.old.in_transaction ≡ false → conn.new.in_transaction ≡ false }
 {
@@ -108,16 +109,19 @@ fn items_in<S: Alter>(
 fn find_items<S: Alter>(
     alloc: Global,
     conn: &mut Connection<S>,
+    known: &mut Option<DumpSlot>,
     project: &str,
     result_number: u32,
     role: Role,
 ) -> Result<Vec<FoundItem>, Refusal>
+    requires known { IsKnown (state S.Store conn.old) known.old }
     ensures found { OfState (state S.Store conn.old) (state S.Store conn.new) (λ m. IfOk result
         (λ found. FindsItems m project.now result_number role (map item_found found.items))) }
+    ensures known { OnOk result (IsKnown (state S.Store conn.new) known.new) }
     ensures looks { Looks (state S.Store conn.old) (state S.Store conn.new) }
     ensures mode { conn.old.in_transaction ≡ false → conn.new.in_transaction ≡ false }
 {
-    match find_slot(conn, project, Part::Dump)? {
+    match dump_slot(alloc, conn, known, project)? {
         Some(slot) => items_in(alloc, conn, slot, result_number, role),
         None => Ok(Vec::new(alloc)),
     }
@@ -142,9 +146,19 @@ impl<S: Alter> Tables<S> {
         ensures fault { IfErr result IsStoreFault }
         ensures survives { (m : State) → Rests (state S.Store self.old) m → Survives (state S.Store self.old) (state S.Store self.new) (λ _. ⊥) }
     {
-        match find_items(alloc, &mut self.conn, project, result_number, role) {
+        match find_items(
+            alloc,
+            &mut self.conn,
+            &mut self.slot,
+            project,
+            result_number,
+            role,
+        ) {
             Ok(found) => Ok(found),
-            Err(refusal) => Err(refusal.fault(self.is_in_memory)),
+            Err(refusal) => {
+                self.slot = None;
+                Err(refusal.fault(self.is_in_memory))
+            }
         }
     }
 }

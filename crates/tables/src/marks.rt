@@ -1,5 +1,5 @@
 //! Marks, as they are selected: those of a range, by kind and key. `FindsMarks` in `specs/Selections`.
-ghost use Rattle.std.specs.Prelude.{◌≡◌, ◌∷◌, [], List, ℕ, Contains, map, string_bytes, false, IsTrue, IfOk, IfErr};
+ghost use Rattle.std.specs.Prelude.{◌≡◌, ◌∷◌, [], List, ℕ, Contains, map, string_bytes, false, IsTrue, IfOk, IfErr, OnOk};
 ghost use Rattle.sqlite_value.specs.declared.value.Value.TheVariants.{Text};
 ghost use Rattle.sqlite.specs.State.{HasCleanDisk, Survives};
 ghost use Rattle.sqlite.specs.Held.{state};
@@ -12,15 +12,15 @@ ghost use Rattle.tables.specs.Fault.{IsStoreFault};
 ghost use Rattle.tables.specs.Stands.{IsAsBefore, Rests};
 ghost use Rattle.tables.specs.Selections.{FindsMarks, mark_text_cmp, mark_found};
 ghost use Rattle.tables.specs.Steps.Selected.{Looks};
+ghost use Rattle.tables.specs.Steps.Slots.{IsKnown};
 ghost use Rattle.tables.specs.declared.slots.Part.TheVariants.{Dump};
-ghost use Rattle.tables.specs.Steps.Clauses.{OfState};
+ghost use Rattle.tables.specs.Steps.Clauses.{OfState, StaysAsBefore};
 
 use crate::columns::{column, kind_of};
 use crate::dump_rows::kind_number;
 use crate::fault::{Refusal, TablesFault};
-use crate::parts::find_slot;
+use crate::parts::{DumpSlot, dump_slot};
 use crate::selection::{Listed, select_all};
-use crate::slots::Part;
 use crate::tables::Tables;
 use lsif::MonikerKind;
 use sqlite::{Alter, Connection, Row, params};
@@ -73,6 +73,7 @@ fn marks_in<S: Alter>(
 ) -> Result<Vec<FoundMark>, Refusal>
     ensures found { OfState (state S.Store conn.old) (state S.Store conn.new) (λ m. (project : List ℕ)
         → HasSlot (state S.Store conn.old).now.trees slot project Dump → IfOk result (λ found. FindsMarks m project line (map mark_found found.items))) }
+    ensures kept { StaysAsBefore result (state S.Store conn.old) (state S.Store conn.new) }
     ensures looks { Looks (state S.Store conn.old) (state S.Store conn.new) }
     ensures mode { conn.old.in_transaction ≡ false → conn.new.in_transaction ≡ false }
 {
@@ -90,15 +91,18 @@ fn marks_in<S: Alter>(
 fn find_marks<S: Alter>(
     alloc: Global,
     conn: &mut Connection<S>,
+    known: &mut Option<DumpSlot>,
     project: &str,
     line: u32,
 ) -> Result<Vec<FoundMark>, Refusal>
+    requires known { IsKnown (state S.Store conn.old) known.old }
     ensures found { OfState (state S.Store conn.old) (state S.Store conn.new) (λ m. IfOk result
         (λ found. FindsMarks m project.now line (map mark_found found.items))) }
+    ensures known { OnOk result (IsKnown (state S.Store conn.new) known.new) }
     ensures looks { Looks (state S.Store conn.old) (state S.Store conn.new) }
     ensures mode { conn.old.in_transaction ≡ false → conn.new.in_transaction ≡ false }
 {
-    match find_slot(conn, project, Part::Dump)? {
+    match dump_slot(alloc, conn, known, project)? {
         Some(slot) => marks_in(alloc, conn, slot, line),
         None => Ok(Vec::new(alloc)),
     }
@@ -122,9 +126,12 @@ impl<S: Alter> Tables<S> {
         ensures fault { IfErr result IsStoreFault }
         ensures survives { (m : State) → Rests (state S.Store self.old) m → Survives (state S.Store self.old) (state S.Store self.new) (λ _. ⊥) }
     {
-        match find_marks(alloc, &mut self.conn, project, line) {
+        match find_marks(alloc, &mut self.conn, &mut self.slot, project, line) {
             Ok(found) => Ok(found),
-            Err(refusal) => Err(refusal.fault(self.is_in_memory)),
+            Err(refusal) => {
+                self.slot = None;
+                Err(refusal.fault(self.is_in_memory))
+            }
         }
     }
 }

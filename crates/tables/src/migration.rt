@@ -85,14 +85,13 @@ pub fn migrate<S: Alter>(
         → AfterMigration (state S.Store) result (λ s. HasCleanDisk s → Survives (state S.Store conn) s (λ db. StandsFor db m)) }
     ensures whole { IsFormatOne (state S.Store conn).now → IfOk result (λ r. HasCleanDisk (state S.Store r.0) → IsFormatTwo (state S.Store r.0).now) }
 {
-    let is_in_memory = false;
     match find_format(&mut conn) {
         Ok(Format::One) => match upgrade(&mut conn) {
-            Ok(()) => Ok((Tables { conn, is_in_memory }, true)),
-            Err(error) => Err((fault_of(is_in_memory, error), conn)),
+            Ok(()) => Ok((Tables::over(conn), true)),
+            Err(error) => Err((fault_of(false, error), conn)),
         },
-        Ok(Format::Two) => Ok((Tables { conn, is_in_memory }, false)),
+        Ok(Format::Two) => Ok((Tables::over(conn), false)),
         Ok(_) => Err((TablesFault::Foreign, conn)),
-        Err(error) => Err((fault_of(is_in_memory, error), conn)),
+        Err(error) => Err((fault_of(false, error), conn)),
     }
 }

@@ -176,6 +176,7 @@ impl<S: Alter> Tables<S> {
         ensures fault { IfErr result IsStoreFault }
         ensures survives { (m : State) → Rests (state S.Store self.old) m → Survives (state S.Store self.old) (state S.Store self.new) (λ _. ⊥) }
     {
+        self.slot = None;
         match find_named(alloc, &mut self.conn, name, project) {
             Ok(found) => Ok(found),
             Err(refusal) => Err(refusal.fault(self.is_in_memory)),
@@ -199,6 +200,7 @@ impl<S: Alter> Tables<S> {
         ensures fault { IfErr result IsStoreFault }
         ensures survives { (m : State) → Rests (state S.Store self.old) m → Survives (state S.Store self.old) (state S.Store self.new) (λ _. ⊥) }
     {
+        self.slot = None;
         match find_prefixed(alloc, &mut self.conn, prefix, project) {
             Ok(found) => Ok(found),
             Err(refusal) => Err(refusal.fault(self.is_in_memory)),

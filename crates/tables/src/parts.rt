@@ -1,5 +1,5 @@
 //! The parts of projects, as they are selected: the slot of a part, and the profile of a dump.
-ghost use Rattle.std.specs.Prelude.{◌≡◌, Some, option_map, false, IsTrue, IfOk, IfErr};
+ghost use Rattle.std.specs.Prelude.{◌≡◌, Some, option_map, false, IsTrue, IfOk, IfErr, OnOk};
 ghost use Rattle.sqlite.specs.State.{HasCleanDisk, Survives};
 ghost use Rattle.sqlite.specs.Held.{state};
 ghost use Rattle.tables.specs.Schema.{schema_two};
@@ -9,7 +9,7 @@ ghost use Rattle.machine.specs.State.{State};
 ghost use Rattle.tables.specs.Fault.{IsStoreFault};
 ghost use Rattle.tables.specs.Stands.{IsAsBefore, Rests};
 ghost use Rattle.tables.specs.Steps.Selected.{Looks};
-ghost use Rattle.tables.specs.Steps.Slots.{IsSlotOf};
+ghost use Rattle.tables.specs.Steps.Slots.{IsDumpSlot, IsKnown, IsSlotOf};
 ghost use Rattle.tables.specs.declared.slots.Part.TheVariants.{Dump};
 ghost use Rattle.tables.specs.Steps.Clauses.{OfDump, OfState, StaysAsBefore};
 
@@ -20,6 +20,7 @@ use crate::slots::{Part, part_number};
 use crate::tables::Tables;
 use lsif::Profile;
 use sqlite::{Alter, Connection, Row, params};
+use std::alloc::Global;
 
 /// The id of the slot of a part, where the project has it.
 pub(crate) fn find_slot<S: Alter>(
@@ -40,6 +41,42 @@ pub(crate) fn find_slot<S: Alter>(
         "SELECT id FROM slot WHERE project = ?1 AND part = ?2",
         params![project, number],
     )
+}
+
+/// The slot of a project's dump.
+#[derive(Drop)]
+pub(crate) struct DumpSlot {
+    pub(crate) project: String,
+    pub(crate) id: i64,
+}
+
+/// The id of the slot of the project's dump, where it has one: of the one that is known, or else found. It's the one that is known from then on.
+pub(crate) fn dump_slot<S: Alter>(
+    alloc: Global,
+    conn: &mut Connection<S>,
+    known: &mut Option<DumpSlot>,
+    project: &str,
+) -> Result<Option<i64>, Refusal>
+    requires known { IsKnown (state S.Store conn.old) known.old }
+    ensures slot { OfState (state S.Store conn.old) (state S.Store conn.new) (λ m. IfOk result
+        (IsDumpSlot (state S.Store conn.old).now.trees m project.now)) }
+    ensures known { OnOk result (IsKnown (state S.Store conn.new) known.new) }
+    ensures kept { StaysAsBefore result (state S.Store conn.old) (state S.Store conn.new) }
+    ensures looks { Looks (state S.Store conn.old) (state S.Store conn.new) }
+    ensures mode { conn.old.in_transaction ≡ false → conn.new.in_transaction ≡ false }
+{
+    if let Some(slot) = &*known {
+        if slot.project.as_str() == project {
+            return Ok(Some(slot.id));
+        }
+    }
+    *known = None;
+    let Some(id) = find_slot(conn, project, Part::Dump)? else {
+        return Ok(None);
+    };
+    let project = String::from_str(alloc, project)?;
+    *known = Some(DumpSlot { project, id });
+    Ok(Some(id))
 }
 
 impl Listed for Profile {
@@ -97,6 +134,7 @@ impl<S: Alter> Tables<S> {
         ensures fault { IfErr result IsStoreFault }
         ensures survives { (m : State) → Rests (state S.Store self.old) m → Survives (state S.Store self.old) (state S.Store self.new) (λ _. ⊥) }
     {
+        self.slot = None;
         match find_profile(&mut self.conn, project) {
             Ok(found) => Ok(found),
             Err(refusal) => Err(refusal.fault(self.is_in_memory)),

@@ -108,6 +108,7 @@ impl<S: Alter> Tables<S> {
         ensures fault { IfErr result IsStoreFault }
         ensures survives { (m : State) → Rests (state S.Store self.old) m → Survives (state S.Store self.old) (state S.Store self.new) (λ _. ⊥) }
     {
+        self.slot = None;
         match list_projects(alloc, &mut self.conn) {
             Ok(found) => Ok(found),
             Err(refusal) => Err(refusal.fault(self.is_in_memory)),

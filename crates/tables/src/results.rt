@@ -8,11 +8,12 @@ ghost use Rattle.tables.specs.Fault.{IsStoreFault};
 ghost use Rattle.tables.specs.Stands.{IsAsBefore, Rests};
 ghost use Rattle.tables.specs.Selections.{FindsHover};
 ghost use Rattle.tables.specs.Steps.Selected.{Looks};
+ghost use Rattle.tables.specs.Steps.Slots.{IsKnown};
 ghost use Rattle.tables.specs.declared.slots.Part.TheVariants.{Dump};
-ghost use Rattle.tables.specs.Steps.Clauses.{OfState};
+ghost use Rattle.tables.specs.Steps.Clauses.{OfState, StaysAsBefore};
 
 use crate::fault::{Refusal, TablesFault};
-use crate::parts::find_slot;
+use crate::parts::{DumpSlot, find_slot};
 use crate::selection::select_first;
 use crate::slots::Part;
 use crate::tables::Tables;
@@ -27,6 +28,7 @@ fn hover_in<S: Alter>(
     ensures found { OfState (state S.Store conn.old) (state S.Store conn.new) (λ m. (project : List ℕ)
         → HasSlot (state S.Store conn.old).now.trees slot project Dump
         → IfOk result (λ found. FindsHover m project result_number (option_map string_bytes found))) }
+    ensures kept { StaysAsBefore result (state S.Store conn.old) (state S.Store conn.new) }
     ensures looks { Looks (state S.Store conn.old) (state S.Store conn.new) }
     ensures mode { conn.old.in_transaction ≡ false → conn.new.in_transaction ≡ false }
 {
@@ -40,14 +42,22 @@ fn hover_in<S: Alter>(
 /// The contents of a hover result of a project's dump.
 fn find_hover<S: Alter>(
     conn: &mut Connection<S>,
+    known: &Option<DumpSlot>,
     project: &str,
     result_number: u32,
 ) -> Result<Option<String>, Refusal>
+    requires known { IsKnown (state S.Store conn.old) known.now }
     ensures found { OfState (state S.Store conn.old) (state S.Store conn.new) (λ m. IfOk result
         (λ found. FindsHover m project.now result_number (option_map string_bytes found))) }
+    ensures kept { StaysAsBefore result (state S.Store conn.old) (state S.Store conn.new) }
     ensures looks { Looks (state S.Store conn.old) (state S.Store conn.new) }
     ensures mode { conn.old.in_transaction ≡ false → conn.new.in_transaction ≡ false }
 {
+    if let Some(slot) = known {
+        if slot.project.as_str() == project {
+            return hover_in(conn, slot.id, result_number);
+        }
+    }
     match find_slot(conn, project, Part::Dump)? {
         Some(slot) => hover_in(conn, slot, result_number),
         None => Ok(None),
@@ -71,9 +81,12 @@ impl<S: Alter> Tables<S> {
         ensures fault { IfErr result IsStoreFault }
         ensures survives { (m : State) → Rests (state S.Store self.old) m → Survives (state S.Store self.old) (state S.Store self.new) (λ _. ⊥) }
     {
-        match find_hover(&mut self.conn, project, result_number) {
+        match find_hover(&mut self.conn, &self.slot, project, result_number) {
             Ok(found) => Ok(found),
-            Err(refusal) => Err(refusal.fault(self.is_in_memory)),
+            Err(refusal) => {
+                self.slot = None;
+                Err(refusal.fault(self.is_in_memory))
+            }
         }
     }
 }

@@ -6,10 +6,8 @@ ghost use Rattle.sqlite_value.specs.Order.{Row as Columns};
 ghost use Rattle.sqlite.specs.Values.{bound};
 ghost use Rattle.sqlite.specs.State.{HasCleanDisk, Shown};
 ghost use Rattle.sqlite.specs.Held.{state};
-ghost use Rattle.sqlite.specs.Given.{IsPlain};
-ghost use Rattle.sqlite.specs.Listing.{understood};
 ghost use Rattle.tables.specs.Schema.{schema_two};
-ghost use Rattle.tables.specs.Steps.Selected.{Looks, AreColumns, AreRead, IsFirstRead};
+ghost use Rattle.tables.specs.Steps.Selected.{Looks, IsQuery, AreColumns, AreRead, IsFirstRead};
 ghost use Rattle.tables.specs.Steps.Clauses.{StaysAsBefore};
 
 use crate::fault::Refusal;
@@ -39,25 +37,6 @@ pub(crate) trait Listed: Sized + Drop {
     }
 }
 
-/// All rows of the answer to a query that writes nothing.
-fn rows_of<S: Alter>(
-    conn: &mut Connection<S>,
-    sql: &str,
-    params: &[ValueRef<'_>],
-) -> Result<Vec<Row>, Refusal>
-    requires { IsPlain (understood schema_two sql.now) }
-    ensures shown { HasCleanDisk (state S.Store conn.new)
-        → IfOk result (λ rows. Shown sql.now (bound params.now) (state S.Store conn.old) (state S.Store conn.new) rows.items) }
-    ensures kept { StaysAsBefore result (state S.Store conn.old) (state S.Store conn.new) }
-    ensures looks { Looks (state S.Store conn.old) (state S.Store conn.new) }
-    ensures mode { conn.old.in_transaction ≡ false → conn.new.in_transaction ≡ false }
-{
-    match conn.query_all(sql, params) {
-        Ok(rows) => Ok(rows),
-        Err(error) => Err(Refusal::Store(error)),
-    }
-}
-
 /// Adds what a row reads as, behind what the rows before it read as.
 pub(crate) fn add_row<T: Listed>(found: &mut Vec<T>, row: &Row) -> Result<(), Refusal>
     ensures read { OnOk result ((rows : List Columns) → AreRead T.columns rows found.old.items → AreRead T.columns (rows ++ row.now ∷ []) found.new.items) }
@@ -75,7 +54,7 @@ pub(crate) fn select_all<S: Alter, T: Listed>(
     sql: &str,
     params: &[ValueRef<'_>],
 ) -> Result<Vec<T>, Refusal>
-    requires { IsPlain (understood schema_two sql.now) }
+    requires { IsQuery sql.now }
     ensures read { HasCleanDisk (state S.Store conn.new) → (state S.Store conn.old).now.schema ≡ schema_two → IfOk result (λ found. (rows : List Columns)
         × Shown sql.now (bound params.now) (state S.Store conn.old) (state S.Store conn.new) rows × AreRead T.columns rows found.items) }
     ensures sound { IfOk result (λ found. AllByRecursion T.is_sound found.items) }
@@ -100,7 +79,7 @@ pub(crate) fn select_first<S: Alter, T: Listed>(
     sql: &str,
     params: &[ValueRef<'_>],
 ) -> Result<Option<T>, Refusal>
-    requires { IsPlain (understood schema_two sql.now) }
+    requires { IsQuery sql.now }
     ensures read { HasCleanDisk (state S.Store conn.new)
         → IfOk result (λ found. (rows : List Columns) × Shown sql.now (bound params.now) (state S.Store conn.old) (state S.Store conn.new) rows
         × IsFirstRead T.columns rows found) }
@@ -109,7 +88,7 @@ pub(crate) fn select_first<S: Alter, T: Listed>(
     ensures looks { Looks (state S.Store conn.old) (state S.Store conn.new) }
     ensures mode { conn.old.in_transaction ≡ false → conn.new.in_transaction ≡ false }
 {
-    let rows = rows_of(conn, sql, params)?;
+    let rows = conn.query_all(sql, params)?;
     match rows.first() {
         Some(row) => Ok(Some(T::read(row)?)),
         None => Ok(None),

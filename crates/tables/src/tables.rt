@@ -12,6 +12,7 @@ ghost use Rattle.machine.specs.State.{State, nothing};
 
 use crate::fault::{TablesFault, fault_of};
 use crate::format::{Format, find_format};
+use crate::parts::DumpSlot;
 use sqlite::{Alter, Connection, Error, Transaction};
 use std::marker::Model;
 
@@ -21,11 +22,14 @@ pub struct Tables<S: Alter> {
     pub(crate) conn: Connection<S>,
     /// The database is in memory alone.
     pub(crate) is_in_memory: bool,
+    /// The slot of the dump that was asked last: so a query finds it once. Changes and faults forget it, and selections of names, projects and replies.
+    pub(crate) slot: Option<DumpSlot>,
 }
 
 impl<S: Alter> Model for Tables<S> {
     ghost use Rattle.std.specs.Prelude.{◌≡◌, false};
-    ghost use Rattle.sqlite.specs.Held.{Held, held_code};
+    ghost use Rattle.sqlite.specs.Held.{Held, held_code, state};
+    ghost use Rattle.tables.specs.Steps.Slots.{IsKnown};
 
     ghost Value = { Held S };
 
@@ -33,7 +37,7 @@ impl<S: Alter> Model for Tables<S> {
 
     ghost view = { λ t. t.conn };
 
-    ghost invariant = { λ t. t.conn.in_transaction ≡ false };
+    ghost invariant = { λ t. (t.conn.in_transaction ≡ false) × IsKnown (state S.Store t.conn) t.slot };
 }
 
 /// The statements that make the tables of format 2, within a transaction.
@@ -84,6 +88,18 @@ fn make<S: Alter>(conn: &mut Connection<S>) -> Result<(), Error>
 }
 
 impl<S: Alter> Tables<S> {
+    /// The tables of this connection. No slot is known yet.
+    pub(crate) fn over(conn: Connection<S>) -> Tables<S>
+        requires { conn.in_transaction ≡ false }
+        ensures { result ≡ conn }
+    {
+        Tables {
+            conn,
+            is_in_memory: false,
+            slot: None,
+        }
+    }
+
     /// The tables of format 2 in a database: found, or made in one transaction where nothing has the name of one of them, in any case of letters. What
     /// else the database has doesn't count.
     ///
@@ -115,16 +131,15 @@ impl<S: Alter> Tables<S> {
         ensures stays { IsFormatOne (state S.Store conn).now ⊎ IsFormatTwo (state S.Store conn).now
             → AfterOpening (state S.Store) result (λ s. HasCleanDisk s → Survives (state S.Store conn) s (λ _. ⊥)) }
     {
-        let is_in_memory = false;
         match find_format(&mut conn) {
             Ok(Format::Absent) => match make(&mut conn) {
-                Ok(()) => Ok(Tables { conn, is_in_memory }),
-                Err(error) => Err((fault_of(is_in_memory, error), conn)),
+                Ok(()) => Ok(Tables::over(conn)),
+                Err(error) => Err((fault_of(false, error), conn)),
             },
-            Ok(Format::Two) => Ok(Tables { conn, is_in_memory }),
+            Ok(Format::Two) => Ok(Tables::over(conn)),
             Ok(Format::One) => Err((TablesFault::OldFormat, conn)),
             Ok(Format::Unknown) => Err((TablesFault::Foreign, conn)),
-            Err(error) => Err((fault_of(is_in_memory, error), conn)),
+            Err(error) => Err((fault_of(false, error), conn)),
         }
     }
 
@@ -136,6 +151,7 @@ impl<S: Alter> Tables<S> {
         Tables {
             conn: self.conn,
             is_in_memory: true,
+            slot: self.slot,
         }
     }
 
@@ -150,10 +166,11 @@ impl<S: Alter> Tables<S> {
         ensures survives { Survives (state S.Store self.old) (state S.Store self.new) (λ _. ⊥) }
         ensures fault { IfErr result IsStoreFault }
     {
-        match self.conn.prepare("SELECT version FROM format") {
-            Ok(_) => Ok(()),
-            Err(error) => Err(fault_of(self.is_in_memory, error)),
+        if let Err(error) = self.conn.prepare("SELECT version FROM format") {
+            self.slot = None;
+            return Err(fault_of(self.is_in_memory, error));
         }
+        Ok(())
     }
 
     /// The connection of the tables, in no transaction, for other use or another opening.

@@ -21,7 +21,7 @@ OfDump old new slot P =
 
 -- where the call succeeded, what is shown and what is committed are as before
 abbrev pub StaysAsBefore : {A E : Type 0} → Result A E → sqlite.State → sqlite.State → Type 0
-StaysAsBefore result old new = sqlite.HasCleanDisk new → old.now.schema ≡ schema_two → OnOk result (IsAsBefore old new)
+StaysAsBefore result old new = sqlite.HasCleanDisk new → OnOk result (IsAsBefore old new)
 
 -- within a transaction, where the call succeeded, such a step led from the tables before to those after
 abbrev pub Edits : {A E : Type 0} → Result A E → Bool → sqlite.State → sqlite.State → (Trees → Trees → Type 0) → Type 0

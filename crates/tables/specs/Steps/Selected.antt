@@ -1,5 +1,5 @@
 -- What a statement selects, and how its rows are read.
-use Rattle.std.specs.Prelude.{◌≡◌, ◌≢◌, ℕ, suc, ℤ, IsTrue, List, [], ◌∷◌, map, Option, Some, None}
+use Rattle.std.specs.Prelude.{◌≡◌, ⊤, ℕ, suc, ℤ, IsTrue, List, [], ◌∷◌, map, Option, Some, None, Result, Ok, Err}
 use Rattle.std.specs.List.{AllByRecursion}
 use Rattle.sqlite_value.specs.declared.value.Value.{Value}
 use Rattle.sqlite_value.specs.declared.value.Value.TheVariants.{Int}
@@ -7,19 +7,36 @@ use Rattle.sqlite_value.specs.Order.{Row, column}
 use Rattle.sqlite_sql.specs.Term.{Term, col}
 use Rattle.sqlite_trees.specs.Tree.{Trees}
 use Rattle.sqlite_rules.specs.Lists.{Has}
+use Rattle.sqlite_schema.specs.declared.schema.Schema.{Schema}
+use Rattle.sqlite_resolve.specs.declared.compiled.Compiled.{Compiled}
+use Rattle.sqlite_resolve.specs.declared.error.CompileError.{CompileError}
+use Rattle.sqlite.specs.Given.{IsPlain}
+use Rattle.sqlite.specs.Listing.{understood}
 use Rattle.sqlite.specs.State.{State, HasCleanDisk, Survives}
 use Rattle.tables.specs.Stands.{IsAsBefore}
 use Rattle.tables.specs.Databases.{Holds}
 use Rattle.tables.specs.Schema.{schema_two}
 use Rattle.tables.specs.Steps.Queries.{same}
 
+-- ---- the text of a selection
+
+-- what the text is understood as has no RETURNING
+abbrev pub IsSilent : Result Compiled CompileError → Type 0
+IsSilent (Ok c) = c.returning ≡ None
+IsSilent (Err e) = ⊤
+
+-- the text is a query of these tables that doesn't read the time; and whatever the tables, it writes nothing
+pub record IsQuery (sql : List ℕ) : Type 0 where
+  pub plain : IsPlain (understood schema_two sql)
+  pub silent : (schema : Schema) → IsSilent (understood schema sql)
+
 -- ---- what a selection leaves
 
--- Nothing was written, whether rows were found or the store refused: of tables of format 2 nothing more may be left than before, and
--- those that showed what is committed still do.
+-- Nothing was written, whether rows were found or the store refused: nothing more may be left than before, and where what is committed was shown,
+-- it still is.
 pub record Looks (old new : State) : Type 0 where
-  pub survives : Survives old new (λ _. old.now.schema ≢ schema_two)
-  pub kept : HasCleanDisk new → IsTrue new.is_open → old.now.schema ≡ schema_two → old.committed ≡ old.now → IsAsBefore old new
+  pub survives : Survives old new (λ _. ⊥)
+  pub kept : HasCleanDisk new → IsTrue new.is_open → old.committed ≡ old.now → IsAsBefore old new
 
 -- ---- rows that are read
 

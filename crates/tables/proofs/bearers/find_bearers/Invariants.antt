@@ -15,7 +15,7 @@ invariant-loop-row g l =
     let now = state g.S.Store l.conn in
     record {
       looks : Looks old now;
-      kept : HasCleanDisk now → old.now.schema ≡ schema_two → IsAsBefore old now;
+      kept : HasCleanDisk now → IsAsBefore old now;
       mode : l.fn.conn.in_transaction ≡ false → l.conn.in_transaction ≡ false;
       gathers : HasCleanDisk now → old.now.schema ≡ schema_two → (m : State) → StandsFor old.now.trees m → Gathers old.now.trees m l.key l.left.items (map bearer_found l.found.items);
     }

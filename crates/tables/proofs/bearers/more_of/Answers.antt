@@ -1,11 +1,11 @@
 use Rattle.std.proofs.Common.{to_z-of_z, rules, ◌≡◌, Option, Some, None, sym, subst}
 use Rattle.sqlite.specs.Held.{state}
 use Rattle.tables.specs.declared.bearers.LineMore.{LineMore}
-use Rattle.tables.proofs.LineResults.{select_more_plain, more_found, Says}
+use Rattle.tables.proofs.LineResults.{select_more_reads, more_found, Says}
 use Rattle.tables.proofs.bearers.more_of.Goals as goal
 
 pub select_first-requires : goal.select_first-requires
-select_first-requires g c = select_more_plain.0
+select_first-requires g c = select_more_reads
 
 pub returns-in-Some-clause-more : goal.returns-in-Some-clause-more
 returns-in-Some-clause-more g c clean has m s project dump slot there results known =

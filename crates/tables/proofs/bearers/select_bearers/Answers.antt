@@ -1,10 +1,10 @@
 use Rattle.std.proofs.lemmas.Result.{IfOk-weaker}
 use Rattle.sqlite.specs.Held.{state}
-use Rattle.tables.proofs.FoundBearers.{select_bearers_plain, told_each, told_all}
+use Rattle.tables.proofs.FoundBearers.{select_bearers_reads, told_each, told_all}
 use Rattle.tables.proofs.bearers.select_bearers.Goals as goal
 
 pub select_all-requires : goal.select_all-requires
-select_all-requires g c = select_bearers_plain.0
+select_all-requires g c = select_bearers_reads
 
 pub returns-clause-each : goal.returns-clause-each
 returns-clause-each g c clean has m s =

@@ -1,10 +1,10 @@
 use Rattle.std.proofs.Common.{to_z-of_z, sym, subst, IfOk, string_bytes, ◌≡◌}
 use Rattle.sqlite.specs.Held.{state}
-use Rattle.tables.proofs.FoundSlots.{select_project_plain, project_found, if_some}
+use Rattle.tables.proofs.FoundSlots.{select_project_reads, project_found, if_some}
 use Rattle.tables.proofs.bearers.slot_project.Goals as goal
 
 pub select_first-requires : goal.select_first-requires
-select_first-requires g c = select_project_plain.0
+select_first-requires g c = select_project_reads
 
 pub returns-clause-project : goal.returns-clause-project
 returns-clause-project g c clean has parts replies is project part slot =

@@ -20,7 +20,7 @@ invariant-loop-next g l =
     let now = state g.S.Store l.conn in
     record {
       looks : Looks old now;
-      kept : HasCleanDisk now → old.now.schema ≡ schema_two → IsAsBefore old now;
+      kept : HasCleanDisk now → IsAsBefore old now;
       mode : l.fn.conn.in_transaction ≡ false → l.conn.in_transaction ≡ false;
       climbs : HasCleanDisk now → old.now.schema ≡ schema_two → (m : State) → StandsFor old.now.trees m → (project : List ℕ) (dump : DumpValue) → Has (old.now.trees slot_tree) (slot_row l.fn.slot project Dump) → m.dump project ≡ Some dump
           → ClimbsTo dump l.uri l.fn.at l.found.items l.next;

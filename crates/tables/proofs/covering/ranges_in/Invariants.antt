@@ -22,7 +22,7 @@ invariant-loop-row g l =
     let now = state g.S.Store l.conn in
     record {
       looks : Looks old now;
-      kept : HasCleanDisk now → old.now.schema ≡ schema_two → IsAsBefore old now;
+      kept : HasCleanDisk now → IsAsBefore old now;
       cleans : HasCleanDisk now → HasCleanDisk (state g.S.Store l.initial.conn);
       mode : l.fn.conn.in_transaction ≡ false → l.conn.in_transaction ≡ false;
       found : HasCleanDisk now → old.now.schema ≡ schema_two → (m : State) → StandsFor old.now.trees m → (project : List ℕ) (dump : DumpValue) → Has (old.now.trees slot_tree) (slot_row l.fn.slot project Dump) → m.dump project ≡ Some dump

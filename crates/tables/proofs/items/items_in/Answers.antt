@@ -1,10 +1,10 @@
 use Rattle.std.proofs.Common.{to_z-of_z}
 use Rattle.sqlite.specs.Held.{state}
-use Rattle.tables.proofs.FoundItems.{select_items_plain, items_found}
+use Rattle.tables.proofs.FoundItems.{select_items_reads, items_found}
 use Rattle.tables.proofs.items.items_in.Goals as goal
 
 pub select_all-requires : goal.select_all-requires
-select_all-requires g c = select_items_plain.0
+select_all-requires g c = select_items_reads
 
 pub returns-clause-found : goal.returns-clause-found
 returns-clause-found g c clean has m s project slot =

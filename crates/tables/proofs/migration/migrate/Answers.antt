@@ -10,7 +10,7 @@ use Rattle.tables.proofs.Found.{resting, resting_one}
 use Rattle.tables.proofs.migration.migrate.Goals as goal
 
 pub returns-in-Ok-upgrade-clause-crash : goal.returns-in-Ok-upgrade-clause-crash
-returns-in-Ok-upgrade-clause-crash g c is = (
+returns-in-Ok-upgrade-clause-crash g c is = rw c.over.ensures (
   (λ clean.
       let found = c.find_format.ensures.old (c.upgrade.ensures.clean clean) is in
       migrates (state g.S.Store c.args.conn) (state g.S.Store c.find_format.new.conn) (state g.S.Store c.upgrade.new.conn) is (search (found, rules)) (c.find_format.ensures.crash (inl is)) c.upgrade.ensures.crash),
@@ -18,7 +18,7 @@ returns-in-Ok-upgrade-clause-crash g c is = (
 )
 
 pub returns-in-Ok-upgrade-clause-stands : goal.returns-in-Ok-upgrade-clause-stands
-returns-in-Ok-upgrade-clause-stands g c m it = (
+returns-in-Ok-upgrade-clause-stands g c m it = rw c.over.ensures (
   (λ clean.
       let is = resting_one _ m it in
       let one = rests_one _ m is in
@@ -29,7 +29,7 @@ returns-in-Ok-upgrade-clause-stands g c m it = (
 )
 
 pub returns-in-Ok-upgrade-clause-left : goal.returns-in-Ok-upgrade-clause-left
-returns-in-Ok-upgrade-clause-left g c m is = (
+returns-in-Ok-upgrade-clause-left g c m is = rw c.over.ensures (
   (λ clean.
       let one = rests_one _ m is in
       let found = c.find_format.ensures.old (c.upgrade.ensures.clean clean) one in
@@ -49,7 +49,7 @@ returns-in-Err-upgrade-clause-left g c m is = (
 )
 
 pub returns-in-Ok-Two-clause-stands : goal.returns-in-Ok-Two-clause-stands
-returns-in-Ok-Two-clause-stands g c m it = (
+returns-in-Ok-Two-clause-stands g c m it = rw c.over-in-Ok-Two.ensures (
   (λ clean.
       let found = c.find_format.ensures.old clean (rests_one _ m (resting_one _ m it)) in
       absurd (search (found, rules))),
@@ -57,7 +57,7 @@ returns-in-Ok-Two-clause-stands g c m it = (
 )
 
 pub returns-in-Ok-Two-clause-left : goal.returns-in-Ok-Two-clause-left
-returns-in-Ok-Two-clause-left g c m is = (
+returns-in-Ok-Two-clause-left g c m is = rw c.over-in-Ok-Two.ensures (
   (λ clean.
       let found = c.find_format.ensures.old clean (rests_one _ m is) in
       absurd (search (found, rules))),
@@ -79,7 +79,7 @@ returns-in-Ok-clause-stands g c m it = (
 )
 
 pub returns-in-Ok-upgrade-clause-known_stands : goal.returns-in-Ok-upgrade-clause-known_stands
-returns-in-Ok-upgrade-clause-known_stands g c m it = (
+returns-in-Ok-upgrade-clause-known_stands g c m it = rw c.over.ensures (
   (λ clean.
       let found = c.find_format.ensures.known (c.upgrade.ensures.clean clean) (rests_format _ m (resting _ m it)) in
       absurd (search (found, rules))),
@@ -87,9 +87,9 @@ returns-in-Ok-upgrade-clause-known_stands g c m it = (
 )
 
 pub returns-in-Ok-Two-clause-known_stands : goal.returns-in-Ok-Two-clause-known_stands
-returns-in-Ok-Two-clause-known_stands g c m it =
+returns-in-Ok-Two-clause-known_stands g c m it = rw c.over-in-Ok-Two.ensures (
     let is = resting _ m it in
-    ((λ clean. (refl, unchanged_rests _ _ m (c.in-Ok-Two.ensures.known clean (rests_format _ m is)).1 is)), tt)
+    ((λ clean. (refl, unchanged_rests _ _ m (c.in-Ok-Two.ensures.known clean (rests_format _ m is)).1 is)), tt))
 
 pub returns-in-Ok-clause-known_stands : goal.returns-in-Ok-clause-known_stands
 returns-in-Ok-clause-known_stands g c m it = (

@@ -3,14 +3,13 @@ use Rattle.sqlite_value.specs.declared.value.Value.TheVariants.{Text}
 use Rattle.sqlite.specs.State.{HasCleanDisk, IsUnchanged}
 use Rattle.sqlite.specs.Held.{state}
 use Rattle.sqlite.specs.Given.{HasGiven}
-use Rattle.sqlite.proofs.Callers.{given_begin, begun_plain, unchanged_then}
-use Rattle.tables.specs.Schema.{schema_two}
+use Rattle.sqlite.proofs.Callers.{given_begin, unchanged_then}
 use Rattle.tables.specs.Steps.Selected.{Looks}
 use Rattle.tables.specs.Steps.SelectionTexts.{select_prefixed}
 use Rattle.tables.specs.Steps.TagRows.{with_prefix}
-use Rattle.tables.proofs.PrefixedTags.{select_prefixed_plain, ended, stopped, told_prefixed}
+use Rattle.tables.proofs.PrefixedTags.{select_prefixed_reads, ended, stopped, told_prefixed}
 use Rattle.tables.proofs.Selecting.{all_last}
-use Rattle.tables.proofs.Streaming.{plain_at, refused_looks, begun_looks, looks_on}
+use Rattle.tables.proofs.Streaming.{begun, refused_looks, begun_looks, looks_on}
 use Rattle.tables.proofs.names.select_prefixed.Goals as goal
 
 pub returns-in_err-rows-clause-looks : goal.returns-in_err-rows-clause-looks
@@ -18,21 +17,21 @@ returns-in_err-rows-clause-looks g c =
     let old = state g.S.Store c.args.conn.now in
     let new = state g.S.Store c.query.follows.lender-at-none in
     let held = rw (c.in_err-rows.was) at c.query.follows.holds-at-none in
-    refused_looks select_prefixed _ old new c.in_err-rows.field-0.0 select_prefixed_plain.0 held.err held.survives
+    refused_looks select_prefixed _ old new c.in_err-rows.field-0.0 select_prefixed_reads held.err held.survives
 
 pub rows-init : goal.rows-init
 rows-init g c =
     let old = state g.S.Store c.args.conn.now in
     let new = state g.S.Store c.in_ok-rows.rows.conn.now in
     let made = c.in_ok-rows.ensures in
-    let begun : HasCleanDisk new → old.now.schema ≡ schema_two → HasGiven g.S.Store select_prefixed (Text c.args.prefix.now ∷ []) c.in_ok-rows.rows.conn.now [] × IsUnchanged old new = λ clean has.
-    rw c.params-to_sql.ensures at (begun_plain g.S.Store _ _ c.args.conn.now c.in_ok-rows.rows.conn.now (plain_at select_prefixed old has select_prefixed_plain.0) (made.begun clean)) in
+    let at_start : HasCleanDisk new → HasGiven g.S.Store select_prefixed (Text c.args.prefix.now ∷ []) c.in_ok-rows.rows.conn.now [] × IsUnchanged old new = λ clean.
+    rw c.params-to_sql.ensures at (begun g.S.Store _ _ c.args.conn.now c.in_ok-rows.rows.conn.now select_prefixed_reads (made.begun clean)) in
     record {
       same_reference = refl;
-      looks = begun_looks select_prefixed _ old new select_prefixed_plain.0 made.survives (λ clean has. (begun clean has).1);
+      looks = begun_looks select_prefixed _ old new select_prefixed_reads made.survives (λ clean. (at_start clean).1);
       mode = made.mode;
       given = [];
-      is_given = begun;
+      is_given = at_start;
       each = tt;
       read = rw c.new-found.ensures.items tt;
     }
@@ -51,8 +50,8 @@ rows-preserved g c =
       looks = looks_on old (state g.S.Store c.rows.rows.conn.now) new c.next.result was.looks was.is_given moved.survives moved.same moved.kept;
       mode = λ h. moved.mode (was.mode h);
       given = was.given ++ row ∷ [];
-      is_given = λ clean has.
-          let before = was.is_given (omega (arith, moved.survives.clean)) has in
+      is_given = λ clean.
+          let before = was.is_given (omega (arith, moved.survives.clean)) in
           let given = (rw (c.in_ok-row.was, c.in-Some.is) at (moved.ok clean)) select_prefixed (Text c.args.prefix.now ∷ []) was.given before.0 in
           (given, unchanged_then _ _ _ before.1 ((rw (c.in_ok-row.was) at moved.same) clean));
       each = all_last _ was.given row was.each good;
@@ -101,7 +100,7 @@ returns-in_default-clause-rows g c clean has m s =
     let now = c.next.follows.lender-at-none.conn.now in
     let old = state g.S.Store c.args.conn.now in
     let late : HasCleanDisk (state g.S.Store now) = search rules in
-    let was = c.rows.invariant.is_given (omega (arith, moved.survives.clean)) has in
+    let was = c.rows.invariant.is_given (omega (arith, moved.survives.clean)) in
     let given = c.rows.invariant.given in
     let shown = (rw (c.in_ok-row.was, c.in_default.is) at (moved.ok late)) select_prefixed (Text c.args.prefix.now ∷ []) given was.0 in
     told_prefixed c.args.prefix.now old.now.trees m s given (ended c.args.prefix.now old _ has was.1 _ given c.rows.invariant.each shown) c.rows.found.items c.rows.invariant.read
@@ -112,7 +111,7 @@ returns-then-not-has_prefix-clause-rows g c clean has m s =
     let now = c.next.follows.lender-at-none.conn.now in
     let old = state g.S.Store c.args.conn.now in
     let late : HasCleanDisk (state g.S.Store now) = search rules in
-    let was = c.rows.invariant.is_given (omega (arith, moved.survives.clean)) has in
+    let was = c.rows.invariant.is_given (omega (arith, moved.survives.clean)) in
     let given = c.rows.invariant.given in
     let begins = (rw (c.in_ok-row.was, c.in-Some.is) at (moved.ok late)) select_prefixed (Text c.args.prefix.now ∷ []) given was.0 in
     let other : with_prefix c.args.prefix.now c.in-Some.row.now ≡ false = search rules in

@@ -5,7 +5,6 @@ use Rattle.sqlite_value.specs.declared.value.Value.TheVariants.{Text}
 use Rattle.sqlite.specs.State.{HasCleanDisk, IsUnchanged}
 use Rattle.sqlite.specs.Held.{state}
 use Rattle.sqlite.specs.Given.{HasGiven}
-use Rattle.tables.specs.Schema.{schema_two}
 use Rattle.tables.specs.Steps.Selected.{AreRead, Looks}
 use Rattle.tables.specs.Steps.SelectionTexts.{select_prefixed}
 use Rattle.tables.specs.Steps.TagRows.{tag_row_columns, with_prefix}
@@ -20,7 +19,7 @@ invariant-rows g l =
       looks : Looks old now;
       mode : l.fn.conn.in_transaction ≡ false → l.rows.conn.now.in_transaction ≡ false;
       given : List Row;
-      is_given : HasCleanDisk now → old.now.schema ≡ schema_two → HasGiven g.S.Store select_prefixed (Text l.prefix ∷ []) l.rows.conn.now given × IsUnchanged old now;
+      is_given : HasCleanDisk now → HasGiven g.S.Store select_prefixed (Text l.prefix ∷ []) l.rows.conn.now given × IsUnchanged old now;
       each : AllByRecursion (λ r. with_prefix l.prefix r ≡ true) given;
       read : AreRead tag_row_columns given l.found.items;
     }

@@ -20,7 +20,7 @@ invariant-loop-name g l =
     let now = state g.S.Store l.conn in
     record {
       looks : Looks old now;
-      kept : HasCleanDisk now → old.now.schema ≡ schema_two → IsAsBefore old now;
+      kept : HasCleanDisk now → IsAsBefore old now;
       mode : l.fn.conn.in_transaction ≡ false → l.conn.in_transaction ≡ false;
       names : HasCleanDisk now → old.now.schema ≡ schema_two → (parts : Contents) (replies : Replies) → Keeps old.now.trees parts replies → IsListing text_cmp (HasPart parts) (names_of l.found.items ++ reverse (map string_bytes l.left.items));
       told : HasCleanDisk now → old.now.schema ≡ schema_two → (m : State) → StandsFor old.now.trees m → AllByRecursion (IsTold m) (map project_found l.found.items);

@@ -1,9 +1,9 @@
 use Rattle.sqlite.specs.Held.{state}
-use Rattle.tables.proofs.ProjectNames.{select_projects_plain, names_found}
+use Rattle.tables.proofs.ProjectNames.{select_projects_reads, names_found}
 use Rattle.tables.proofs.projects.select_names.Goals as goal
 
 pub select_all-requires : goal.select_all-requires
-select_all-requires g c = select_projects_plain.0
+select_all-requires g c = select_projects_reads
 
 pub returns-clause-names : goal.returns-clause-names
 returns-clause-names g c clean has parts replies is =

@@ -3,11 +3,11 @@ use Rattle.std.proofs.lemmas.Result.{IfOk-weaker}
 use Rattle.sqlite.specs.Held.{state}
 use Rattle.sqlite_exec.proofs.LoopsLemmas.{ok_both}
 use Rattle.positions.specs.Position.{IsPosition}
-use Rattle.tables.proofs.RangeStarts.{select_start_plain, start_found}
+use Rattle.tables.proofs.RangeStarts.{select_start_reads, start_found}
 use Rattle.tables.proofs.range_rows.start_of.Goals as goal
 
 pub select_first-requires : goal.select_first-requires
-select_first-requires g c = select_start_plain.0
+select_first-requires g c = select_start_reads
 
 pub returns-clause-start : goal.returns-clause-start
 returns-clause-start g c clean has m s project dump slot there =

@@ -21,18 +21,18 @@ returns-in-None-clause-found g c clean has m s =
     let nothing = no_dump db m s c.args.project.now (no_slot db s.parts c.args.project.now Dump c.in_ok-slot.field-0 (c.in_ok-slot.ensures.slot clean has s.parts _ s.keeps) none) in
     λ contents h. absurd (none_is_some (sym nothing ∙ h.1))
 
-pub returns-in-Some-clause-looks : goal.returns-in-Some-clause-looks
-returns-in-Some-clause-looks g c = looks_then _ (state g.S.Store c.find_slot.new.conn) _ c.find_slot.ensures.looks c.in_ok-slot.ensures.kept c.hover_in.ensures.looks
+pub returns-in-Some-2-clause-looks : goal.returns-in-Some-2-clause-looks
+returns-in-Some-2-clause-looks g c = looks_then _ (state g.S.Store c.find_slot.new.conn) _ c.find_slot.ensures.looks c.in_ok-slot.ensures.kept c.hover_in-in-Some-2.ensures.looks
 
-pub returns-in-Some-clause-found : goal.returns-in-Some-clause-found
-returns-in-Some-clause-found g c clean has m s =
+pub returns-in-Some-2-clause-found : goal.returns-in-Some-2-clause-found
+returns-in-Some-2-clause-found g c clean has m s =
     let old = state g.S.Store c.args.conn.now in
     let mid = state g.S.Store c.find_slot.new.conn in
-    let new = state g.S.Store c.hover_in.new.conn in
+    let new = state g.S.Store c.hover_in-in-Some-2.new.conn in
     let project = c.args.project.now in
-    let id = c.in-Some.slot in
+    let id = c.in-Some-2.slot in
     let fits : SFits w64 id = search rules in
     let some : c.in_ok-slot.field-0 ≡ Some id = search rules in
-    let slot = the_slot old.now.trees s.parts project Dump id c.in_ok-slot.field-0 (c.in_ok-slot.ensures.slot (survives_clean mid new c.hover_in.ensures.looks clean) has s.parts _ s.keeps) some in
-    still old mid new (λ db. StandsFor db m × Has (db slot_tree) (slot_row id project Dump)) (λ db. IfOk c.hover_in.result (λ found. FindsHover m project c.args.result_number (option_map string_bytes found))) c.in_ok-slot.ensures.kept c.hover_in.ensures.looks
-    (λ cleaner schema known. (rw (to_z-of_z fits) at c.hover_in.ensures.found) cleaner schema m known.0 project known.1) clean has (s, slot)
+    let slot = the_slot old.now.trees s.parts project Dump id c.in_ok-slot.field-0 (c.in_ok-slot.ensures.slot (survives_clean mid new c.hover_in-in-Some-2.ensures.looks clean) has s.parts _ s.keeps) some in
+    still old mid new (λ db. StandsFor db m × Has (db slot_tree) (slot_row id project Dump)) (λ db. IfOk c.hover_in-in-Some-2.result (λ found. FindsHover m project c.args.result_number (option_map string_bytes found))) c.in_ok-slot.ensures.kept c.hover_in-in-Some-2.ensures.looks
+    (λ cleaner schema known. (rw (to_z-of_z fits) at c.hover_in-in-Some-2.ensures.found) cleaner schema m known.0 project known.1) clean has (s, slot)

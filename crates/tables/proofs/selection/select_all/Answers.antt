@@ -1,13 +1,11 @@
-use Rattle.std.proofs.Common.{◌≡◌, ◌∙◌, ◌++◌, [], ◌∷◌, ap, refl, subst, sym, rules, arith}
-use Rattle.sqlite.specs.Effect.{Database}
+use Rattle.std.proofs.Common.{◌≡◌, ◌++◌, [], ◌∷◌, refl, subst, sym, rules, arith}
 use Rattle.sqlite.specs.Values.{bound}
 use Rattle.sqlite.specs.State.{HasCleanDisk, IsUnchanged, Shown}
 use Rattle.sqlite.specs.Held.{state}
 use Rattle.sqlite.specs.Given.{HasGiven}
-use Rattle.sqlite.proofs.Callers.{begun_plain, unchanged_then}
-use Rattle.tables.specs.Schema.{schema_two}
+use Rattle.sqlite.proofs.Callers.{unchanged_then}
 use Rattle.tables.specs.Steps.Selected.{Looks}
-use Rattle.tables.proofs.Streaming.{plain_at, refused_looks, begun_looks, looks_on, shown_from}
+use Rattle.tables.proofs.Streaming.{begun, refused_looks, begun_looks, looks_on, shown_from}
 use Rattle.tables.proofs.selection.select_all.Goals as goal
 
 pub returns-in_err-rows-clause-looks : goal.returns-in_err-rows-clause-looks
@@ -22,14 +20,14 @@ rows-init g c =
     let old = state g.S.Store c.args.conn.now in
     let new = state g.S.Store c.in_ok-rows.rows.conn.now in
     let made = c.in_ok-rows.ensures in
-    let begun : HasCleanDisk new → old.now.schema ≡ schema_two → HasGiven g.S.Store c.args.sql.now (bound c.args.params.now) c.in_ok-rows.rows.conn.now [] × IsUnchanged old new = λ clean has.
-    begun_plain g.S.Store _ _ c.args.conn.now c.in_ok-rows.rows.conn.now (plain_at c.args.sql.now old has c.requires) (made.begun clean) in
+    let at_start : HasCleanDisk new → HasGiven g.S.Store c.args.sql.now (bound c.args.params.now) c.in_ok-rows.rows.conn.now [] × IsUnchanged old new = λ clean.
+    begun g.S.Store _ _ c.args.conn.now c.in_ok-rows.rows.conn.now c.requires (made.begun clean) in
     record {
       same_reference = refl;
-      looks = begun_looks c.args.sql.now _ old new c.requires made.survives (λ clean has. (begun clean has).1);
+      looks = begun_looks c.args.sql.now _ old new c.requires made.survives (λ clean. (at_start clean).1);
       mode = made.mode;
       given = [];
-      is_given = begun;
+      is_given = at_start;
       read = rw c.new-found.ensures.items tt;
       sound = rw c.new-found.ensures.items tt;
     }
@@ -47,8 +45,8 @@ rows-preserved g c =
       looks = looks_on old (state g.S.Store c.rows.rows.conn.now) new c.next.result was.looks was.is_given moved.survives moved.same moved.kept;
       mode = λ h. moved.mode (was.mode h);
       given = was.given ++ row ∷ [];
-      is_given = λ clean has.
-          let before = was.is_given (omega (arith, moved.survives.clean)) has in
+      is_given = λ clean.
+          let before = was.is_given (omega (arith, moved.survives.clean)) in
           let given = (rw (c.in_ok-row.was, c.in-Some.is) at (moved.ok clean)) c.args.sql.now (bound c.args.params.now) was.given before.0 in
           (given, unchanged_then _ _ _ before.1 ((rw (c.in_ok-row.was) at moved.same) clean));
       read = c.in_ok-add_row.ensures.read was.given was.read;
@@ -90,8 +88,7 @@ returns-in_default-clause-read g c clean has =
     let mid = state g.S.Store c.rows.rows.conn.now in
     let last : now ≡ c.conn-in_default-1.given.0 = search rules in
     let late = subst (λ h. HasCleanDisk (state g.S.Store h)) (sym last) clean in
-    let was = c.rows.invariant.is_given (omega (arith, moved.survives.clean)) has in
-    let has_mid : mid.now.schema ≡ schema_two = ap (λ (d : Database). d.schema) was.1.0.now_is ∙ has in
+    let was = c.rows.invariant.is_given (omega (arith, moved.survives.clean)) in
     let shown = (rw (c.in_ok-row.was, c.in_default.is) at (moved.ok late)) c.args.sql.now (bound c.args.params.now) c.rows.invariant.given was.0 in
-    let whole = shown_from c.args.sql.now (bound c.args.params.now) old mid (state g.S.Store now) c.rows.invariant.given (plain_at c.args.sql.now mid has_mid c.requires) was.1 shown in
+    let whole = shown_from c.args.sql.now (bound c.args.params.now) old mid (state g.S.Store now) c.rows.invariant.given c.requires was.1 shown in
     (c.rows.invariant.given, subst (λ h. Shown c.args.sql.now (bound c.args.params.now) old (state g.S.Store h) c.rows.invariant.given) last whole, c.rows.invariant.read)

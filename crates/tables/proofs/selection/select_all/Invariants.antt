@@ -5,7 +5,6 @@ use Rattle.sqlite.specs.Values.{bound}
 use Rattle.sqlite.specs.State.{HasCleanDisk, IsUnchanged}
 use Rattle.sqlite.specs.Held.{state}
 use Rattle.sqlite.specs.Given.{HasGiven}
-use Rattle.tables.specs.Schema.{schema_two}
 use Rattle.tables.specs.Steps.Selected.{AreRead, Looks}
 use Rattle.tables.proofs.selection.select_all.Given as goal
 
@@ -18,7 +17,7 @@ invariant-rows g l =
       looks : Looks old now;
       mode : l.fn.conn.in_transaction ≡ false → l.rows.conn.now.in_transaction ≡ false;
       given : List Row;
-      is_given : HasCleanDisk now → old.now.schema ≡ schema_two → HasGiven g.S.Store l.sql (bound l.params) l.rows.conn.now given × IsUnchanged old now;
+      is_given : HasCleanDisk now → HasGiven g.S.Store l.sql (bound l.params) l.rows.conn.now given × IsUnchanged old now;
       read : AreRead g.T.Listed.columns given l.found.items;
       sound : AllByRecursion g.T.Listed.is_sound l.found.items;
     }

@@ -1,13 +1,16 @@
 use Rattle.sqlite.specs.Held.{state}
 use Rattle.tables.specs.Stands.{Rests}
-use Rattle.tables.proofs.tables.Tables.bearers.Goals.{in-Ok, in-Err}
+use Rattle.tables.proofs.Knowing.{known_on}
+use Rattle.tables.proofs.Looking.{survives_clean}
 use Rattle.tables.proofs.tables.Tables.bearers.Goals as goal
 
-pub returns-clause-found : goal.returns-clause-found
-returns-clause-found g c clean m is = elim c.match-find_bearers.branch [
-  | in-Ok w ↦
-      let rests : Rests (state g.S.Store c.self.inside.conn) m = rw (← c.self.view_is) at is in
-      let found = rw (w.in-Ok.is) at (c.find_bearers.ensures.found clean rests.schema_is m rests.stands) in
-      rw (w.result-is) found
-  | in-Err w ↦ rw w.result-is tt
-]
+pub returns-in-Ok-clause-found : goal.returns-in-Ok-clause-found
+returns-in-Ok-clause-found g c clean m is =
+    let rests : Rests (state g.S.Store c.self.inside.conn) m = rw (← c.self.view_is) at is in
+    c.in-Ok.ensures.found clean rests.schema_is m rests.stands
+
+pub invariant_of-self : goal.invariant_of-self
+invariant_of-self g c =
+    let old = state g.S.Store c.self.inside.conn in
+    let new = state g.S.Store c.find_bearers.new.conn in
+    (c.find_bearers.ensures.mode c.self.invariant.0, known_on old new c.self.inside.slot (survives_clean old new c.find_bearers.ensures.looks) c.in-Ok.ensures.kept c.self.invariant.1)

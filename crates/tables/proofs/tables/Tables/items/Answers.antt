@@ -1,13 +1,8 @@
 use Rattle.sqlite.specs.Held.{state}
 use Rattle.tables.specs.Stands.{Rests}
-use Rattle.tables.proofs.tables.Tables.items.Goals.{in-Ok, in-Err}
 use Rattle.tables.proofs.tables.Tables.items.Goals as goal
 
-pub returns-clause-found : goal.returns-clause-found
-returns-clause-found g c clean m is = elim c.match-find_items.branch [
-  | in-Ok w ↦
-      let rests : Rests (state g.S.Store c.self.inside.conn) m = rw (← c.self.view_is) at is in
-      let found = rw (w.in-Ok.is) at (c.find_items.ensures.found clean rests.schema_is m rests.stands) in
-      rw (w.result-is) found
-  | in-Err w ↦ rw w.result-is tt
-]
+pub returns-in-Ok-clause-found : goal.returns-in-Ok-clause-found
+returns-in-Ok-clause-found g c clean m is =
+    let rests : Rests (state g.S.Store c.self.inside.conn) m = rw (← c.self.view_is) at is in
+    c.in-Ok.ensures.found clean rests.schema_is m rests.stands
