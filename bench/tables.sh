@@ -188,7 +188,8 @@ def cover(of, what):
 
 
 def with_projects(found):
-    return sorted((base.execute(project_text, (row[0],)).fetchone()[0], row) for row in found)
+    projects = {of: base.execute(project_text, (of,)).fetchone()[0] for of in {row[0] for row in found}}
+    return sorted((projects[row[0]], row) for row in found)
 
 
 def prefixed(prefix):

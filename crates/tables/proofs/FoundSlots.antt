@@ -1,7 +1,5 @@
 -- The slots of parts, as they are selected.
 use Rattle.std.proofs.Common.{◌≡◌, inl, inr, ℕ, ℤ, List, [], ◌∷◌, Option, Some, None, codes, false, refl, sym, ap, subst, ◌∙◌, string_bytes}
-use Rattle.std.specs.Option.{ok_or}
-use Rattle.std.specs.Prelude.{IfOk}
 use Rattle.std.specs.declared.string.String.{String}
 use Rattle.std.specs.declared.alloc.Global.{Global}
 use Rattle.sqlite.specs.Listing.{understood, reads_listing}
@@ -164,7 +162,3 @@ module _ (id : ℤ) where
   project_found old new rows found text parts replies e is has shown read project part slot =
       is_project old.now.trees parts replies is project part slot found text e
       (shows_one slot_values project_shown HasId project_columns select_project (Int id ∷ []) 1 by_id (λ x. refl) old new rows has (typed_slots old.now.trees parts replies is) shown found read)
-
-pub if_some : {X F : Type 0} (o : Option X) (fault : F) (P : X → Type 0) → ((x : X) → o ≡ Some x → P x) → IfOk (ok_or o fault) P
-if_some None fault P h = tt
-if_some (Some x) fault P h = h x refl

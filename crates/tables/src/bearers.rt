@@ -1,5 +1,5 @@
 //! The bearers of a moniker key in all projects, as they are selected, in order. `FindsBearers` in `specs/Selections`.
-ghost use Rattle.std.specs.Prelude.{◌≡◌, ◌∷◌, [], List, ℕ, Contains, Some, map, string_bytes, false, IsTrue, IfOk, IfErr};
+ghost use Rattle.std.specs.Prelude.{◌≡◌, ◌∷◌, [], List, ℕ, Contains, Some, map, string_bytes, false, IsTrue, IfOk, OnOk, IfErr};
 ghost use Rattle.std.specs.declared.cmp.Ordering.TheVariants.{Equal};
 ghost use Rattle.std.specs.List.{AllByRecursion};
 ghost use Rattle.sqlite_value.specs.declared.value.Value.TheVariants.{Int};
@@ -18,12 +18,14 @@ ghost use Rattle.tables.specs.Selections.{BearerFound, Bears, FindsBearers, bear
 ghost use Rattle.tables.specs.declared.bearers.SlotBearer.{SlotBearer};
 ghost use Rattle.tables.specs.Steps.Selected.{Looks};
 ghost use Rattle.tables.specs.Steps.Known.{IsKnown, TellsBearer};
+ghost use Rattle.tables.specs.Steps.Slots.{IsNamed};
 ghost use Rattle.tables.specs.Steps.Clauses.{OfDump, OfState, StaysAsBefore};
 ghost use Rattle.tables.specs.declared.slots.Part.{Part};
 
 use crate::columns::{column, kind_of};
 use crate::dump_rows::kind_number;
 use crate::fault::{Refusal, TablesFault};
+use crate::parts::ProjectSlot;
 use crate::selection::{Listed, select_all, select_first};
 use crate::tables::Tables;
 use lsif::MonikerKind;
@@ -117,34 +119,62 @@ pub(crate) fn more_of<S: Alter>(
     }
 }
 
-/// The project that a slot is of.
-pub(crate) fn slot_project<S: Alter>(conn: &mut Connection<S>, slot: i64) -> Result<String, Refusal>
+/// The project that a slot is of: as it's named, where the slot is the one that was named last, or else found. It's the one that is named from then on.
+pub(crate) fn slot_project<S: Alter>(
+    alloc: Global,
+    conn: &mut Connection<S>,
+    named: &mut Option<ProjectSlot>,
+    slot: i64,
+) -> Result<String, Refusal>
+    requires named { IsNamed (state S.Store conn.old) named.old }
     ensures project { HasCleanDisk (state S.Store conn.new) → (state S.Store conn.old).now.schema ≡ schema_two → (parts : Contents) (replies : Replies)
         → Keeps (state S.Store conn.old).now.trees parts replies
         → (project : List ℕ) (part : Part) → HasSlot (state S.Store conn.old).now.trees slot project part
         → IfOk result (λ found. string_bytes found ≡ project) }
+    ensures named { OnOk result (IsNamed (state S.Store conn.new) named.new) }
     ensures kept { StaysAsBefore result (state S.Store conn.old) (state S.Store conn.new) }
     ensures looks { Looks (state S.Store conn.old) (state S.Store conn.new) }
     ensures mode { conn.old.in_transaction ≡ false → conn.new.in_transaction ≡ false }
 {
-    let found = select_first(
+    if let Some(known) = &*named {
+        if known.id == slot {
+            return Ok(String::from_str(alloc, known.project.as_str())?);
+        }
+    }
+    *named = None;
+    let found: Option<String> = select_first(
         conn,
         "SELECT project FROM slot WHERE id = ?1",
         params![slot],
     )?;
-    found.ok_or(Refusal::Row)
+    let Some(project) = found else {
+        return Err(Refusal::Row);
+    };
+    let kept = String::from_str(alloc, project.as_str())?;
+    *named = Some(ProjectSlot {
+        project: kept,
+        id: slot,
+    });
+    Ok(project)
 }
 
 /// The bearer that a row tells, with its project, its declaration and its implementation.
-fn complete<S: Alter>(conn: &mut Connection<S>, row: SlotBearer) -> Result<FoundBearer, Refusal>
+fn complete<S: Alter>(
+    alloc: Global,
+    conn: &mut Connection<S>,
+    named: &mut Option<ProjectSlot>,
+    row: SlotBearer,
+) -> Result<FoundBearer, Refusal>
+    requires named { IsNamed (state S.Store conn.old) named.old }
     ensures whole { OfState (state S.Store conn.old) (state S.Store conn.new) (λ m. (key : List ℕ) (v : BearerFound)
         → TellsBearer (state S.Store conn.old).now.trees m key row v → IfOk result (λ found. bearer_found found ≡ v)) }
+    ensures named { OnOk result (IsNamed (state S.Store conn.new) named.new) }
     ensures kept { StaysAsBefore result (state S.Store conn.old) (state S.Store conn.new) }
     ensures looks { Looks (state S.Store conn.old) (state S.Store conn.new) }
     ensures mode { conn.old.in_transaction ≡ false → conn.new.in_transaction ≡ false }
 {
     let more = more_of(conn, row.slot, row.line)?;
-    let project = slot_project(conn, row.slot)?;
+    let project = slot_project(alloc, conn, named, row.slot)?;
     Ok(FoundBearer {
         project,
         line: row.line,
@@ -213,9 +243,10 @@ fn find_bearers<S: Alter>(
     ensures mode { conn.old.in_transaction ≡ false → conn.new.in_transaction ≡ false }
 {
     let mut left = select_bearers(alloc, conn, key)?;
+    let mut named = None;
     let mut found = Vec::new(alloc);
     while let Some(row) = left.pop() {
-        let bearer = complete(conn, row)?;
+        let bearer = complete(alloc, conn, &mut named, row)?;
         if found.push(bearer).is_err() {
             return Err(Refusal::Memory);
         }

@@ -17,7 +17,7 @@ ghost use Rattle.tables.specs.Steps.Clauses.{OfDump, OfState, StaysAsBefore};
 use crate::bearers::more_of;
 use crate::documents::has_document;
 use crate::fault::{Refusal, TablesFault};
-use crate::parts::{DumpSlot, dump_slot};
+use crate::parts::{ProjectSlot, dump_slot};
 use crate::range_rows::{SlotRange, parent_of, start_of};
 use crate::tables::Tables;
 use dump::RequestKind;
@@ -166,7 +166,7 @@ fn covering_in<S: Alter>(
 fn find_covering<S: Alter>(
     alloc: Global,
     conn: &mut Connection<S>,
-    known: &mut Option<DumpSlot>,
+    known: &mut Option<ProjectSlot>,
     request: RequestKind,
     project: &str,
     uri: &str,

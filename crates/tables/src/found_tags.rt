@@ -11,12 +11,14 @@ ghost use Rattle.tables.specs.Columns.{fields_text, tag_columns};
 ghost use Rattle.machine.specs.FoundTags.{FoundTag as FoundTagValue, IsAsked};
 ghost use Rattle.machine.specs.Found.{tag_found};
 ghost use Rattle.tables.specs.Steps.Selected.{Looks};
+ghost use Rattle.tables.specs.Steps.Slots.{IsNamed};
 ghost use Rattle.tables.specs.Steps.TagRows.{AllTell, Grows, IsFoundIf, IsTold, TellsTag, columns_of, tag_row_columns};
 ghost use Rattle.tables.specs.Steps.Clauses.{OfState, StaysAsBefore};
 
 use crate::bearers::slot_project;
 use crate::columns::column;
 use crate::fault::Refusal;
+use crate::parts::ProjectSlot;
 use crate::selection::Listed;
 use machine::FoundTag;
 use serde_json::{Category, Value};
@@ -143,16 +145,19 @@ fn is_asked(asked: Option<&str>, project: &str) -> bool
 fn complete<S: Alter>(
     alloc: Global,
     conn: &mut Connection<S>,
+    named: &mut Option<ProjectSlot>,
     row: TagRow,
     asked: Option<&str>,
 ) -> Result<Option<FoundTag>, Refusal>
+    requires named { IsNamed (state S.Store conn.old) named.old }
     ensures whole { OfState (state S.Store conn.old) (state S.Store conn.new) (λ m. (v : FoundTagValue) → TellsTag (state S.Store conn.old).now.trees m row v
         → IfOk result (IsFoundIf (option_map (λ p. p.now) asked.entry) v)) }
+    ensures named { OnOk result (IsNamed (state S.Store conn.new) named.new) }
     ensures kept { StaysAsBefore result (state S.Store conn.old) (state S.Store conn.new) }
     ensures looks { Looks (state S.Store conn.old) (state S.Store conn.new) }
     ensures mode { conn.old.in_transaction ≡ false → conn.new.in_transaction ≡ false }
 {
-    let project = slot_project(conn, row.slot)?;
+    let project = slot_project(alloc, conn, named, row.slot)?;
     if !is_asked(asked, project.as_str()) {
         return Ok(None);
     }
@@ -189,9 +194,10 @@ pub(crate) fn complete_all<S: Alter>(
     ensures mode { conn.old.in_transaction ≡ false → conn.new.in_transaction ≡ false }
 {
     let mut left = rows;
+    let mut named = None;
     let mut found = Vec::new(alloc);
     while let Some(row) = left.pop() {
-        let tag = complete(alloc, conn, row, asked)?;
+        let tag = complete(alloc, conn, &mut named, row, asked)?;
         push_some(&mut found, tag)?;
     }
     Ok(found)

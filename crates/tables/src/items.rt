@@ -20,7 +20,7 @@ ghost use Rattle.tables.specs.Steps.Clauses.{OfState, StaysAsBefore};
 use crate::columns::{column, span_of};
 use crate::dump_rows::role_number;
 use crate::fault::{Refusal, TablesFault};
-use crate::parts::{DumpSlot, dump_slot};
+use crate::parts::{ProjectSlot, dump_slot};
 use crate::selection::{Listed, select_all};
 use crate::tables::Tables;
 use dump::Role;
@@ -109,7 +109,7 @@ fn items_in<S: Alter>(
 fn find_items<S: Alter>(
     alloc: Global,
     conn: &mut Connection<S>,
-    known: &mut Option<DumpSlot>,
+    known: &mut Option<ProjectSlot>,
     project: &str,
     result_number: u32,
     role: Role,

@@ -19,7 +19,7 @@ ghost use Rattle.tables.specs.Steps.Clauses.{OfState, StaysAsBefore};
 use crate::columns::{column, kind_of};
 use crate::dump_rows::kind_number;
 use crate::fault::{Refusal, TablesFault};
-use crate::parts::{DumpSlot, dump_slot};
+use crate::parts::{ProjectSlot, dump_slot};
 use crate::selection::{Listed, select_all};
 use crate::tables::Tables;
 use lsif::MonikerKind;
@@ -91,7 +91,7 @@ fn marks_in<S: Alter>(
 fn find_marks<S: Alter>(
     alloc: Global,
     conn: &mut Connection<S>,
-    known: &mut Option<DumpSlot>,
+    known: &mut Option<ProjectSlot>,
     project: &str,
     line: u32,
 ) -> Result<Vec<FoundMark>, Refusal>

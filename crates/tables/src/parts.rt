@@ -43,9 +43,9 @@ pub(crate) fn find_slot<S: Alter>(
     )
 }
 
-/// The slot of a project's dump.
+/// A slot, and the project that it is of.
 #[derive(Drop)]
-pub(crate) struct DumpSlot {
+pub(crate) struct ProjectSlot {
     pub(crate) project: String,
     pub(crate) id: i64,
 }
@@ -54,7 +54,7 @@ pub(crate) struct DumpSlot {
 pub(crate) fn dump_slot<S: Alter>(
     alloc: Global,
     conn: &mut Connection<S>,
-    known: &mut Option<DumpSlot>,
+    known: &mut Option<ProjectSlot>,
     project: &str,
 ) -> Result<Option<i64>, Refusal>
     requires known { IsKnown (state S.Store conn.old) known.old }
@@ -75,7 +75,7 @@ pub(crate) fn dump_slot<S: Alter>(
         return Ok(None);
     };
     let project = String::from_str(alloc, project)?;
-    *known = Some(DumpSlot { project, id });
+    *known = Some(ProjectSlot { project, id });
     Ok(Some(id))
 }
 

@@ -13,7 +13,7 @@ ghost use Rattle.tables.specs.declared.slots.Part.TheVariants.{Dump};
 ghost use Rattle.tables.specs.Steps.Clauses.{OfState, StaysAsBefore};
 
 use crate::fault::{Refusal, TablesFault};
-use crate::parts::{DumpSlot, find_slot};
+use crate::parts::{ProjectSlot, find_slot};
 use crate::selection::select_first;
 use crate::slots::Part;
 use crate::tables::Tables;
@@ -42,7 +42,7 @@ fn hover_in<S: Alter>(
 /// The contents of a hover result of a project's dump.
 fn find_hover<S: Alter>(
     conn: &mut Connection<S>,
-    known: &Option<DumpSlot>,
+    known: &Option<ProjectSlot>,
     project: &str,
     result_number: u32,
 ) -> Result<Option<String>, Refusal>

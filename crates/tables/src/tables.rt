@@ -12,7 +12,7 @@ ghost use Rattle.machine.specs.State.{State, nothing};
 
 use crate::fault::{TablesFault, fault_of};
 use crate::format::{Format, find_format};
-use crate::parts::DumpSlot;
+use crate::parts::ProjectSlot;
 use sqlite::{Alter, Connection, Error, Transaction};
 use std::marker::Model;
 
@@ -23,7 +23,7 @@ pub struct Tables<S: Alter> {
     /// The database is in memory alone.
     pub(crate) is_in_memory: bool,
     /// The slot of the dump that was asked last: so a query finds it once. Changes and faults forget it, and selections of names, projects and replies.
-    pub(crate) slot: Option<DumpSlot>,
+    pub(crate) slot: Option<ProjectSlot>,
 }
 
 impl<S: Alter> Model for Tables<S> {

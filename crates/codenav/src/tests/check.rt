@@ -17,7 +17,7 @@ pub(crate) enum Kind {
 }
 
 /// A dump in each profile.
-pub(crate) const BOTH: [Kind; 2] = [Kind::Dump(Profile::One), Kind::Dump(Profile::Two)];
+pub(crate) const BOTH: &[Kind] = &[Kind::Dump(Profile::One), Kind::Dump(Profile::Two)];
 
 /// The faults of a dump, as they are printed.
 const FAULTS: &str = "L01 line too long
@@ -112,7 +112,7 @@ pub(crate) fn expect_text<R: AllocGlobal + Abort>(
 /// Asserts the report, which a row begins with, of a dump that is read in pieces of 4,096 bytes, in both profiles.
 pub(crate) fn expect_in<R: AllocGlobal + Abort>(rt: &R, text: &str, row: &str) -> Result<(), Fail> {
     let wanted = report(rt.alloc(), row)?;
-    for kind in BOTH {
+    for &kind in BOTH {
         expect_text(rt, kind, 4096, text.as_bytes(), wanted.as_str());
     }
     Ok(())
@@ -141,46 +141,81 @@ pub(crate) fn expect_rows<R: AllocGlobal + Abort>(
     Ok(())
 }
 
-/// A reader that fails at each of its reads, and a writer that takes one byte at a time and fails at each of its writes, or takes
-/// none at all.
+/// A text, of which so many bytes are read at a time, in so many reads, of which the last one finds the end; and its report.
+#[derive(Clone, Copy)]
+struct Failing<'a> {
+    kind: Kind,
+    text: &'a str,
+    most: usize,
+    reads: u32,
+    report: &'a str,
+}
+
+/// A reader that fails at each of its reads.
+fn readers_that_fail<R: AllocGlobal + Abort>(rt: &R, row: &Failing<'_>) {
+    for fails_at in 1..=row.reads {
+        let mut reader = in_pieces(row.text.as_bytes(), row.most);
+        reader.fails_at = fails_at;
+        let (answer, written) = checked(rt.alloc(), row.kind, reader, 1, 0);
+        assert_eq!(rt;
+            (answer, written.as_slice()),
+            (Err(CheckFault::Read), b"".as_slice()),
+            "{:?}: {fails_at}",
+            row.kind
+        );
+    }
+}
+
+/// A writer that takes so many bytes at a time and fails at this write, behind so many bytes of the report.
+fn expect_taken<R: AllocGlobal + Abort>(
+    rt: &R,
+    row: &Failing<'_>,
+    most: usize,
+    fails_at: u32,
+    before: usize,
+) -> Result<(), Fail> {
+    let taken = row.report.get(..before).ok_or("no such place")?;
+    let reader = in_pieces(row.text.as_bytes(), row.most);
+    let (answer, written) = checked(rt.alloc(), row.kind, reader, most, fails_at);
+    assert_eq!(rt;
+        (answer, written.as_slice()),
+        (Err(CheckFault::Write), taken.as_bytes()),
+        "{:?}: {before}",
+        row.kind
+    );
+    Ok(())
+}
+
+/// A writer that takes one byte at a time and fails at each of its writes, or takes none at all.
+fn writers_that_fail<R: AllocGlobal + Abort>(rt: &R, row: &Failing<'_>) -> Result<(), Fail> {
+    for before in 0..row.report.len() {
+        let fails_at = u32::try_from(before)?.saturating_add(1);
+        expect_taken(rt, row, 1, fails_at, before)?;
+    }
+    expect_taken(rt, row, 0, 0, 0)
+}
+
 #[test]
 fn readers_and_writers_that_fail(rt: HostRuntime) -> Result<(), Fail> {
     let dump = text_of(rt.alloc(), BASE)?;
-    // how many bytes are read at a time, and how many reads there are: the last one finds the end
-    for (kind, text, most, reads, report) in [
-        (
-            Kind::Dump(Profile::One),
-            dump.as_str(),
-            64,
-            14,
-            "ok 11 elements\n",
-        ),
-        (
-            Kind::Tags,
-            "a\tf.c\t1\nb\tf.c\t2\r\nc\tf.c\t3",
-            7,
-            5,
-            "ok 3 tags\n",
-        ),
+    for &row in &[
+        Failing {
+            kind: Kind::Dump(Profile::One),
+            text: dump.as_str(),
+            most: 64,
+            reads: 14,
+            report: "ok 11 elements\n",
+        },
+        Failing {
+            kind: Kind::Tags,
+            text: "a\tf.c\t1\nb\tf.c\t2\r\nc\tf.c\t3",
+            most: 7,
+            reads: 5,
+            report: "ok 3 tags\n",
+        },
     ] {
-        for fails_at in 1..=reads {
-            let mut reader = in_pieces(text.as_bytes(), most);
-            reader.fails_at = fails_at;
-            let (answer, written) = checked(rt.alloc(), kind, reader, 1, 0);
-            assert_eq!(rt; answer, Err(CheckFault::Read), "{kind:?}: {fails_at}");
-            assert!(rt; written.is_empty(), "{kind:?}: {fails_at}");
-        }
-        for before in 0..report.len() {
-            let reader = in_pieces(text.as_bytes(), most);
-            let fails_at = u32::try_from(before)?.saturating_add(1);
-            let (answer, written) = checked(rt.alloc(), kind, reader, 1, fails_at);
-            assert_eq!(rt; answer, Err(CheckFault::Write), "{kind:?}: {before}");
-            let taken = report.get(..before).ok_or("no such place")?;
-            assert_eq!(rt; written.as_slice(), taken.as_bytes(), "{kind:?}: {before}");
-        }
-        let (answer, written) = checked(rt.alloc(), kind, in_pieces(text.as_bytes(), most), 0, 0);
-        assert_eq!(rt; answer, Err(CheckFault::Write), "{kind:?}");
-        assert!(rt; written.is_empty(), "{kind:?}");
+        readers_that_fail(&rt, &row);
+        writers_that_fail(&rt, &row)?;
     }
     Ok(())
 }

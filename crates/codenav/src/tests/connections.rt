@@ -127,13 +127,45 @@ fn clients(
     Ok(clients)
 }
 
+/// The same once they are served, behind a client that sends nothing and ends.
+fn served_clients(
+    rt: &HostRuntime,
+    listener: &TcpListener,
+    rows: &[(&str, &str)],
+) -> Result<Vec<TcpStream>, Fail> {
+    drop(client(rt, listener, "")?);
+    let clients = clients(rt, listener, rows)?;
+    match serve_all(rt, listener, 5)? {
+        Ok(()) => Ok(clients),
+        Err(_) => Err(Fail::from("not served")),
+    }
+}
+
+/// Asserts what the clients of these rows are sent.
+fn expect_received<R: AllocGlobal + Abort>(
+    rt: &R,
+    clients: &mut Vec<TcpStream>,
+    rows: &[(&str, &str)],
+) -> Result<(), Fail> {
+    for (sent, wanted) in rows.iter().rev() {
+        let client = clients.pop().ok_or("no client")?;
+        let found = received(rt.alloc(), client)?;
+        assert_eq!(rt; (*sent, found.as_str()), (*sent, *wanted));
+    }
+    Ok(())
+}
+
+/// A head that says no length, with 50,000 bytes behind it.
+fn long_request(alloc: Global) -> Result<String, Fail> {
+    let behind = "1234567890".repeat(alloc, 5000)?;
+    Ok(format!(in alloc; "PUT /projects/app/tags?key=k1 HTTP/1.1\r\n\r\n{behind}")?)
+}
+
 /// A client that sends nothing and ends, one that sends nothing and stays, one that stops in its head, one whose head
 /// says no length and is refused before the 50,000 bytes behind it are read, and one that is told that there's no project: each counts as one connection.
 #[test]
 fn counted(rt: HostRuntime) -> Result<(), Fail> {
-    let listener = listen(&rt)?;
-    let behind = "1234567890".repeat(rt.alloc(), 5000)?;
-    let long = format!(in rt.alloc(); "PUT /projects/app/tags?key=k1 HTTP/1.1\r\n\r\n{behind}")?;
+    let long = long_request(rt.alloc())?;
     let refused = r#"{"fault":"H03","text":"length required"}"#;
     let refused = reply(rt.alloc(), "411 Length Required", 40, refused)?;
     let rows = [
@@ -142,13 +174,9 @@ fn counted(rt: HostRuntime) -> Result<(), Fail> {
         (long.as_str(), refused.as_str()),
         (PROJECTS, NO_PROJECTS),
     ];
-    drop(client(&rt, &listener, "")?);
-    let mut clients = clients(&rt, &listener, &rows)?;
-    assert_eq!(rt; serve_all(&rt, &listener, 5)?, Ok(()));
-    for (_, wanted) in rows.iter().rev() {
-        let client = clients.pop().ok_or("no client")?;
-        assert_eq!(rt; received(rt.alloc(), client)?.as_str(), *wanted);
-    }
+    let listener = listen(&rt)?;
+    let mut clients = served_clients(&rt, &listener, &rows)?;
+    expect_received(&rt, &mut clients, &rows)?;
     listener.set_nonblocking(true)?;
     assert_eq!(rt; serve_all(&rt, &listener, 1)?, Err(ServerFault::Accept));
     Ok(())
@@ -314,7 +342,7 @@ fn trickled(alloc: Global, slowness: Slowness, each: u64) -> Result<(u32, u128),
 #[test]
 fn trickles(rt: HostRuntime) -> Result<(), Fail> {
     // the time of a byte, the bytes that are moved, and what the last read or write may wait
-    for (slowness, each, count, wait) in [
+    for &(slowness, each, count, wait) in &[
         (Slowness::Sends, 40, 5, 40),
         (Slowness::Sends, 50, 4, 50),
         (Slowness::Sends, 51, 0, 50),

@@ -8,9 +8,11 @@ use std::alloc::Global;
 use std::process::Abort;
 use std::test::Fail;
 
-/// Commands whose reply the writer fails to take, each with what is asked before it and after it. What comes after shows that the
-/// command had its effect: another command under its key gets its reply, and changes nothing.
-const CUT: [(&str, &str, &str); 3] = [
+/// A command whose reply the writer fails to take, behind what is asked before it and before what is asked after it.
+type Cut = (&'static str, &'static str, &'static str);
+
+/// What comes after shows that the command had its effect: another command under its key gets its reply, and changes nothing.
+const CUT: &[Cut] = &[
     (
         "",
         r#"PUT /projects/app/lsif?key=k1 < base => 200 {"accepted":"lsif","count":11}"#,
@@ -94,16 +96,20 @@ fn serve_over(
 }
 
 /// A reader that fails at any byte of an upload: it has no effect.
-fn without_effect<R: AllocGlobal + Abort>(rt: &R) {
-    let mut desk = PlainDesk::new(rt.alloc());
+fn without_effect<R: AllocGlobal + Abort>(rt: &R, desk: &mut PlainDesk) {
     for fails_at in 1..67 {
-        let (answer, written) = serve_over(rt.alloc(), &mut desk, SHORT_PUT, fails_at, 0);
-        assert_eq!(rt; answer, Err(ServeFault::Read), "{fails_at}");
-        assert!(rt; written.is_empty(), "{fails_at}");
+        let (answer, written) = serve_over(rt.alloc(), desk, SHORT_PUT, fails_at, 0);
+        assert_eq!(rt;
+            (answer, written.len()),
+            (Err(ServeFault::Read), 0),
+            "{fails_at}"
+        );
     }
-    let (answer, written) = serve_over(rt.alloc(), &mut desk, PROJECTS, 0, 0);
-    assert_eq!(rt; answer, Ok(1));
-    assert_eq!(rt; written.as_slice(), NO_PROJECTS.as_bytes());
+    let (answer, written) = serve_over(rt.alloc(), desk, PROJECTS, 0, 0);
+    assert_eq!(rt;
+        (answer, written.as_slice()),
+        (Ok(1), NO_PROJECTS.as_bytes())
+    );
 }
 
 /// Asserts what is written for the requests of these rows over a desk.
@@ -123,34 +129,45 @@ fn expect_over<R: AllocGlobal + Abort>(
     Ok(())
 }
 
-/// A writer that fails behind so many bytes of the reply to a command, and what is asked after it.
-fn expect_effect<R: AllocGlobal + Abort>(
+/// A writer that takes one byte at a time and fails behind so many bytes of the replies: it took what comes before.
+fn expect_taken<R: AllocGlobal + Abort>(
     rt: &R,
-    before: &'static str,
-    row: &'static str,
-    after: &'static str,
-    taken: usize,
+    desk: &mut PlainDesk,
+    requests: &str,
+    wanted: &str,
+    before: usize,
 ) -> Result<(), Fail> {
-    let mut desk = PlainDesk::new(rt.alloc());
-    expect_over(rt, &mut desk, before, row)?;
-    let (command, wanted) = exchange(rt.alloc(), row, 1)?;
-    let fails_at = u32::try_from(taken)?.saturating_add(1);
-    let (answer, written) = serve_over(rt.alloc(), &mut desk, command.as_str(), 0, fails_at);
-    let front = wanted.as_bytes().get(..taken).ok_or("no such place")?;
+    let fails_at = u32::try_from(before)?.saturating_add(1);
+    let taken = wanted.as_bytes().get(..before).ok_or("no such place")?;
+    let (answer, written) = serve_over(rt.alloc(), desk, requests, 0, fails_at);
     assert_eq!(rt;
         (answer, written.as_slice()),
-        (Err(ServeFault::Write), front),
-        "{taken}: {row}"
+        (Err(ServeFault::Write), taken),
+        "{before}: {requests}"
     );
-    expect_over(rt, &mut desk, after, row)
+    Ok(())
+}
+
+/// A writer that fails behind so many bytes of the reply to a command, and what is asked before it and after it.
+fn expect_effect<R: AllocGlobal + Abort>(
+    rt: &R,
+    desk: &mut PlainDesk,
+    (before, row, after): Cut,
+    taken: usize,
+) -> Result<(), Fail> {
+    expect_over(rt, desk, before, row)?;
+    let (command, wanted) = exchange(rt.alloc(), row, 1)?;
+    expect_taken(rt, desk, command.as_str(), wanted.as_str(), taken)?;
+    expect_over(rt, desk, after, row)
 }
 
 /// A writer that fails at the first byte of the reply to a command, or at a later one: the command has its effect.
 fn with_effect<R: AllocGlobal + Abort>(rt: &R) -> Result<(), Fail> {
-    for (before, row, after) in CUT {
-        let (_, wanted) = exchange(rt.alloc(), row, 1)?;
-        for taken in [0, 1, 9, 20, wanted.len().saturating_sub(1)] {
-            expect_effect(rt, before, row, after, taken)?;
+    for cut in CUT {
+        let (_, wanted) = exchange(rt.alloc(), cut.1, 1)?;
+        for taken in &[0, 1, 9, 20, wanted.len().saturating_sub(1)] {
+            let mut desk = PlainDesk::new(rt.alloc());
+            expect_effect(rt, &mut desk, *cut, *taken)?;
         }
     }
     Ok(())
@@ -168,57 +185,53 @@ fn replies_within(alloc: Global, bytes: usize) -> Result<String, Fail> {
     Ok(wanted)
 }
 
+/// A reader that fails at this read.
+fn expect_read<R: AllocGlobal + Abort>(rt: &R, stream: &str, fails_at: u32) -> Result<(), Fail> {
+    let mut reader = in_pieces(stream.as_bytes(), 100);
+    reader.fails_at = fails_at;
+    let (answer, written, left) = replay_over(rt.alloc(), reader, 1_000_000, 0);
+    let wanted = replies_within(rt.alloc(), stream.len().saturating_sub(left))?;
+    assert_eq!(rt;
+        (answer, written.as_slice()),
+        (Err(ServeFault::Read), wanted.as_bytes()),
+        "{fails_at}"
+    );
+    Ok(())
+}
+
 /// A reader that fails at each of its reads: the requests that came whole are answered.
 fn readers_that_fail<R: AllocGlobal + Abort>(rt: &R) -> Result<(), Fail> {
     let (stream, _) = exchange(rt.alloc(), UPLOADS, 7)?;
     let reads = u32::try_from(stream.len() / 100)?;
     for fails_at in 1..=reads {
-        let mut reader = in_pieces(stream.as_bytes(), 100);
-        reader.fails_at = fails_at;
-        let (answer, written, left) = replay_over(rt.alloc(), reader, 1_000_000, 0);
-        let wanted = replies_within(rt.alloc(), stream.len().saturating_sub(left))?;
-        assert_eq!(rt;
-            (answer, written.as_slice()),
-            (Err(ServeFault::Read), wanted.as_bytes()),
-            "{fails_at}"
-        );
+        expect_read(rt, stream.as_str(), fails_at)?;
     }
     Ok(())
 }
 
-/// A writer that takes one byte at a time and fails behind so many bytes of the replies: it took what comes before.
-fn expect_taken<R: AllocGlobal + Abort>(
+/// The same of a new desk, behind each number of bytes.
+fn expect_each_taken<R: AllocGlobal + Abort>(
     rt: &R,
     requests: &str,
     wanted: &str,
-    before: usize,
 ) -> Result<(), Fail> {
-    let mut desk = PlainDesk::new(rt.alloc());
-    let fails_at = u32::try_from(before)?.saturating_add(1);
-    let (answer, written) = serve_over(rt.alloc(), &mut desk, requests, 0, fails_at);
-    let taken = wanted.as_bytes().get(..before).ok_or("no such place")?;
-    assert_eq!(rt;
-        (answer, written.as_slice()),
-        (Err(ServeFault::Write), taken),
-        "{before}"
-    );
+    for before in 0..wanted.len() {
+        let mut desk = PlainDesk::new(rt.alloc());
+        expect_taken(rt, &mut desk, requests, wanted, before)?;
+    }
     Ok(())
 }
 
 fn writers_that_fail<R: AllocGlobal + Abort>(rt: &R) -> Result<(), Fail> {
     let (stream, replies) = exchange(rt.alloc(), UPLOADS, 7)?;
-    for (requests, wanted) in [(PROJECTS, NO_PROJECTS), (stream.as_str(), replies.as_str())] {
-        for before in 0..wanted.len() {
-            expect_taken(rt, requests, wanted, before)?;
-        }
-    }
-    Ok(())
+    expect_each_taken(rt, PROJECTS, NO_PROJECTS)?;
+    expect_each_taken(rt, stream.as_str(), replies.as_str())
 }
 
 #[test]
 fn cut_and_failed(rt: HostRuntime) -> Result<(), Fail> {
     cut_streams(&rt)?;
-    without_effect(&rt);
+    without_effect(&rt, &mut PlainDesk::new(rt.alloc()));
     with_effect(&rt)?;
     readers_that_fail(&rt)?;
     writers_that_fail(&rt)

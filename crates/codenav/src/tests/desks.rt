@@ -97,38 +97,47 @@ fn command<'a>(
     })
 }
 
-/// The query at a position.
-fn query_at(alloc: Global, verb: &str, rest: &'static str) -> Result<Query, Fail> {
-    let (name, rest) = cut(rest);
-    let (uri, rest) = cut(rest);
-    let (place, choice) = cut(rest);
-    let project = project(alloc, name)?;
-    let uri = DocUri::read(alloc, uri)?.ok_or("no URL")?;
-    let (line, character) = place.split_once(':').ok_or("no position")?;
-    let line = read_number(line).ok_or("no line")?;
-    let character = read_number(character).ok_or("no character")?;
-    let at = Position::new(line, character).ok_or("no position")?;
-    let kind = match verb {
+/// The kind of request that a word says.
+fn kind(verb: &str) -> RequestKind {
+    match verb {
         "definition" => RequestKind::Definition,
         "references" => RequestKind::References,
         "hover" => RequestKind::Hover,
         "declaration" => RequestKind::Declaration,
         _ => RequestKind::Implementation,
-    };
-    Ok(match choice {
-        "" => Query::At {
+    }
+}
+
+/// The position that is written as `2:1`.
+fn position(place: &str) -> Result<Position, Fail> {
+    let (line, character) = place.split_once(':').ok_or("no position")?;
+    let line = read_number(line).ok_or("no line")?;
+    let character = read_number(character).ok_or("no character")?;
+    Ok(Position::new(line, character).ok_or("no position")?)
+}
+
+/// The query at a position.
+fn query_at(alloc: Global, verb: &str, rest: &'static str) -> Result<Query, Fail> {
+    let (name, rest) = cut(rest);
+    let (uri, rest) = cut(rest);
+    let (place, choice) = cut(rest);
+    let (kind, at) = (kind(verb), position(place)?);
+    let project = project(alloc, name)?;
+    let uri = DocUri::read(alloc, uri)?.ok_or("no URL")?;
+    match choice {
+        "" => Ok(Query::At {
             kind,
             project,
             uri,
             at,
-        },
-        _ => Query::References {
+        }),
+        _ => Ok(Query::References {
             project,
             uri,
             at,
             declaration: choice != "no",
-        },
-    })
+        }),
+    }
 }
 
 /// The query for tags.
@@ -183,7 +192,10 @@ fn served<D: Desk>(alloc: Global, desk: &mut D, request: &Request<'_>) -> Result
 /// The status and the body of the reply to the request of a row.
 fn reply_to<D: Desk>(alloc: Global, desk: &mut D, row: &'static str) -> Result<String, Fail> {
     let body = upload(alloc, row)?;
-    served(alloc, desk, &request(alloc, row, body.as_str())?)
+    let request = request(alloc, row, body.as_str())?;
+    let found = served(alloc, desk, &request);
+    drop(request);
+    found
 }
 
 /// A desk over the tables of a new database in memory.
@@ -259,19 +271,20 @@ fn run_all(alloc: Global, requests: &[Request<'_>]) -> Result<String, Fail> {
     Ok(texts)
 }
 
+/// The same for each of these.
+fn expect_all<R: AllocGlobal + Abort>(rt: &R, scenarios: &[&'static str]) -> Result<(), Fail> {
+    for scenario in scenarios {
+        expect_replies(rt, *scenario)?;
+    }
+    Ok(())
+}
+
 /// Commands, queries at positions, and queries that other projects answer, too.
 #[test]
 fn replies(rt: HostRuntime) -> Result<(), Fail> {
-    for scenarios in [
-        commands::SCENARIOS.as_slice(),
-        &queries::SCENARIOS,
-        &joins::SCENARIOS,
-    ] {
-        for scenario in scenarios {
-            expect_replies(&rt, *scenario)?;
-        }
-    }
-    Ok(())
+    expect_all(&rt, commands::SCENARIOS)?;
+    expect_all(&rt, queries::SCENARIOS)?;
+    expect_all(&rt, joins::SCENARIOS)
 }
 
 #[test]

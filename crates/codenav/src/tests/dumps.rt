@@ -3,7 +3,7 @@
 mod requests;
 mod spans;
 
-use super::samples::{dump_of, text_of};
+use super::samples::{made_dump, text_of};
 use dump::{
     CheckedDump, Checker, RequestKind, Role, chain_law, container_law, ends_law, fault_law,
     hover_law, line_law, listing_law, nesting_law, own_law, path_law, pick_law, read_dump,
@@ -11,6 +11,7 @@ use dump::{
 };
 use lsif::{Counted, Id, IdRef, Profile, Property, Vertex};
 use std::alloc::Global;
+use std::process::Abort;
 use std::test::Fail;
 
 const META_DATA: &str = r#"{"id":1,"type":"vertex","label":"metaData","version":"0.6.0"}"#;
@@ -22,37 +23,65 @@ const FED: &str =
     "[Ok(()), Err(Line(LineFault { line: 2, code: L02 })), Err(Line(LineFault { line: 2, code: L02 })), Err(Line(LineFault { line: 2, code: L02 }))] \
 Some(Line(LineFault { line: 2, code: L02 })) Some(Line(LineFault { line: 1, code: L06 }))";
 
-/// The same as it's found.
-fn fed(alloc: Global, profile: Profile) -> Result<String, Fail> {
-    let mut checker = Checker::new(alloc, profile);
+/// The profile of a checker, and what it answers to the lines.
+fn fed_to(alloc: Global, checker: &mut Checker) -> Result<String, Fail> {
+    let profile = checker.profile();
     let mut answers = Vec::new(alloc);
-    for line in [Some(META_DATA), Some("{"), Some(DOCUMENT), None] {
+    for &line in &[Some(META_DATA), Some("{"), Some(DOCUMENT), None] {
         let reading = read_line(alloc, profile, line.map(str::as_bytes))?;
         answers.push(checker.feed(reading))?;
     }
+    Ok(format!(in alloc; "{profile:?} {answers:?}")?)
+}
+
+/// The same as it's found.
+fn fed(alloc: Global, profile: Profile) -> Result<String, Fail> {
+    let mut checker = Checker::new(alloc, profile);
+    let found = fed_to(alloc, &mut checker);
     let end = checker.finish().err();
     let of_none = Checker::new(alloc, profile).finish().err();
-    Ok(format!(in alloc; "{answers:?} {end:?} {of_none:?}")?)
+    Ok(format!(in alloc; "{} {end:?} {of_none:?}", found?)?)
 }
 
 /// The profile of the dump of a text, and how many elements it has; or its fault.
 fn read(alloc: Global, profile: Profile, text: &str) -> Result<String, Fail> {
     match read_dump(alloc, profile, &mut Counted::new(text.as_bytes())) {
-        Ok(dump) => Ok(format!(in alloc; "{:?} {}", dump.profile(), dump.elements().len())?),
+        Ok(dump) => {
+            let text = format!(in alloc; "{:?} {}", dump.profile(), dump.elements().len());
+            drop(dump);
+            Ok(text?)
+        }
         Err(fault) => Ok(format!(in alloc; "{fault:?}")?),
     }
+}
+
+/// Asserts what is read of a text.
+fn expect_read<R: AllocGlobal + Abort>(
+    rt: &R,
+    profile: Profile,
+    text: &str,
+    wanted: &str,
+) -> Result<(), Fail> {
+    let found = read(rt.alloc(), profile, text)?;
+    assert_eq!(rt; found.as_str(), wanted);
+    Ok(())
 }
 
 #[test]
 fn fed_and_read_dumps(rt: HostRuntime) -> Result<(), Fail> {
     let sound = format!(in rt.alloc(); "{META_DATA}\n{DOCUMENT}")?;
     let faulty = format!(in rt.alloc(); "{META_DATA}\n\n{DOCUMENT}\n")?;
-    for (profile, wanted) in [(Profile::One, "One 2"), (Profile::Two, "Two 2")] {
-        assert_eq!(rt; Checker::new(rt.alloc(), profile).profile(), profile);
-        assert_eq!(rt; fed(rt.alloc(), profile)?.as_str(), FED);
-        assert_eq!(rt; read(rt.alloc(), profile, sound.as_str())?.as_str(), wanted);
-        let found = read(rt.alloc(), profile, faulty.as_str())?;
-        assert_eq!(rt; found.as_str(), "Line(LineFault { line: 2, code: L02 })");
+    for (profile, wanted) in &[(Profile::One, "One 2"), (Profile::Two, "Two 2")] {
+        expect_read(&rt, *profile, sound.as_str(), *wanted)?;
+        expect_read(
+            &rt,
+            *profile,
+            faulty.as_str(),
+            "Line(LineFault { line: 2, code: L02 })",
+        )?;
+        let found = fed(rt.alloc(), *profile)?;
+        let wanted = format!(in rt.alloc(); "{profile:?} {FED}")?;
+        assert_eq!(rt; found.as_str(), wanted.as_str());
     }
     Ok(())
 }
@@ -94,7 +123,7 @@ fn number(found: Option<&Id>) -> u64 {
 }
 
 /// The kinds of requests.
-const REQUESTS: [RequestKind; 5] = [
+const REQUESTS: &[RequestKind] = &[
     RequestKind::Definition,
     RequestKind::References,
     RequestKind::Hover,
@@ -105,16 +134,17 @@ const REQUESTS: [RequestKind; 5] = [
 /// Of this vertex the first result for each request along its chain, and its package; what its `next` edge leads to; and the results that it has itself.
 fn found_of(alloc: Global, dump: &CheckedDump, vertex: u64) -> Result<String, Fail> {
     let id = Id::Number(vertex);
-    let mut firsts = format!(in alloc; "{vertex}:")?;
-    let mut owns = String::new(alloc);
-    for request in REQUESTS {
-        let first = number(dump.first(request, &id));
-        let own = number(dump.result(request, &id));
-        firsts.push_str(format!(in alloc; " {first}")?.as_str())?;
-        owns.push_str(format!(in alloc; " {own}")?.as_str())?;
+    let mut found = format!(in alloc; "{vertex}:")?;
+    for &request in REQUESTS {
+        write!(found, " {}", number(dump.first(request, &id)))?;
     }
     let (package, next) = (number(dump.package_of(&id)), number(dump.next(&id)));
-    Ok(format!(in alloc; "{firsts} {package}, next {next}, own{owns}\n")?)
+    write!(found, " {package}, next {next}, own")?;
+    for &request in REQUESTS {
+        write!(found, " {}", number(dump.result(request, &id)))?;
+    }
+    found.push('\n')?;
+    Ok(found)
 }
 
 /// In profile 1 nothing is a declaration or an implementation.
@@ -165,21 +195,25 @@ fn kinds_and_documents(alloc: Global, dump: &CheckedDump) -> Result<String, Fail
     )?)
 }
 
+/// What is found in this dump, which has the vertices of the full dump.
+fn found_in(alloc: Global, dump: &CheckedDump) -> Result<String, Fail> {
+    let mut found = String::new(alloc);
+    for vertex in &[3, 5, 6, 2, 24, 25] {
+        found.push_str(found_of(alloc, dump, *vertex)?.as_str())?;
+    }
+    found.push_str(kinds_and_documents(alloc, dump)?.as_str())?;
+    Ok(found)
+}
+
 /// What is found in the full dump.
 fn look_up(alloc: Global, profile: Profile) -> Result<String, Fail> {
-    let text = text_of(alloc, FULL)?;
-    let dump = dump_of(alloc, profile, text.as_str())?;
-    let mut found = String::new(alloc);
-    for vertex in [3, 5, 6, 2, 24, 25] {
-        found.push_str(found_of(alloc, &dump, vertex)?.as_str())?;
-    }
-    found.push_str(kinds_and_documents(alloc, &dump)?.as_str())?;
-    Ok(found)
+    let dump = made_dump(alloc, profile, text_of(alloc, FULL))?;
+    found_in(alloc, &dump)
 }
 
 #[test]
 fn look_ups(rt: HostRuntime) -> Result<(), Fail> {
-    for (profile, wanted) in [(Profile::One, FOUND_IN_ONE), (Profile::Two, FOUND_IN_TWO)] {
+    for &(profile, wanted) in &[(Profile::One, FOUND_IN_ONE), (Profile::Two, FOUND_IN_TWO)] {
         let found = look_up(rt.alloc(), profile)?;
         assert_eq!(rt; found.as_str(), wanted);
     }
@@ -225,20 +259,29 @@ fn id(alloc: Global, short: &str) -> Result<Id, Fail> {
     }
 }
 
-#[test]
-fn index_of_each_id(rt: HostRuntime) -> Result<(), Fail> {
-    let text = text_of(rt.alloc(), IDS)?;
-    let dump = dump_of(rt.alloc(), Profile::One, text.as_str())?;
+/// The index of the element that has this id.
+fn line_of(alloc: Global, dump: &CheckedDump, short: &str) -> Result<Option<u32>, Fail> {
+    let id = id(alloc, short)?;
+    Ok(dump.line_of(id.lent()))
+}
+
+/// Asserts the index of each.
+fn expect_indexes<R: AllocGlobal + Abort>(rt: &R, dump: &CheckedDump) -> Result<(), Fail> {
     for (short, wanted) in INDEXES {
-        let id = id(rt.alloc(), short)?;
-        let found = dump.line_of(id.lent());
+        let found = line_of(rt.alloc(), dump, *short)?;
         assert_eq!(rt; (*short, found), (*short, *wanted));
     }
     Ok(())
 }
 
+#[test]
+fn index_of_each_id(rt: HostRuntime) -> Result<(), Fail> {
+    let dump = made_dump(rt.alloc(), Profile::One, text_of(rt.alloc(), IDS))?;
+    expect_indexes(&rt, &dump)
+}
+
 /// Properties of `item` edges with the role of their targets.
-const ROLES: [(Option<Property>, Option<Role>); 4] = [
+const ROLES: &[(Option<Property>, Option<Role>)] = &[
     (None, Some(Role::Definitions)),
     (Some(Property::Definitions), Some(Role::Definitions)),
     (Some(Property::References), Some(Role::References)),
@@ -247,7 +290,7 @@ const ROLES: [(Option<Property>, Option<Role>); 4] = [
 
 #[test]
 fn roles_and_laws(rt: HostRuntime) -> Result<(), Fail> {
-    for (property, role) in ROLES {
+    for &(property, role) in ROLES {
         assert_eq!(rt; role_of(property), role);
     }
     fault_law();

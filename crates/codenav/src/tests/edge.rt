@@ -3,6 +3,7 @@
 //! of those below it. Each stream is of an index that is empty at first.
 use super::replay::expect;
 use http_edge::{phrase_law, requests_law, route_law, run_law};
+use std::alloc::Global;
 use std::process::Abort;
 use std::test::Fail;
 
@@ -149,6 +150,22 @@ fn expect_replies<R: AllocGlobal + Abort>(rt: &R, stream: &str, names: &str) -> 
     Ok(())
 }
 
+/// Asserts the replies to the stream of a row, which has these texts before and behind it. A remark has none.
+fn expect_row<R: AllocGlobal + Abort>(
+    rt: &R,
+    before: &str,
+    row: &str,
+    after: &str,
+) -> Result<(), Fail> {
+    if row.starts_with('#') {
+        return Ok(());
+    }
+    let (part, names) = row.split_once(" => ").ok_or("no row")?;
+    let signs = format!(in rt.alloc(); "{before}{part}{after}")?;
+    let stream = signs.replace(rt.alloc(), '|', "\r\n")?;
+    expect_replies(rt, stream.as_str(), names)
+}
+
 /// The streams of the tables, whose rows have a text before them and one after them.
 #[test]
 fn edge_refusals(rt: HostRuntime) -> Result<(), Fail> {
@@ -156,7 +173,7 @@ fn edge_refusals(rt: HostRuntime) -> Result<(), Fail> {
     requests_law();
     route_law();
     run_law();
-    for (before, table, after) in [
+    for &(before, table, after) in &[
         ("", REFUSED, ""),
         ("", ORDERED, ""),
         ("", FOLLOWED, GET),
@@ -164,16 +181,33 @@ fn edge_refusals(rt: HostRuntime) -> Result<(), Fail> {
         ("PUT ", UPLOADS, " HTTP/1.1|Content-Length: 0||"),
     ] {
         for row in table.trim_matches('\n').lines() {
-            if !row.starts_with('#') {
-                let (part, names) = row.split_once(" => ").ok_or("no row")?;
-                let signs = format!(in rt.alloc(); "{before}{part}{after}")?;
-                let stream = signs.replace(rt.alloc(), '|', "\r\n")?;
-                expect_replies(&rt, stream.as_str(), names)?;
-            }
+            expect_row(&rt, before, row, after)?;
         }
     }
     let line_feeds = "GET /projects HTTP/1.1\nA: b\n\nC: d\r\n\r\n";
     expect_replies(&rt, line_feeds, "H01")
+}
+
+/// A stream in which a text stands so many times.
+fn long_stream(
+    alloc: Global,
+    first: &str,
+    text: &str,
+    times: usize,
+    last: &str,
+) -> Result<String, Fail> {
+    let middle = text.repeat(alloc, times)?;
+    Ok(format!(in alloc; "{first}{middle}{last}")?)
+}
+
+/// Asserts the replies to it.
+fn expect_long<R: AllocGlobal + Abort>(
+    rt: &R,
+    (first, text, times, last): (&str, &str, usize, &str),
+    names: &str,
+) -> Result<(), Fail> {
+    let stream = long_stream(rt.alloc(), first, text, times, last)?;
+    expect_replies(rt, stream.as_str(), names)
 }
 
 /// Long heads, and bodies that come in several pieces: an upload takes all of its body, and a query none.
@@ -181,7 +215,7 @@ fn edge_refusals(rt: HostRuntime) -> Result<(), Fail> {
 fn long_heads_and_bodies(rt: HostRuntime) -> Result<(), Fail> {
     let upload = "PUT /projects/app/tags?key=k1 HTTP/1.1\r\nContent-Length: 20000\r\n\r\n";
     let query = "GET /projects HTTP/1.1\r\nContent-Length: 20000\r\n\r\n";
-    for (first, text, times, last, names) in [
+    for &(first, text, times, last, names) in &[
         ("", "a", 8191, "", "H01"),
         ("", "a", 8192, "", "H02"),
         ("", "a", 8192, "\r\n\r\n", "H02"),
@@ -191,9 +225,7 @@ fn long_heads_and_bodies(rt: HostRuntime) -> Result<(), Fail> {
         (upload, "x\tf.c\t1\n", 2500, GET, "tags D01"),
         (query, "body ", 4000, GET, "none D01"),
     ] {
-        let middle = text.repeat(rt.alloc(), times)?;
-        let stream = format!(in rt.alloc(); "{first}{middle}{last}")?;
-        expect_replies(&rt, stream.as_str(), names)?;
+        expect_long(&rt, (first, text, times, last), names)?;
     }
     Ok(())
 }

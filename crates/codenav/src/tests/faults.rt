@@ -1,7 +1,8 @@
 //! Faults of dumps: each fault, each two of which one is reported, and the first of several faulty lines.
 use super::check::{BOTH, expect_in, expect_rows};
 use super::samples::named::BASE;
-use super::samples::{GREAT_NUMBERS, NUMBERS, TEXTS, push_line, text_of};
+use super::samples::{GREAT_NUMBERS, Marks, NUMBERS, TEXTS, push_line, text_of};
+use std::process::Abort;
 use std::test::Fail;
 
 /// The base dump with other lines.
@@ -204,30 +205,50 @@ fn check_first(rt: HostRuntime) -> Result<(), Fail> {
     text.pop();
     expect_in(&rt, text.as_str(), "ok 11")?;
     expect_in(&rt, "", "1 L06 of no line")?;
-    expect_rows(&rt, &BOTH, BASE, OF_BASE, &[1, 2, 7, 1_000_000], NUMBERS)
+    expect_rows(&rt, BOTH, BASE, OF_BASE, &[1, 2, 7, 1_000_000], NUMBERS)
+}
+
+/// Dumps, the rows of their changes, and what stands around their ids.
+const CHANGED: &[(&str, &str, Marks)] = &[
+    (META_DATA, SHAPES, NUMBERS),
+    ("", FIRST_LINES, NUMBERS),
+    (ENDS, OF_ENDS, NUMBERS),
+    (OVERLAPPING, ORDERS, NUMBERS),
+    (OVERLAPPING, ORDERS, GREAT_NUMBERS),
+    (OVERLAPPING, ORDERS, TEXTS),
+];
+
+/// Dumps, the number of the line that is added, and the rows of what it may be.
+const ADDED: &[(&str, usize, &str)] = &[
+    ("", 1, EACH_SHAPE),
+    (META_DATA, 2, EACH_SHAPE),
+    (OVERLAPPING, 18, EACH_ORDER),
+];
+
+/// Asserts the report of a dump with one line more, of this number, for a row: the code, and the line.
+fn expect_added<R: AllocGlobal + Abort>(
+    rt: &R,
+    dump: &str,
+    number: usize,
+    row: &str,
+) -> Result<(), Fail> {
+    let (code, line) = row.split_once(' ').ok_or("no line")?;
+    let mut text = text_of(rt.alloc(), dump)?;
+    push_line(&mut text, number, line, NUMBERS)?;
+    let wanted = format!(in rt.alloc(); "{number} {code}")?;
+    expect_in(rt, text.as_str(), wanted.as_str())
 }
 
 /// Each fault, and each two of which one is reported. Faults of a line's shape are reported though the line isn't the metaData
 /// that is missing.
 #[test]
 fn check_all(rt: HostRuntime) -> Result<(), Fail> {
-    for (dump, rows) in [(META_DATA, SHAPES), ("", FIRST_LINES), (ENDS, OF_ENDS)] {
-        expect_rows(&rt, &BOTH, dump, rows, &[4096], NUMBERS)?;
+    for (dump, rows, marks) in CHANGED {
+        expect_rows(&rt, BOTH, *dump, *rows, &[4096], *marks)?;
     }
-    for marks in [NUMBERS, GREAT_NUMBERS, TEXTS] {
-        expect_rows(&rt, &BOTH, OVERLAPPING, ORDERS, &[4096], marks)?;
-    }
-    for (dump, number, rows) in [
-        ("", 1, EACH_SHAPE),
-        (META_DATA, 2, EACH_SHAPE),
-        (OVERLAPPING, 18, EACH_ORDER),
-    ] {
+    for (dump, number, rows) in ADDED {
         for row in rows.lines() {
-            let (code, line) = row.split_once(' ').ok_or("no line")?;
-            let mut text = text_of(rt.alloc(), dump)?;
-            push_line(&mut text, number, line, NUMBERS)?;
-            let wanted = format!(in rt.alloc(); "{number} {code}")?;
-            expect_in(&rt, text.as_str(), wanted.as_str())?;
+            expect_added(&rt, *dump, *number, row)?;
         }
     }
     Ok(())

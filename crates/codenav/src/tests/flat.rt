@@ -6,6 +6,7 @@ mod rows;
 use flatten::{key_law, key_text, reach};
 use lsif::{Moniker, MonikerKind, Package};
 use std::alloc::Global;
+use std::process::Abort;
 use std::test::Fail;
 
 /// Starts and pairs, and what is reached.
@@ -15,7 +16,7 @@ struct Row {
     reached: &'static [u32],
 }
 
-const ROWS: [Row; 11] = [
+const ROWS: &[Row] = &[
     Row {
         starts: &[5],
         pairs: &[(5, 6), (6, 5)],
@@ -75,7 +76,7 @@ const ROWS: [Row; 11] = [
 
 #[test]
 fn reached_numbers(rt: HostRuntime) -> Result<(), Fail> {
-    for row in &ROWS {
+    for row in ROWS {
         let reached = reach(rt.alloc(), row.starts, row.pairs)?;
         assert_eq!(rt; (row.pairs, reached.as_slice()), (row.pairs, row.reached));
     }
@@ -88,7 +89,7 @@ type Parts = (&'static str, &'static str, &'static str);
 /// A scheme, an identifier, and a package or none; and the text of the key.
 type KeyRow = (&'static str, &'static str, Option<Parts>, &'static str);
 
-const KEYS: [KeyRow; 12] = [
+const KEYS: &[KeyRow] = &[
     (
         "npm",
         "lib::f",
@@ -108,33 +109,47 @@ const KEYS: [KeyRow; 12] = [
     ("1:a", "b", None, "3:1:a1:b0"),
 ];
 
-/// The text of the key of a moniker of this kind.
-fn text(alloc: Global, kind: MonikerKind, row: KeyRow) -> Result<String, Fail> {
-    let (scheme, identifier, parts, _) = row;
+/// The package of these parts.
+fn package(alloc: Global, (manager, name, version): Parts) -> Result<Package, Fail> {
+    Ok(Package {
+        manager: String::from_str(alloc, manager)?,
+        name: String::from_str(alloc, name)?,
+        version: String::from_str(alloc, version)?,
+    })
+}
+
+/// The text of the key of this moniker.
+fn text(alloc: Global, moniker: &Moniker, parts: Option<Parts>) -> Result<String, Fail> {
+    match parts {
+        Some(parts) => {
+            let package = package(alloc, parts)?;
+            Ok(key_text(alloc, moniker, Some(&package))?)
+        }
+        None => Ok(key_text(alloc, moniker, None)?),
+    }
+}
+
+/// Asserts the text of the key of a moniker of this kind.
+fn expect_key<R: AllocGlobal + Abort>(rt: &R, kind: MonikerKind, row: KeyRow) -> Result<(), Fail> {
+    let (scheme, identifier, parts, wanted) = row;
+    let scheme = String::from_str(rt.alloc(), scheme)?;
+    let identifier = String::from_str(rt.alloc(), identifier)?;
     let moniker = Moniker {
-        scheme: String::from_str(alloc, scheme)?,
-        identifier: String::from_str(alloc, identifier)?,
+        scheme,
+        identifier,
         kind,
     };
-    let package = match parts {
-        Some((manager, name, version)) => Some(Package {
-            manager: String::from_str(alloc, manager)?,
-            name: String::from_str(alloc, name)?,
-            version: String::from_str(alloc, version)?,
-        }),
-        None => None,
-    };
-    Ok(key_text(alloc, &moniker, package.as_ref())?)
+    let found = text(rt.alloc(), &moniker, parts)?;
+    assert_eq!(rt; found.as_str(), wanted);
+    Ok(())
 }
 
 #[test]
 fn key_texts(rt: HostRuntime) -> Result<(), Fail> {
     key_law();
     for row in KEYS {
-        let import = text(rt.alloc(), MonikerKind::Import, row)?;
-        let export = text(rt.alloc(), MonikerKind::Export, row)?;
-        assert_eq!(rt; import.as_str(), row.3);
-        assert_eq!(rt; export.as_str(), row.3);
+        expect_key(&rt, MonikerKind::Import, *row)?;
+        expect_key(&rt, MonikerKind::Export, *row)?;
     }
     Ok(())
 }

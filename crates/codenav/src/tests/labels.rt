@@ -197,16 +197,16 @@ ok 12 | 9 project | 10 item 6>[3] @9
 
 /// By which profiles a dump is read, the dump, and its rows.
 const TABLES: &[(&[Kind], &str, &str)] = &[
-    (&BOTH, BASE, OF_BASE),
-    (&BOTH, NESTED, "ok 8"),
-    (&BOTH, TOUCHING, "ok 15"),
-    (&BOTH, RING, OF_REFERENCES),
-    (&BOTH, SHARDS, OF_SHARDS),
-    (&BOTH, HOVERED, OF_HOVERS),
-    (&BOTH, IMPORT, OF_IMPORT),
-    (&BOTH, EXPORT, "ok 11"),
-    (&BOTH, ENDED, OF_ENDED),
-    (&BOTH, AFTER_THE_END, OF_AFTER_THE_END),
+    (BOTH, BASE, OF_BASE),
+    (BOTH, NESTED, "ok 8"),
+    (BOTH, TOUCHING, "ok 15"),
+    (BOTH, RING, OF_REFERENCES),
+    (BOTH, SHARDS, OF_SHARDS),
+    (BOTH, HOVERED, OF_HOVERS),
+    (BOTH, IMPORT, OF_IMPORT),
+    (BOTH, EXPORT, "ok 11"),
+    (BOTH, ENDED, OF_ENDED),
+    (BOTH, AFTER_THE_END, OF_AFTER_THE_END),
     (&[Kind::Dump(Profile::One)], DECLARED, OF_DECLARED_IN_ONE),
     (&[Kind::Dump(Profile::Two)], DECLARED, OF_DECLARED_IN_TWO),
 ];
@@ -214,7 +214,7 @@ const TABLES: &[(&[Kind], &str, &str)] = &[
 #[test]
 fn elements_of_each_label(rt: HostRuntime) -> Result<(), Fail> {
     for (kinds, dump, rows) in TABLES {
-        for marks in [NUMBERS, GREAT_NUMBERS, TEXTS] {
+        for &marks in &[NUMBERS, GREAT_NUMBERS, TEXTS] {
             expect_rows(&rt, kinds, dump, rows, &[4096], marks)?;
         }
     }

@@ -224,7 +224,7 @@ fn expect_streams<R: AllocGlobal + Abort>(rt: &R, streams: &'static str) -> Resu
     for rows in streams.split("\n\n") {
         let (requests, replies) = exchange(rt.alloc(), rows, usize::MAX)?;
         let count = u32::try_from(rows.trim_matches('\n').lines().count())?;
-        for most in [1, 7, 1_000_000] {
+        for &most in &[1, 7, 1_000_000] {
             expect(rt, requests.as_bytes(), most, count, replies.as_str());
         }
     }

@@ -302,6 +302,12 @@ fn asked(alloc: Global, line: &str) -> Result<String, Fail> {
     said(alloc, str::from_utf8(&taken).unwrap_or("not UTF-8"))
 }
 
+/// The same of a request line of three parts.
+fn asked_between(alloc: Global, before: &str, part: &str, behind: &str) -> Result<String, Fail> {
+    let line = format!(in alloc; "{before}{part}{behind}")?;
+    asked(alloc, line.as_str())
+}
+
 /// Asserts what the rows of a table ask, which have these texts before and behind them in the request line.
 fn expect_asked<R: AllocGlobal + Abort>(
     rt: &R,
@@ -311,9 +317,8 @@ fn expect_asked<R: AllocGlobal + Abort>(
 ) -> Result<(), Fail> {
     for row in table.trim_matches('\n').lines() {
         let (part, wanted) = row.split_once(" => ").ok_or("no row")?;
-        let line = format!(in rt.alloc(); "{before}{part}{behind}")?;
-        let found = asked(rt.alloc(), line.as_str())?;
-        assert_eq!(rt; found.as_str(), wanted, "{line}");
+        let found = asked_between(rt.alloc(), before, part, behind)?;
+        assert_eq!(rt; (part, found.as_str()), (part, wanted));
     }
     Ok(())
 }

@@ -5,7 +5,7 @@ pub(crate) mod named;
 use dump::{CheckedDump, read_dump};
 use lsif::{Counted, Profile};
 use named::SAMPLES;
-use std::alloc::Global;
+use std::alloc::{AllocError, Global};
 use std::io;
 use std::io::{Read, Write};
 use std::test::Fail;
@@ -28,6 +28,48 @@ fn position(alloc: Global, short: &str) -> Result<String, Fail> {
     Ok(format!(in alloc; "{{'line':{line},'character':{character}}}")?)
 }
 
+/// The positions of a range.
+fn range_members(alloc: Global, start: &str, end: &str) -> Result<String, Fail> {
+    let start = position(alloc, start)?;
+    let end = position(alloc, end)?;
+    Ok(format!(in alloc; ",'start':{start},'end':{end}")?)
+}
+
+/// The kind, the scheme and the identifier of a moniker.
+fn moniker_members(alloc: Global, kind: &str, rest: &str) -> Result<String, Fail> {
+    let (scheme, identifier) = rest.split_once(' ').ok_or("no identifier")?;
+    Ok(format!(in alloc; ",'kind':'{kind}','scheme':'{scheme}','identifier':'{identifier}'")?)
+}
+
+/// The manager, the name and the version of a package.
+fn package_members(alloc: Global, manager: &str, rest: &str) -> Result<String, Fail> {
+    let (name, version) = rest.split_once(' ').ok_or("no version")?;
+    Ok(format!(in alloc; ",'manager':'{manager}','name':'{name}','version':'{version}'")?)
+}
+
+/// The members of a vertex of one of these labels, which has one or two values.
+fn simple_members(
+    alloc: Global,
+    label: &str,
+    short: &str,
+    (first, second): (&str, &str),
+) -> Result<String, AllocError> {
+    let (before, one, between, two, behind) = match label {
+        "metaData" if second.is_empty() => (",'version':'", first, "'", "", ""),
+        "metaData" => (",'version':'", first, "','positionEncoding':'", second, "'"),
+        "document" => (",'uri':'", short, "'", "", ""),
+        "hoverResult" => (",'result':{'contents':", short, "}", "", ""),
+        _ => (
+            ",'scope':'document','kind':'",
+            first,
+            "','data':<",
+            second,
+            ">",
+        ),
+    };
+    format!(in alloc; "{before}{one}{between}{two}{behind}")
+}
+
 /// The members of a vertex besides its id, type and label.
 fn vertex_members(alloc: Global, label: &str, short: &str) -> Result<String, Fail> {
     if short.is_empty() {
@@ -37,27 +79,15 @@ fn vertex_members(alloc: Global, label: &str, short: &str) -> Result<String, Fai
         return Ok(format!(in alloc; ",{short}")?);
     }
     let (first, second) = short.split_once(' ').unwrap_or((short, ""));
-    Ok(match label {
-        "metaData" if second.is_empty() => format!(in alloc; ",'version':'{first}'")?,
-        "metaData" => format!(in alloc; ",'version':'{first}','positionEncoding':'{second}'")?,
-        "document" => format!(in alloc; ",'uri':'{short}'")?,
-        "range" => {
-            let start = position(alloc, first)?;
-            let end = position(alloc, second)?;
-            format!(in alloc; ",'start':{start},'end':{end}")?
+    match label {
+        "metaData" | "document" | "hoverResult" | "$event" => {
+            Ok(simple_members(alloc, label, short, (first, second))?)
         }
-        "hoverResult" => format!(in alloc; ",'result':{{'contents':{short}}}")?,
-        "moniker" => {
-            let (scheme, identifier) = second.split_once(' ').ok_or("no identifier")?;
-            format!(in alloc; ",'kind':'{first}','scheme':'{scheme}','identifier':'{identifier}'")?
-        }
-        "packageInformation" => {
-            let (name, version) = second.split_once(' ').ok_or("no version")?;
-            format!(in alloc; ",'manager':'{first}','name':'{name}','version':'{version}'")?
-        }
-        "$event" => { format!(in alloc; ",'scope':'document','kind':'{first}','data':<{second}>")? }
-        _ => return Err(Fail::from("no such members")),
-    })
+        "range" => range_members(alloc, first, second),
+        "moniker" => moniker_members(alloc, first, second),
+        "packageInformation" => package_members(alloc, first, second),
+        _ => Err(Fail::from("no such members")),
+    }
 }
 
 /// The targets of an edge: one, as `5`, or a list, as `[5,6]`.
@@ -87,25 +117,54 @@ fn further_members(alloc: Global, short: &str) -> Result<String, Fail> {
     }
 }
 
-/// The members of an edge besides its id, type, label and source.
-fn edge_members(alloc: Global, short: &str) -> Result<String, Fail> {
+/// The members of an edge besides its id, type and label.
+fn edge_members(alloc: Global, source: &str, short: &str) -> Result<String, Fail> {
     let (ends, rest) = short.split_once(' ').unwrap_or((short, ""));
-    let mut text = targets(alloc, ends)?;
-    text.push_str(further_members(alloc, rest)?.as_str())?;
-    Ok(text)
+    let targets = targets(alloc, ends)?;
+    let further = further_members(alloc, rest)?;
+    Ok(format!(in alloc; ",'outV':<{source}>{targets}{further}")?)
 }
 
 /// An element in full, but for its marks: `'` for a quotation mark, and `<3>` where an id is named.
 fn element(alloc: Global, id: &str, short: &str) -> Result<String, Fail> {
     let (label, rest) = short.split_once(' ').unwrap_or((short, ""));
-    if let Some((source, rest)) = rest.split_once('>') {
-        let members = edge_members(alloc, rest)?;
-        Ok(format!(in alloc;
-            "{{'id':<{id}>,'type':'edge','label':'{label}','outV':<{source}>{members}}}"
-        )?)
-    } else {
-        let members = vertex_members(alloc, label, rest)?;
-        Ok(format!(in alloc; "{{'id':<{id}>,'type':'vertex','label':'{label}'{members}}}")?)
+    let (kind, members) = match rest.split_once('>') {
+        Some((source, rest)) => ("edge", edge_members(alloc, source, rest)?),
+        None => ("vertex", vertex_members(alloc, label, rest)?),
+    };
+    Ok(format!(in alloc; "{{'id':<{id}>,'type':'{kind}','label':'{label}'{members}}}")?)
+}
+
+/// An element whose id stands before it.
+fn named_element(alloc: Global, short: &str) -> Result<String, Fail> {
+    let (id, rest) = short.split_once(' ').ok_or("no element after the id")?;
+    element(alloc, id, rest)
+}
+
+/// An element whose id is the line's number.
+fn numbered_element(alloc: Global, number: usize, short: &str) -> Result<String, Fail> {
+    let id = format!(in alloc; "{number}")?;
+    element(alloc, id.as_str(), short)
+}
+
+/// The line of this number, written in short, but for its marks.
+fn marked_line(alloc: Global, number: usize, short: &str) -> Result<String, Fail> {
+    if short.is_empty() || short.starts_with('{') {
+        return Ok(String::from_str(alloc, short)?);
+    }
+    match short.strip_prefix('#') {
+        Some(rest) => named_element(alloc, rest),
+        None => numbered_element(alloc, number, short),
+    }
+}
+
+/// Adds a character, or what a mark stands for.
+fn push_marked(text: &mut String, c: char, (before, behind): Marks) -> Result<(), AllocError> {
+    match c {
+        '\'' => text.push('"'),
+        '<' => text.push_str(before),
+        '>' => text.push_str(behind),
+        _ => text.push(c),
     }
 }
 
@@ -117,26 +176,23 @@ pub(crate) fn push_line(
     text: &mut String,
     number: usize,
     short: &str,
-    (before, behind): Marks,
+    marks: Marks,
 ) -> Result<(), Fail> {
-    let alloc = *text.allocator();
-    let marked = if short.is_empty() || short.starts_with('{') {
-        String::from_str(alloc, short)?
-    } else if let Some(rest) = short.strip_prefix('#') {
-        let (id, rest) = rest.split_once(' ').ok_or("no element after the id")?;
-        element(alloc, id, rest)?
-    } else {
-        element(alloc, format!(in alloc; "{number}")?.as_str(), short)?
-    };
-    for c in marked.chars() {
-        match c {
-            '\'' => text.push('"')?,
-            '<' => text.push_str(before)?,
-            '>' => text.push_str(behind)?,
-            _ => text.push(c)?,
-        }
+    let line = marked_line(*text.allocator(), number, short)?;
+    for c in line.chars() {
+        push_marked(text, c, marks)?;
     }
     Ok(text.push('\n')?)
+}
+
+/// Adds a line that is made for it, between the marks of numbers.
+pub(crate) fn push_made(
+    text: &mut String,
+    number: usize,
+    short: Result<String, AllocError>,
+) -> Result<(), Fail> {
+    let short = short?;
+    push_line(text, number, short.as_str(), NUMBERS)
 }
 
 /// The text of a dump whose lines are written in short.
@@ -148,14 +204,12 @@ pub(crate) fn text_of(alloc: Global, dump: &str) -> Result<String, Fail> {
     Ok(text)
 }
 
-/// The text of a dump with other lines: after each number what stands there, `-` for nothing. A number beyond the last
-/// line adds one. The other lines keep their ids.
-pub(crate) fn changed(
+/// The lines of a dump with other lines: after each number what stands there. A number beyond the last line adds one.
+fn changed_lines(
     alloc: Global,
     dump: &'static str,
     changes: &'static str,
-    marks: Marks,
-) -> Result<String, Fail> {
+) -> Result<Vec<&'static str>, Fail> {
     let mut lines: Vec<&str> = dump.lines().collect(alloc)?;
     for change in changes.split_terminator(" | ") {
         let (number, line) = change.split_once(' ').unwrap_or((change, ""));
@@ -165,6 +219,17 @@ pub(crate) fn changed(
             None => lines.push(line)?,
         }
     }
+    Ok(lines)
+}
+
+/// The text of a dump with other lines, where `-` stands for none. The other lines keep their ids.
+pub(crate) fn changed(
+    alloc: Global,
+    dump: &'static str,
+    changes: &'static str,
+    marks: Marks,
+) -> Result<String, Fail> {
+    let lines = changed_lines(alloc, dump, changes)?;
     let mut text = String::new(alloc);
     for (k, line) in lines.iter().enumerate() {
         if *line != "-" {
@@ -191,6 +256,16 @@ pub(crate) fn dump_of(alloc: Global, profile: Profile, text: &str) -> Result<Che
         Ok(dump) => Ok(dump),
         Err(_) => Err("a fault")?,
     }
+}
+
+/// The dump of a text that is made for it.
+pub(crate) fn made_dump(
+    alloc: Global,
+    profile: Profile,
+    text: Result<String, Fail>,
+) -> Result<CheckedDump, Fail> {
+    let text = text?;
+    dump_of(alloc, profile, text.as_str())
 }
 
 /// The text of a reply with that status, so long a body and that body.

@@ -117,7 +117,7 @@ fn is_mended<S: Alter>(alloc: Global, desk: &mut TableDesk<S>, count: usize) -> 
     if count == 0 && !is_answered(alloc, desk, FIRST)? {
         return Ok(false);
     }
-    for row in [SECOND, AT_FIVE, FIRST, AT_FIVE] {
+    for &row in &[SECOND, AT_FIVE, FIRST, AT_FIVE] {
         if !is_answered(alloc, desk, row)? {
             return Ok(false);
         }
@@ -204,7 +204,7 @@ fn is_recovered(
 /// Asserts of a life of so many steps, where each call of one of the files stops the store in turn: what is left is what was before the step that was
 /// refused, or what comes after it, and a step that was accepted isn't lost. What is refused answers that the store refused.
 fn expect_stops<R: AllocGlobal + Abort>(rt: &R, life: Life, steps: usize) -> Result<(), Fail> {
-    for is_log in [true, false] {
+    for &is_log in &[true, false] {
         let mut taken = 0;
         for calls in 0..10000u64 {
             let (log, db) = fuses(is_log, calls);
@@ -252,7 +252,7 @@ fn told_faults(alloc: Global, is_in_memory: bool) -> Result<Vec<TablesFault>, Fa
 /// A store that can't do what is asked was refused memory exactly where the database is in memory.
 #[test]
 fn stopped_in_memory(rt: HostRuntime) -> Result<(), Fail> {
-    for (is_in_memory, fault) in [(false, TablesFault::Refused), (true, TablesFault::Memory)] {
+    for &(is_in_memory, fault) in &[(false, TablesFault::Refused), (true, TablesFault::Memory)] {
         let told = told_faults(rt.alloc(), is_in_memory)?;
         assert!(rt; !told.is_empty());
         for found in &told {

@@ -1,6 +1,7 @@
 //! Parts replaced and removed: what the tables hold then. Where the store stops is in `stops.rt`.
 use super::super::samples::{dump_of, text_of};
 use super::{opened, tags_of};
+use dump::CheckedDump;
 use flatten::flatten;
 use lsif::Profile;
 use sqlite::{Alter, Connection, MemStore};
@@ -51,6 +52,20 @@ pub(crate) enum Step {
     Remove(&'static str),
 }
 
+/// Puts this dump.
+fn put_checked<S: Alter>(
+    alloc: Global,
+    tables: &mut Tables<S>,
+    project: &str,
+    key: &str,
+    dump: &CheckedDump,
+) -> Result<Result<(), TablesFault>, Fail> {
+    let count = dump.elements().len();
+    let reply = format!(in alloc; "{{\"accepted\":\"lsif\",\"count\":{count}}}")?;
+    let rows = flatten(alloc, dump)?;
+    Ok(tables.replace_dump(project, key, &reply, &rows))
+}
+
 /// Puts the dump of this text.
 pub(super) fn put_dump<S: Alter>(
     alloc: Global,
@@ -61,10 +76,7 @@ pub(super) fn put_dump<S: Alter>(
     text: &str,
 ) -> Result<Result<(), TablesFault>, Fail> {
     let dump = dump_of(alloc, profile, text)?;
-    let count = dump.elements().len();
-    let reply = format!(in alloc; "{{\"accepted\":\"lsif\",\"count\":{count}}}")?;
-    let rows = flatten(alloc, &dump)?;
-    Ok(tables.replace_dump(project, key, &reply, &rows))
+    put_checked(alloc, tables, project, key, &dump)
 }
 
 /// Puts the tags of this text.
@@ -229,15 +241,22 @@ fn unsaid(conn: &mut Connection<MemStore>) -> Result<Option<&'static str>, Fail>
     Ok(None)
 }
 
+/// Asserts the rows after the last step.
+fn expect_rows<R: AllocGlobal + Abort>(
+    rt: &R,
+    conn: &mut Connection<MemStore>,
+) -> Result<(), Fail> {
+    let counts = held(rt.alloc(), conn)?;
+    assert!(rt; counts.as_slice() == AFTER.as_slice());
+    assert_eq!(rt; unsaid(conn)?, None);
+    Ok(())
+}
+
 #[test]
 fn replaced_and_removed(rt: HostRuntime) -> Result<(), Fail> {
     let mut tables = opened(Connection::open_in_memory(rt.alloc())?)?;
     for row in ROWS {
         tables = stepped(&rt, tables, row)?;
     }
-    let mut conn = tables.into_connection();
-    let counts = held(rt.alloc(), &mut conn)?;
-    assert!(rt; counts.as_slice() == AFTER.as_slice());
-    assert_eq!(rt; unsaid(&mut conn)?, None);
-    Ok(())
+    expect_rows(&rt, &mut tables.into_connection())
 }

@@ -6,10 +6,10 @@ use super::selections::filled;
 use dump::RequestKind;
 use lsif::Profile;
 use positions::Position;
-use sqlite::Connection;
+use sqlite::{Connection, MemStore};
 use std::alloc::Global;
 use std::test::Fail;
-use tables::{Covering, FoundRange, TablesFault};
+use tables::{Covering, FoundRange, Tables, TablesFault};
 
 /// `n` has a range of 0:0 to 0:20, and in it one of 0:5 to 0:8; `u` a range up to 0:5, one from there, and an empty one at it; `b` a range of its line
 /// 0 and one of its line 2. `tagged` has tags alone.
@@ -306,34 +306,31 @@ fn climb(rt: HostRuntime) -> Result<(), Fail> {
     Ok(())
 }
 
+/// The lines of the ranges that cover a position of the project `deep`.
+fn lines_at(
+    alloc: Global,
+    tables: &mut Tables<MemStore>,
+    character: u32,
+) -> Result<Vec<u32>, Fail> {
+    let at = Position::new(0, character).ok_or("no position")?;
+    match tables.covering(alloc, RequestKind::Hover, "deep", "file:///a.ts", at) {
+        Ok(Covering::Ranges(found)) => Ok(found.iter().map(|range| range.line).collect(alloc)?),
+        Ok(Covering::NoDump | Covering::NoDocument) | Err(_) => Err("no ranges")?,
+    }
+}
+
+/// Puts a dump with ranges of 10,000 levels.
+fn put_levels(alloc: Global, tables: &mut Tables<MemStore>) -> Result<(), Fail> {
+    let text = levels(alloc, false)?;
+    Ok(put_dump(alloc, tables, "deep", "k", Profile::One, text.as_str())??)
+}
+
 #[test]
 fn many_levels(rt: HostRuntime) -> Result<(), Fail> {
-    let text = levels(rt.alloc(), false)?;
     let mut tables = opened(Connection::open_in_memory(rt.alloc())?)?;
-    put_dump(
-        rt.alloc(),
-        &mut tables,
-        "deep",
-        "k",
-        Profile::One,
-        text.as_str(),
-    )??;
-    let at = Position::new(0, 9_999).ok_or("no position")?;
-    let Covering::Ranges(found) = tables.covering(
-        rt.alloc(),
-        RequestKind::Hover,
-        "deep",
-        "file:///a.ts",
-        at,
-    )?
-    else {
-        return Err("no ranges")?;
-    };
-    assert_eq!(rt; found.len(), 10_000);
-    let mut line = 10_002;
-    for range in &found {
-        assert_eq!(rt; range.line, line);
-        line = line.saturating_sub(1);
-    }
+    put_levels(rt.alloc(), &mut tables)?;
+    let found = lines_at(rt.alloc(), &mut tables, 9_999)?;
+    let wanted: Vec<u32> = (3..10_003).rev().collect(rt.alloc())?;
+    assert!(rt; found.as_slice() == wanted.as_slice());
     Ok(())
 }

@@ -61,12 +61,17 @@ fn migrated_once(conn: Connection<MemStore>) -> Result<(bool, Connection<MemStor
     }
 }
 
+/// A database of format 1 with these parts.
+fn old(alloc: Global) -> Result<Connection<MemStore>, Fail> {
+    let mut conn = Connection::open_in_memory(alloc)?;
+    conn.execute_batch(FORMAT_ONE)?;
+    conn.execute_batch(PARTS)?;
+    Ok(conn)
+}
+
 #[test]
 fn migrated(rt: HostRuntime) -> Result<(), Fail> {
-    let mut old = Connection::open_in_memory(rt.alloc())?;
-    old.execute_batch(FORMAT_ONE)?;
-    old.execute_batch(PARTS)?;
-    let conn = refused(old)?;
+    let conn = refused(old(rt.alloc())?)?;
     let (first, conn) = migrated_once(conn)?;
     let (second, conn) = migrated_once(conn)?;
     assert!(rt; first && !second);

@@ -2,6 +2,7 @@
 use super::{opened, tags_of};
 use sqlite::{Connection, MemStore};
 use std::alloc::Global;
+use std::process::Abort;
 use std::test::Fail;
 use tables::{FoundTag, Tables, TablesFault};
 
@@ -9,6 +10,7 @@ use tables::{FoundTag, Tables, TablesFault};
 const PROJECTS: &[(&str, &str)] = &[
     ("app", "ab\tf.c\t1;\"\tf\tclass:B\\tC\na\tf.c\t/x/\n"),
     ("lib", "a\tg.c\t1\nb\tg.c\t2\n"),
+    ("two", "ba\th.c\t1\nbb\th.c\t2\n"),
 ];
 
 /// A call of the tables: a name and a project that is asked for.
@@ -22,7 +24,12 @@ enum Ask {
 const ROWS: &[(Ask, &str)] = &[
     (Ask::Prefix("a", None), "app 2, lib 1, app 1, "),
     (Ask::Prefix("a", Some("lib")), "lib 1, "),
-    (Ask::Prefix("", None), "app 2, lib 1, app 1, lib 2, "),
+    (
+        Ask::Prefix("", None),
+        "app 2, lib 1, app 1, lib 2, two 1, two 2, ",
+    ),
+    (Ask::Prefix("b", None), "lib 2, two 1, two 2, "),
+    (Ask::Prefix("b", Some("two")), "two 1, two 2, "),
     (Ask::Prefix("c", None), ""),
     (Ask::Exact("a", None), "app 2, lib 1, "),
     (Ask::Exact("a", Some("lib")), "lib 1, "),
@@ -83,16 +90,21 @@ fn found(alloc: Global, tables: &mut Tables<MemStore>, ask: Ask) -> Result<Strin
     text_of(alloc, &found)
 }
 
+/// Asserts what the calls find in these tables.
+fn expect_found<R: AllocGlobal + Abort>(rt: &R, tables: &mut Tables<MemStore>) -> Result<(), Fail> {
+    for (project, text) in PROJECTS {
+        put(rt.alloc(), tables, project, text)?;
+    }
+    for (ask, expected) in ROWS {
+        let found = found(rt.alloc(), tables, *ask)?;
+        assert_eq!(rt; found.as_str(), *expected);
+    }
+    assert!(rt; has_whole_tag(rt.alloc(), tables)?);
+    Ok(())
+}
+
 #[test]
 fn names(rt: HostRuntime) -> Result<(), Fail> {
     let mut tables = opened(Connection::open_in_memory(rt.alloc())?)?;
-    for (project, text) in PROJECTS {
-        put(rt.alloc(), &mut tables, project, text)?;
-    }
-    for (ask, expected) in ROWS {
-        let found = found(rt.alloc(), &mut tables, *ask)?;
-        assert_eq!(rt; found.as_str(), *expected);
-    }
-    assert!(rt; has_whole_tag(rt.alloc(), &mut tables)?);
-    Ok(())
+    expect_found(&rt, &mut tables)
 }

@@ -102,7 +102,7 @@ fn opens_and_migrates(rt: HostRuntime) -> Result<(), Fail> {
         let wanted = (row.text, row.fault, migration_fault(row));
         assert_eq!(rt; (row.text, opened, migrated), wanted);
     }
-    for (fault, name, text) in [
+    for &(fault, name, text) in &[
         (TablesFault::Refused, "S01", "store refused"),
         (TablesFault::Memory, "S02", "out of memory"),
         (TablesFault::Foreign, "S03", "not a codenav database"),

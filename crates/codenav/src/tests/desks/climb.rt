@@ -82,6 +82,7 @@ fn climb(rt: HostRuntime) -> Result<(), Fail> {
 fn deepest<S: Alter>(alloc: Global, desk: &mut TableDesk<S>, dump: &str) -> Result<String, Fail> {
     let upload = command(alloc, "put", "app k1 1", dump.as_bytes())?;
     let accepted = desk.apply(&upload);
+    drop(upload);
     if accepted.status() != 200 {
         return text_of(alloc, &accepted);
     }

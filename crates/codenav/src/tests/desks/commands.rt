@@ -1,7 +1,7 @@
 //! Commands, and the queries that list something.
 
 /// What the desk answers to commands, and what it lists then. A comment says what each list shows.
-pub(super) const SCENARIOS: [&str; 10] = [
+pub(super) const SCENARIOS: &[&str] = &[
     // The same key again has its reply again, whatever its body, and changes nothing; another project's key is
     // another.
     r#"put app k1 1 base

@@ -6,21 +6,31 @@ use machine::profile_number;
 use std::alloc::Global;
 use std::test::Fail;
 
+/// The project and the key of a command.
+fn words_of_a_command(alloc: Global) -> Result<String, Fail> {
+    let project = project(alloc, "app")?;
+    let key = Key::read(alloc, "K-1")?.ok_or("no key")?;
+    let command = Command::Remove { project, key };
+    let words = format!(in alloc; "{} {}", command.project().as_str(), command.key().as_str());
+    drop(command);
+    Ok(words?)
+}
+
+/// The status of a code and the reply that it refuses with.
+fn refusal(alloc: Global, code: Code) -> Result<String, Fail> {
+    let reply = Reply::refused(code);
+    let text = text_of(alloc, &reply);
+    drop(reply);
+    Ok(format!(in alloc; "{}, {}", code.status(), text?)?)
+}
+
 /// The project and the key of a command, the numbers of the profiles, and the statuses of the codes and the replies that they refuse with.
 fn found_texts(alloc: Global) -> Result<String, Fail> {
-    let command = Command::Remove {
-        project: project(alloc, "app")?,
-        key: Key::read(alloc, "K-1")?.ok_or("no key")?,
-    };
-    let (project, key) = (command.project().as_str(), command.key().as_str());
-    let mut found = format!(in alloc; "{project} {key}\n")?;
     let (one, two) = (profile_number(Profile::One), profile_number(Profile::Two));
-    found.push_str(format!(in alloc; "{one} {two}\n")?.as_str())?;
-    for code in [Code::D01, Code::D02, Code::D03, Code::S01, Code::S02] {
-        let reply = text_of(alloc, &Reply::refused(code))?;
-        found.push_str(format!(in alloc; "{}, {reply}\n", code.status())?.as_str())?;
+    let mut found = format!(in alloc; "{}\n{one} {two}\n", words_of_a_command(alloc)?)?;
+    for code in &[Code::D01, Code::D02, Code::D03, Code::S01, Code::S02] {
+        write!(found, "{}\n", refusal(alloc, *code)?)?;
     }
-    found.push_str(text_of(alloc, &Reply::out_of_memory())?.as_str())?;
     Ok(found)
 }
 
@@ -35,6 +45,8 @@ fn replies_of_codes(rt: HostRuntime) -> Result<(), Fail> {
 503, 503 {"fault":"S02","text":"out of memory"}
 503 {"fault":"S02","text":"out of memory"}"#;
     let found = found_texts(rt.alloc())?;
+    let last = text_of(rt.alloc(), &Reply::out_of_memory())?;
+    let found = format!(in rt.alloc(); "{found}{last}")?;
     assert_eq!(rt; found.as_str(), wanted);
     Ok(())
 }
@@ -99,13 +111,11 @@ fn read_as(alloc: Global, kind: &str, text: &str) -> Result<String, Fail> {
 
 #[test]
 fn forms_of_names_and_numbers(rt: HostRuntime) -> Result<(), Fail> {
-    let mut found = String::new(rt.alloc());
     for row in FORMS.lines() {
-        let (short, _) = row.split_once(" => ").ok_or("no row")?;
+        let (short, wanted) = row.split_once(" => ").ok_or("no row")?;
         let (kind, text) = short.split_once(' ').ok_or("no text")?;
-        let value = read_as(rt.alloc(), kind, text)?;
-        found.push_str(format!(in rt.alloc(); "{short} => {value}\n")?.as_str())?;
+        let found = read_as(rt.alloc(), kind, text)?;
+        assert_eq!(rt; (short, found.as_str()), (short, wanted));
     }
-    assert_eq!(rt; found.as_str(), FORMS);
     Ok(())
 }

@@ -1,7 +1,7 @@
 //! Queries at positions that other projects answer, too.
 
 /// Dumps of several projects, and what the desk answers of them. A comment says which rule each list shows.
-pub(super) const SCENARIOS: [&str; 12] = [
+pub(super) const SCENARIOS: &[&str] = &[
     // An import joins the export of its key in each other project, in the order of their names, until that project is
     // removed. Its own project is listed where its name stands.
     r#"put app k1 1 import

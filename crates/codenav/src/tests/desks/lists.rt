@@ -40,7 +40,7 @@ const WITH_DUMP: usize = 9;
 const WITH_BOTH: usize = 10;
 
 /// The replies by these numbers.
-const REPLIES: [&str; 11] = [
+const REPLIES: &[&str] = &[
     r#"200 {"accepted":"lsif","count":11}"#,
     r#"200 {"accepted":"tags","count":1}"#,
     r#"200 {"removed":true}"#,
@@ -118,23 +118,35 @@ fn answer(known: &mut Known, row: usize) -> usize {
     }
 }
 
+/// Asserts the reply to one of the requests of these rows.
+fn expect_served<R: AllocGlobal + Abort, D: Desk>(
+    rt: &R,
+    desk: &mut D,
+    request: &Request<'_>,
+    rows: &[usize],
+    wanted: &str,
+) -> Result<(), Fail> {
+    let found = served(rt.alloc(), desk, request)?;
+    assert_eq!(rt; (rows, found.as_str()), (rows, wanted));
+    Ok(())
+}
+
 /// Asserts the replies of a new desk to the requests of these rows.
 fn expect_list<R: AllocGlobal + Abort, D: Desk>(
     rt: &R,
     desk: &mut D,
     requests: &[Request<'_>],
-    rows: [usize; 5],
+    rows: &[usize],
 ) -> Result<(), Fail> {
     let mut known = Known {
         dump: false,
         tags: false,
         kept: [None, None],
     };
-    for row in rows {
+    for &row in rows {
         let request = requests.get(row).ok_or("no request")?;
-        let found = served(rt.alloc(), desk, request)?;
         let wanted = REPLIES.get(answer(&mut known, row)).ok_or("no reply")?;
-        assert_eq!(rt; found.as_str(), *wanted, "{rows:?}");
+        expect_served(rt, desk, request, rows, *wanted)?;
     }
     Ok(())
 }
@@ -144,9 +156,21 @@ fn expect_list_of_tables<R: AllocGlobal + Abort, S: Alter>(
     rt: &R,
     desk: &mut TableDesk<S>,
     requests: &[Request<'_>],
-    rows: [usize; 5],
+    rows: &[usize],
 ) -> Result<(), Fail> {
     expect_list(rt, desk, requests, rows)
+}
+
+/// Asserts the replies of both desks.
+fn expect_both<R: AllocGlobal + Abort>(
+    rt: &R,
+    requests: &[Request<'_>],
+    rows: &[usize],
+) -> Result<(), Fail> {
+    let mut desk = PlainDesk::new(rt.alloc());
+    expect_list(rt, &mut desk, requests, rows)?;
+    let mut desk = table_desk(rt.alloc())?;
+    expect_list_of_tables(rt, &mut desk, requests, rows)
 }
 
 /// Asserts the replies of both desks to the lists of four of the first nine rows that begin with this one, each with the list of the projects behind it.
@@ -154,10 +178,7 @@ fn expect_lists<R: AllocGlobal + Abort>(rt: &R, first: usize) -> Result<(), Fail
     let uploads = uploads(rt.alloc(), ROWS)?;
     let requests = requests(rt.alloc(), ROWS, &uploads)?;
     for n in 0..729 {
-        let rows = [first, n / 81, n / 9 % 9, n % 9, 9];
-        expect_list(rt, &mut PlainDesk::new(rt.alloc()), &requests, rows)?;
-        let mut desk = table_desk(rt.alloc())?;
-        expect_list_of_tables(rt, &mut desk, &requests, rows)?;
+        expect_both(rt, &requests, &[first, n / 81, n / 9 % 9, n % 9, 9])?;
     }
     Ok(())
 }

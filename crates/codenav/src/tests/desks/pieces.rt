@@ -25,7 +25,20 @@ fn begin(alloc: Global, row: &'static str) -> Result<Upload, Fail> {
     }
 }
 
-/// The reply to the upload of a row, of whose body the first bytes come as one piece, and then so many bytes at a time.
+/// Takes a body of which the first bytes come as one piece, and then so many bytes at a time.
+fn take_pieces(upload: &mut Upload, body: &[u8], first: usize, most: usize) -> Result<(), Fail> {
+    let (front, rest) = body.split_at(first.min(body.len()));
+    let mut taken = upload.piece(front);
+    for piece in rest.chunks(most.max(1)) {
+        taken = taken.and(upload.piece(piece));
+    }
+    match taken {
+        Ok(()) => Ok(()),
+        Err(UploadFault::Memory) => Err(Fail::from("out of memory")),
+    }
+}
+
+/// The reply to the upload of a row whose body comes so.
 fn reply_in_pieces(
     alloc: Global,
     desk: &mut PlainDesk,
@@ -35,15 +48,9 @@ fn reply_in_pieces(
     most: usize,
 ) -> Result<String, Fail> {
     let mut upload = begin(alloc, row)?;
-    let (front, rest) = body.split_at(first.min(body.len()));
-    let mut taken = upload.piece(front);
-    for piece in rest.chunks(most.max(1)) {
-        taken = taken.and(upload.piece(piece));
-    }
-    match taken {
-        Ok(()) => text_of(alloc, &desk.finish_upload(upload)),
-        Err(UploadFault::Memory) => Err(Fail::from("out of memory")),
-    }
+    take_pieces(&mut upload, body, first, most)?;
+    let reply = desk.finish_upload(upload);
+    text_of(alloc, &reply)
 }
 
 /// The same of a new desk.
@@ -68,7 +75,7 @@ fn expect_reply<R: AllocGlobal + Abort>(
         let found = first_reply_in_pieces(rt.alloc(), row, body, first, body.len())?;
         assert_eq!(rt; (row, first, found.as_str()), (row, first, wanted));
     }
-    for most in [1, 2, 7] {
+    for &most in &[1, 2, 7] {
         let found = first_reply_in_pieces(rt.alloc(), row, body, 0, most)?;
         assert_eq!(rt; (row, most, found.as_str()), (row, most, wanted));
     }
@@ -76,7 +83,7 @@ fn expect_reply<R: AllocGlobal + Abort>(
 }
 
 /// Uploads, and the reply to each.
-const ROWS: [(&str, &str); 14] = [
+const ROWS: &[(&str, &str)] = &[
     ("put app k1 1 base", r#"200 {"accepted":"lsif","count":11}"#),
     ("put app k1 1 ring", r#"200 {"accepted":"lsif","count":13}"#),
     (
@@ -127,8 +134,8 @@ const ROWS: [(&str, &str); 14] = [
 #[test]
 fn pieces(rt: HostRuntime) -> Result<(), Fail> {
     for (row, wanted) in ROWS {
-        let body = upload(rt.alloc(), row)?;
-        expect_reply(&rt, row, body.as_bytes(), wanted)?;
+        let body = upload(rt.alloc(), *row)?;
+        expect_reply(&rt, *row, body.as_bytes(), *wanted)?;
     }
     let body = upload(rt.alloc(), "put app k1 1 base")?;
     let unended = body.as_bytes().strip_suffix(b"\n").unwrap_or(b"");
@@ -137,38 +144,48 @@ fn pieces(rt: HostRuntime) -> Result<(), Fail> {
 }
 
 /// The pieces of a dump and of tags files, and how many bytes are held after each.
-const HELD: [(&str, &str, [(&str, usize); 4]); 3] = [
+const HELD: &[(&str, &str, &[(&str, usize)])] = &[
     (
         "put app k1 1",
         r#"422 {"fault":"L02","line":1,"text":"not JSON"}"#,
-        [("{", 1), ("}x", 3), ("\n{", 0), ("{", 0)],
+        &[("{", 1), ("}x", 3), ("\n{", 0), ("{", 0)],
     ),
     (
         "tags app k1",
         r#"200 {"accepted":"tags","count":2}"#,
-        [("x\tf", 3), (".c\t1\r", 8), ("\n", 0), ("y\tf.c\t2", 7)],
+        &[("x\tf", 3), (".c\t1\r", 8), ("\n", 0), ("y\tf.c\t2", 7)],
     ),
     (
         "tags app k2",
         r#"422 {"fault":"T04","line":2,"text":"fewer than three parts"}"#,
-        [("x\tf.c\t1\n\ny", 0), ("y", 0), ("\n", 0), ("", 0)],
+        &[("x\tf.c\t1\n\ny", 0), ("y", 0), ("\n", 0), ("", 0)],
     ),
 ];
 
-/// Asserts how many bytes are held after each piece of an upload, and its reply: the fault of a line waits for the end.
+/// Asserts how many bytes are held after each piece of an upload.
+fn expect_pieces<R: AllocGlobal + Abort>(
+    rt: &R,
+    upload: &mut Upload,
+    row: &str,
+    pieces: &[(&str, usize)],
+) {
+    for (piece, held) in pieces {
+        let taken = upload.piece(piece.as_bytes());
+        assert_eq!(rt; (row, taken, upload.held()), (row, Ok(()), *held));
+    }
+}
+
+/// The same, and its reply: the fault of a line waits for the end.
 fn expect_held<R: AllocGlobal + Abort>(
     rt: &R,
     row: &'static str,
     wanted: &str,
-    pieces: [(&str, usize); 4],
+    pieces: &[(&str, usize)],
 ) -> Result<(), Fail> {
     let mut upload = begin(rt.alloc(), row)?;
-    for (piece, held) in pieces {
-        let taken = upload.piece(piece.as_bytes());
-        assert_eq!(rt; (row, taken, upload.held()), (row, Ok(()), held));
-    }
-    let mut desk = PlainDesk::new(rt.alloc());
-    let found = text_of(rt.alloc(), &desk.finish_upload(upload))?;
+    expect_pieces(rt, &mut upload, row, pieces);
+    let reply = PlainDesk::new(rt.alloc()).finish_upload(upload);
+    let found = text_of(rt.alloc(), &reply)?;
     assert_eq!(rt; (row, found.as_str()), (row, wanted));
     Ok(())
 }
@@ -177,13 +194,13 @@ fn expect_held<R: AllocGlobal + Abort>(
 fn expect_kept<R: AllocGlobal + Abort>(rt: &R) -> Result<(), Fail> {
     let mut desk = PlainDesk::new(rt.alloc());
     let kept = reply_to(rt.alloc(), &mut desk, "put app k1 1 base")?;
-    for (row, body) in [
+    for (row, body) in &[
         ("put app k1 1", "{"),
         ("tags app k1", ""),
         ("tags app k1", "x"),
     ] {
-        let found = reply_in_pieces(rt.alloc(), &mut desk, row, body.as_bytes(), 0, 1)?;
-        assert_eq!(rt; (row, body, found.as_str()), (row, body, kept.as_str()));
+        let found = reply_in_pieces(rt.alloc(), &mut desk, *row, body.as_bytes(), 0, 1)?;
+        assert_eq!(rt; (*row, *body, found.as_str()), (*row, *body, kept.as_str()));
     }
     Ok(())
 }
@@ -191,7 +208,7 @@ fn expect_kept<R: AllocGlobal + Abort>(rt: &R) -> Result<(), Fail> {
 #[test]
 fn held_bytes_and_kept_keys(rt: HostRuntime) -> Result<(), Fail> {
     for (row, wanted, pieces) in HELD {
-        expect_held(&rt, row, wanted, pieces)?;
+        expect_held(&rt, *row, *wanted, *pieces)?;
     }
     expect_kept(&rt)
 }
@@ -221,7 +238,7 @@ fn large_dumps(rt: HostRuntime) -> Result<(), Fail> {
     let line = filled(rt.alloc(), "metaData 0.6.0", 1)?;
     let accepted = r#"200 {"accepted":"lsif","count":1}"#;
     let refused = r#"422 {"fault":"L01","line":1,"text":"line too long"}"#;
-    for (len, last, wanted) in [
+    for &(len, last, wanted) in &[
         (1048576, "", accepted),
         (1048576, "\n", accepted),
         (1048577, "", refused),
@@ -237,7 +254,7 @@ fn large_dumps(rt: HostRuntime) -> Result<(), Fail> {
 fn large_tags(rt: HostRuntime) -> Result<(), Fail> {
     let accepted = r#"200 {"accepted":"tags","count":1}"#;
     let refused = r#"422 {"fault":"T01","line":1,"text":"line too long"}"#;
-    for (len, last, wanted) in [
+    for &(len, last, wanted) in &[
         (65535, "/", accepted),
         (65535, "/\n", accepted),
         (65536, "/", refused),

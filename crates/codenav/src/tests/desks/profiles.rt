@@ -3,7 +3,7 @@ use super::expect_replies;
 use std::test::Fail;
 
 /// Puts in a profile, and what the desk answers of them. A comment says what each list shows.
-const SCENARIOS: [&str; 4] = [
+const SCENARIOS: &[&str] = &[
     // Declarations and implementations are results in profile 2 alone. In profile 1 their labels have no effect.
     r#"put app k1 1 declared
 200 {"accepted":"lsif","count":12}
@@ -88,7 +88,7 @@ profile app
 
 #[test]
 fn profiles(rt: HostRuntime) -> Result<(), Fail> {
-    for scenario in SCENARIOS {
+    for &scenario in SCENARIOS {
         expect_replies(&rt, scenario)?;
     }
     Ok(())

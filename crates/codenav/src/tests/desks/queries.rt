@@ -1,7 +1,7 @@
 //! Queries at positions, and what refuses them.
 
 /// What the desk answers to queries at positions. A comment says what each list shows.
-pub(super) const SCENARIOS: [&str; 13] = [
+pub(super) const SCENARIOS: &[&str] = &[
     // Faulty bodies change nothing. The first faulty line is named, and a fault of a line goes before those of the
     // whole dump.
     r#"put app k1 1 nothing

@@ -5,6 +5,7 @@ use super::super::samples::{NUMBERS, push_line, text_of};
 use dump::{DumpFault, LineFault, read_dump};
 use lsif::{Code, Counted, Profile};
 use std::alloc::Global;
+use std::process::Abort;
 use std::test::Fail;
 
 /// From a line and a character up to a line and a character.
@@ -19,13 +20,31 @@ fn push_contained(text: &mut String, last: usize, ranges: &[Ends]) -> Result<usi
         number = number.saturating_add(1);
         let range = format!(in alloc; "range {line}:{from} {last_line}:{to}")?;
         push_line(text, number, range.as_str(), NUMBERS)?;
-        contained.push_str(format!(in alloc; "{number},")?.as_str())?;
+        write!(contained, "{number},")?;
     }
     contained.pop();
     number = number.saturating_add(1);
     let edge = format!(in alloc; "contains 2>[{contained}]")?;
     push_line(text, number, edge.as_str(), NUMBERS)?;
     Ok(number)
+}
+
+/// A dump whose document contains the others, which so many edges name at once, and then the targets; and the number of its last line.
+fn dump_where(
+    alloc: Global,
+    others: &[Ends],
+    at_once: usize,
+    targets: &[Ends],
+) -> Result<(String, usize), Fail>
+    requires { 0 < at_once }
+{
+    let mut text = text_of(alloc, "metaData 0.6.0\ndocument file:///a.ts")?;
+    let mut last = 2;
+    for part in others.chunks(at_once) {
+        last = push_contained(&mut text, last, part)?;
+    }
+    last = push_contained(&mut text, last, targets)?;
+    Ok((text, last))
 }
 
 /// Whether the targets of a `contains` edge conflict with the others, which so many edges before it name at once, or
@@ -38,17 +57,15 @@ fn conflict_where(
 ) -> Result<bool, Fail>
     requires { 0 < at_once }
 {
-    let mut text = text_of(alloc, "metaData 0.6.0\ndocument file:///a.ts")?;
-    let mut last = 2;
-    for part in others.chunks(at_once) {
-        last = push_contained(&mut text, last, part)?;
-    }
-    last = push_contained(&mut text, last, targets)?;
+    let (text, last) = dump_where(alloc, others, at_once, targets)?;
     match read_dump(alloc, Profile::One, &mut Counted::new(text.as_bytes())) {
-        Ok(_) => Ok(false),
+        Ok(dump) => {
+            drop(dump);
+            Ok(false)
+        }
         Err(DumpFault::Line(LineFault { line, code }))
             if line as usize == last && code == Code::L12 => { Ok(true) }
-        Err(_) => Err("another fault")?,
+        Err(_) => Err(Fail::from("another fault")),
     }
 }
 
@@ -61,7 +78,7 @@ fn is_conflict(alloc: Global, others: &[Ends], targets: &[Ends]) -> Result<bool,
     Ok(found)
 }
 
-const NESTED: [Ends; 5] = [
+const NESTED: &[Ends] = &[
     (0, 0, 9, 0),
     (1, 0, 3, 0),
     (1, 2, 1, 5),
@@ -70,7 +87,7 @@ const NESTED: [Ends; 5] = [
 ];
 
 /// A target in its relation to one other, and whether they conflict.
-const PAIRS: [(&str, Ends, bool); 19] = [
+const PAIRS: &[(&str, Ends, bool)] = &[
     ("equal", (1, 4, 1, 9), true),
     ("within", (1, 5, 1, 8), false),
     ("around", (1, 3, 1, 10), false),
@@ -93,47 +110,57 @@ const PAIRS: [(&str, Ends, bool); 19] = [
 ];
 
 /// What the document contains, what it is to contain besides, and whether that conflicts.
-const SEVERAL: [(&[Ends], &[Ends], bool); 16] = [
+const SEVERAL: &[(&[Ends], &[Ends], bool)] = &[
     (&[], &[], false),
-    (&NESTED, &[], false),
-    (&[], &NESTED, false),
-    (&NESTED, &[(4, 4, 4, 9), (1, 5, 1, 7)], false),
-    (&NESTED, &[(2, 5, 3, 5)], true),
-    (&NESTED, &[(4, 2, 4, 9)], true),
-    (&NESTED, &[(2, 0, 2, 8)], true),
-    (&NESTED, &[(1, 3, 9, 1)], true),
-    (&NESTED, &[(5, 0, 5, 4), (5, 2, 5, 6)], true),
-    (&NESTED, &[(5, 0, 5, 0), (5, 0, 5, 0)], true),
-    (&NESTED, &[(8, 0, 8, 4), (5, 0, 5, 4), (8, 0, 8, 4)], true),
-    (&NESTED, &[(3, 0, 3, 0)], false),
-    (&NESTED, &[(8, 9, 9, 1)], true),
-    (&NESTED, &[(0, 0, 9, 0)], true),
-    (&NESTED, &[(0, 0, 8, 0)], false),
-    (&NESTED, &[(0, 0, 9, 1)], false),
+    (NESTED, &[], false),
+    (&[], NESTED, false),
+    (NESTED, &[(4, 4, 4, 9), (1, 5, 1, 7)], false),
+    (NESTED, &[(2, 5, 3, 5)], true),
+    (NESTED, &[(4, 2, 4, 9)], true),
+    (NESTED, &[(2, 0, 2, 8)], true),
+    (NESTED, &[(1, 3, 9, 1)], true),
+    (NESTED, &[(5, 0, 5, 4), (5, 2, 5, 6)], true),
+    (NESTED, &[(5, 0, 5, 0), (5, 0, 5, 0)], true),
+    (NESTED, &[(8, 0, 8, 4), (5, 0, 5, 4), (8, 0, 8, 4)], true),
+    (NESTED, &[(3, 0, 3, 0)], false),
+    (NESTED, &[(8, 9, 9, 1)], true),
+    (NESTED, &[(0, 0, 9, 0)], true),
+    (NESTED, &[(0, 0, 8, 0)], false),
+    (NESTED, &[(0, 0, 9, 1)], false),
 ];
+
+/// Asserts whether these targets conflict with the others, or with each other.
+fn expect_conflict<R: AllocGlobal + Abort>(
+    rt: &R,
+    name: &str,
+    others: &[Ends],
+    targets: &[Ends],
+    wanted: bool,
+) -> Result<(), Fail> {
+    let found = is_conflict(rt.alloc(), others, targets)?;
+    assert_eq!(rt;
+        (name, others, targets, found),
+        (name, others, targets, wanted)
+    );
+    Ok(())
+}
 
 #[test]
 fn conflicts(rt: HostRuntime) -> Result<(), Fail> {
     let other = (1, 4, 1, 9);
     for (name, target, wanted) in PAIRS {
-        for (others, targets) in [
-            ([other].as_slice(), [target].as_slice()),
-            (&[target], &[other]),
-            (&[], &[target, other]),
-        ] {
-            let found = is_conflict(rt.alloc(), others, targets)?;
-            assert_eq!(rt; (name, others, found), (name, others, wanted));
-        }
+        expect_conflict(&rt, *name, &[other], &[*target], *wanted)?;
+        expect_conflict(&rt, *name, &[*target], &[other], *wanted)?;
+        expect_conflict(&rt, *name, &[], &[*target, other], *wanted)?;
     }
     for (others, targets, wanted) in SEVERAL {
-        let found = is_conflict(rt.alloc(), others, targets)?;
-        assert_eq!(rt; (others, targets, found), (others, targets, wanted));
+        expect_conflict(&rt, "several", *others, *targets, *wanted)?;
     }
     Ok(())
 }
 
 /// Spans of which no two conflict, in the order in which they come.
-const COMING: [Ends; 8] = [
+const COMING: &[Ends] = &[
     (0, 5, 0, 6),
     (0, 0, 0, 10),
     (0, 5, 0, 7),
@@ -148,10 +175,10 @@ const COMING: [Ends; 8] = [
 #[test]
 fn spans_that_came(rt: HostRuntime) -> Result<(), Fail> {
     for at_once in 1..9 {
-        for like in COMING {
-            assert!(rt; conflict_where(rt.alloc(), &COMING, at_once, &[like])?);
+        for &like in COMING {
+            assert!(rt; conflict_where(rt.alloc(), COMING, at_once, &[like])?);
         }
-        assert!(rt; !conflict_where(rt.alloc(), &COMING, at_once, &[(0, 0, 0, 5), (1, 0, 1, 2)])?);
+        assert!(rt; !conflict_where(rt.alloc(), COMING, at_once, &[(0, 0, 0, 5), (1, 0, 1, 2)])?);
     }
     Ok(())
 }

@@ -1,6 +1,6 @@
 //! Lines of texts that come in pieces.
 use lsif::Cutter;
-use std::alloc::Global;
+use std::alloc::{AllocError, Global};
 use std::test::Fail;
 
 /// Adds the lines that the piece ends, or why the cutter takes no more, and says whether it goes on.
@@ -15,13 +15,13 @@ fn push_lines(
         match cutter.take(left) {
             Ok(taken) => left = &left[taken..],
             Err(fault) => {
-                found.push_str(format!(in alloc; " {fault:?}")?.as_str())?;
+                write!(found, " {fault:?}")?;
                 return Ok(false);
             }
         }
         if let Some(line) = cutter.line() {
             let line = str::from_utf8(line).unwrap_or("no text");
-            found.push_str(format!(in alloc; " {line:?}")?.as_str())?;
+            write!(found, " {line:?}")?;
         }
     }
     Ok(true)
@@ -34,17 +34,27 @@ fn row(alloc: Global, text: &str, most: usize) -> Result<String, Fail> {
     let mut found = format!(in alloc; "{text:?} =>")?;
     for piece in text.as_bytes().chunks(most.max(1)) {
         if !push_lines(alloc, &mut cutter, piece, &mut found)? {
-            let (again, once_more) = (cutter.take(b"\n"), cutter.take(b""));
-            found.push_str(format!(in alloc; " {again:?} {once_more:?}")?.as_str())?;
+            push_answers(&mut cutter, &mut found)?;
             break;
         }
     }
+    push_rest(&cutter, &mut found)?;
+    Ok(found)
+}
+
+/// Adds what one more line feed and no byte at all are answered.
+fn push_answers(cutter: &mut Cutter, found: &mut String) -> Result<(), AllocError> {
+    let (again, once_more) = (cutter.take(b"\n"), cutter.take(b""));
+    write!(found, " {again:?} {once_more:?}")
+}
+
+/// Adds what no line feed has ended.
+fn push_rest(cutter: &Cutter, found: &mut String) -> Result<(), AllocError> {
     let rest = match cutter.rest() {
         Some(rest) => Some(str::from_utf8(rest).unwrap_or("no text")),
         None => None,
     };
-    found.push_str(format!(in alloc; " {rest:?}\n")?.as_str())?;
-    Ok(found)
+    write!(found, " {rest:?}\n")
 }
 
 /// Texts, and after each its lines, and the last line that no line feed has ended.
@@ -62,9 +72,9 @@ const ROWS: &str = r#"
 
 #[test]
 fn lines_of_pieces(rt: HostRuntime) -> Result<(), Fail> {
-    for most in [1, 2, 7, 100] {
+    for &most in &[1, 2, 7, 100] {
         let mut found = String::from_str(rt.alloc(), "\n")?;
-        for text in [
+        for &text in &[
             "",
             "\n",
             "one",

@@ -1,6 +1,7 @@
 //! The ids of elements, and the ends of edges: the source and the targets, whatever the label.
-use lsif::{Element, IdRef, IdsIter, Profile, read_element};
+use lsif::{Edge, Element, Id, IdRef, IdsIter, Profile, read_element};
 use std::alloc::Global;
+use std::process::Abort;
 use std::test::Fail;
 
 /// Elements behind their ids, and what is read of them: the id, and of an edge the source, and behind `>` the targets.
@@ -24,19 +25,33 @@ const ENDS: &str = r#"
 "1","type":"vertex","label":"document","uri":"FILE:///a.ts" => Text("1")
 "#;
 
-/// The id and the ends of the element that a line spells in profile 2.
+/// The id and the ends of an edge.
+fn edge_text(alloc: Global, id: &Id, edge: &Edge) -> Result<String, Fail> {
+    let (source, targets) = edge.ends();
+    let mut text = format!(in alloc; "{id:?}: {source:?} >")?;
+    for target in targets {
+        write!(text, " {target:?}")?;
+    }
+    Ok(text)
+}
+
+/// The id of an element, and the ends of an edge.
+fn element_text(alloc: Global, element: &Element) -> Result<String, Fail> {
+    match element {
+        Element::Vertex(id, _) => Ok(format!(in alloc; "{id:?}")?),
+        Element::Edge(id, edge) => edge_text(alloc, id, edge),
+    }
+}
+
+/// The same of the element that a line spells in profile 2.
 fn ends_text(alloc: Global, line: &str) -> Result<String, Fail> {
     match read_element(alloc, Profile::Two, line.as_bytes()) {
-        Ok(Element::Vertex(id, _)) => Ok(format!(in alloc; "{id:?}")?),
-        Ok(Element::Edge(id, edge)) => {
-            let (source, targets) = edge.ends();
-            let mut text = format!(in alloc; "{id:?}: {source:?} >")?;
-            for target in targets {
-                text.push_str(format!(in alloc; " {target:?}")?.as_str())?;
-            }
-            Ok(text)
+        Ok(element) => {
+            let text = element_text(alloc, &element);
+            drop(element);
+            text
         }
-        Err(_) => Err("no element")?,
+        Err(_) => Err(Fail::from("no element")),
     }
 }
 
@@ -48,11 +63,18 @@ fn many_targets(alloc: Global) -> Result<(String, String), Fail> {
     )?;
     let mut wanted = String::from_str(alloc, "Number(1): Number(1) > Number(0)")?;
     for number in 1..10000 {
-        line.push_str(format!(in alloc; ",{number}")?.as_str())?;
-        wanted.push_str(format!(in alloc; " Number({number})")?.as_str())?;
+        write!(line, ",{number}")?;
+        write!(wanted, " Number({number})")?;
     }
     line.push_str("]}")?;
     Ok((line, wanted))
+}
+
+/// Asserts the id and the ends of the element of a line.
+fn expect_ends<R: AllocGlobal + Abort>(rt: &R, line: &str, wanted: &str) -> Result<(), Fail> {
+    let found = ends_text(rt.alloc(), line)?;
+    assert_eq!(rt; found.as_str(), wanted);
+    Ok(())
 }
 
 #[test]
@@ -60,16 +82,16 @@ fn ends_of_edges(rt: HostRuntime) -> Result<(), Fail> {
     for row in ENDS.trim_matches('\n').lines() {
         let (part, wanted) = row.split_once(" => ").ok_or("no row")?;
         let line = format!(in rt.alloc(); "{{\"id\":{part}}}")?;
-        let found = ends_text(rt.alloc(), line.as_str())?;
-        assert_eq!(rt; (part, found.as_str()), (part, wanted));
+        expect_ends(&rt, line.as_str(), wanted)?;
     }
-    assert_eq!(rt; IdsIter::none().next(), None);
-    assert_eq!(rt;
-        IdsIter::one(IdRef::Text("a")).next(),
-        Some(IdRef::Text("a"))
-    );
     let (line, wanted) = many_targets(rt.alloc())?;
-    let found = ends_text(rt.alloc(), line.as_str())?;
-    assert_eq!(rt; found.as_str(), wanted.as_str());
-    Ok(())
+    expect_ends(&rt, line.as_str(), wanted.as_str())
+}
+
+/// What yields no id, and what yields one.
+#[test]
+fn single_ids(rt: HostRuntime) {
+    assert_eq!(rt; IdsIter::none().next(), None);
+    let mut one = IdsIter::one(IdRef::Text("a"));
+    assert_eq!(rt; one.next(), Some(IdRef::Text("a")));
 }

@@ -62,7 +62,7 @@ fn answers(alloc: Global, lines: &mut Lines<Counted<Pieces<'_>>>) -> Result<Stri
     for _ in 0..7 {
         let answer = next(alloc, lines)?;
         let failures = lines.failures();
-        found.push_str(format!(in alloc; " {answer} {failures}")?.as_str())?;
+        write!(found, " {answer} {failures}")?;
     }
     Ok(found)
 }
@@ -72,8 +72,9 @@ fn row(alloc: Global, text: &str, most: usize, fails_at: u32) -> Result<String, 
     let mut reader = in_pieces(text.as_bytes(), most);
     reader.fails_at = fails_at;
     let mut lines = Lines::new(alloc, Counted::new(reader), 7)?;
-    let found = answers(alloc, &mut lines)?;
-    Ok(format!(in alloc; "{text:?} =>{found}\n")?)
+    let found = answers(alloc, &mut lines);
+    drop(lines);
+    Ok(format!(in alloc; "{text:?} =>{}\n", found?)?)
 }
 
 /// Texts, and after each the lines or the faults that seven asks answer, with the failures after each.
@@ -92,7 +93,7 @@ const ROWS: &str = r#"
 /// The rows of all texts, whose readers give at most so many bytes at a time.
 fn rows(alloc: Global, most: usize) -> Result<String, Fail> {
     let mut found = String::from_str(alloc, "\n")?;
-    for text in [
+    for &text in &[
         "",
         "\n",
         "one",
@@ -110,7 +111,7 @@ fn rows(alloc: Global, most: usize) -> Result<String, Fail> {
 
 #[test]
 fn lines_of_input_in_pieces(rt: HostRuntime) -> Result<(), Fail> {
-    for most in [1, 2, 7, 100] {
+    for &most in &[1, 2, 7, 100] {
         let found = rows(rt.alloc(), most)?;
         assert_eq!(rt; (most, found.as_str()), (most, ROWS));
     }
@@ -122,22 +123,27 @@ fn lines_of_input_in_pieces(rt: HostRuntime) -> Result<(), Fail> {
 }
 
 /// What the first line of a lent source is, and how many are left.
-fn lent_lines(alloc: Global) -> Result<String, Fail> {
-    let mut lines = LineBuffer::new(alloc, 3)?;
+fn lent_lines(alloc: Global, lines: &mut LineBuffer) -> Result<String, Fail> {
     let mut source = Counted::new(b"one\ntwo".as_slice());
     let first = lines.advance(&mut source);
     if source.failures() != 0 {
-        Err("a pull failed")?;
+        return Err(Fail::from("a pull failed"));
     }
     let line = str::from_utf8(lines.line()).unwrap_or("no text");
     let found = format!(in alloc; "{first:?} {line}")?;
-    let left = count_lines_of(&mut lines, &mut source);
+    let left = count_lines_of(lines, &mut source);
     Ok(format!(in alloc; "{found} {left:?}")?)
+}
+
+/// The same of a new buffer.
+fn buffered_lines(alloc: Global) -> Result<String, Fail> {
+    let mut lines = LineBuffer::new(alloc, 3)?;
+    lent_lines(alloc, &mut lines)
 }
 
 #[test]
 fn lines_that_are_counted(rt: HostRuntime) -> Result<(), Fail> {
-    let lent = lent_lines(rt.alloc())?;
+    let lent = buffered_lines(rt.alloc())?;
     assert_eq!(rt; lent.as_str(), "Ok(true) one Ok(Some(1))");
     let mut lines = Lines::new(rt.alloc(), Counted::new(b"a\n\nb".as_slice()), 3)?;
     assert_eq!(rt; count_lines(&mut lines), Ok(Some(3)));

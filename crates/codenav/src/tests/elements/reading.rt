@@ -217,7 +217,7 @@ fn tables_of_lines(rt: HostRuntime) -> Result<(), Fail> {
     profile_law();
     let vertex = r#"{"id":1,"type":"vertex","label":"#;
     let hover = r#"{"id":1,"type":"vertex","label":"hoverResult","result":{"contents":"#;
-    for (before, table, after) in [
+    for &(before, table, after) in &[
         ("", LINES, ""),
         (r#"{"id":"#, IDS, r#","type":"vertex","label":"resultSet"}"#),
         (vertex, VERTICES, "}"),
@@ -230,8 +230,17 @@ fn tables_of_lines(rt: HostRuntime) -> Result<(), Fail> {
     Ok(())
 }
 
-/// Lines, and a row of what is read of each. In a line so many of a second text and as many of a third stand between the first and the last.
-const MADE: &[(&[u8], usize, &str, &str, &str, &str)] = &[
+/// A line, and a row of what is read of it. So many of a second text and as many of a third stand between the first and the last.
+type Made = (
+    &'static [u8],
+    usize,
+    &'static str,
+    &'static str,
+    &'static str,
+    &'static str,
+);
+
+const MADE: &[Made] = &[
     (b"", 0, "", "", "", "empty => L02\n"),
     (b" \t\r", 0, "", "", "", "blank => L02\n"),
     (
@@ -285,16 +294,29 @@ const MADE: &[(&[u8], usize, &str, &str, &str, &str)] = &[
     ),
 ];
 
+/// The line.
+fn line_of(
+    alloc: Global,
+    (before, times, opening, closing, after, _): &Made,
+) -> Result<Vec<u8>, Fail> {
+    let mut line = Vec::from_slice(alloc, *before)?;
+    for _ in 0..*times {
+        line.extend_from_slice(opening.as_bytes())?;
+    }
+    for _ in 0..*times {
+        line.extend_from_slice(closing.as_bytes())?;
+    }
+    line.extend_from_slice(after.as_bytes())?;
+    Ok(line)
+}
+
 #[test]
 fn blanks_depths_and_lengths(rt: HostRuntime) -> Result<(), Fail> {
-    for (before, times, opening, closing, after, wanted) in MADE {
-        let (name, _) = wanted.split_once(" => ").ok_or("no row")?;
-        let mut line = Vec::from_slice(rt.alloc(), before)?;
-        line.extend_from_slice(opening.repeat(rt.alloc(), *times)?.as_bytes())?;
-        line.extend_from_slice(closing.repeat(rt.alloc(), *times)?.as_bytes())?;
-        line.extend_from_slice(after.as_bytes())?;
+    for made in MADE {
+        let (name, _) = made.5.split_once(" => ").ok_or("no row")?;
+        let line = line_of(rt.alloc(), made)?;
         let found = row(rt.alloc(), name, line.as_slice())?;
-        assert_eq!(rt; found.as_str(), *wanted);
+        assert_eq!(rt; found.as_str(), made.5);
     }
     Ok(())
 }

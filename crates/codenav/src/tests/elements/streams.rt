@@ -15,7 +15,7 @@ fn slice_pulls(alloc: Global) -> Result<String, Fail> {
         }
         let answer = reader.pull(&mut room);
         let text = str::from_utf8(&room).unwrap_or("no text");
-        found.push_str(format!(in alloc; "{answer:?} {text}; ")?.as_str())?;
+        write!(found, "{answer:?} {text}; ")?;
     }
     Ok(found)
 }
@@ -28,7 +28,7 @@ fn pushes<W: Sink>(alloc: Global, writer: &mut W, parts: &[&str]) -> Result<Stri
             Err("no more is counted")?;
         }
         let answer = writer.push(part.as_bytes());
-        found.push_str(format!(in alloc; "{answer:?} ")?.as_str())?;
+        write!(found, "{answer:?} ")?;
     }
     let (failures, zero_writes) = (writer.failures(), writer.zero_writes());
     Ok(format!(in alloc; "{found}{failures} {zero_writes}")?)
@@ -75,7 +75,7 @@ Ok(2) Err(Failed) Ok(2) 1 0 abef
 #[test]
 fn slow_writers(rt: HostRuntime) -> Result<(), Fail> {
     let mut found = String::new(rt.alloc());
-    for (most, fails_at, parts) in [
+    for &(most, fails_at, parts) in &[
         (1, 0, ["ab", "b", ""]),
         (0, 0, ["ab", "", "ab"]),
         (9, 2, ["ab", "cd", "ef"]),

@@ -311,6 +311,24 @@ fn places<'a>(
     Ok(places)
 }
 
+/// Adds the rows of these places.
+fn add_item_rows<'a>(
+    rows: &mut Vec<ItemRow<'a>>,
+    number: u32,
+    role: Role,
+    places: &[(&'a str, &'a Span)],
+) -> Result<(), AllocError> {
+    for &(uri, span) in places {
+        rows.push(ItemRow {
+            result: number,
+            role,
+            uri,
+            span,
+        })?;
+    }
+    Ok(())
+}
+
 /// Adds the rows of the result of this number.
 fn add_items<'a>(
     alloc: Global,
@@ -320,15 +338,9 @@ fn add_items<'a>(
     (number, id): (u32, IdRef<'a>),
 ) -> Result<(), AllocError> {
     let results = closed(elements, vec![in alloc; id]?)?;
-    for role in [Role::Definitions, Role::References] {
-        for (uri, span) in places(alloc, elements, ranges, &results, role)? {
-            rows.push(ItemRow {
-                result: number,
-                role,
-                uri,
-                span,
-            })?;
-        }
+    for &role in &[Role::Definitions, Role::References] {
+        let places = places(alloc, elements, ranges, &results, role)?;
+        add_item_rows(rows, number, role, &places)?;
     }
     Ok(())
 }
@@ -394,7 +406,21 @@ fn keys_of(
 }
 
 /// The kinds in the order of the rows.
-const KINDS: [MonikerKind; 3] = [MonikerKind::Import, MonikerKind::Export, MonikerKind::Local];
+const KINDS: &[MonikerKind] = &[MonikerKind::Import, MonikerKind::Export, MonikerKind::Local];
+
+/// Adds the rows of these keys.
+fn add_marks(
+    rows: &mut Vec<MarkRow>,
+    range: u32,
+    kind: MonikerKind,
+    keys: Vec<String>,
+) -> Result<(), AllocError> {
+    for key in keys {
+        let key = RcStr::from_string(key)?;
+        rows.push(MarkRow { range, kind, key })?;
+    }
+    Ok(())
+}
 
 fn mark_rows(
     alloc: Global,
@@ -404,17 +430,32 @@ fn mark_rows(
     let mut rows = Vec::new(alloc);
     for range in ranges {
         let members = chain(alloc, elements, range.id)?;
-        for kind in KINDS {
-            for key in keys_of(alloc, elements, &members, kind)? {
-                rows.push(MarkRow {
-                    range: range.line,
-                    kind,
-                    key: RcStr::from_string(key)?,
-                })?;
-            }
+        for &kind in KINDS {
+            let keys = keys_of(alloc, elements, &members, kind)?;
+            add_marks(&mut rows, range.line, kind, keys)?;
         }
     }
     Ok(rows)
+}
+
+/// The row of a vertex of this line that bears the key, and whose chain has these members.
+fn bearer_row(
+    elements: &[Element],
+    members: &[IdRef<'_>],
+    line: u32,
+    kind: MonikerKind,
+    key: RcStr,
+) -> BearerRow {
+    BearerRow {
+        line,
+        key,
+        kind,
+        def: first(elements, members, RequestKind::Definition),
+        refs: first(elements, members, RequestKind::References),
+        hover: first(elements, members, RequestKind::Hover),
+        decl: first(elements, members, RequestKind::Declaration),
+        imp: first(elements, members, RequestKind::Implementation),
+    }
 }
 
 /// Adds the rows of the vertex of this line.
@@ -425,18 +466,10 @@ fn add_bearers(
     (line, id): (u32, IdRef<'_>),
 ) -> Result<(), Fail> {
     let members = chain(alloc, elements, id)?;
-    for kind in KINDS {
+    for &kind in KINDS {
         for key in keys_of(alloc, elements, &[id], kind)? {
-            rows.push(BearerRow {
-                line,
-                key: RcStr::from_string(key)?,
-                kind,
-                def: first(elements, &members, RequestKind::Definition),
-                refs: first(elements, &members, RequestKind::References),
-                hover: first(elements, &members, RequestKind::Hover),
-                decl: first(elements, &members, RequestKind::Declaration),
-                imp: first(elements, &members, RequestKind::Implementation),
-            })?;
+            let key = RcStr::from_string(key)?;
+            rows.push(bearer_row(elements, &members, line, kind, key))?;
         }
     }
     Ok(())
@@ -467,32 +500,37 @@ fn add_rows<'a>(
     add_bearers(alloc, &mut rows.bearers, elements, (line, id))
 }
 
+/// Adds the rows of all vertices, and puts those of documents in order.
+fn add_all_rows<'a>(
+    alloc: Global,
+    rows: &mut Rows<'a>,
+    elements: &'a [Element],
+    ranges: &[Range<'a>],
+) -> Result<(), Fail> {
+    let mut line = 0u32;
+    for element in elements {
+        line = line.saturating_add(1);
+        if let Element::Vertex(id, vertex) = element {
+            add_rows(alloc, rows, elements, ranges, (line, id.lent(), vertex))?;
+        }
+    }
+    Ok(rows.documents.sort()?)
+}
+
 /// The rows of the dump.
 pub(super) fn plain_rows<'a>(alloc: Global, dump: &'a CheckedDump) -> Result<Rows<'a>, Fail> {
     let elements = dump.elements();
     let ranges = ranges_of(alloc, elements)?;
+    let marks = mark_rows(alloc, elements, &ranges)?;
     let mut rows = Rows {
         profile: dump.profile(),
         documents: Vec::new(alloc),
         ranges: range_rows(alloc, elements, &ranges)?,
         items: Vec::new(alloc),
         hovers: Vec::new(alloc),
-        marks: mark_rows(alloc, elements, &ranges)?,
+        marks,
         bearers: Vec::new(alloc),
     };
-    let mut line = 0u32;
-    for element in elements {
-        line = line.saturating_add(1);
-        if let Element::Vertex(id, vertex) = element {
-            add_rows(
-                alloc,
-                &mut rows,
-                elements,
-                &ranges,
-                (line, id.lent(), vertex),
-            )?;
-        }
-    }
-    rows.documents.sort()?;
+    add_all_rows(alloc, &mut rows, elements, &ranges)?;
     Ok(rows)
 }

@@ -1,8 +1,9 @@
 //! The rows of small dumps, and how many there may be.
 use super::super::samples::named::{BASE, EXPORT, IMPORT, NESTED, RING, SAMPLES, TOUCHING};
-use super::super::samples::{dump_of, text_of};
+use super::super::samples::{dump_of, made_dump, text_of};
 use super::plain::plain_rows;
-use flatten::{FlattenFault, flatten, flatten_within};
+use dump::CheckedDump;
+use flatten::{FlattenFault, Rows, flatten, flatten_within};
 use lsif::Profile;
 use std::alloc::Global;
 use std::process::Abort;
@@ -80,7 +81,7 @@ item 3>[4] referenceResults @2
 item 4>[3] referenceResults @2";
 
 /// These, and a dump of its first line alone.
-const DUMPS: [(&str, &str); 6] = [
+const DUMPS: &[(&str, &str)] = &[
     ("metaData", "metaData 0.6.0"),
     ("levels", LEVELS),
     ("marked", MARKED),
@@ -89,25 +90,32 @@ const DUMPS: [(&str, &str); 6] = [
     ("joined", JOINED),
 ];
 
-/// Whether the rows of the dump are those of a plain walk.
+/// Whether both are the same rows.
+fn are_same(found: &Rows<'_>, plain: &Rows<'_>) -> bool {
+    found.profile == plain.profile
+        && found.documents == plain.documents
+        && found.ranges == plain.ranges
+        && found.items == plain.items
+        && found.hovers == plain.hovers
+        && found.marks == plain.marks
+        && found.bearers == plain.bearers
+}
+
+/// Whether these rows of the dump are those of a plain walk.
+fn are_plain_rows(alloc: Global, dump: &CheckedDump, found: &Rows<'_>) -> Result<bool, Fail> {
+    let plain = plain_rows(alloc, dump)?;
+    Ok(are_same(found, &plain))
+}
+
+/// The same of the rows of a dump that is read by this profile.
 fn are_plain(alloc: Global, profile: Profile, dump: &str) -> Result<bool, Fail> {
-    let text = text_of(alloc, dump)?;
-    let dump = dump_of(alloc, profile, text.as_str())?;
+    let dump = made_dump(alloc, profile, text_of(alloc, dump))?;
     let found = flatten(alloc, &dump)?;
-    let plain = plain_rows(alloc, &dump)?;
-    Ok(
-        found.profile == plain.profile
-            && found.documents == plain.documents
-            && found.ranges == plain.ranges
-            && found.items == plain.items
-            && found.hovers == plain.hovers
-            && found.marks == plain.marks
-            && found.bearers == plain.bearers,
-    )
+    are_plain_rows(alloc, &dump, &found)
 }
 
 /// Dumps, and what their rows say: the parents of ranges, the items, the marks and the bearers.
-const WORKED: [(&str, &str); 5] = [
+const WORKED: &[(&str, &str)] = &[
     (
         NESTED,
         "[(3, None), (4, Some(3))] [ItemRow { result: 5, role: Definitions, uri: \"file:///n.ts\", span: Span { start: Position { line: 0, character: 0 }, end: Position { line: 0, character: 20 } } }] [] []",
@@ -130,11 +138,8 @@ const WORKED: [(&str, &str); 5] = [
     ),
 ];
 
-/// What the rows of the dump say.
-fn said(alloc: Global, dump: &str) -> Result<String, Fail> {
-    let text = text_of(alloc, dump)?;
-    let dump = dump_of(alloc, Profile::One, text.as_str())?;
-    let rows = flatten(alloc, &dump)?;
+/// What these rows say.
+fn rows_text(alloc: Global, rows: &Rows<'_>) -> Result<String, Fail> {
     let mut parents = Vec::new(alloc);
     for row in &rows.ranges {
         parents.push((row.line, row.parent))?;
@@ -143,6 +148,13 @@ fn said(alloc: Global, dump: &str) -> Result<String, Fail> {
         "{parents:?} {:?} {:?} {:?}",
         rows.items, rows.marks, rows.bearers
     )?)
+}
+
+/// What the rows of the dump say.
+fn said(alloc: Global, dump: &str) -> Result<String, Fail> {
+    let dump = made_dump(alloc, Profile::One, text_of(alloc, dump))?;
+    let rows = flatten(alloc, &dump)?;
+    rows_text(alloc, &rows)
 }
 
 /// Asserts that the rows of these dumps are those of a plain walk, in both profiles. What doesn't begin with metaData is none.
@@ -160,15 +172,20 @@ fn expect_plain<R: AllocGlobal + Abort>(rt: &R, dumps: &[(&str, &str)]) -> Resul
 #[test]
 fn flat_rows(rt: HostRuntime) -> Result<(), Fail> {
     expect_plain(&rt, SAMPLES)?;
-    expect_plain(&rt, &DUMPS)?;
+    expect_plain(&rt, DUMPS)
+}
+
+#[test]
+fn worked_rows(rt: HostRuntime) -> Result<(), Fail> {
     for (dump, wanted) in WORKED {
-        assert_eq!(rt; said(rt.alloc(), dump)?.as_str(), wanted);
+        let found = said(rt.alloc(), *dump)?;
+        assert_eq!(rt; found.as_str(), *wanted);
     }
     Ok(())
 }
 
 /// How many rows of each kind, and pairs of the walks for them, just do.
-const LIMITS: [(&str, usize); 8] = [
+const LIMITS: &[(&str, usize)] = &[
     (BASE, 1),
     (RING, 6),
     (IMPORT, 1),
@@ -190,30 +207,40 @@ fn is_enough(alloc: Global, text: &str, limit: usize) -> Result<bool, Fail> {
 
 /// The same where a text of 300 bytes stands behind another: the text of a row counts as two rows more then. Of the first dump it's that of the ranges that
 /// is too much, of the second that of items, and of the others those of marks and of bearers.
-const LONG: [(&str, &str, usize); 4] = [
+const LONG: &[(&str, &str, usize)] = &[
     (NESTED, "file:///", 4),
     (RING, "file:///", 18),
     (MARKED, "\"identifier\":\"", 6),
     (BEARING, "\"identifier\":\"", 6),
 ];
 
+/// Asserts that so many rows just do for the dump of this text.
+fn expect_enough<R: AllocGlobal + Abort>(rt: &R, text: &str, enough: usize) -> Result<(), Fail> {
+    let less = is_enough(rt.alloc(), text, enough.saturating_sub(1))?;
+    let found = is_enough(rt.alloc(), text, enough)?;
+    assert_eq!(rt; (text, less, found), (text, false, true));
+    Ok(())
+}
+
+/// The text of a dump where 300 bytes more stand behind each text like this.
+fn lengthened(alloc: Global, dump: &str, before: &str) -> Result<String, Fail> {
+    let behind = "u".repeat(alloc, 300)?;
+    let long = format!(in alloc; "{before}{behind}")?;
+    let text = text_of(alloc, dump)?;
+    Ok(text.replace(alloc, before, long.as_str())?)
+}
+
 #[test]
 fn limits(rt: HostRuntime) -> Result<(), Fail> {
     let text = text_of(rt.alloc(), "metaData 0.6.0")?;
     assert!(rt; is_enough(rt.alloc(), text.as_str(), 0)?);
     for (dump, enough) in LIMITS {
-        let text = text_of(rt.alloc(), dump)?;
-        let less = is_enough(rt.alloc(), text.as_str(), enough.saturating_sub(1))?;
-        let found = is_enough(rt.alloc(), text.as_str(), enough)?;
-        assert_eq!(rt; (dump, less, found), (dump, false, true));
+        let text = text_of(rt.alloc(), *dump)?;
+        expect_enough(&rt, text.as_str(), *enough)?;
     }
     for (dump, before, enough) in LONG {
-        let behind = "u".repeat(rt.alloc(), 300)?;
-        let long = format!(in rt.alloc(); "{before}{behind}")?;
-        let text = text_of(rt.alloc(), dump)?.replace(rt.alloc(), before, long.as_str())?;
-        let less = is_enough(rt.alloc(), text.as_str(), enough.saturating_sub(1))?;
-        let found = is_enough(rt.alloc(), text.as_str(), enough)?;
-        assert_eq!(rt; (dump, less, found), (dump, false, true));
+        let text = lengthened(rt.alloc(), *dump, *before)?;
+        expect_enough(&rt, text.as_str(), *enough)?;
     }
     Ok(())
 }

@@ -1,5 +1,7 @@
 //! Dumps that are deep or long: a long chain, a ring of results, many edges of one result, and ranges that lie in each other.
-use super::{NUMBERS, push_line, text_of};
+ghost use Rattle.std.specs.Prelude.{◌<◌};
+
+use super::{NUMBERS, push_line, push_made, text_of};
 use std::alloc::Global;
 use std::test::Fail;
 
@@ -23,7 +25,7 @@ pub(crate) fn spaced(alloc: Global, line: &str, bytes: usize) -> Result<String, 
 pub(crate) fn contains(alloc: Global, first: usize, last: usize) -> Result<String, Fail> {
     let mut edge = String::from_str(alloc, "contains 2>[")?;
     for number in first..last {
-        edge.push_str(format!(in alloc; "{number},")?.as_str())?;
+        write!(edge, "{number},")?;
     }
     edge.pop();
     edge.push(']')?;
@@ -40,11 +42,10 @@ pub(crate) fn long_chain(alloc: Global) -> Result<String, Fail> {
     for number in 0..49_996usize {
         let made = 2 * number + 4;
         push_line(&mut text, made, "resultSet", NUMBERS)?;
-        let edge = format!(in alloc; "next {last}>{made}")?;
-        push_line(&mut text, made + 1, edge.as_str(), NUMBERS)?;
+        push_made(&mut text, made + 1, format!(in alloc; "next {last}>{made}"))?;
         last = made;
     }
-    for (number, line) in [
+    for &(number, line) in &[
         (99_996, "definitionResult"),
         (99_997, "textDocument/definition 99994>99996"),
         (99_998, "item 99996>[3] @2"),
@@ -55,29 +56,42 @@ pub(crate) fn long_chain(alloc: Global) -> Result<String, Fail> {
     Ok(text)
 }
 
+/// Adds the edges of the result of this number in a ring of 100, whose range is the element of number `k + 3`.
+fn push_ring_edges(text: &mut String, k: usize) -> Result<(), Fail>
+    requires { k < 100 }
+{
+    let alloc = *text.allocator();
+    let (range, result) = (k + 3, k + 1000);
+    let next = if k == 99 { 1000 } else { result + 1 };
+    push_made(
+        text,
+        k + 2000,
+        format!(in alloc; "textDocument/references {range}>{result}"),
+    )?;
+    push_made(
+        text,
+        k + 3000,
+        format!(in alloc; "item {result}>[{next}] referenceResults @2"),
+    )?;
+    push_made(
+        text,
+        k + 4000,
+        format!(in alloc; "item {result}>[{range}] references @2"),
+    )
+}
+
 /// 100 results of references in a ring, each with its own range, the first character of a line: 503 elements. The ranges are the elements 3, 5 and so on, the
 /// results those behind them.
 pub(crate) fn ring(alloc: Global) -> Result<String, Fail> {
     let mut text = text_of(alloc, "metaData 0.6.0\ndocument file:///a.ts")?;
-    let mut contained = String::from_str(alloc, "contains 2>[")?;
     for k in 0..100 {
-        let range = format!(in alloc; "range {k}:0 {k}:1")?;
-        push_line(&mut text, k + 3, range.as_str(), NUMBERS)?;
+        push_made(&mut text, k + 3, format!(in alloc; "range {k}:0 {k}:1"))?;
         push_line(&mut text, k + 1000, "referenceResult", NUMBERS)?;
-        contained.push_str(format!(in alloc; "{},", k + 3)?.as_str())?;
     }
     for k in 0..100 {
-        let (range, result) = (k + 3, k + 1000);
-        let next = if k == 99 { 1000 } else { result + 1 };
-        let bound = format!(in alloc; "textDocument/references {range}>{result}")?;
-        let joined = format!(in alloc; "item {result}>[{next}] referenceResults @2")?;
-        let own = format!(in alloc; "item {result}>[{range}] references @2")?;
-        push_line(&mut text, k + 2000, bound.as_str(), NUMBERS)?;
-        push_line(&mut text, k + 3000, joined.as_str(), NUMBERS)?;
-        push_line(&mut text, k + 4000, own.as_str(), NUMBERS)?;
+        push_ring_edges(&mut text, k)?;
     }
-    contained.pop();
-    contained.push(']')?;
+    let contained = contains(alloc, 3, 103)?;
     push_line(&mut text, 5000, contained.as_str(), NUMBERS)?;
     Ok(text)
 }
@@ -106,20 +120,26 @@ pub(crate) fn levels(alloc: Global, is_falling: bool) -> Result<String, Fail> {
             k
         };
         let end = 20_000usize.saturating_sub(level);
-        let range = format!(in alloc; "range 0:{level} 0:{end}")?;
-        push_line(&mut text, k + 3, range.as_str(), NUMBERS)?;
+        push_made(
+            &mut text,
+            k + 3,
+            format!(in alloc; "range 0:{level} 0:{end}"),
+        )?;
     }
-    let outermost = if is_falling { 10_002 } else { 3 };
-    let defined = format!(in alloc; "textDocument/definition {outermost}>10003")?;
-    let item = format!(in alloc; "item 10003>[{outermost}] @2")?;
-    push_line(&mut text, 10_003, "definitionResult", NUMBERS)?;
-    push_line(&mut text, 10_004, defined.as_str(), NUMBERS)?;
-    push_line(&mut text, 10_005, item.as_str(), NUMBERS)?;
-    push_line(
-        &mut text,
-        10_006,
-        contains(alloc, 3, 10_003)?.as_str(),
-        NUMBERS,
-    )?;
+    push_definition(&mut text, if is_falling { 10_002 } else { 3 })?;
     Ok(text)
+}
+
+/// Adds the definition of one of these ranges at itself, and the edge that contains them all.
+fn push_definition(text: &mut String, range: u32) -> Result<(), Fail> {
+    let alloc = *text.allocator();
+    push_line(text, 10_003, "definitionResult", NUMBERS)?;
+    push_made(
+        text,
+        10_004,
+        format!(in alloc; "textDocument/definition {range}>10003"),
+    )?;
+    push_made(text, 10_005, format!(in alloc; "item 10003>[{range}] @2"))?;
+    let contained = contains(alloc, 3, 10_003)?;
+    push_line(text, 10_006, contained.as_str(), NUMBERS)
 }

@@ -9,7 +9,14 @@ use Rattle.tables.specs.Stands.{replies_of}
 use Rattle.tables.specs.Selections.{bearer_row}
 use Rattle.tables.specs.TableTrees.{slot_tree}
 use Rattle.tables.proofs.Looking.{looks_then, still, survives_clean}
+use Rattle.tables.proofs.Knowing.{named_on}
 use Rattle.tables.proofs.bearers.complete.Goals as goal
+
+pub slot_project-requires : goal.slot_project-requires
+slot_project-requires g c =
+    let old = state g.S.Store c.args.conn.now in
+    let mid = state g.S.Store c.more_of.new.conn in
+    record { named = named_on old mid c.args.named.now (survives_clean old mid c.more_of.ensures.looks) c.in_ok-more.ensures.kept c.requires.named }
 
 pub returns-in_err-project-clause-looks : goal.returns-in_err-project-clause-looks
 returns-in_err-project-clause-looks g c = looks_then _ (state g.S.Store c.more_of.new.conn) _ c.more_of.ensures.looks c.in_ok-more.ensures.kept c.slot_project.ensures.looks

@@ -15,6 +15,7 @@ loop-row-init g c = record {
   looks = c.select_bearers.ensures.looks;
   kept = c.in_ok-left.ensures.kept;
   mode = c.select_bearers.ensures.mode;
+  named = tt;
   gathers = λ clean has m s.
       let db = (state g.S.Store c.args.conn.now).now.trees in
       subst (λ (l : List FoundBearer). Gathers db m c.args.key.now c.in_ok-left.left.items (map bearer_found l)) (sym c.new-found.ensures.items)
@@ -43,6 +44,7 @@ loop-row-preserved g c =
       looks = looks_then old mid new was.looks was.kept c.complete.ensures.looks;
       kept = kept_on old mid new was.kept c.complete.ensures.looks c.in_ok-bearer.ensures.kept;
       mode = λ h. c.complete.ensures.mode (was.mode h);
+      named = c.in_ok-bearer.ensures.named;
       gathers = λ clean has m s.
           gathers_one old.now.trees m key c.loop-row.left.items c.pop.new.self.items row (map bearer_found c.loop-row.found.items) (map bearer_found c.push.new.self.items) (bearer_found bearer) popped more
           (λ v t. still old mid new (λ db. StandsFor db m × TellsBearer db m key row v) (λ db. bearer_found bearer ≡ v) was.kept c.complete.ensures.looks

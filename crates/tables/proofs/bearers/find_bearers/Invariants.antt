@@ -6,6 +6,7 @@ use Rattle.machine.specs.State.{State}
 use Rattle.tables.specs.Stands.{IsAsBefore, StandsFor}
 use Rattle.tables.specs.Selections.{bearer_found}
 use Rattle.tables.specs.Steps.Selected.{Looks}
+use Rattle.tables.specs.Steps.Slots.{IsNamed}
 use Rattle.tables.specs.Steps.Known.{Gathers}
 use Rattle.tables.proofs.bearers.find_bearers.Given as goal
 
@@ -17,6 +18,7 @@ invariant-loop-row g l =
       looks : Looks old now;
       kept : HasCleanDisk now → IsAsBefore old now;
       mode : l.fn.conn.in_transaction ≡ false → l.conn.in_transaction ≡ false;
+      named : IsNamed now l.named;
       gathers : HasCleanDisk now → old.now.schema ≡ schema_two → (m : State) → StandsFor old.now.trees m → Gathers old.now.trees m l.key l.left.items (map bearer_found l.found.items);
     }
 

@@ -28,6 +28,7 @@ loop-row-preserved g c =
       looks = looks_then old mid new was.looks was.kept c.complete.ensures.looks;
       kept = kept_on old mid new was.kept c.complete.ensures.looks c.in_ok-tag.ensures.kept;
       mode = λ h. c.complete.ensures.mode (was.mode h);
+      named = c.in_ok-tag.ensures.named;
       finds = λ clean has m s told.
           finds_one old.now.trees m asked c.args.rows.items c.loop-row.left.items c.pop.new.self.items row popped told tag c.loop-row.found.items c.push_some.new.found.items (search rules)
           (λ v t. still old mid new (λ db. StandsFor db m × TellsTag db m row v) (λ db. IsFoundIf asked v tag) was.kept c.complete.ensures.looks

@@ -6,6 +6,7 @@ use Rattle.machine.specs.State.{State}
 use Rattle.tables.specs.Stands.{IsAsBefore, StandsFor}
 use Rattle.machine.specs.Found.{tag_found}
 use Rattle.tables.specs.Steps.Selected.{Looks}
+use Rattle.tables.specs.Steps.Slots.{IsNamed}
 use Rattle.tables.specs.Steps.TagRows.{AllTell, FindsTags}
 use Rattle.tables.proofs.found_tags.complete_all.Given as goal
 
@@ -17,6 +18,7 @@ invariant-loop-row g l =
       looks : Looks old now;
       kept : HasCleanDisk now → IsAsBefore old now;
       mode : l.fn.conn.in_transaction ≡ false → l.conn.in_transaction ≡ false;
+      named : IsNamed now l.named;
       finds : HasCleanDisk now → old.now.schema ≡ schema_two → (m : State) → StandsFor old.now.trees m → AllTell old.now.trees m l.fn.rows.items
           → FindsTags old.now.trees m (option_map (λ p. p.now) l.fn.asked) l.fn.rows.items l.left.items (map tag_found l.found.items);
     }
