@@ -14,8 +14,8 @@ use Rattle.sqlite_rules.specs.Lists.{Has}
 use Rattle.sqlite_schema.specs.declared.schema.Schema.{Schema}
 use Rattle.sqlite_schema.specs.declared.command.Command.TheVariants.{Select}
 use Rattle.sqlite.specs.Listing.{understood, reads_listing}
-use Rattle.sqlite.specs.State.{State, Shown, Begins}
-use Rattle.sqlite.proofs.Callers.{IsPlain, command_of, reads_as, begins_as}
+use Rattle.sqlite.specs.State.{State, Shown}
+use Rattle.sqlite.proofs.Callers.{IsPlain, command_of, reads_as}
 use Rattle.tables.proofs.Select.{passing}
 use Rattle.tables.proofs.Selecting.{show}
 
@@ -72,12 +72,3 @@ module _ (schema : Schema) (sql : List ℕ) (params : Row) (t : ℕ) (tests show
       let got = (reads_as sql params old new schema has _ is plain unlisted rows h).answer Null in
       subst (λ xs. (ordered : List Row) × IsInOrder tests order params xs ordered × (rows ≡ paged ordered)) (own old.now.trees)
       (ordered_answer t tests shown order limit params (overlay old.now.trees []) rows got)
-
-  -- and the first rows of an answer
-  pub begins_in_order : (old : State) (rows : List Row) → old.now.schema ≡ schema → Begins sql params old rows
-      → (ordered : List Row) × IsInOrder tests order params (old.now.trees t) ordered × (rest : List Row) × (rows ++ rest ≡ paged ordered)
-  begins_in_order old rows has h =
-      let got = (begins_as sql params old old schema has _ is plain unlisted rows h).1 in
-      let it = subst (λ xs. (ordered : List Row) × IsInOrder tests order params xs ordered × (rows ++ got.0 ≡ paged ordered)) (own old.now.trees)
-      (ordered_answer t tests shown order limit params (overlay old.now.trees []) (rows ++ got.0) (got.1 Null)) in
-      (it.0, it.1, got.0, it.2)

@@ -10,17 +10,17 @@ ghost use Rattle.machine.specs.FoundTags.{BeginsWith, line_cmp, name_cmp};
 ghost use Rattle.machine.specs.Found.{tag_found};
 ghost use Rattle.tables.specs.Names.{FindsNamed, FindsPrefixed};
 ghost use Rattle.tables.specs.Steps.Selected.{Looks};
-ghost use Rattle.tables.specs.Steps.TagRows.{TellNamed, with_prefix};
+ghost use Rattle.tables.specs.Steps.TagRows.{IsBehind, TellNamed};
 ghost use Rattle.tables.specs.Steps.Clauses.{OfState, StaysAsBefore};
 
 use crate::fault::{Refusal, TablesFault};
 use crate::found_tags::{TagRow, complete_all};
-use crate::selection::{add_row, select_all};
+use crate::selection::select_all;
 use crate::tables::Tables;
 use machine::FoundTag;
-use sqlite::types::ValueRef;
-use sqlite::{Alter, Connection, Row, params};
-use std::alloc::Global;
+use sqlite::types::{Bytes, Value};
+use sqlite::{Alter, Connection, params};
+use std::alloc::{AllocError, Global};
 use std::cmp::Ordering;
 
 /// By project, then by line.
@@ -101,17 +101,20 @@ fn find_named<S: Alter>(
     Ok(found)
 }
 
-/// Whether the name in the row of a tag begins with the text.
-fn has_prefix(row: &Row, prefix: &str) -> bool
-    ensures { result ≡ with_prefix prefix.now row.now }
+/// The value that comes next behind all texts that begin with this one, by their bytes: it with its last byte one greater; or where it's empty, and all texts
+/// begin with it, the first blob, since blobs come behind texts (SQLite, "Comparison Expressions").
+fn value_behind(alloc: Global, prefix: &str) -> Result<Value, AllocError>
+    ensures { IfOk result (IsBehind prefix.now) }
 {
-    match row.get_ref(2) {
-        Ok(ValueRef::Text(name)) => name.starts_with(prefix.as_bytes()),
-        _ => false,
-    }
+    let Some((last, front)) = prefix.as_bytes().split_last() else {
+        return Ok(Value::Blob(Bytes::from_slice(alloc, &[])?));
+    };
+    let mut end = Vec::from_slice(alloc, front)?;
+    end.push(last.saturating_add(1))?;
+    Ok(Value::Text(Bytes::from_slice(alloc, &end)?))
 }
 
-/// The rows of the tags whose names begin with the text. They are read as they come, by name, up to the first with another beginning.
+/// The rows of the tags whose names begin with the text.
 fn select_prefixed<S: Alter>(
     alloc: Global,
     conn: &mut Connection<S>,
@@ -123,21 +126,13 @@ fn select_prefixed<S: Alter>(
     ensures looks { Looks (state S.Store conn.old) (state S.Store conn.new) }
     ensures mode { conn.old.in_transaction ≡ false → conn.new.in_transaction ≡ false }
 {
-    let mut found = Vec::new(alloc);
-    let mut rows = conn.query(
-        "SELECT slot, line, name, file, address, kind, fields FROM tag WHERE name >= ?1 ORDER BY name, slot, line",
-        params![prefix],
-    )?;
-    'rows: for _ in 0..usize::MAX {
-        let Some(row) = rows.next()? else {
-            return Ok(found);
-        };
-        if !has_prefix(row, prefix) {
-            return Ok(found);
-        }
-        add_row(&mut found, row)?;
-    }
-    Err(Refusal::Memory)
+    let behind = value_behind(alloc, prefix)?;
+    select_all(
+        alloc,
+        conn,
+        "SELECT slot, line, name, file, address, kind, fields FROM tag WHERE name >= ?1 AND name < ?2",
+        params![prefix, &behind],
+    )
 }
 
 /// The tags whose names begin with the text.

@@ -32,7 +32,7 @@ abbrev pub select_named : List ℕ
 select_named = codes "SELECT slot, line, name, file, address, kind, fields FROM tag WHERE name = ?1"
 
 abbrev pub select_prefixed : List ℕ
-select_prefixed = codes "SELECT slot, line, name, file, address, kind, fields FROM tag WHERE name >= ?1 ORDER BY name, slot, line"
+select_prefixed = codes "SELECT slot, line, name, file, address, kind, fields FROM tag WHERE name >= ?1 AND name < ?2"
 
 abbrev pub select_document : List ℕ
 select_document = codes "SELECT slot FROM document WHERE slot = ?1 AND uri = ?2"

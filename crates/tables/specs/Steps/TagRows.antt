@@ -1,9 +1,9 @@
 -- The rows of tags, as they are selected.
-use Rattle.std.specs.Prelude.{◌≡◌, ◌⊎◌, ◌++◌, eqb, ℕ, Bool, false, List, [], ◌∷◌, Option, Some, None, Contains, string_bytes}
-use Rattle.std.specs.List.{AllByRecursion, starts_with}
+use Rattle.std.specs.Prelude.{◌≡◌, ◌⊎◌, ◌++◌, ℕ, suc, List, [], ◌∷◌, Option, Some, None, Contains, string_bytes}
+use Rattle.std.specs.List.{AllByRecursion}
 use Rattle.sqlite_value.specs.declared.value.Value.{Value}
 use Rattle.sqlite_value.specs.declared.value.Value.TheVariants.{Null, Int, Real, Text, Blob}
-use Rattle.sqlite_value.specs.Order.{Row, column}
+use Rattle.sqlite_value.specs.Order.{Row}
 use Rattle.sqlite_trees.specs.Tree.{Trees}
 use Rattle.sqlite_rules.specs.Lists.{Has}
 use Rattle.sqlite.specs.Values.{or_null}
@@ -26,16 +26,13 @@ columns_of t =
 abbrev pub tag_row_columns : TagRow → Row
 tag_row_columns t = Int t.slot ∷ columns_of t
 
-abbrev pub text_begins : List ℕ → Value → Bool
-text_begins prefix (Text t) = starts_with eqb t prefix
-text_begins prefix Null = false
-text_begins prefix (Int n) = false
-text_begins prefix (Real x) = false
-text_begins prefix (Blob b) = false
-
--- the name in the row begins with the text
-abbrev pub with_prefix : List ℕ → Row → Bool
-with_prefix prefix row = text_begins prefix (column row 2)
+-- the value comes next behind all texts that begin with this one: behind the empty one, all texts do
+abbrev pub IsBehind : List ℕ → Value → Type 0
+IsBehind prefix (Text end) = (front : List ℕ) × (last : ℕ) × (prefix ≡ front ++ last ∷ []) × (end ≡ front ++ suc last ∷ [])
+IsBehind prefix (Blob b) = prefix ≡ []
+IsBehind prefix Null = ⊥
+IsBehind prefix (Int n) = ⊥
+IsBehind prefix (Real x) = ⊥
 
 -- the row tells this tag
 pub record TellsTag (db : Trees) (m : State) (x : TagRow) (v : FoundTag) : Type 0 where
