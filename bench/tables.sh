@@ -1,11 +1,12 @@
 #!/usr/bin/env bash
 # Measures the tables against C SQLite, by Python's `sqlite3`, in one run and with the same rows and statements: putting a dump in the place of
 # another on a file, and what single selections take, at the median, where the project has 80,000 tags too. It prints for dumps of four sizes the
-# time of each, the ratio, and how the replacement grew; and the time of a replacement in memory.
-# usage: bench/tables.sh [RUNS]      (default 5 replacements of each size, and 200 of each selection)
+# time of each, the ratio, and how the replacement grew; and the time of a replacement in memory. The two run in turn, so that both see the machine's good
+# and bad minutes.
+# usage: bench/tables.sh [ROUNDS]      (default 5 rounds, each of two replacements of each size and of 200 of each selection)
 # It builds and proves a small program over the crates of this repository, in a copy beside /tmp, which takes some minutes.
 set -eu
-runs=${1:-5}
+rounds=${1:-5}
 . "$(dirname "${BASH_SOURCE[0]}")/shared.sh"
 . "$top/bench/dumps.sh"
 
@@ -274,15 +275,18 @@ median() {
     awk -v kind="$1" '$1 == kind { print $2 }' "$2" | sort -n | awk '{ all[NR] = $1 } END { print all[int((NR + 1) / 2)] / 1000 }'
 }
 
-for run in $(seq 0 $((runs - 1))); do echo "k$run"; done >"$folder/keys"
+printf 'k0\nk1\n' >"$folder/keys"
 make_tags >"$folder/tags"
 printf '%-8s %-10s %14s %14s %7s %9s\n' elements what tables "C SQLite" ratio exponent
 last=
 for count in 10000 20000 40000 80000; do
     make_marked "$count" >"$folder/made"
     ask_for "$count" >"$folder/asked"
-    rm -f "$folder"/index.db* "$folder"/peer.db*
-    (cd "$folder" && "$built" >own.times && python3 peer.py "$runs" index.db peer.db >peer.times)
+    rm -f "$folder"/*.times
+    for _ in $(seq "$rounds"); do
+        rm -f "$folder"/index.db* "$folder"/peer.db*
+        (cd "$folder" && "$built" >>own.times && python3 peer.py 2 index.db peer.db >>peer.times)
+    done
     if ! cmp -s <(awk '$1 !~ /first|replaced|memory/ { print $1, $3 }' "$folder/own.times") <(awk '$1 !~ /first|replaced/ { print $1, $3 }' "$folder/peer.times"); then
         echo "tables: the answers differ" >&2
         exit 1
