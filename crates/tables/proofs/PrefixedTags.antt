@@ -1,9 +1,12 @@
 -- The tags whose names begin with a text, as they are selected.
-use Rattle.std.proofs.Common.{◌≡◌, ℕ, ℤ, negsuc, Bool, true, false, nat_cmp, List, [], ◌∷◌, length, map, refl, sym, ap, subst, ◌∙◌, ◌&&◌}
+use Rattle.std.proofs.Common.{◌≡◌, ℕ, ℤ, Bool, true, false, nat_cmp, List, [], ◌∷◌, refl, sym, ap, subst, ◌∙◌, ◌&&◌}
+use Rattle.std.proofs.Math.Bool.{and-true}
+use Rattle.std.proofs.lemmas.Bool.{and_parts}
+use Rattle.std.specs.Cmp.Derive.{both_true}
 use Rattle.std.specs.List.{list_all}
 use Rattle.std.specs.Ordering.{is_ge, is_lt}
 use Rattle.std.specs.Cmp.Lexicographic.{slice_cmp}
-use Rattle.std.proofs.lemmas.List.Sorted.{IsPermutation-sym}
+use Rattle.std.specs.List.Sorted.{IsPermutation}
 use Rattle.sqlite.specs.Listing.{understood, reads_listing}
 use Rattle.sqlite.specs.State.{State as Store, Shown}
 use Rattle.sqlite.proofs.Callers.{IsPlain, command_of}
@@ -20,31 +23,29 @@ use Rattle.sqlite_sql.specs.Term.{Term, col, op2, holds}
 use Rattle.sqlite_schema.specs.declared.command.Command.TheVariants.{Select}
 use Rattle.sqlite_trees.specs.Tree.{Trees}
 use Rattle.sqlite_rules.specs.Lists.{Has}
-use Rattle.sqlite_rules.proofs.ListLemmas.{has_filtered, has_kept}
 use Rattle.machine.specs.FoundTags.{BeginsWith}
-use Rattle.tables.specs.Schema.{schema_two}
 use Rattle.machine.specs.State.{State}
+use Rattle.tables.specs.Databases.{chosen}
+use Rattle.tables.specs.Schema.{schema_two}
 use Rattle.tables.specs.Stands.{StandsFor}
+use Rattle.tables.specs.TableTrees.{tag_tree}
 use Rattle.tables.specs.declared.found_tags.TagRow.{TagRow}
 use Rattle.tables.specs.Steps.SelectionTexts.{select_prefixed}
 use Rattle.tables.specs.Steps.Selected.{AreRead, IsQuery, Selects}
 use Rattle.tables.specs.Steps.TagRows.{IsBehind, TellNamed, tag_row_columns}
-use Rattle.tables.specs.TableTrees.{tag_tree}
 use Rattle.tables.proofs.FoundTags.{TagEntries, entry_row, tag_terms, tag_names, typed_tags, told_named}
-use Rattle.tables.proofs.Keeping.{from_map, to_map}
-use Rattle.tables.proofs.Ordered.{IsInOrder, in_order, selects_in_order}
-use Rattle.tables.proofs.PartRemoved.{has_permuted, truly}
+use Rattle.tables.proofs.PartRemoved.{truly}
 use Rattle.tables.proofs.Prefixes.{not_below, if_begins, before, begins_within}
 use Rattle.tables.proofs.Reading.{rows_are}
-use Rattle.tables.proofs.Select.{passing}
-use Rattle.tables.proofs.Selecting.{show, all_of, of_all}
+use Rattle.tables.proofs.Select.{one_table, selects}
+use Rattle.tables.proofs.Selecting.{show, all_of, from_table, into_answer, wide_as}
 use Rattle.tables.proofs.Silent.{silent}
 
 -- `name >= ?1 AND name < ?2`
 abbrev within_prefix : List Term
 within_prefix = op2 (Compare Ge Binary) (col 1 3) (col 0 0) ∷ op2 (Compare Lt Binary) (col 1 3) (col 0 1) ∷ []
 
-select_prefixed_is : command_of (understood schema_two select_prefixed) ≡ Select (record { lets = []; body = in_order 17 within_prefix tag_terms [] (negsuc 0) }) tag_names
+select_prefixed_is : command_of (understood schema_two select_prefixed) ≡ Select (record { lets = []; body = one_table 17 within_prefix tag_terms }) tag_names
 unfolding understood everything
 select_prefixed_is = refl
 
@@ -56,19 +57,6 @@ pub select_prefixed_reads : IsQuery select_prefixed
 unfolding understood everything
 select_prefixed_reads = record { plain = select_prefixed_plain.0; silent = silent select_prefixed (λ schema base. refl) }
 
-truth_of : (a b : Bool) → a && (b && true) ≡ a && b
-truth_of true true = refl
-truth_of true false = refl
-truth_of false b = refl
-
-parted : (a b : Bool) → a && b ≡ true → (a ≡ true) × (b ≡ true)
-parted true b h = (refl, h)
-parted false b h = absurd cc
-
-joined : (a b : Bool) → a ≡ true → b ≡ true → a && b ≡ true
-joined true b h k = k
-joined false b h k = absurd cc
-
 module _ (prefix : List ℕ) (behind : Value) (is_behind : IsBehind prefix behind) where
   abbrev params : Row
   params = Text prefix ∷ behind ∷ []
@@ -77,45 +65,41 @@ module _ (prefix : List ℕ) (behind : Value) (is_behind : IsBehind prefix behin
     abbrev name_of : TagEntries db m → List ℕ
     name_of e = e.0.found.tag.name
 
-    test_is : (v : Value) → IsBehind prefix v → (id : ℤ) (e : TagEntries db m) → list_all (holds ((Text prefix ∷ v ∷ []) ∷ (Int id ∷ entry_row db m e) ∷ [])) within_prefix
-        ≡ (is_ge (slice_cmp nat_cmp (name_of e) prefix) && is_lt (value_cmp (Text (name_of e)) v))
+    abbrev is_within : TagEntries db m → Value → Bool
+    is_within e v = is_ge (slice_cmp nat_cmp (name_of e) prefix) && is_lt (value_cmp (Text (name_of e)) v)
+
+    test_is : (v : Value) → IsBehind prefix v → (id : ℤ) (e : TagEntries db m) → list_all (holds ((Text prefix ∷ v ∷ []) ∷ (Int id ∷ entry_row db m e) ∷ [])) within_prefix ≡ is_within e v
     unfolding binary
     test_is (Text end) is id e =
         rw (value_cmp-Text (name_of e) prefix, value_cmp-Text (name_of e) end, truly (is_ge (slice_cmp nat_cmp (name_of e) prefix)), truly (is_lt (slice_cmp nat_cmp (name_of e) end)))
-        (truth_of (is_ge (slice_cmp nat_cmp (name_of e) prefix)) (is_lt (slice_cmp nat_cmp (name_of e) end)))
+        (ap (λ b. is_ge (slice_cmp nat_cmp (name_of e) prefix) && b) (and-true (is_lt (slice_cmp nat_cmp (name_of e) end))))
     test_is (Blob b) is id e =
         rw (value_cmp-Text (name_of e) prefix, truly (is_ge (slice_cmp nat_cmp (name_of e) prefix)), truly (is_lt (value_cmp (Text (name_of e)) (Blob b))))
-        (truth_of (is_ge (slice_cmp nat_cmp (name_of e) prefix)) (is_lt (value_cmp (Text (name_of e)) (Blob b))))
+        (ap (λ t. is_ge (slice_cmp nat_cmp (name_of e) prefix) && t) (and-true (is_lt (value_cmp (Text (name_of e)) (Blob b)))))
     test_is Null none id e = absurd none
     test_is (Int n) none id e = absurd none
     test_is (Real x) none id e = absurd none
 
-    module _ (rows ordered : List Row) (order : IsInOrder within_prefix [] params (db tag_tree) ordered) (whole : rows ≡ map (show tag_terms params) ordered) where
+    module _ (rows : List Row) (same : IsPermutation (chosen within_prefix tag_terms params (db tag_tree)) rows) where
       all_within : Selects (entry_row db m) (λ at e. entry_row db m e) (λ at e. BeginsWith (name_of e) prefix) db 17 rows
-      all_within =
-          let f : Row → Row = show tag_terms params in
-          record {
-            each = all_of _ rows (λ r there.
-                let one = from_map f ordered r (subst (λ l. Has l r) whole there) in
-                let was = has_filtered _ (db tag_tree) one.0 (has_permuted (passing within_prefix params (db tag_tree)) ordered one.0 order.same one.1) in
-                let e = typed_tags db m s one.0 was.0 in
-                let passes = parted _ _ (sym (test_is behind is_behind e.0 e.1) ∙ subst (λ x. list_all (holds (params ∷ x ∷ [])) within_prefix ≡ true) e.2 was.1) in
-                let begins = begins_within prefix (name_of e.1) behind is_behind passes.0 passes.1 in
-                (e.1, ((e.0, subst (Has (db tag_tree)) e.2 was.0), begins), one.2 ∙ ap f e.2));
-            all = λ e w.
-                let row = Int w.0.0 ∷ entry_row db m e in
-                let ok = test_is behind is_behind w.0.0 e ∙ joined _ _ (not_below prefix (name_of e) (if_begins prefix (name_of e) w.1)) (before prefix (name_of e) behind is_behind w.1) in
-                let placed = has_permuted ordered _ row (IsPermutation-sym _ _ order.same) (has_kept _ (db tag_tree) row w.0.1 ok) in
-                subst (λ l. Has l (entry_row db m e)) (sym whole) (to_map f ordered row placed);
-          }
+      all_within = record {
+        each = all_of _ rows (λ r there.
+            let was = from_table within_prefix tag_terms params (db tag_tree) rows same r there in
+            let e = typed_tags db m s was.0 was.1 in
+            let ok = sym (test_is behind is_behind e.0 e.1) ∙ subst (λ x. list_all (holds (params ∷ x ∷ [])) within_prefix ≡ true) e.2 was.2 in
+            let parts = and_parts _ _ ok in
+            (e.1, ((e.0, subst (Has (db tag_tree)) e.2 was.1), begins_within prefix (name_of e.1) behind is_behind parts.0 parts.1), was.3 ∙ ap (show tag_terms params) e.2));
+        all = λ e w.
+            let ok = both_true (not_below prefix (name_of e) (if_begins prefix (name_of e) w.1)) (before prefix (name_of e) behind is_behind w.1) in
+            into_answer within_prefix tag_terms params (db tag_tree) rows same (Int w.0.0 ∷ entry_row db m e) w.0.1 (test_is behind is_behind w.0.0 e ∙ ok);
+      }
 
       told : (xs : List TagRow) → AreRead tag_row_columns rows xs → TellNamed db m (λ text. BeginsWith text prefix) xs
       told xs read =
-          let is = rows_are tag_row_columns 7 (λ x. refl) rows xs (λ r there. ap length (of_all _ rows r all_within.each there).2) read in
+          let is = rows_are tag_row_columns 7 (λ x. refl) rows xs (wide_as within_prefix tag_terms params (db tag_tree) rows same) read in
           told_named db m s (λ text. BeginsWith text prefix) xs (subst (Selects (entry_row db m) (λ at e. entry_row db m e) (λ at e. BeginsWith (name_of e) prefix) db 17) is all_within)
 
   pub told_prefixed : (m : State) (old new : Store) (rows : List Row) (xs : List TagRow) → StandsFor old.now.trees m → old.now.schema ≡ schema_two → Shown select_prefixed params old new rows → AreRead tag_row_columns rows xs
       → TellNamed old.now.trees m (λ text. BeginsWith text prefix) xs
   told_prefixed m old new rows xs s schema shown read =
-      let it = selects_in_order schema_two select_prefixed params 17 within_prefix tag_terms [] (negsuc 0) tag_names select_prefixed_is select_prefixed_plain.0 select_prefixed_plain.1 (λ db. refl) old new rows schema shown in
-      told old.now.trees m s rows it.0 it.1 it.2 xs read
+      told old.now.trees m s rows (selects schema_two select_prefixed params 17 within_prefix tag_terms tag_names select_prefixed_is select_prefixed_plain.0 select_prefixed_plain.1 (λ db. refl) old new rows schema shown) xs read

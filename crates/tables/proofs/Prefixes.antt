@@ -5,7 +5,7 @@ use Rattle.std.specs.Ordering.{is_ge, is_lt, ordering_then}
 use Rattle.std.specs.Cmp.Lexicographic.{slice_cmp}
 use Rattle.std.specs.List.{AllByRecursion, starts_with}
 use lib.Utf8.{scalar, scalars, scalar_cases}
-use Rattle.std.proofs.lemmas.Bool.{cases_lt, cond-true, cond-false}
+use Rattle.std.proofs.lemmas.Bool.{and_parts, cases_lt, cond-true, cond-false}
 use Rattle.std.specs.Char.{encode_utf8}
 use Rattle.std.specs.Prelude.{encode_utf8_all}
 use Rattle.std.specs.Str.{IsUtf8}
@@ -34,10 +34,6 @@ same_is x y h = grind (arith, nat_tests)
 
 apart_back : (x y : ℕ) → x < y → eqb y x ≡ false
 apart_back x y h = grind (arith, nat_tests)
-
-both : (a b : Bool) → a && b ≡ true → (a ≡ true) × (b ≡ true)
-both true b h = (refl, h)
-both false b h = absurd cc
 
 one_less : (x c : ℕ) → c ≡ x → nat_cmp x (suc c) ≡ Less
 one_less x c h = grind (arith, nat_tests)
@@ -72,10 +68,10 @@ not_below (y ∷ p) (x ∷ t) h = go (eqb y x) refl (nat_cmp x y) refl h (not_be
 -- and comes before what has a greater last byte
 pub below_end : (p : List ℕ) (c : ℕ) (t : List ℕ) → starts_with eqb t (p ++ c ∷ []) ≡ true → is_lt (slice_cmp nat_cmp t (p ++ suc c ∷ [])) ≡ true
 below_end [] c [] h = absurd cc
-below_end [] c (x ∷ t) h = rw (one_less x c (same_is c x (both (eqb c x) _ h).0)) refl
+below_end [] c (x ∷ t) h = rw (one_less x c (same_is c x (and_parts (eqb c x) _ h).0)) refl
 below_end (y ∷ p) c [] h = absurd cc
 below_end (y ∷ p) c (x ∷ t) h =
-    let parts = both (eqb y x) _ h in
+    let parts = and_parts (eqb y x) _ h in
     rw (same_cmp x y (same_is y x parts.0)) (below_end p c t parts.1)
 
 -- and a text that is not below it, and comes before that, begins with it
@@ -107,7 +103,7 @@ pub begins_if : (p t : List ℕ) → starts_with eqb t p ≡ true → BeginsWith
 begins_if [] t h = (t, refl)
 begins_if (y ∷ p) [] h = absurd cc
 begins_if (y ∷ p) (x ∷ t) h =
-    let parts = both (eqb y x) (starts_with eqb t p) h in
+    let parts = and_parts (eqb y x) (starts_with eqb t p) h in
     let rest = begins_if p t parts.1 in
     let same = same_is y x parts.0 in
     (rest.0, (let e = rest.1 in cc))
@@ -178,7 +174,7 @@ less_append (x ∷ xs) ys a b = (a.0, less_append xs ys a.1 b)
 
 all_less : (cs : List ℕ) → scalars cs ≡ true → AreLess (encode_utf8_all cs)
 all_less [] h = tt
-all_less (c ∷ cs) h = let parts = both (scalar c) (scalars cs) h in less_append (encode_utf8 c) (encode_utf8_all cs) (char_less c parts.0) (all_less cs parts.1)
+all_less (c ∷ cs) h = let parts = and_parts (scalar c) (scalars cs) h in less_append (encode_utf8 c) (encode_utf8_all cs) (char_less c parts.0) (all_less cs parts.1)
 
 last_less : (front : List ℕ) (last : ℕ) → AreLess (front ++ last ∷ []) → last < 255
 last_less [] last h = h.0

@@ -163,11 +163,11 @@ fn expect_effect<R: AllocGlobal + Abort>(
 
 /// A writer that fails at the first byte of the reply to a command, or at a later one: the command has its effect.
 fn with_effect<R: AllocGlobal + Abort>(rt: &R) -> Result<(), Fail> {
-    for cut in CUT {
-        let (_, wanted) = exchange(rt.alloc(), cut.1, 1)?;
+    for &(before, row, after) in CUT {
+        let (_, wanted) = exchange(rt.alloc(), row, 1)?;
         for taken in &[0, 1, 9, 20, wanted.len().saturating_sub(1)] {
             let mut desk = PlainDesk::new(rt.alloc());
-            expect_effect(rt, &mut desk, *cut, *taken)?;
+            expect_effect(rt, &mut desk, (before, row, after), *taken)?;
         }
     }
     Ok(())

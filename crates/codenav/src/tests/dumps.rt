@@ -34,7 +34,7 @@ fn fed_to(alloc: Global, checker: &mut Checker) -> Result<String, Fail> {
     Ok(format!(in alloc; "{profile:?} {answers:?}")?)
 }
 
-/// The same as it's found.
+/// The same of a new checker, and what it answers at the end, and another at the end of no line.
 fn fed(alloc: Global, profile: Profile) -> Result<String, Fail> {
     let mut checker = Checker::new(alloc, profile);
     let found = fed_to(alloc, &mut checker);

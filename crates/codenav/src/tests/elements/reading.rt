@@ -230,17 +230,8 @@ fn tables_of_lines(rt: HostRuntime) -> Result<(), Fail> {
     Ok(())
 }
 
-/// A line, and a row of what is read of it. So many of a second text and as many of a third stand between the first and the last.
-type Made = (
-    &'static [u8],
-    usize,
-    &'static str,
-    &'static str,
-    &'static str,
-    &'static str,
-);
-
-const MADE: &[Made] = &[
+/// Lines, and a row of what is read of each. In a line so many of a second text and as many of a third stand between the first and the last.
+const MADE: &[(&[u8], usize, &str, &str, &str, &str)] = &[
     (b"", 0, "", "", "", "empty => L02\n"),
     (b" \t\r", 0, "", "", "", "blank => L02\n"),
     (
@@ -294,16 +285,19 @@ const MADE: &[Made] = &[
     ),
 ];
 
-/// The line.
+/// Such a line.
 fn line_of(
     alloc: Global,
-    (before, times, opening, closing, after, _): &Made,
+    before: &[u8],
+    times: usize,
+    (opening, closing): (&str, &str),
+    after: &str,
 ) -> Result<Vec<u8>, Fail> {
-    let mut line = Vec::from_slice(alloc, *before)?;
-    for _ in 0..*times {
+    let mut line = Vec::from_slice(alloc, before)?;
+    for _ in 0..times {
         line.extend_from_slice(opening.as_bytes())?;
     }
-    for _ in 0..*times {
+    for _ in 0..times {
         line.extend_from_slice(closing.as_bytes())?;
     }
     line.extend_from_slice(after.as_bytes())?;
@@ -312,11 +306,11 @@ fn line_of(
 
 #[test]
 fn blanks_depths_and_lengths(rt: HostRuntime) -> Result<(), Fail> {
-    for made in MADE {
-        let (name, _) = made.5.split_once(" => ").ok_or("no row")?;
-        let line = line_of(rt.alloc(), made)?;
+    for &(before, times, opening, closing, after, wanted) in MADE {
+        let (name, _) = wanted.split_once(" => ").ok_or("no row")?;
+        let line = line_of(rt.alloc(), before, times, (opening, closing), after)?;
         let found = row(rt.alloc(), name, line.as_slice())?;
-        assert_eq!(rt; found.as_str(), made.5);
+        assert_eq!(rt; found.as_str(), wanted);
     }
     Ok(())
 }

@@ -1,6 +1,4 @@
 //! Dumps that are deep or long: a long chain, a ring of results, many edges of one result, and ranges that lie in each other.
-ghost use Rattle.std.specs.Prelude.{◌<◌};
-
 use super::{NUMBERS, push_line, push_made, text_of};
 use std::alloc::Global;
 use std::test::Fail;
@@ -56,28 +54,29 @@ pub(crate) fn long_chain(alloc: Global) -> Result<String, Fail> {
     Ok(text)
 }
 
-/// Adds the edges of the result of this number in a ring of 100, whose range is the element of number `k + 3`.
-fn push_ring_edges(text: &mut String, k: usize) -> Result<(), Fail>
-    requires { k < 100 }
-{
+/// Adds the edges of a ring of 100 results, each with its own range.
+fn push_ring_edges(text: &mut String) -> Result<(), Fail> {
     let alloc = *text.allocator();
-    let (range, result) = (k + 3, k + 1000);
-    let next = if k == 99 { 1000 } else { result + 1 };
-    push_made(
-        text,
-        k + 2000,
-        format!(in alloc; "textDocument/references {range}>{result}"),
-    )?;
-    push_made(
-        text,
-        k + 3000,
-        format!(in alloc; "item {result}>[{next}] referenceResults @2"),
-    )?;
-    push_made(
-        text,
-        k + 4000,
-        format!(in alloc; "item {result}>[{range}] references @2"),
-    )
+    for k in 0..100 {
+        let (range, result) = (k + 3, k + 1000);
+        let next = if k == 99 { 1000 } else { result + 1 };
+        push_made(
+            text,
+            k + 2000,
+            format!(in alloc; "textDocument/references {range}>{result}"),
+        )?;
+        push_made(
+            text,
+            k + 3000,
+            format!(in alloc; "item {result}>[{next}] referenceResults @2"),
+        )?;
+        push_made(
+            text,
+            k + 4000,
+            format!(in alloc; "item {result}>[{range}] references @2"),
+        )?;
+    }
+    Ok(())
 }
 
 /// 100 results of references in a ring, each with its own range, the first character of a line: 503 elements. The ranges are the elements 3, 5 and so on, the
@@ -88,9 +87,7 @@ pub(crate) fn ring(alloc: Global) -> Result<String, Fail> {
         push_made(&mut text, k + 3, format!(in alloc; "range {k}:0 {k}:1"))?;
         push_line(&mut text, k + 1000, "referenceResult", NUMBERS)?;
     }
-    for k in 0..100 {
-        push_ring_edges(&mut text, k)?;
-    }
+    push_ring_edges(&mut text)?;
     let contained = contains(alloc, 3, 103)?;
     push_line(&mut text, 5000, contained.as_str(), NUMBERS)?;
     Ok(text)
