@@ -1,7 +1,8 @@
 #!/usr/bin/env bash
 # Measures what a request costs the program beside what it costs the desk alone, in one run: the processor time of each of
 # so many `GET /projects` and definition requests over the demo's dump, by `replay` from a file and by `serve` over loopback,
-# beside that of the same query asked of a desk in a loop, and beside the system's time for a bare connection. Then the most
+# beside that of the same query asked of a desk in a loop, and beside the system's time for a bare connection; and the time that a client
+# on loopback sees, at the median. Then the most
 # memory that `replay` holds for 10,000 and for 1,000,000 requests; and that of an upload of some 30 MB, beside that of
 # `check-lsif` of the same dump.
 # usage: bench/requests.sh [REQUESTS [CONNECTIONS]]      (default 100000 and 10000)
@@ -103,9 +104,12 @@ for kind in projects definition; do
 done
 
 cat >"$folder/client.py" <<'EOP'
-"""Puts a dump to a server on loopback and sends it so many requests of one kind, a connection each."""
+"""Puts a dump to a server on loopback and sends it so many requests of one kind, a connection each; and prints the median of the
+microseconds that one takes, from its connection to the end of its reply."""
 import socket
+import statistics
 import sys
+import time
 
 port, count, target, name = int(sys.argv[1]), int(sys.argv[2]), sys.argv[3], sys.argv[4]
 
@@ -120,8 +124,12 @@ def ask(request):
 
 body = open(name, "rb").read()
 ask(b"PUT /projects/app/lsif?key=k1 HTTP/1.1\r\nContent-Length: %d\r\n\r\n" % len(body) + body)
+times = []
 for _ in range(count):
+    start = time.perf_counter_ns()
     ask(b"GET %s HTTP/1.1\r\nHost: localhost\r\n\r\n" % target.encode())
+    times.append(time.perf_counter_ns() - start)
+print(round(statistics.median(times) / 1000, 1))
 EOP
 cat >"$folder/bare.py" <<'EOP'
 """Accepts so many connections on loopback, reads from each, answers and closes it; and prints the nanoseconds of system time of one."""
@@ -153,10 +161,11 @@ for kind in projects definition; do
     port=$((port + 1 + RANDOM % 20000))
     cost_of "$program" serve :memory: --port "$port" --requests $((connections + 1)) >"$folder/server" &
     until grep -q '^listening on' "$folder/out" 2>/dev/null; do sleep 0.1; done
-    python3 "$folder/client.py" "$port" "$connections" "$(target_of "$kind")" "$folder/dump"
+    median=$(python3 "$folder/client.py" "$port" "$connections" "$(target_of "$kind")" "$folder/dump")
     wait
     cost=$(cat "$folder/server")
     report serve "$kind" "$connections" "${cost% *}" "$bare"
+    printf 'serve   %-11s %8.1f microseconds at the median, as the client sees it, from its connection to the end of the reply\n' "$kind" "$median"
     rm "$folder/out"
 done
 

@@ -17,7 +17,7 @@ use Rattle.dump.specs.Fault.{IsFault}
 use Rattle.dump.specs.Progress.{DumpValue, CheckerValue, Progress, running, stopped, next, advance, progress, finished, IsRunning, Feeds, Finishes}
 use Rattle.dump.specs.Lines.{dump_of}
 use Rattle.dump.specs.Judging.{ReadsDump, as_dump_fault}
-use Rattle.dump.specs.Steps.Judging.{ReadsFirst, ReadsNext, HasTaken, room_of, GoesOn, IsReady}
+use Rattle.dump.specs.Steps.Judging.{ReadsFirst, ReadsNext, HasTaken, HasTakenAll, room_of, GoesOn, IsReady}
 use Rattle.dump.specs.declared.reading.DumpFault.{DumpFault}
 use Rattle.dump.specs.declared.reading.DumpFault.TheVariants as dumps
 
@@ -119,16 +119,21 @@ concluded_at profile text checker (Err (feeds.Line f)) holds kept e h =
     let P : Option LineFault → Type 0 = λ o. IsFault (dump_of profile text) o in
     subst P (ap finished (sym e) ∙ h) (holds (dump_of profile text))
 
-pub concluded : (profile : Profile) (left now later : Option (List ℕ)) (checker : CheckerValue) (out : Result DumpValue FeedFault)
-    → ((d : List Reading) → IsFault d (finished (progress d)))
-    → ((d : List Reading) (elements : List ElementValue) → progress d ≡ running elements → d ≡ map Ok elements)
-    → HasTaken profile left checker.progress now → ReadsNext profile now None later → Finishes out checker → ReadsDump profile left (as_read out)
-concluded profile None now later checker out holds kept h g c = tt
-concluded profile (Some text) now later checker out holds kept h g c =
+pub took_all : (profile : Profile) (left now later : Option (List ℕ)) (state : Progress)
+    → HasTaken profile left state now → ReadsNext profile now None later → HasTakenAll profile left state
+took_all profile None now later state h g = tt
+took_all profile (Some text) now later state h g =
     let P : Option (List ℕ) → Type 0 = λ o. ReadsNext profile o None later in
     let nothing : dump_of profile h.0 ≡ [] = subst P h.1 g in
     let whole : dump_of profile text ≡ h.2 = h.3 ∙ ap (λ l. h.2 ++ l) nothing ∙ append-nil h.2 in
-    concluded_at profile text checker out holds kept (h.4 ∙ ap progress (sym whole)) c
+    h.4 ∙ ap progress (sym whole)
+
+pub concluded : (profile : Profile) (left : Option (List ℕ)) (checker : CheckerValue) (out : Result DumpValue FeedFault)
+    → ((d : List Reading) → IsFault d (finished (progress d)))
+    → ((d : List Reading) (elements : List ElementValue) → progress d ≡ running elements → d ≡ map Ok elements)
+    → HasTakenAll profile left checker.progress → Finishes out checker → ReadsDump profile left (as_read out)
+concluded profile None checker out holds kept h c = tt
+concluded profile (Some text) checker out holds kept h c = concluded_at profile text checker out holds kept h c
 
 -- ---- a reading of the program
 

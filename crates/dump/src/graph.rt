@@ -112,14 +112,21 @@ impl Graph {
         ensures ok { OnOk result (self.new ≡ self.old ++ element_value element ∷ []) }
         ensures err { OnErr result (self.new ≡ self.old) }
     {
-        enter(
+        match enter(
             &mut self.elements,
             &mut self.tables,
             &mut self.shortcuts,
             &element,
-        )?;
-        self.elements.push_reserved(element);
-        Ok(())
+        ) {
+            Ok(()) => {
+                self.elements.push_reserved(element);
+                Ok(())
+            }
+            Err(refused) => {
+                drop(element);
+                Err(refused)
+            }
+        }
     }
 
     /// The last vertex of the chain of `next` edges from this one.

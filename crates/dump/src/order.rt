@@ -270,11 +270,16 @@ pub(crate) fn add(graph: &mut Graph, element: Element) -> Result<Option<Code>, A
     ensures refused { IfOk result (λ code. IfSome code (λ c. graph.new ≡ graph.old)) }
     ensures kept { OnErr result (graph.new ≡ graph.old) }
 {
-    let code = order_code(graph, &element)?;
-    if code.is_none() {
-        graph.push(element)?;
+    match order_code(graph, &element) {
+        Ok(None) => {
+            graph.push(element)?;
+            Ok(None)
+        }
+        refused => {
+            drop(element);
+            refused
+        }
     }
-    Ok(code)
 }
 
 /// A range that no document contains.

@@ -1,13 +1,14 @@
 //! The dump that a reader's bytes are: each line is read and handed to the checker (`checker.rt`). An upload's lines come from the crate `machine`, and are
 //! read by `read_line` too.
-ghost use Rattle.std.specs.Prelude.{◌≡◌, ◌-◌, ◌^◌, ◌<◌, ℕ, List, IfOk, IfErr, option_map, true};
+ghost use Rattle.std.specs.Prelude.{◌≡◌, ◌-◌, ◌^◌, ◌<◌, [], ℕ, List, Err, IfOk, IfErr, OnOk, option_map, true};
 ghost use Rattle.std.specs.Result.{ForErr};
 ghost use Rattle.lsif.specs.Code.{is_shape_code};
 ghost use Rattle.lsif.specs.Element.{reading_value};
 ghost use Rattle.lsif.specs.Reading.{longest_line, reading};
 ghost use Rattle.lsif.specs.Buffered.{unread};
 ghost use Rattle.dump.specs.Judging.{CountsRead, IsHanded, ReadsDump, as_dump_fault};
-ghost use Rattle.dump.specs.Steps.Judging.{GoesOn, IsOutside, IsReady, ReadsNext};
+ghost use Rattle.dump.specs.Progress.{running};
+ghost use Rattle.dump.specs.Steps.Judging.{GoesOn, HasTakenAll, IsOutside, IsReady, ReadsNext};
 
 use crate::checker::{CheckedDump, Checker};
 use crate::fault::{FeedFault, LineFault};
@@ -86,6 +87,29 @@ fn next_reading<R: Source>(
     }
 }
 
+/// Hands the lines of a reader to a new checker, to the reader's end or up to the first faulty line.
+fn take_lines<R: Source>(alloc: Global, checker: &mut Checker, r: &mut R) -> Result<(), DumpFault>
+    requires count { R.failed r.old < 2 ^ 64 - 1 }
+    requires fresh { checker.old.progress ≡ running [] }
+    ensures profile { checker.new.profile ≡ checker.old.profile }
+    ensures taken { OnOk result (HasTakenAll checker.old.profile (R.left r.old) checker.new.progress) }
+    ensures fault { IfErr result (λ fault. ReadsDump checker.old.profile (R.left r.old) (Err fault)) }
+    ensures counted { CountsRead (R.failed r.old) (R.failed r.new) result }
+{
+    fault_law();
+    let profile = checker.profile();
+    let Ok(mut lines) = LineBuffer::new(alloc, LONGEST_LINE) else {
+        return Err(DumpFault::Memory);
+    };
+    'reading: while let Some(reading) = next_reading(alloc, profile, &mut lines, r)? {
+        match checker.feed(reading) {
+            Ok(()) => {}
+            Err(fault) => return Err(DumpFault::from(fault)),
+        }
+    }
+    Ok(())
+}
+
 /// Reads a dump by a profile from a reader to its end, or up to its first faulty line: the dump where it has no fault, else
 /// its fault. Keeps the dump's elements, and of its bytes one line.
 pub fn read_dump<R: Source>(
@@ -99,15 +123,12 @@ pub fn read_dump<R: Source>(
     ensures counted { CountsRead (R.failed r.old) (R.failed r.new) result }
 {
     fault_law();
-    let Ok(mut lines) = LineBuffer::new(alloc, LONGEST_LINE) else {
-        return Err(DumpFault::Memory);
-    };
     let mut checker = Checker::new(alloc, profile);
-    'reading: while let Some(reading) = next_reading(alloc, profile, &mut lines, r)? {
-        match checker.feed(reading) {
-            Ok(()) => {}
-            Err(fault) => return Err(DumpFault::from(fault)),
+    match take_lines(alloc, &mut checker, r) {
+        Ok(()) => Ok(checker.finish()?),
+        Err(fault) => {
+            drop(checker);
+            Err(fault)
         }
     }
-    Ok(checker.finish()?)
 }

@@ -99,6 +99,18 @@ pub(crate) struct Gathered<'a> {
     pub(crate) intervals: Vec<Interval>,
 }
 
+/// Makes room for so many ranges and items of each role.
+fn make_room(gathered: &mut Gathered<'_>, count: usize) -> Result<(), AllocError>
+    ensures none { HasNone gathered.old → OnOk result (HasNone gathered.new) }
+    ensures dump { gathered.new.kinds.dump.now ≡ gathered.old.kinds.dump.now }
+{
+    gathered.kinds.ranges.reserve(count)?;
+    gathered.kinds.definitions.reserve(count)?;
+    gathered.kinds.references.reserve(count)?;
+    gathered.ranges.reserve(count)?;
+    gathered.intervals.reserve(count)
+}
+
 /// Goes over the elements once. What stands together there is read together: the range, the edges that leave it, and what they lead to. There's room for as
 /// many ranges and items as a quarter of the elements, which is more than most dumps have, so that lists of these are seldom moved as they grow.
 fn add_all(alloc: Global, gathered: &mut Gathered<'_>) -> Result<(), AllocError>
@@ -114,12 +126,7 @@ fn add_all(alloc: Global, gathered: &mut Gathered<'_>) -> Result<(), AllocError>
 {
     vertex_law();
     let dump = gathered.kinds.dump;
-    let room = dump.elements().len() / 4;
-    gathered.kinds.ranges.reserve(room)?;
-    gathered.kinds.definitions.reserve(room)?;
-    gathered.kinds.references.reserve(room)?;
-    gathered.ranges.reserve(room)?;
-    gathered.intervals.reserve(room)?;
+    make_room(gathered, dump.elements().len() / 4)?;
     let mut chains = Chains::new(alloc, dump, Vec::new(alloc))?;
     for element in dump.elements() {
         add(&mut gathered.kinds, element)?;

@@ -196,8 +196,14 @@ impl MessageReader {
         self.buffer.advance(taken);
         match read_body(r, &mut self.buffer, &mut message, len) {
             Ok(true) => Ok(message),
-            Ok(false) => Ok(Ok(Asked::Refused(Refusal::BodyCut))),
-            Err(e) => Err(e),
+            Ok(false) => {
+                drop(message);
+                Ok(Ok(Asked::Refused(Refusal::BodyCut)))
+            }
+            Err(e) => {
+                drop(message);
+                Err(e)
+            }
         }
     }
 

@@ -128,9 +128,12 @@ fn position(alloc: Global, position: Position) -> Result<Value, AllocError>
 fn place(alloc: Global, found: &FoundPlace<'_>) -> Result<Value, AllocError>
     ensures { IfOk result (λ v. view v ≡ place_data (place_found found.now)) }
 {
-    let start = position(alloc, found.span.start())?;
-    let end = position(alloc, found.span.end())?;
-    json!(in alloc; {"end": end, "project": found.project, "start": start, "uri": found.uri})
+    json!(in alloc; {
+        "end": position(alloc, found.span.end())?,
+        "project": found.project,
+        "start": position(alloc, found.span.start())?,
+        "uri": found.uri
+    })
 }
 
 /// Adds a place to the text of a list of places, behind a comma where it isn't the first.

@@ -116,7 +116,7 @@ fn words_and_calls(rt: HostRuntime) -> Result<(), Fail> {
     for row in ROWS.lines() {
         let (short, wanted) = row.split_once(" => ").ok_or("no row")?;
         let found = read(rt.alloc(), short)?;
-        assert_eq!(rt; (short, found.as_str()), (short, wanted));
+        assert_eq!(rt; found.as_str(), wanted, "{short}");
     }
     Ok(())
 }

@@ -141,16 +141,27 @@ fn served_clients(
     }
 }
 
+/// Asserts what a client is sent.
+fn expect_sent<R: AllocGlobal + Abort>(
+    rt: &R,
+    client: TcpStream,
+    sent: &str,
+    wanted: &str,
+) -> Result<(), Fail> {
+    let found = received(rt.alloc(), client)?;
+    assert_eq!(rt; found.as_str(), wanted, "{sent}");
+    Ok(())
+}
+
 /// Asserts what the clients of these rows are sent.
 fn expect_received<R: AllocGlobal + Abort>(
     rt: &R,
     clients: &mut Vec<TcpStream>,
     rows: &[(&str, &str)],
 ) -> Result<(), Fail> {
-    for (sent, wanted) in rows.iter().rev() {
+    for &(sent, wanted) in rows.iter().rev() {
         let client = clients.pop().ok_or("no client")?;
-        let found = received(rt.alloc(), client)?;
-        assert_eq!(rt; (*sent, found.as_str()), (*sent, *wanted));
+        expect_sent(rt, client, sent, wanted)?;
     }
     Ok(())
 }

@@ -229,7 +229,7 @@ fn expect_of<R: AllocGlobal + Abort, D: Desk>(
         if k % 2 == 0 {
             found = reply_to(rt.alloc(), desk, line)?;
         } else {
-            assert_eq!(rt; (k, found.as_str()), (k, line));
+            assert_eq!(rt; found.as_str(), line, "{k}");
         }
     }
     Ok(())

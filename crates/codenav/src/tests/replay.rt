@@ -170,6 +170,13 @@ pub(super) fn reply_of(alloc: Global, short: &str) -> Result<String, Fail> {
     reply(alloc, status_of(status)?, length, body)
 }
 
+/// Adds a text that is made for it.
+fn push(text: &mut String, made: Result<String, Fail>) -> Result<(), Fail> {
+    let made = made?;
+    text.push_str(made.as_str())?;
+    Ok(())
+}
+
 /// The first so many requests of a stream, one after the other, and the replies to them.
 pub(super) fn exchange(
     alloc: Global,
@@ -180,8 +187,8 @@ pub(super) fn exchange(
     let mut replies = String::new(alloc);
     for row in rows.trim_matches('\n').lines().take(count) {
         let (asked, replied) = row.split_once(" => ").ok_or("no reply")?;
-        requests.push_str(request(alloc, asked)?.as_str())?;
-        replies.push_str(reply_of(alloc, replied)?.as_str())?;
+        push(&mut requests, request(alloc, asked))?;
+        push(&mut replies, reply_of(alloc, replied))?;
     }
     Ok((requests, replies))
 }

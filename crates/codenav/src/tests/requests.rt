@@ -318,7 +318,7 @@ fn expect_asked<R: AllocGlobal + Abort>(
     for row in table.trim_matches('\n').lines() {
         let (part, wanted) = row.split_once(" => ").ok_or("no row")?;
         let found = asked_between(rt.alloc(), before, part, behind)?;
-        assert_eq!(rt; (part, found.as_str()), (part, wanted));
+        assert_eq!(rt; found.as_str(), wanted, "{part}");
     }
     Ok(())
 }

@@ -204,6 +204,17 @@ pub(crate) fn text_of(alloc: Global, dump: &str) -> Result<String, Fail> {
     Ok(text)
 }
 
+/// Puts what stands behind the number of a line in its place, or behind the last line.
+fn change_line(lines: &mut Vec<&'static str>, change: &'static str) -> Result<(), Fail> {
+    let (number, line) = change.split_once(' ').unwrap_or((change, ""));
+    let place = number.parse::<usize>()?.checked_sub(1).ok_or("no line 0")?;
+    match lines.get_mut(place) {
+        Some(old) => *old = line,
+        None => lines.push(line)?,
+    }
+    Ok(())
+}
+
 /// The lines of a dump with other lines: after each number what stands there. A number beyond the last line adds one.
 fn changed_lines(
     alloc: Global,
@@ -212,12 +223,7 @@ fn changed_lines(
 ) -> Result<Vec<&'static str>, Fail> {
     let mut lines: Vec<&str> = dump.lines().collect(alloc)?;
     for change in changes.split_terminator(" | ") {
-        let (number, line) = change.split_once(' ').unwrap_or((change, ""));
-        let place = number.parse::<usize>()?.checked_sub(1).ok_or("no line 0")?;
-        match lines.get_mut(place) {
-            Some(old) => *old = line,
-            None => lines.push(line)?,
-        }
+        change_line(&mut lines, change)?;
     }
     Ok(lines)
 }
@@ -239,15 +245,20 @@ pub(crate) fn changed(
     Ok(text)
 }
 
-/// The text of a dump that is given by its name, and after ` | ` by each line that is another.
-pub(crate) fn dump_text(alloc: Global, short: &'static str) -> Result<String, Fail> {
-    let (name, changes) = short.split_once(" | ").unwrap_or((short, ""));
-    for (known, dump) in SAMPLES {
-        if *known == name {
-            return changed(alloc, *dump, changes, NUMBERS);
+/// The dump of this name, whose lines are written in short.
+fn sample(name: &str) -> Result<&'static str, Fail> {
+    for &(known, dump) in SAMPLES {
+        if known == name {
+            return Ok(dump);
         }
     }
     Err(Fail::from("no dump of this name"))
+}
+
+/// The text of a dump that is given by its name, and after ` | ` by each line that is another.
+pub(crate) fn dump_text(alloc: Global, short: &'static str) -> Result<String, Fail> {
+    let (name, changes) = short.split_once(" | ").unwrap_or((short, ""));
+    changed(alloc, sample(name)?, changes, NUMBERS)
 }
 
 /// The dump of this text, which has no fault.

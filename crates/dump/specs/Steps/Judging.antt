@@ -37,6 +37,11 @@ HasTaken profile (Some text) state left =
     (rest : List ℕ) × (left ≡ Some rest)
     × (lines : List Reading) × (dump_of profile text ≡ lines ++ dump_of profile rest) × (state ≡ progress lines)
 
+-- of known bytes, read by a profile, the checker has taken all lines
+abbrev pub HasTakenAll : Profile → Option (List ℕ) → Progress → Type 0
+HasTakenAll profile None state = ⊤
+HasTakenAll profile (Some text) state = state ≡ progress (dump_of profile text)
+
 -- how many elements a checker may still take, and one more
 abbrev pub room_of : Progress → ℕ
 room_of (running elements) = most_elements + 1 - length elements

@@ -99,18 +99,26 @@ fn opens_and_migrates(rt: HostRuntime) -> Result<(), Fail> {
     for row in ROWS {
         let opened = answered(rt.alloc(), row.text, false)?;
         let migrated = answered(rt.alloc(), row.text, true)?;
-        let wanted = (row.text, row.fault, migration_fault(row));
-        assert_eq!(rt; (row.text, opened, migrated), wanted);
-    }
-    for &(fault, name, text) in &[
-        (TablesFault::Refused, "S01", "store refused"),
-        (TablesFault::Memory, "S02", "out of memory"),
-        (TablesFault::Foreign, "S03", "not a codenav database"),
-        (TablesFault::OldFormat, "S04", "database is of format 1"),
-    ] {
-        assert_eq!(rt; (fault.name(), fault.text()), (name, text));
+        assert_eq!(rt; opened, row.fault, "{}", row.text);
+        assert_eq!(rt; migrated, migration_fault(row), "{}", row.text);
     }
     Ok(())
+}
+
+/// The faults, their codes and their texts.
+const FAULTS: &[(TablesFault, &str, &str)] = &[
+    (TablesFault::Refused, "S01", "store refused"),
+    (TablesFault::Memory, "S02", "out of memory"),
+    (TablesFault::Foreign, "S03", "not a codenav database"),
+    (TablesFault::OldFormat, "S04", "database is of format 1"),
+];
+
+#[test]
+fn names_and_texts_of_faults(rt: HostRuntime) {
+    for &(fault, name, text) in FAULTS {
+        assert_eq!(rt; fault.name(), name);
+        assert_eq!(rt; fault.text(), text);
+    }
 }
 
 /// How many objects the schema has of the tables that are opened over a connection.

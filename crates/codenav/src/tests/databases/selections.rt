@@ -237,7 +237,7 @@ fn selects(rt: HostRuntime) -> Result<(), Fail> {
     for row in ROWS {
         let found = found(rt.alloc(), row)?;
         let wanted = row.found.unwrap_or("refused");
-        assert_eq!(rt; (row.change, found.as_str()), (row.change, wanted));
+        assert_eq!(rt; found.as_str(), wanted, "{}", row.change);
     }
     Ok(())
 }

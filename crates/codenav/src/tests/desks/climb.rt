@@ -79,7 +79,7 @@ fn climb(rt: HostRuntime) -> Result<(), Fail> {
 }
 
 /// The reply to a query for the definition at the innermost range of a dump, where the desk is given the dump first.
-fn deepest<S: Alter>(alloc: Global, desk: &mut TableDesk<S>, dump: &str) -> Result<String, Fail> {
+fn deepest<D: Desk>(alloc: Global, desk: &mut D, dump: &str) -> Result<String, Fail> {
     let upload = command(alloc, "put", "app k1 1", dump.as_bytes())?;
     let accepted = desk.apply(&upload);
     drop(upload);
@@ -89,13 +89,22 @@ fn deepest<S: Alter>(alloc: Global, desk: &mut TableDesk<S>, dump: &str) -> Resu
     reply_to(alloc, desk, "definition app file:///a.ts 0:9999")
 }
 
+/// The same of a desk over tables.
+fn deepest_of_tables<S: Alter>(
+    alloc: Global,
+    desk: &mut TableDesk<S>,
+    dump: &str,
+) -> Result<String, Fail> {
+    deepest(alloc, desk, dump)
+}
+
 #[test]
 fn ten_thousand_levels(rt: HostRuntime) -> Result<(), Fail> {
     let dump = levels(rt.alloc(), false)?;
     let wanted =
         r#"200 {"places":[{"end":{"character":20000,"line":0},"project":"app","start":{"character":0,"line":0},"uri":"file:///a.ts"}]}"#;
     let mut desk = table_desk(rt.alloc())?;
-    let found = deepest(rt.alloc(), &mut desk, dump.as_str())?;
+    let found = deepest_of_tables(rt.alloc(), &mut desk, dump.as_str())?;
     assert_eq!(rt; found.as_str(), wanted);
     Ok(())
 }

@@ -115,7 +115,7 @@ fn forms_of_names_and_numbers(rt: HostRuntime) -> Result<(), Fail> {
         let (short, wanted) = row.split_once(" => ").ok_or("no row")?;
         let (kind, text) = short.split_once(' ').ok_or("no text")?;
         let found = read_as(rt.alloc(), kind, text)?;
-        assert_eq!(rt; (short, found.as_str()), (short, wanted));
+        assert_eq!(rt; found.as_str(), wanted, "{short}");
     }
     Ok(())
 }

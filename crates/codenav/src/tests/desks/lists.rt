@@ -127,7 +127,7 @@ fn expect_served<R: AllocGlobal + Abort, D: Desk>(
     wanted: &str,
 ) -> Result<(), Fail> {
     let found = served(rt.alloc(), desk, request)?;
-    assert_eq!(rt; (rows, found.as_str()), (rows, wanted));
+    assert_eq!(rt; found.as_str(), wanted, "{rows:?}");
     Ok(())
 }
 

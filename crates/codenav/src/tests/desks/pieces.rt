@@ -48,9 +48,13 @@ fn reply_in_pieces(
     most: usize,
 ) -> Result<String, Fail> {
     let mut upload = begin(alloc, row)?;
-    take_pieces(&mut upload, body, first, most)?;
-    let reply = desk.finish_upload(upload);
-    text_of(alloc, &reply)
+    match take_pieces(&mut upload, body, first, most) {
+        Ok(()) => text_of(alloc, &desk.finish_upload(upload)),
+        Err(fault) => {
+            drop(upload);
+            Err(fault)
+        }
+    }
 }
 
 /// The same of a new desk.
@@ -73,11 +77,11 @@ fn expect_reply<R: AllocGlobal + Abort>(
 ) -> Result<(), Fail> {
     for first in 0..=body.len() {
         let found = first_reply_in_pieces(rt.alloc(), row, body, first, body.len())?;
-        assert_eq!(rt; (row, first, found.as_str()), (row, first, wanted));
+        assert_eq!(rt; found.as_str(), wanted, "{first}: {row}");
     }
     for &most in &[1, 2, 7] {
         let found = first_reply_in_pieces(rt.alloc(), row, body, 0, most)?;
-        assert_eq!(rt; (row, most, found.as_str()), (row, most, wanted));
+        assert_eq!(rt; found.as_str(), wanted, "{most}: {row}");
     }
     Ok(())
 }
@@ -186,7 +190,7 @@ fn expect_held<R: AllocGlobal + Abort>(
     expect_pieces(rt, &mut upload, row, pieces);
     let reply = PlainDesk::new(rt.alloc()).finish_upload(upload);
     let found = text_of(rt.alloc(), &reply)?;
-    assert_eq!(rt; (row, found.as_str()), (row, wanted));
+    assert_eq!(rt; found.as_str(), wanted, "{row}");
     Ok(())
 }
 
@@ -200,7 +204,7 @@ fn expect_kept<R: AllocGlobal + Abort>(rt: &R) -> Result<(), Fail> {
         ("tags app k1", "x"),
     ] {
         let found = reply_in_pieces(rt.alloc(), &mut desk, *row, body.as_bytes(), 0, 1)?;
-        assert_eq!(rt; (*row, *body, found.as_str()), (*row, *body, kept.as_str()));
+        assert_eq!(rt; found.as_str(), kept.as_str(), "{row}: {body}");
     }
     Ok(())
 }

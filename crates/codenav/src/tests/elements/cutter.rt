@@ -87,7 +87,7 @@ fn lines_of_pieces(rt: HostRuntime) -> Result<(), Fail> {
         ] {
             found.push_str(row(rt.alloc(), text, most)?.as_str())?;
         }
-        assert_eq!(rt; (most, found.as_str()), (most, ROWS));
+        assert_eq!(rt; found.as_str(), ROWS, "{most}");
     }
     Ok(())
 }

@@ -113,7 +113,7 @@ fn rows(alloc: Global, most: usize) -> Result<String, Fail> {
 fn lines_of_input_in_pieces(rt: HostRuntime) -> Result<(), Fail> {
     for &most in &[1, 2, 7, 100] {
         let found = rows(rt.alloc(), most)?;
-        assert_eq!(rt; (most, found.as_str()), (most, ROWS));
+        assert_eq!(rt; found.as_str(), ROWS, "{most}");
     }
     let wanted =
         "\"one\\ntwo\\nthree\\n\" => \"one\" 0 Read 1 Read 1 Read 1 Read 1 Read 1 Read 1\n";

@@ -2,15 +2,15 @@ use Rattle.std.proofs.Common.{◌≡◌}
 use Rattle.lsif.specs.Buffered.{unread}
 use Rattle.dump.specs.Progress.{IsRunning}
 use Rattle.dump.specs.Steps.Judging.{HasTaken, IsReady, room_of}
-use Rattle.dump.proofs.reading.read_dump.Given as goal
+use Rattle.dump.proofs.reading.take_lines.Given as goal
 
 abbrev pub invariant-reading : goal.invariant-reading
 invariant-reading g l = record {
   failed : g.R.Source.failed l.r ≡ g.R.Source.failed l.fn.r;
   ready : IsReady l.lines;
   runs : IsRunning l.checker.progress;
-  profile : l.checker.profile ≡ l.fn.profile;
-  taken : HasTaken l.fn.profile (g.R.Source.left l.fn.r) l.checker.progress (unread l.lines.pending (g.R.Source.left l.r));
+  profile : l.checker.profile ≡ l.fn.checker.profile;
+  taken : HasTaken l.fn.checker.profile (g.R.Source.left l.fn.r) l.checker.progress (unread l.lines.pending (g.R.Source.left l.r));
 }
 
 abbrev pub decreases-reading : goal.decreases-reading
