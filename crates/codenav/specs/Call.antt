@@ -84,21 +84,11 @@ abbrev pub top_app : App
 top_app =
     let codenav = new_app (codes "codenav") in record codenav { top = record codenav.top { subcommand_required = true; has_version = true } }
 
--- the same with the subcommands that check a file
-abbrev pub app_with_checks : App
-app_with_checks = with_subcommand (with_subcommand top_app check_lsif_app.top) check_tags_app.top
-
--- and with replay
-abbrev pub app_with_replay : App
-app_with_replay = with_subcommand app_with_checks replay_app.top
-
--- and with serve
-abbrev pub app_with_serve : App
-app_with_serve = with_subcommand app_with_replay serve_app.top
-
 -- the command line
 abbrev pub app : App
-app = with_subcommand app_with_serve migrate_app.top
+app =
+    let checks = with_subcommand (with_subcommand top_app check_lsif_app.top) check_tags_app.top in
+    with_subcommand (with_subcommand (with_subcommand checks replay_app.top) serve_app.top) migrate_app.top
 
 -- the profile of this number; profile 1 where none is given
 abbrev pub profile_named : Option Text → Option Profile

@@ -1,7 +1,7 @@
 //! The command line, as `clap` is told of it: the subcommands with their words and options.
-ghost use Rattle.std.specs.Prelude.{◌≡◌, IfOk, false, codes, pos};
-ghost use Rattle.clap.specs.Words.{app_of, rule_of, with_subcommand};
-ghost use Rattle.codenav.specs.Call.{app, app_with_checks, app_with_replay, app_with_serve, check_lsif_app, check_tags_app, migrate_app, most_connections, most_port};
+ghost use Rattle.std.specs.Prelude.{◌≡◌, IfOk, false, true, codes, pos};
+ghost use Rattle.clap.specs.Words.{App, app_of, rule_of, with_subcommand};
+ghost use Rattle.codenav.specs.Call.{app, check_lsif_app, check_tags_app, migrate_app, most_connections, most_port};
 ghost use Rattle.codenav.specs.Call.{number_option, replay_app, required_number, serve_app, top_app, word};
 
 use clap::builder::ValueParser;
@@ -167,42 +167,25 @@ fn top<'a>(alloc: Global) -> Command<'a>
         .subcommand_required(true)
 }
 
-/// The program with the subcommand `check-lsif`.
-fn with_check_lsif<'a>(alloc: Global) -> Result<Command<'a>, AllocError>
-    ensures { IfOk result (λ c. app_of c ≡ with_subcommand top_app check_lsif_app.top) }
+/// A program with one subcommand more, where memory was had for both.
+fn add<'a>(
+    program: Result<Command<'a>, AllocError>,
+    subcommand: Result<Command<'a>, AllocError>,
+) -> Result<Command<'a>, AllocError>
+    ensures { (before added : App) → IfOk program.entry (λ c. app_of c ≡ before) → IfOk subcommand.entry (λ c. app_of c ≡ added)
+        → added.top.is_plain ≡ true → IfOk result (λ c. app_of c ≡ with_subcommand before added.top) }
 {
-    let check_lsif = check_lsif(alloc)?;
-    top(alloc).subcommand(check_lsif)
-}
-
-/// The program with both checks.
-fn with_checks<'a>(alloc: Global) -> Result<Command<'a>, AllocError>
-    ensures { IfOk result (λ c. app_of c ≡ app_with_checks) }
-{
-    let check_tags = check_tags(alloc)?;
-    with_check_lsif(alloc)?.subcommand(check_tags)
-}
-
-/// The program with both checks and `replay`.
-fn with_replay<'a>(alloc: Global) -> Result<Command<'a>, AllocError>
-    ensures { IfOk result (λ c. app_of c ≡ app_with_replay) }
-{
-    let replay = replay(alloc)?;
-    with_checks(alloc)?.subcommand(replay)
-}
-
-/// The program with both checks, `replay` and `serve`.
-fn with_serve<'a>(alloc: Global) -> Result<Command<'a>, AllocError>
-    ensures { IfOk result (λ c. app_of c ≡ app_with_serve) }
-{
-    let serve = serve(alloc)?;
-    with_replay(alloc)?.subcommand(serve)
+    let added = subcommand?;
+    program?.subcommand(added)
 }
 
 /// The command line.
 pub fn command<'a>(alloc: Global) -> Result<Command<'a>, AllocError>
     ensures { IfOk result (λ c. app_of c ≡ app) }
 {
-    let migrate = migrate(alloc)?;
-    with_serve(alloc)?.subcommand(migrate)
+    let with_check = add(Ok(top(alloc)), check_lsif(alloc));
+    let with_checks = add(with_check, check_tags(alloc));
+    let with_replay = add(with_checks, replay(alloc));
+    let with_serve = add(with_replay, serve(alloc));
+    add(with_serve, migrate(alloc))
 }

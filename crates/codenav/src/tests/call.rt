@@ -1,4 +1,5 @@
 //! The calls of the program, and words that are none.
+use super::asserts::{expect_equal_text, parted};
 use crate::call::{Call, CallFault, read_call};
 use clap::Error;
 use std::alloc::Global;
@@ -114,9 +115,9 @@ fn words_of<'a>(alloc: Global, short: &'a str) -> Result<Vec<&'a str>, Fail> {
 #[test]
 fn words_and_calls(rt: HostRuntime) -> Result<(), Fail> {
     for row in ROWS.lines() {
-        let (short, wanted) = row.split_once(" => ").ok_or("no row")?;
+        let (short, wanted) = parted(row, " => ")?;
         let found = read(rt.alloc(), short)?;
-        assert_eq!(rt; found.as_str(), wanted, "{short}");
+        expect_equal_text(&rt, found.as_str(), wanted, short);
     }
     Ok(())
 }

@@ -1,4 +1,5 @@
 //! Reports of dumps and of tags files: what the tables of other files are asserted by, and readers and writers that fail.
+use super::asserts::{expect_equal, parted, there};
 use super::samples::named::BASE;
 use super::samples::{Marks, Pieces, Slow, changed, in_pieces, slow_writer, text_of};
 use crate::check::check_lsif;
@@ -50,7 +51,7 @@ E02 shard is not the document of a target";
 /// a number alone is of a line that is empty.
 fn report(alloc: Global, row: &str) -> Result<String, Fail> {
     let (short, _) = row.split_once(" | ").unwrap_or((row, ""));
-    let (first, rest) = short.split_once(' ').ok_or("no report")?;
+    let (first, rest) = parted(short, " ")?;
     if first == "ok" {
         return Ok(format!(in alloc; "ok {rest} elements\n")?);
     }
@@ -102,10 +103,11 @@ pub(crate) fn expect_text<R: AllocGlobal + Abort>(
         Ok(status) => Some(status.exit_code()),
         Err(_) => None,
     };
-    assert_eq!(rt;
-        (found, written.as_slice()),
-        (Some(status), wanted.as_bytes()),
-        "{kind:?}: {wanted}"
+    expect_equal(
+        rt,
+        &(found, written.as_slice()),
+        &(Some(status), wanted.as_bytes()),
+        wanted,
     );
 }
 
@@ -157,11 +159,11 @@ fn readers_that_fail<R: AllocGlobal + Abort>(rt: &R, row: &Failing<'_>) {
         let mut reader = in_pieces(row.text.as_bytes(), row.most);
         reader.fails_at = fails_at;
         let (answer, written) = checked(rt.alloc(), row.kind, reader, 1, 0);
-        assert_eq!(rt;
-            (answer, written.as_slice()),
-            (Err(CheckFault::Read), b"".as_slice()),
-            "{:?}: {fails_at}",
-            row.kind
+        expect_equal(
+            rt,
+            &(answer, written.as_slice()),
+            &(Err(CheckFault::Read), b"".as_slice()),
+            row.text,
         );
     }
 }
@@ -174,14 +176,14 @@ fn expect_taken<R: AllocGlobal + Abort>(
     fails_at: u32,
     before: usize,
 ) -> Result<(), Fail> {
-    let taken = row.report.get(..before).ok_or("no such place")?;
+    let taken = there(row.report.get(..before), "no such place")?;
     let reader = in_pieces(row.text.as_bytes(), row.most);
     let (answer, written) = checked(rt.alloc(), row.kind, reader, most, fails_at);
-    assert_eq!(rt;
-        (answer, written.as_slice()),
-        (Err(CheckFault::Write), taken.as_bytes()),
-        "{:?}: {before}",
-        row.kind
+    expect_equal(
+        rt,
+        &(answer, written.as_slice()),
+        &(Err(CheckFault::Write), taken.as_bytes()),
+        row.text,
     );
     Ok(())
 }

@@ -1,4 +1,5 @@
 //! Connections on loopback and clients that take their time, and what they're replied.
+use super::asserts::{expect_equal, expect_equal_text, there};
 use super::databases::opened;
 use super::replay::{NO_PROJECTS, PROJECTS, exchange};
 use super::samples::reply;
@@ -149,7 +150,7 @@ fn expect_sent<R: AllocGlobal + Abort>(
     wanted: &str,
 ) -> Result<(), Fail> {
     let found = received(rt.alloc(), client)?;
-    assert_eq!(rt; found.as_str(), wanted, "{sent}");
+    expect_equal_text(rt, found.as_str(), wanted, sent);
     Ok(())
 }
 
@@ -160,7 +161,7 @@ fn expect_received<R: AllocGlobal + Abort>(
     rows: &[(&str, &str)],
 ) -> Result<(), Fail> {
     for &(sent, wanted) in rows.iter().rev() {
-        let client = clients.pop().ok_or("no client")?;
+        let client = there(clients.pop(), "no client")?;
         expect_sent(rt, client, sent, wanted)?;
     }
     Ok(())
@@ -187,7 +188,13 @@ fn counted(rt: HostRuntime) -> Result<(), Fail> {
     ];
     let listener = listen(&rt)?;
     let mut clients = served_clients(&rt, &listener, &rows)?;
-    expect_received(&rt, &mut clients, &rows)?;
+    expect_received(&rt, &mut clients, &rows)
+}
+
+/// No client comes.
+#[test]
+fn none_accepted(rt: HostRuntime) -> Result<(), Fail> {
+    let listener = listen(&rt)?;
     listener.set_nonblocking(true)?;
     assert_eq!(rt; serve_all(&rt, &listener, 1)?, Err(ServerFault::Accept));
     Ok(())
@@ -368,7 +375,12 @@ fn trickles(rt: HostRuntime) -> Result<(), Fail> {
         (Slowness::SendsOn, 31, 0, 30),
     ] {
         let found = trickled(rt.alloc(), slowness, each)?;
-        assert_eq!(rt; found, (count, wait), "{slowness:?}: {each}");
+        expect_equal(
+            &rt,
+            &(slowness, each, found),
+            &(slowness, each, (count, wait)),
+            "",
+        );
     }
     Ok(())
 }

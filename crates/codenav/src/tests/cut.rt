@@ -1,4 +1,5 @@
 //! Streams of requests that are cut, and readers and writers that fail: what is written, and which requests have their effect.
+use super::asserts::{expect_equal, expect_equal_text, there};
 use super::replay::{NO_PROJECTS, PROJECTS, UPLOADS, exchange, expect, replay_over, reply_of};
 use super::samples::{Slow, in_pieces, slow_writer};
 use desk::PlainDesk;
@@ -99,16 +100,19 @@ fn serve_over(
 fn without_effect<R: AllocGlobal + Abort>(rt: &R, desk: &mut PlainDesk) {
     for fails_at in 1..67 {
         let (answer, written) = serve_over(rt.alloc(), desk, SHORT_PUT, fails_at, 0);
-        assert_eq!(rt;
-            (answer, written.len()),
-            (Err(ServeFault::Read), 0),
-            "{fails_at}"
+        expect_equal(
+            rt,
+            &(answer, written.len()),
+            &(Err(ServeFault::Read), 0),
+            SHORT_PUT,
         );
     }
     let (answer, written) = serve_over(rt.alloc(), desk, PROJECTS, 0, 0);
-    assert_eq!(rt;
-        (answer, written.as_slice()),
-        (Ok(1), NO_PROJECTS.as_bytes())
+    expect_equal(
+        rt,
+        &(answer, written.as_slice()),
+        &(Ok(1), NO_PROJECTS.as_bytes()),
+        PROJECTS,
     );
 }
 
@@ -121,11 +125,8 @@ fn expect_over<R: AllocGlobal + Abort>(
 ) -> Result<(), Fail> {
     let (requests, replies) = exchange(rt.alloc(), rows, usize::MAX)?;
     let (_, written) = serve_over(rt.alloc(), desk, requests.as_str(), 0, 0);
-    assert_eq!(rt;
-        str::from_utf8(&written).unwrap_or("not UTF-8"),
-        replies.as_str(),
-        "{row}"
-    );
+    let found = str::from_utf8(&written).unwrap_or("not UTF-8");
+    expect_equal_text(rt, found, replies.as_str(), row);
     Ok(())
 }
 
@@ -138,12 +139,13 @@ fn expect_taken<R: AllocGlobal + Abort>(
     before: usize,
 ) -> Result<(), Fail> {
     let fails_at = u32::try_from(before)?.saturating_add(1);
-    let taken = wanted.as_bytes().get(..before).ok_or("no such place")?;
+    let taken = there(wanted.as_bytes().get(..before), "no such place")?;
     let (answer, written) = serve_over(rt.alloc(), desk, requests, 0, fails_at);
-    assert_eq!(rt;
-        (answer, written.as_slice()),
-        (Err(ServeFault::Write), taken),
-        "{before}: {requests}"
+    expect_equal(
+        rt,
+        &(answer, written.as_slice()),
+        &(Err(ServeFault::Write), taken),
+        requests,
     );
     Ok(())
 }
@@ -191,10 +193,11 @@ fn expect_read<R: AllocGlobal + Abort>(rt: &R, stream: &str, fails_at: u32) -> R
     reader.fails_at = fails_at;
     let (answer, written, left) = replay_over(rt.alloc(), reader, 1_000_000, 0);
     let wanted = replies_within(rt.alloc(), stream.len().saturating_sub(left))?;
-    assert_eq!(rt;
-        (answer, written.as_slice()),
-        (Err(ServeFault::Read), wanted.as_bytes()),
-        "{fails_at}"
+    expect_equal(
+        rt,
+        &(answer, written.as_slice()),
+        &(Err(ServeFault::Read), wanted.as_bytes()),
+        "",
     );
     Ok(())
 }

@@ -9,6 +9,7 @@ mod pieces;
 mod profiles;
 mod queries;
 
+use super::asserts::{expect_equal_text, parted, there};
 use super::databases::opened;
 use super::samples::dump_text;
 use desk::{
@@ -66,7 +67,7 @@ fn upload(alloc: Global, row: &'static str) -> Result<String, Fail> {
 }
 
 fn project(alloc: Global, text: &str) -> Result<ProjectName, Fail> {
-    Ok(ProjectName::read(alloc, text)?.ok_or("no project's name")?)
+    there(ProjectName::read(alloc, text)?, "no project's name")
 }
 
 /// The command with this body.
@@ -79,7 +80,7 @@ fn command<'a>(
     let (name, rest) = cut(rest);
     let (key, rest) = cut(rest);
     let project = project(alloc, name)?;
-    let key = Key::read(alloc, key)?.ok_or("no key")?;
+    let key = there(Key::read(alloc, key)?, "no key")?;
     let profile = if rest.starts_with('2') {
         Profile::Two
     } else {
@@ -110,10 +111,10 @@ fn kind(verb: &str) -> RequestKind {
 
 /// The position that is written as `2:1`.
 fn position(place: &str) -> Result<Position, Fail> {
-    let (line, character) = place.split_once(':').ok_or("no position")?;
-    let line = read_number(line).ok_or("no line")?;
-    let character = read_number(character).ok_or("no character")?;
-    Ok(Position::new(line, character).ok_or("no position")?)
+    let (line, character) = parted(place, ":")?;
+    let line = there(read_number(line), "no line")?;
+    let character = there(read_number(character), "no character")?;
+    there(Position::new(line, character), "no position")
 }
 
 /// The query at a position.
@@ -123,7 +124,7 @@ fn query_at(alloc: Global, verb: &str, rest: &'static str) -> Result<Query, Fail
     let (place, choice) = cut(rest);
     let (kind, at) = (kind(verb), position(place)?);
     let project = project(alloc, name)?;
-    let uri = DocUri::read(alloc, uri)?.ok_or("no URL")?;
+    let uri = there(DocUri::read(alloc, uri)?, "no URL")?;
     match choice {
         "" => Ok(Query::At {
             kind,
@@ -229,7 +230,7 @@ fn expect_of<R: AllocGlobal + Abort, D: Desk>(
         if k % 2 == 0 {
             found = reply_to(rt.alloc(), desk, line)?;
         } else {
-            assert_eq!(rt; found.as_str(), line, "{k}");
+            expect_equal_text(rt, found.as_str(), line, scenario);
         }
     }
     Ok(())
@@ -252,7 +253,7 @@ fn requests<'a>(
 ) -> Result<Vec<Request<'a>>, Fail> {
     let mut requests = Vec::new(alloc);
     for (k, row) in rows.lines().enumerate() {
-        let body = uploads.get(k).ok_or("no upload")?;
+        let body = there(uploads.get(k), "no upload")?;
         requests.push(request(alloc, row, body.as_str())?)?;
     }
     Ok(requests)
@@ -315,7 +316,7 @@ definition lib file:///a.ts 2:1";
     let uploads = uploads(rt.alloc(), rows)?;
     let requests = requests(rt.alloc(), rows, &uploads)?;
     let found = run_all(rt.alloc(), &requests)?;
-    assert_eq!(rt; found.as_str(), wanted);
+    expect_equal_text(&rt, found.as_str(), wanted, "run");
     judgement_law();
     answer_law();
     reply_law();

@@ -3,6 +3,7 @@
 mod requests;
 mod spans;
 
+use super::asserts::{expect_equal, expect_equal_text};
 use super::samples::{made_dump, text_of};
 use dump::{
     CheckedDump, Checker, RequestKind, Role, chain_law, container_law, ends_law, fault_law,
@@ -63,7 +64,7 @@ fn expect_read<R: AllocGlobal + Abort>(
     wanted: &str,
 ) -> Result<(), Fail> {
     let found = read(rt.alloc(), profile, text)?;
-    assert_eq!(rt; found.as_str(), wanted);
+    expect_equal_text(rt, found.as_str(), wanted, text);
     Ok(())
 }
 
@@ -81,7 +82,7 @@ fn fed_and_read_dumps(rt: HostRuntime) -> Result<(), Fail> {
         )?;
         let found = fed(rt.alloc(), *profile)?;
         let wanted = format!(in rt.alloc(); "{profile:?} {FED}")?;
-        assert_eq!(rt; found.as_str(), wanted.as_str());
+        expect_equal_text(&rt, found.as_str(), wanted.as_str(), "fed");
     }
     Ok(())
 }
@@ -215,7 +216,7 @@ fn look_up(alloc: Global, profile: Profile) -> Result<String, Fail> {
 fn look_ups(rt: HostRuntime) -> Result<(), Fail> {
     for &(profile, wanted) in &[(Profile::One, FOUND_IN_ONE), (Profile::Two, FOUND_IN_TWO)] {
         let found = look_up(rt.alloc(), profile)?;
-        assert_eq!(rt; found.as_str(), wanted);
+        expect_equal_text(&rt, found.as_str(), wanted, "look-ups");
     }
     Ok(())
 }
@@ -269,7 +270,7 @@ fn line_of(alloc: Global, dump: &CheckedDump, short: &str) -> Result<Option<u32>
 fn expect_indexes<R: AllocGlobal + Abort>(rt: &R, dump: &CheckedDump) -> Result<(), Fail> {
     for (short, wanted) in INDEXES {
         let found = line_of(rt.alloc(), dump, *short)?;
-        assert_eq!(rt; (*short, found), (*short, *wanted));
+        expect_equal(rt, &found, wanted, *short);
     }
     Ok(())
 }
@@ -291,7 +292,7 @@ const ROLES: &[(Option<Property>, Option<Role>)] = &[
 #[test]
 fn roles_and_laws(rt: HostRuntime) -> Result<(), Fail> {
     for &(property, role) in ROLES {
-        assert_eq!(rt; role_of(property), role);
+        expect_equal(&rt, &(property, role_of(property)), &(property, role), "");
     }
     fault_law();
     path_law();

@@ -1,6 +1,7 @@
 //! Heads, bodies, routes, methods and parameters that are refused, and of two refusals of one request the one that is tried first. In
 //! a table's row `|` stands for CR LF, `=>` comes before the names of the replies, and a row that begins with `#` says something
 //! of those below it. Each stream is of an index that is empty at first.
+use super::asserts::{parted, there};
 use super::replay::expect;
 use http_edge::{phrase_law, requests_law, route_law, run_law};
 use std::alloc::Global;
@@ -142,7 +143,7 @@ fn reply(name: &str) -> Option<&'static str> {
 fn expect_replies<R: AllocGlobal + Abort>(rt: &R, stream: &str, names: &str) -> Result<(), Fail> {
     let mut signs = String::new(rt.alloc());
     for name in names.split_whitespace() {
-        signs.push_str(reply(name).ok_or("no such reply")?)?;
+        signs.push_str(there(reply(name), "no such reply")?)?;
     }
     let wanted = signs.replace(rt.alloc(), '|', "\r\n")?;
     let count = u32::try_from(names.split_whitespace().count())?;
@@ -160,7 +161,7 @@ fn expect_row<R: AllocGlobal + Abort>(
     if row.starts_with('#') {
         return Ok(());
     }
-    let (part, names) = row.split_once(" => ").ok_or("no row")?;
+    let (part, names) = parted(row, " => ")?;
     let signs = format!(in rt.alloc(); "{before}{part}{after}")?;
     let stream = signs.replace(rt.alloc(), '|', "\r\n")?;
     expect_replies(rt, stream.as_str(), names)

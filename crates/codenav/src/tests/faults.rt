@@ -1,4 +1,5 @@
 //! Faults of dumps: each fault, each two of which one is reported, and the first of several faulty lines.
+use super::asserts::parted;
 use super::check::{BOTH, expect_in, expect_rows};
 use super::samples::named::BASE;
 use super::samples::{GREAT_NUMBERS, Marks, NUMBERS, TEXTS, push_line, text_of};
@@ -232,7 +233,7 @@ fn expect_added<R: AllocGlobal + Abort>(
     number: usize,
     row: &str,
 ) -> Result<(), Fail> {
-    let (code, line) = row.split_once(' ').ok_or("no line")?;
+    let (code, line) = parted(row, " ")?;
     let mut text = text_of(rt.alloc(), dump)?;
     push_line(&mut text, number, line, NUMBERS)?;
     let wanted = format!(in rt.alloc(); "{number} {code}")?;

@@ -3,6 +3,7 @@ mod great;
 mod plain;
 mod rows;
 
+use super::asserts::{expect_equal, expect_equal_text};
 use flatten::{key_law, key_text, reach};
 use lsif::{Moniker, MonikerKind, Package};
 use std::alloc::Global;
@@ -78,7 +79,12 @@ const ROWS: &[Row] = &[
 fn reached_numbers(rt: HostRuntime) -> Result<(), Fail> {
     for row in ROWS {
         let reached = reach(rt.alloc(), row.starts, row.pairs)?;
-        assert_eq!(rt; (row.pairs, reached.as_slice()), (row.pairs, row.reached));
+        expect_equal(
+            &rt,
+            &(row.pairs, reached.as_slice()),
+            &(row.pairs, row.reached),
+            "",
+        );
     }
     Ok(())
 }
@@ -140,7 +146,7 @@ fn expect_key<R: AllocGlobal + Abort>(rt: &R, kind: MonikerKind, row: KeyRow) ->
         kind,
     };
     let found = text(rt.alloc(), &moniker, parts)?;
-    assert_eq!(rt; found.as_str(), wanted);
+    expect_equal_text(rt, found.as_str(), wanted, wanted);
     Ok(())
 }
 

@@ -2,6 +2,7 @@
 //! a result of many edges, long ids, and long texts that many rows have.
 mod shapes;
 
+use super::asserts::parted;
 use super::check::expect_in;
 use super::faults::{EACH_ORDER, EACH_SHAPE, META_DATA, OVERLAPPING};
 use super::replay::{exchange, expect, reply_of};
@@ -14,7 +15,7 @@ use std::test::Fail;
 
 /// Asserts the fault of line 100,001, which comes after this text: a row of the code and the line.
 fn expect_after<R: AllocGlobal + Abort>(rt: &R, text: &String, row: &str) -> Result<(), Fail> {
-    let (code, line) = row.split_once(' ').ok_or("no line")?;
+    let (code, line) = parted(row, " ")?;
     let mut text = text.clone()?;
     push_line(&mut text, 100_001, line, NUMBERS)?;
     let wanted = format!(in rt.alloc(); "100001 {code}")?;
@@ -37,7 +38,7 @@ fn expect_padded<R: AllocGlobal + Abort>(
 fn lines_beyond_the_length(rt: HostRuntime) -> Result<(), Fail> {
     expect_padded(&rt, "project", 1_048_576, "ok 2")?;
     for row in EACH_SHAPE.lines() {
-        let (_, line) = row.split_once(' ').ok_or("no line")?;
+        let (_, line) = parted(row, " ")?;
         expect_padded(&rt, line, 1_048_577, "2 L01")?;
     }
     Ok(())

@@ -1,4 +1,5 @@
 //! The bytes that are written for streams of requests that come whole. Streams that are cut, and readers and writers that fail, are in `cut.rt`.
+use super::asserts::{expect_equal, parted};
 use super::samples::{Pieces, Slow, dump_text, in_pieces, reply, slow_writer};
 use crate::replay::replay_in_memory;
 use http_edge::ServeFault;
@@ -165,7 +166,7 @@ fn status_of(status: &str) -> Result<&'static str, Fail> {
 
 /// The text of a reply whose status and body stand in a row.
 pub(super) fn reply_of(alloc: Global, short: &str) -> Result<String, Fail> {
-    let (status, body) = short.split_once(' ').ok_or("no status")?;
+    let (status, body) = parted(short, " ")?;
     let length = u32::try_from(body.len())?;
     reply(alloc, status_of(status)?, length, body)
 }
@@ -186,7 +187,7 @@ pub(super) fn exchange(
     let mut requests = String::new(alloc);
     let mut replies = String::new(alloc);
     for row in rows.trim_matches('\n').lines().take(count) {
-        let (asked, replied) = row.split_once(" => ").ok_or("no reply")?;
+        let (asked, replied) = parted(row, " => ")?;
         push(&mut requests, request(alloc, asked))?;
         push(&mut replies, reply_of(alloc, replied))?;
     }
@@ -218,12 +219,8 @@ pub(super) fn expect<R: AllocGlobal + Abort>(
     wanted: &str,
 ) {
     let (answer, written, _) = replay_over(rt.alloc(), in_pieces(stream, most), most, 0);
-    assert_eq!(rt;
-        str::from_utf8(&written).unwrap_or("not UTF-8"),
-        wanted,
-        "{most}"
-    );
-    assert_eq!(rt; answer, Ok(count), "{wanted}");
+    let found = str::from_utf8(&written).unwrap_or("not UTF-8");
+    expect_equal(rt, &(answer, found), &(Ok(count), wanted), "");
 }
 
 /// Asserts what is written for streams that come whole, and for no bytes.

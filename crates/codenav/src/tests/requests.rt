@@ -1,6 +1,7 @@
 //! What request lines ask of a desk, and the routes of paths. In a table's row `=>` comes before what is asked.
 ghost use Rattle.std.specs.Prelude.{◌≡◌, is_err, true};
 
+use super::asserts::{expect_equal_text, parted};
 use super::samples::{Slow, slow_writer};
 use dump::RequestKind;
 use http_edge::serve_stream;
@@ -276,14 +277,14 @@ impl Desk for Recorder {
 
 /// What a reply says: the code of a refusal, with the method that the route takes; or what is asked.
 fn said(alloc: Global, reply: &str) -> Result<String, Fail> {
-    let (head, body) = reply.split_once("\r\n\r\n").ok_or("no head")?;
+    let (head, body) = parted(reply, "\r\n\r\n")?;
     let Some(fault) = body.strip_prefix("{\"fault\":\"") else {
         return Ok(String::from_str(alloc, body)?);
     };
-    let (code, _) = fault.split_once("\"").ok_or("no code")?;
+    let (code, _) = parted(fault, "\"")?;
     match head.split_once("Allow: ") {
         Some((_, rest)) => {
-            let (method, _) = rest.split_once("\r\n").ok_or("no method")?;
+            let (method, _) = parted(rest, "\r\n")?;
             Ok(format!(in alloc; "{code} {method}")?)
         }
         None => Ok(String::from_str(alloc, code)?),
@@ -316,9 +317,9 @@ fn expect_asked<R: AllocGlobal + Abort>(
     behind: &str,
 ) -> Result<(), Fail> {
     for row in table.trim_matches('\n').lines() {
-        let (part, wanted) = row.split_once(" => ").ok_or("no row")?;
+        let (part, wanted) = parted(row, " => ")?;
         let found = asked_between(rt.alloc(), before, part, behind)?;
-        assert_eq!(rt; found.as_str(), wanted, "{part}");
+        expect_equal_text(rt, found.as_str(), wanted, part);
     }
     Ok(())
 }

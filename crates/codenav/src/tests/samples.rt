@@ -2,6 +2,7 @@
 pub(crate) mod great;
 pub(crate) mod named;
 
+use super::asserts::{parted, there};
 use dump::{CheckedDump, read_dump};
 use lsif::{Counted, Profile};
 use named::SAMPLES;
@@ -24,7 +25,7 @@ pub(crate) const TEXTS: Marks = ("\"", "\"");
 
 /// A position that is given as `0:4`.
 fn position(alloc: Global, short: &str) -> Result<String, Fail> {
-    let (line, character) = short.split_once(':').ok_or("no position")?;
+    let (line, character) = parted(short, ":")?;
     Ok(format!(in alloc; "{{'line':{line},'character':{character}}}")?)
 }
 
@@ -37,13 +38,13 @@ fn range_members(alloc: Global, start: &str, end: &str) -> Result<String, Fail> 
 
 /// The kind, the scheme and the identifier of a moniker.
 fn moniker_members(alloc: Global, kind: &str, rest: &str) -> Result<String, Fail> {
-    let (scheme, identifier) = rest.split_once(' ').ok_or("no identifier")?;
+    let (scheme, identifier) = parted(rest, " ")?;
     Ok(format!(in alloc; ",'kind':'{kind}','scheme':'{scheme}','identifier':'{identifier}'")?)
 }
 
 /// The manager, the name and the version of a package.
 fn package_members(alloc: Global, manager: &str, rest: &str) -> Result<String, Fail> {
-    let (name, version) = rest.split_once(' ').ok_or("no version")?;
+    let (name, version) = parted(rest, " ")?;
     Ok(format!(in alloc; ",'manager':'{manager}','name':'{name}','version':'{version}'")?)
 }
 
@@ -137,7 +138,7 @@ fn element(alloc: Global, id: &str, short: &str) -> Result<String, Fail> {
 
 /// An element whose id stands before it.
 fn named_element(alloc: Global, short: &str) -> Result<String, Fail> {
-    let (id, rest) = short.split_once(' ').ok_or("no element after the id")?;
+    let (id, rest) = parted(short, " ")?;
     element(alloc, id, rest)
 }
 
@@ -207,7 +208,7 @@ pub(crate) fn text_of(alloc: Global, dump: &str) -> Result<String, Fail> {
 /// Puts what stands behind the number of a line in its place, or behind the last line.
 fn change_line(lines: &mut Vec<&'static str>, change: &'static str) -> Result<(), Fail> {
     let (number, line) = change.split_once(' ').unwrap_or((change, ""));
-    let place = number.parse::<usize>()?.checked_sub(1).ok_or("no line 0")?;
+    let place = there(number.parse::<usize>()?.checked_sub(1), "no line 0")?;
     match lines.get_mut(place) {
         Some(old) => *old = line,
         None => lines.push(line)?,

@@ -1,4 +1,5 @@
 //! Which ranges cover a position, as rows of ranges say it, and which rows are refused.
+use super::super::asserts::{expect_equal, there};
 use super::super::samples::great::levels;
 use super::changes::put_dump;
 use super::opened;
@@ -283,7 +284,7 @@ fn results_of(alloc: Global, ranges: &[FoundRange]) -> Result<String, Fail> {
 fn found_at(alloc: Global, row: &Row) -> Result<String, Fail> {
     let mut tables = filled(alloc, PARTS, row.change)?;
     let (line, character) = row.at;
-    let at = Position::new(line, character).ok_or("no position")?;
+    let at = there(Position::new(line, character), "no position")?;
     let text = match tables.covering(alloc, row.request, row.project, row.uri, at) {
         Ok(Covering::Ranges(ranges)) => return results_of(alloc, &ranges),
         Ok(Covering::NoDump) => "no dump",
@@ -298,9 +299,11 @@ fn found_at(alloc: Global, row: &Row) -> Result<String, Fail> {
 fn climb(rt: HostRuntime) -> Result<(), Fail> {
     for row in ROWS {
         let found = found_at(rt.alloc(), row)?;
-        assert_eq!(rt;
-            (row.change, row.request, found.as_str()),
-            (row.change, row.request, row.found)
+        expect_equal(
+            &rt,
+            &(row.request, found.as_str()),
+            &(row.request, row.found),
+            row.change,
         );
     }
     Ok(())
@@ -312,7 +315,7 @@ fn lines_at(
     tables: &mut Tables<MemStore>,
     character: u32,
 ) -> Result<Vec<u32>, Fail> {
-    let at = Position::new(0, character).ok_or("no position")?;
+    let at = there(Position::new(0, character), "no position")?;
     match tables.covering(alloc, RequestKind::Hover, "deep", "file:///a.ts", at) {
         Ok(Covering::Ranges(found)) => Ok(found.iter().map(|range| range.line).collect(alloc)?),
         Ok(Covering::NoDump | Covering::NoDocument) | Err(_) => Err("no ranges")?,

@@ -1,4 +1,5 @@
 //! Which tags are found by their names.
+use super::super::asserts::{expect_equal_text, there};
 use super::{opened, tags_of};
 use sqlite::{Connection, MemStore};
 use std::alloc::Global;
@@ -62,7 +63,7 @@ fn answer(
 
 /// Whether the tag `ab` is found as it was put, with its fields.
 fn has_whole_tag(alloc: Global, tables: &mut Tables<MemStore>) -> Result<bool, Fail> {
-    let (_, text) = PROJECTS.first().ok_or("no project")?;
+    let (_, text) = there(PROJECTS.first(), "no project")?;
     let tags = tags_of(alloc, text)?;
     let found = tables.names_exact(alloc, "ab", Some("app"))?;
     match (found.first(), tags.first()) {
@@ -97,7 +98,7 @@ fn expect_found<R: AllocGlobal + Abort>(rt: &R, tables: &mut Tables<MemStore>) -
     }
     for (ask, expected) in ROWS {
         let found = found(rt.alloc(), tables, *ask)?;
-        assert_eq!(rt; found.as_str(), *expected);
+        expect_equal_text(rt, found.as_str(), *expected, "names");
     }
     assert!(rt; has_whole_tag(rt.alloc(), tables)?);
     Ok(())

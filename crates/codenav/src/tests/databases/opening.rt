@@ -1,4 +1,5 @@
 //! Which fault the opening and the migration of a database answer, and that tables of other names don't count.
+use super::super::asserts::{expect_equal, expect_equal_text};
 use super::{FORMAT_ONE, opened};
 use sqlite::{Alter, Connection};
 use std::alloc::Global;
@@ -99,8 +100,12 @@ fn opens_and_migrates(rt: HostRuntime) -> Result<(), Fail> {
     for row in ROWS {
         let opened = answered(rt.alloc(), row.text, false)?;
         let migrated = answered(rt.alloc(), row.text, true)?;
-        assert_eq!(rt; opened, row.fault, "{}", row.text);
-        assert_eq!(rt; migrated, migration_fault(row), "{}", row.text);
+        expect_equal(
+            &rt,
+            &(opened, migrated),
+            &(row.fault, migration_fault(row)),
+            row.text,
+        );
     }
     Ok(())
 }
@@ -116,8 +121,8 @@ const FAULTS: &[(TablesFault, &str, &str)] = &[
 #[test]
 fn names_and_texts_of_faults(rt: HostRuntime) {
     for &(fault, name, text) in FAULTS {
-        assert_eq!(rt; fault.name(), name);
-        assert_eq!(rt; fault.text(), text);
+        expect_equal_text(&rt, fault.name(), name, text);
+        expect_equal_text(&rt, fault.text(), text, name);
     }
 }
 

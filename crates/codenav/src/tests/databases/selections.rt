@@ -1,4 +1,5 @@
 //! What selections find in a database that statements filled, and which rows they refuse.
+use super::super::asserts::expect_equal_text;
 use super::opened;
 use dump::Role;
 use sqlite::{Connection, MemStore};
@@ -192,7 +193,12 @@ const ROWS: &[Row] = &[
     },
 ];
 
-fn text_of<T: Debug>(alloc: Global, found: &T) -> Result<String, TablesFault> {
+/// The text of what was found.
+fn text_of<T: Debug + Drop>(
+    alloc: Global,
+    found: Result<T, TablesFault>,
+) -> Result<String, TablesFault> {
+    let found = found?;
     match format!(in alloc; "{found:?}") {
         Ok(text) => Ok(text),
         Err(_) => Err(TablesFault::Memory),
@@ -202,15 +208,15 @@ fn text_of<T: Debug>(alloc: Global, found: &T) -> Result<String, TablesFault> {
 /// The text of what a call finds.
 fn answer(alloc: Global, tables: &mut Tables<MemStore>, ask: Ask) -> Result<String, TablesFault> {
     match ask {
-        Ask::Reply(project, key) => text_of(alloc, &tables.kept_reply(project, key)?),
-        Ask::Profile(project) => text_of(alloc, &tables.profile(project)?),
-        Ask::Projects => text_of(alloc, &tables.projects(alloc)?),
-        Ask::Hover(project, number) => text_of(alloc, &tables.hover(project, number)?),
-        Ask::Marks(project, line) => text_of(alloc, &tables.marks(alloc, project, line)?),
+        Ask::Reply(project, key) => text_of(alloc, tables.kept_reply(project, key)),
+        Ask::Profile(project) => text_of(alloc, tables.profile(project)),
+        Ask::Projects => text_of(alloc, tables.projects(alloc)),
+        Ask::Hover(project, number) => text_of(alloc, tables.hover(project, number)),
+        Ask::Marks(project, line) => text_of(alloc, tables.marks(alloc, project, line)),
         Ask::Items(project, number, role) => {
-            text_of(alloc, &tables.items(alloc, project, number, role)?)
+            text_of(alloc, tables.items(alloc, project, number, role))
         }
-        Ask::Bearers(key) => text_of(alloc, &tables.bearers(alloc, key)?),
+        Ask::Bearers(key) => text_of(alloc, tables.bearers(alloc, key)),
     }
 }
 
@@ -237,7 +243,7 @@ fn selects(rt: HostRuntime) -> Result<(), Fail> {
     for row in ROWS {
         let found = found(rt.alloc(), row)?;
         let wanted = row.found.unwrap_or("refused");
-        assert_eq!(rt; found.as_str(), wanted, "{}", row.change);
+        expect_equal_text(&rt, found.as_str(), wanted, row.change);
     }
     Ok(())
 }

@@ -1,4 +1,5 @@
 //! Ranges around ranges, and a row that isn't one of this product's.
+use super::super::asserts::expect_equal_text;
 use super::super::databases::opened;
 use super::super::samples::great::levels;
 use super::{command, reply_to, table_desk, text_of};
@@ -73,7 +74,7 @@ fn found<S: Alter + Drop>(
 fn climb(rt: HostRuntime) -> Result<(), Fail> {
     for (row, sql, wanted) in ROWS {
         let found = found(rt.alloc(), table_desk(rt.alloc())?, *row, *sql)?;
-        assert_eq!(rt; found.as_str(), *wanted, "{row} {sql}");
+        expect_equal_text(&rt, found.as_str(), *wanted, *row);
     }
     Ok(())
 }
@@ -105,6 +106,6 @@ fn ten_thousand_levels(rt: HostRuntime) -> Result<(), Fail> {
         r#"200 {"places":[{"end":{"character":20000,"line":0},"project":"app","start":{"character":0,"line":0},"uri":"file:///a.ts"}]}"#;
     let mut desk = table_desk(rt.alloc())?;
     let found = deepest_of_tables(rt.alloc(), &mut desk, dump.as_str())?;
-    assert_eq!(rt; found.as_str(), wanted);
+    expect_equal_text(&rt, found.as_str(), wanted, "deepest");
     Ok(())
 }

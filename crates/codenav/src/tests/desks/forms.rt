@@ -1,4 +1,5 @@
 //! Names, keys, URLs and numbers as they are read; codes and their replies; and what a command is of.
+use super::super::asserts::{expect_equal_text, parted, there};
 use super::{project, text_of};
 use desk::{Code, Command, DocUri, Key, ProjectName, Reply, read_number};
 use lsif::Profile;
@@ -9,7 +10,7 @@ use std::test::Fail;
 /// The project and the key of a command.
 fn words_of_a_command(alloc: Global) -> Result<String, Fail> {
     let project = project(alloc, "app")?;
-    let key = Key::read(alloc, "K-1")?.ok_or("no key")?;
+    let key = there(Key::read(alloc, "K-1")?, "no key")?;
     let command = Command::Remove { project, key };
     let words = format!(in alloc; "{} {}", command.project().as_str(), command.key().as_str());
     drop(command);
@@ -47,7 +48,7 @@ fn replies_of_codes(rt: HostRuntime) -> Result<(), Fail> {
     let found = found_texts(rt.alloc())?;
     let last = text_of(rt.alloc(), &Reply::out_of_memory())?;
     let found = format!(in rt.alloc(); "{found}{last}")?;
-    assert_eq!(rt; found.as_str(), wanted);
+    expect_equal_text(&rt, found.as_str(), wanted, "codes");
     Ok(())
 }
 
@@ -112,10 +113,10 @@ fn read_as(alloc: Global, kind: &str, text: &str) -> Result<String, Fail> {
 #[test]
 fn forms_of_names_and_numbers(rt: HostRuntime) -> Result<(), Fail> {
     for row in FORMS.lines() {
-        let (short, wanted) = row.split_once(" => ").ok_or("no row")?;
-        let (kind, text) = short.split_once(' ').ok_or("no text")?;
+        let (short, wanted) = parted(row, " => ")?;
+        let (kind, text) = parted(short, " ")?;
         let found = read_as(rt.alloc(), kind, text)?;
-        assert_eq!(rt; found.as_str(), wanted, "{short}");
+        expect_equal_text(&rt, found.as_str(), wanted, short);
     }
     Ok(())
 }

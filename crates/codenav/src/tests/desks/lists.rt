@@ -1,4 +1,5 @@
 //! Each list of four requests, and so each shorter one: it's the beginning of others. Both desks give the same replies.
+use super::super::asserts::{expect_equal, there};
 use super::{requests, served, table_desk, uploads};
 use desk::{Desk, PlainDesk, Request, TableDesk};
 use sqlite::Alter;
@@ -127,7 +128,7 @@ fn expect_served<R: AllocGlobal + Abort, D: Desk>(
     wanted: &str,
 ) -> Result<(), Fail> {
     let found = served(rt.alloc(), desk, request)?;
-    assert_eq!(rt; found.as_str(), wanted, "{rows:?}");
+    expect_equal(rt, &(found.as_str(), rows), &(wanted, rows), "");
     Ok(())
 }
 
@@ -144,8 +145,8 @@ fn expect_list<R: AllocGlobal + Abort, D: Desk>(
         kept: [None, None],
     };
     for &row in rows {
-        let request = requests.get(row).ok_or("no request")?;
-        let wanted = REPLIES.get(answer(&mut known, row)).ok_or("no reply")?;
+        let request = there(requests.get(row), "no request")?;
+        let wanted = there(REPLIES.get(answer(&mut known, row)), "no reply")?;
         expect_served(rt, desk, request, rows, *wanted)?;
     }
     Ok(())

@@ -1,4 +1,5 @@
 //! Uploads whose bodies come in pieces.
+use super::super::asserts::{expect_equal, expect_equal_text, there};
 use super::super::samples::great::{filled, spaced};
 use super::{cut, project, reply_to, text_of, upload};
 use desk::{Desk, Key, PlainDesk, Upload, UploadFault};
@@ -13,7 +14,7 @@ fn begin(alloc: Global, row: &'static str) -> Result<Upload, Fail> {
     let (name, rest) = cut(rest);
     let (key, rest) = cut(rest);
     let project = project(alloc, name)?;
-    let key = Key::read(alloc, key)?.ok_or("no key")?;
+    let key = there(Key::read(alloc, key)?, "no key")?;
     let begun = match verb {
         "tags" => Upload::tags(alloc, project, key),
         _ if rest.starts_with('2') => Upload::dump(alloc, project, key, Profile::Two),
@@ -77,11 +78,11 @@ fn expect_reply<R: AllocGlobal + Abort>(
 ) -> Result<(), Fail> {
     for first in 0..=body.len() {
         let found = first_reply_in_pieces(rt.alloc(), row, body, first, body.len())?;
-        assert_eq!(rt; found.as_str(), wanted, "{first}: {row}");
+        expect_equal_text(rt, found.as_str(), wanted, row);
     }
     for &most in &[1, 2, 7] {
         let found = first_reply_in_pieces(rt.alloc(), row, body, 0, most)?;
-        assert_eq!(rt; found.as_str(), wanted, "{most}: {row}");
+        expect_equal_text(rt, found.as_str(), wanted, row);
     }
     Ok(())
 }
@@ -175,7 +176,7 @@ fn expect_pieces<R: AllocGlobal + Abort>(
 ) {
     for (piece, held) in pieces {
         let taken = upload.piece(piece.as_bytes());
-        assert_eq!(rt; (row, taken, upload.held()), (row, Ok(()), *held));
+        expect_equal(rt, &(taken, upload.held()), &(Ok(()), *held), row);
     }
 }
 
@@ -190,7 +191,7 @@ fn expect_held<R: AllocGlobal + Abort>(
     expect_pieces(rt, &mut upload, row, pieces);
     let reply = PlainDesk::new(rt.alloc()).finish_upload(upload);
     let found = text_of(rt.alloc(), &reply)?;
-    assert_eq!(rt; found.as_str(), wanted, "{row}");
+    expect_equal_text(rt, found.as_str(), wanted, row);
     Ok(())
 }
 
@@ -204,7 +205,7 @@ fn expect_kept<R: AllocGlobal + Abort>(rt: &R) -> Result<(), Fail> {
         ("tags app k1", "x"),
     ] {
         let found = reply_in_pieces(rt.alloc(), &mut desk, *row, body.as_bytes(), 0, 1)?;
-        assert_eq!(rt; found.as_str(), kept.as_str(), "{row}: {body}");
+        expect_equal_text(rt, found.as_str(), kept.as_str(), *row);
     }
     Ok(())
 }
@@ -227,10 +228,7 @@ fn expect_large<R: AllocGlobal + Abort>(
 ) -> Result<(), Fail> {
     let whole = format!(in rt.alloc(); "{text}{last}")?;
     let found = first_reply_in_pieces(rt.alloc(), row, whole.as_bytes(), 0, 8192)?;
-    assert_eq!(rt;
-        (row, whole.len(), found.as_str()),
-        (row, whole.len(), wanted)
-    );
+    expect_equal_text(rt, found.as_str(), wanted, row);
     Ok(())
 }
 

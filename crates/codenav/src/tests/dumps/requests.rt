@@ -1,4 +1,5 @@
 //! By which monikers requests join dumps, and what they ask for (LSIF 0.6.0, "Multiple Projects").
+use super::super::asserts::expect_equal;
 use dump::{RequestKind, Role};
 use lsif::MonikerKind;
 use std::test::Fail;
@@ -52,13 +53,15 @@ const ROLES: &[(RequestKind, &[Role])] = &[
 fn joined_by_kind(rt: HostRuntime) -> Result<(), Fail> {
     for (request, kind, follows, finds) in JOINS {
         let found = (request.follows(*kind), request.finds(*kind));
-        assert_eq!(rt;
-            (*request, *kind, found),
-            (*request, *kind, (*follows, *finds))
+        expect_equal(
+            &rt,
+            &(*request, *kind, found),
+            &(*request, *kind, (*follows, *finds)),
+            "",
         );
     }
     for (request, roles) in ROLES {
-        assert_eq!(rt; (*request, request.roles()), (*request, *roles));
+        expect_equal(&rt, &(*request, request.roles()), &(*request, *roles), "");
     }
     Ok(())
 }

@@ -1,4 +1,5 @@
 //! The conflicts of spans with others and with each other.
+use super::super::asserts::expect_equal;
 use super::super::samples::{NUMBERS, push_line, text_of};
 use dump::{DumpFault, LineFault, read_dump};
 use lsif::{Code, Counted, Profile};
@@ -132,9 +133,11 @@ fn expect_conflict<R: AllocGlobal + Abort>(
     wanted: bool,
 ) -> Result<(), Fail> {
     let found = is_conflict(rt.alloc(), others, targets)?;
-    assert_eq!(rt;
-        (name, others, targets, found),
-        (name, others, targets, wanted)
+    expect_equal(
+        rt,
+        &(others, targets, found),
+        &(others, targets, wanted),
+        name,
     );
     Ok(())
 }

@@ -1,4 +1,5 @@
 //! Lines of texts that come in pieces.
+use super::super::asserts::expect_equal_text;
 use lsif::Cutter;
 use std::alloc::{AllocError, Global};
 use std::test::Fail;
@@ -87,7 +88,7 @@ fn lines_of_pieces(rt: HostRuntime) -> Result<(), Fail> {
         ] {
             found.push_str(row(rt.alloc(), text, most)?.as_str())?;
         }
-        assert_eq!(rt; found.as_str(), ROWS, "{most}");
+        expect_equal_text(&rt, found.as_str(), ROWS, "in pieces");
     }
     Ok(())
 }

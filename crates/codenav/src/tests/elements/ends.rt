@@ -1,4 +1,5 @@
 //! The ids of elements, and the ends of edges: the source and the targets, whatever the label.
+use super::super::asserts::{expect_equal_text, parted};
 use lsif::{Edge, Element, Id, IdRef, IdsIter, Profile, read_element};
 use std::alloc::Global;
 use std::process::Abort;
@@ -73,14 +74,14 @@ fn many_targets(alloc: Global) -> Result<(String, String), Fail> {
 /// Asserts the id and the ends of the element of a line.
 fn expect_ends<R: AllocGlobal + Abort>(rt: &R, line: &str, wanted: &str) -> Result<(), Fail> {
     let found = ends_text(rt.alloc(), line)?;
-    assert_eq!(rt; found.as_str(), wanted);
+    expect_equal_text(rt, found.as_str(), wanted, line);
     Ok(())
 }
 
 #[test]
 fn ends_of_edges(rt: HostRuntime) -> Result<(), Fail> {
     for row in ENDS.trim_matches('\n').lines() {
-        let (part, wanted) = row.split_once(" => ").ok_or("no row")?;
+        let (part, wanted) = parted(row, " => ")?;
         let line = format!(in rt.alloc(); "{{\"id\":{part}}}")?;
         expect_ends(&rt, line.as_str(), wanted)?;
     }

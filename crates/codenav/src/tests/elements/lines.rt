@@ -3,6 +3,7 @@ ghost use Rattle.std.specs.Prelude.{◌≡◌, ◌+◌, ◌-◌, ◌^◌, ◌<�
 ghost use Rattle.lsif.specs.Buffered.{unread};
 ghost use Rattle.lsif.specs.Lines.{lines_of};
 
+use super::super::asserts::expect_equal_text;
 use super::super::samples::{Pieces, in_pieces};
 use lsif::{Counted, LineBuffer, Lines, LinesFault, Source};
 use std::alloc::Global;
@@ -113,12 +114,12 @@ fn rows(alloc: Global, most: usize) -> Result<String, Fail> {
 fn lines_of_input_in_pieces(rt: HostRuntime) -> Result<(), Fail> {
     for &most in &[1, 2, 7, 100] {
         let found = rows(rt.alloc(), most)?;
-        assert_eq!(rt; found.as_str(), ROWS, "{most}");
+        expect_equal_text(&rt, found.as_str(), ROWS, "in pieces");
     }
     let wanted =
         "\"one\\ntwo\\nthree\\n\" => \"one\" 0 Read 1 Read 1 Read 1 Read 1 Read 1 Read 1\n";
     let found = row(rt.alloc(), "one\ntwo\nthree\n", 2, 3)?;
-    assert_eq!(rt; found.as_str(), wanted);
+    expect_equal_text(&rt, found.as_str(), wanted, "a reader that fails");
     Ok(())
 }
 
@@ -144,7 +145,7 @@ fn buffered_lines(alloc: Global) -> Result<String, Fail> {
 #[test]
 fn lines_that_are_counted(rt: HostRuntime) -> Result<(), Fail> {
     let lent = buffered_lines(rt.alloc())?;
-    assert_eq!(rt; lent.as_str(), "Ok(true) one Ok(Some(1))");
+    expect_equal_text(&rt, lent.as_str(), "Ok(true) one Ok(Some(1))", "lent");
     let mut lines = Lines::new(rt.alloc(), Counted::new(b"a\n\nb".as_slice()), 3)?;
     assert_eq!(rt; count_lines(&mut lines), Ok(Some(3)));
     Ok(())

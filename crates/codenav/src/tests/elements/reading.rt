@@ -1,6 +1,7 @@
 //! What is read of lines: an element, or the code of its shape. Ids and ends are in `ends.rt`. A table's row is a part of a line and what is read of
 //! it, with `=>` between them: a code, what a vertex or an edge of some labels says, or `an element`; and behind a bar what
 //! profile 2 reads, where that differs.
+use super::super::asserts::{expect_equal_text, parted};
 use lsif::{
     Edge, Element, Id, IdRef, MonikerKind, Profile, ReadFault, Vertex, profile_law, read_element,
 };
@@ -205,7 +206,7 @@ fn row(alloc: Global, name: &str, line: &[u8]) -> Result<String, Fail> {
 fn rows(alloc: Global, before: &str, table: &str, after: &str) -> Result<String, Fail> {
     let mut found = String::from_str(alloc, "\n")?;
     for wanted in table.trim_matches('\n').lines() {
-        let (part, _) = wanted.split_once(" => ").ok_or("no row")?;
+        let (part, _) = parted(wanted, " => ")?;
         let line = format!(in alloc; "{before}{part}{after}")?;
         found.push_str(row(alloc, part, line.as_bytes())?.as_str())?;
     }
@@ -225,7 +226,7 @@ fn tables_of_lines(rt: HostRuntime) -> Result<(), Fail> {
         (r#"{"id":7,"type":"#, ADDED, "}"),
     ] {
         let found = rows(rt.alloc(), before, table, after)?;
-        assert_eq!(rt; found.as_str(), table);
+        expect_equal_text(&rt, found.as_str(), table, before);
     }
     Ok(())
 }
@@ -307,10 +308,10 @@ fn line_of(
 #[test]
 fn blanks_depths_and_lengths(rt: HostRuntime) -> Result<(), Fail> {
     for &(before, times, opening, closing, after, wanted) in MADE {
-        let (name, _) = wanted.split_once(" => ").ok_or("no row")?;
+        let (name, _) = parted(wanted, " => ")?;
         let line = line_of(rt.alloc(), before, times, (opening, closing), after)?;
         let found = row(rt.alloc(), name, line.as_slice())?;
-        assert_eq!(rt; found.as_str(), wanted);
+        expect_equal_text(&rt, found.as_str(), wanted, name);
     }
     Ok(())
 }

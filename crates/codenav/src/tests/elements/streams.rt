@@ -1,4 +1,5 @@
 //! Readers and writers of std's under the counts.
+use super::super::asserts::expect_equal_text;
 use super::super::samples::slow_writer;
 use lsif::{Counted, Sink, Source, counted_law};
 use std::alloc::Global;
@@ -56,12 +57,10 @@ fn slow_pushes(alloc: Global, most: usize, fails_at: u32, parts: &[&str]) -> Res
 fn slices_and_vectors(rt: HostRuntime) -> Result<(), Fail> {
     counted_law::<&[u8], Vec<u8>>();
     let wanted = "Ok(2) ab; Ok(1) cb; Ok(0) cb; ";
-    assert_eq!(rt; slice_pulls(rt.alloc())?.as_str(), wanted);
+    expect_equal_text(&rt, slice_pulls(rt.alloc())?.as_str(), wanted, "pulls");
     let wanted = "Ok(2) Ok(0) Ok(1) 0 0 abc";
-    assert_eq!(rt;
-        vector_pushes(rt.alloc(), &["ab", "", "c"])?.as_str(),
-        wanted
-    );
+    let found = vector_pushes(rt.alloc(), &["ab", "", "c"])?;
+    expect_equal_text(&rt, found.as_str(), wanted, "pushes");
     Ok(())
 }
 
@@ -82,6 +81,6 @@ fn slow_writers(rt: HostRuntime) -> Result<(), Fail> {
     ] {
         found.push_str(slow_pushes(rt.alloc(), most, fails_at, &parts)?.as_str())?;
     }
-    assert_eq!(rt; found.as_str(), SLOW);
+    expect_equal_text(&rt, found.as_str(), SLOW, "slow writers");
     Ok(())
 }

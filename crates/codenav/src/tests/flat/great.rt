@@ -1,4 +1,5 @@
 //! The rows of dumps with a long chain, a ring of results, many items and ranges of many levels.
+use super::super::asserts::{expect_equal, parted};
 use super::super::samples::great::{contains, levels, long_chain, many_edges, ring};
 use super::super::samples::{NUMBERS, dump_of, made_dump, push_line, push_made, text_of};
 use flatten::{ItemRow, RangeRow, Rows, flatten};
@@ -17,9 +18,14 @@ fn count_items(alloc: Global, text: &str) -> Result<usize, Fail> {
 /// Asserts that there's one range, which has the definition of the chain's end, and one item.
 fn expect_one<R: AllocGlobal + Abort>(rt: &R, rows: &Rows<'_>) {
     for row in &rows.ranges {
-        assert_eq!(rt; (row.line, row.def, row.refs), (3, Some(99_996), None));
+        expect_equal(
+            rt,
+            &(row.line, row.def, row.refs),
+            &(3, Some(99_996), None),
+            "range",
+        );
     }
-    assert_eq!(rt; (rows.ranges.len(), rows.items.len()), (1, 1));
+    expect_equal(rt, &(rows.ranges.len(), rows.items.len()), &(1, 1), "rows");
 }
 
 #[test]
@@ -35,7 +41,7 @@ fn expect_each_place<R: AllocGlobal + Abort>(rt: &R, items: &[ItemRow<'_>]) {
     assert_eq!(rt; items.len(), 10_000);
     for (index, row) in items.iter().enumerate() {
         let found = (row.result as usize, row.span.start().line() as usize);
-        assert_eq!(rt; found, (4 + 2 * (index / 100), index % 100));
+        expect_equal(rt, &found, &(4 + 2 * (index / 100), index % 100), "item");
     }
 }
 
@@ -51,7 +57,7 @@ fn a_ring_of_results(rt: HostRuntime) -> Result<(), Fail> {
 fn shared(alloc: Global) -> Result<String, Fail> {
     let mut text = text_of(alloc, "metaData 0.6.0\ndocument file:///a.ts")?;
     let contained = contains(alloc, 3, 1_003)?;
-    let (_, ranges) = contained.split_once('>').ok_or("no ranges")?;
+    let (_, ranges) = parted(contained.as_str(), ">")?;
     for k in 0..1_000usize {
         push_made(&mut text, k + 3, format!(in alloc; "range {k}:0 {k}:1"))?;
     }
@@ -109,7 +115,7 @@ fn parent_of(row: &RangeRow<'_>, is_falling: bool) -> Option<u32> {
 fn expect_parents<R: AllocGlobal + Abort>(rt: &R, ranges: &[RangeRow<'_>], is_falling: bool) {
     assert_eq!(rt; ranges.len(), 10_000);
     for row in ranges {
-        assert_eq!(rt; row.parent, parent_of(row, is_falling));
+        expect_equal(rt, &row.parent, &parent_of(row, is_falling), "parent");
     }
 }
 

@@ -1,4 +1,5 @@
 //! The rows of small dumps, and how many there may be.
+use super::super::asserts::{expect_equal, expect_equal_text};
 use super::super::samples::named::{BASE, EXPORT, IMPORT, NESTED, RING, SAMPLES, TOUCHING};
 use super::super::samples::{dump_of, made_dump, text_of};
 use super::plain::plain_rows;
@@ -163,7 +164,7 @@ fn expect_plain<R: AllocGlobal + Abort>(rt: &R, dumps: &[(&str, &str)]) -> Resul
         if dump.starts_with("metaData") {
             let one = are_plain(rt.alloc(), Profile::One, dump)?;
             let two = are_plain(rt.alloc(), Profile::Two, dump)?;
-            assert_eq!(rt; (*name, one, two), (*name, true, true));
+            expect_equal(rt, &(one, two), &(true, true), *name);
         }
     }
     Ok(())
@@ -179,7 +180,7 @@ fn flat_rows(rt: HostRuntime) -> Result<(), Fail> {
 fn worked_rows(rt: HostRuntime) -> Result<(), Fail> {
     for (dump, wanted) in WORKED {
         let found = said(rt.alloc(), *dump)?;
-        assert_eq!(rt; found.as_str(), *wanted);
+        expect_equal_text(&rt, found.as_str(), *wanted, *dump);
     }
     Ok(())
 }
@@ -218,7 +219,7 @@ const LONG: &[(&str, &str, usize)] = &[
 fn expect_enough<R: AllocGlobal + Abort>(rt: &R, text: &str, enough: usize) -> Result<(), Fail> {
     let less = is_enough(rt.alloc(), text, enough.saturating_sub(1))?;
     let found = is_enough(rt.alloc(), text, enough)?;
-    assert_eq!(rt; (text, less, found), (text, false, true));
+    expect_equal(rt, &(less, found), &(false, true), text);
     Ok(())
 }
 

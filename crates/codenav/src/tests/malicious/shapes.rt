@@ -1,4 +1,5 @@
 //! The texts of dumps that are deep, long or of many elements. Those that other tests have too are in `samples/great.rt`.
+use super::super::asserts::parted;
 use super::super::faults::META_DATA;
 use super::super::samples::great::{contains, filled, long_chain, many_edges, ring, spaced};
 use super::super::samples::{NUMBERS, push_line, push_made, text_of};
@@ -188,7 +189,7 @@ fn push_references(text: &mut String, count: usize) -> Result<(), Fail> {
     let alloc = *text.allocator();
     let last = count.saturating_add(3);
     let contained = contains(alloc, 3, last)?;
-    let (_, ranges) = contained.split_once('>').ok_or("no ranges")?;
+    let (_, ranges) = parted(contained.as_str(), ">")?;
     push_line(text, last, "referenceResult", NUMBERS)?;
     push_made(
         text,
