@@ -2,22 +2,26 @@
 ghost use Rattle.std.specs.Prelude.{◌≡◌};
 ghost use Rattle.dump.specs.declared.fault.FeedFault.TheVariants.{Memory};
 
-use lsif::Code;
+use lsif::{Code, OUT_OF_MEMORY};
 use std::alloc::{AllocError, AllocFailed};
+use thiserror::Error;
 
 /// What is wrong with a dump: a line, counted from 1, and its code.
-#[derive(Clone, Copy, Debug, PartialEq, Eq)]
+#[derive(Clone, Copy, Debug, PartialEq, Eq, Error)]
+#[error("line {line}: {code}")]
 pub struct LineFault {
     pub line: u32,
     pub code: Code,
 }
 
 /// Why the checker doesn't go on.
-#[derive(Clone, Copy, Debug, PartialEq, Eq)]
+#[derive(Clone, Copy, Debug, PartialEq, Eq, Error)]
 pub enum FeedFault {
     /// Memory was refused.
+    #[error("{}", OUT_OF_MEMORY)]
     Memory,
     /// The dump is faulty.
+    #[error(transparent)]
     Line(LineFault),
 }
 

@@ -14,18 +14,23 @@ use crate::checker::{CheckedDump, Checker};
 use crate::fault::{FeedFault, LineFault};
 use crate::laws::fault_law;
 use lsif::{
-    Code, Element, LONGEST_LINE, LineBuffer, LinesFault, Profile, ReadFault, Source, read_element,
+    CANNOT_READ, Code, Element, LONGEST_LINE, LineBuffer, LinesFault, OUT_OF_MEMORY, Profile,
+    ReadFault, Source, read_element,
 };
 use std::alloc::{AllocError, Global};
+use thiserror::Error;
 
 /// Why a reader's bytes give no dump.
-#[derive(Clone, Copy, Debug, PartialEq, Eq)]
+#[derive(Clone, Copy, Debug, PartialEq, Eq, Error)]
 pub enum DumpFault {
     /// Memory was refused.
+    #[error("{}", OUT_OF_MEMORY)]
     Memory,
     /// The reader failed.
+    #[error("{}", CANNOT_READ)]
     Read,
     /// The dump is faulty.
+    #[error(transparent)]
     Line(LineFault),
 }
 

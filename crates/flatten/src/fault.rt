@@ -2,12 +2,15 @@
 ghost use Rattle.std.specs.Prelude.{◌≡◌};
 ghost use Rattle.flatten.specs.declared.fault.FlattenFault.TheVariants.{Memory};
 
+use lsif::OUT_OF_MEMORY;
 use std::alloc::{AllocError, AllocFailed};
+use thiserror::Error;
 
 /// Why a dump isn't made flat.
-#[derive(Clone, Copy, Debug, PartialEq, Eq)]
+#[derive(Clone, Copy, Debug, PartialEq, Eq, Error)]
 pub enum FlattenFault {
     /// Memory was refused.
+    #[error("{}", OUT_OF_MEMORY)]
     Memory,
 }
 

@@ -3,6 +3,9 @@
 ghost use Rattle.std.specs.Prelude.{◌≡◌};
 ghost use Rattle.lsif.specs.Code.{name_of, text_of};
 
+use std::error::Error;
+use std::fmt;
+
 /// What is wrong with a line of a dump, or with the dump at its end. Of two codes that hold of one line the lesser
 /// one is named: the codes of the lines, then those of the end.
 #[derive(Clone, Copy, Debug, PartialEq, Eq, PartialOrd, Ord)]
@@ -77,3 +80,11 @@ impl Code {
         self.printed().1
     }
 }
+
+impl fmt::Display for Code {
+    fn fmt<W: fmt::Write>(&self, f: &mut fmt::Formatter<W>) -> fmt::Result {
+        write!(f, "{} {}", self.name(), self.text())
+    }
+}
+
+impl Error for Code {}

@@ -3,14 +3,18 @@ ghost use Rattle.std.specs.Prelude.{◌≡◌};
 ghost use Rattle.lsif.specs.declared.fault.ReadFault.TheVariants.{Memory};
 
 use crate::code::Code;
+use crate::messages::OUT_OF_MEMORY;
 use std::alloc::{AllocError, AllocFailed};
+use thiserror::Error;
 
 /// Why a line gives no element.
-#[derive(Clone, Copy, Debug, PartialEq, Eq)]
+#[derive(Clone, Copy, Debug, PartialEq, Eq, Error)]
 pub enum ReadFault {
     /// Memory was refused.
+    #[error("{}", OUT_OF_MEMORY)]
     Memory,
     /// The least fault of the line's shape.
+    #[error(transparent)]
     Shape(Code),
 }
 

@@ -11,19 +11,25 @@ ghost use Rattle.std.specs.Io.BufRead.{Rests};
 ghost use types.Logic.{sem};
 
 use crate::buffer::Buffer;
+use crate::code::Code;
 use crate::cutter::Cutter;
+use crate::messages::{CANNOT_READ, OUT_OF_MEMORY};
 use crate::streams::Source;
 use std::alloc::{AllocError, Global};
 use std::marker::Model;
+use thiserror::Error;
 
 /// Why no line came.
-#[derive(Clone, Copy, Debug, PartialEq, Eq)]
+#[derive(Clone, Copy, Debug, PartialEq, Eq, Error)]
 pub enum LinesFault {
     /// The memory for the buffer was refused. Only a constructor answers it.
+    #[error("{}", OUT_OF_MEMORY)]
     Memory,
     /// The line is longer than the longest that is asked for.
+    #[error("{}", Code::L01.text())]
     TooLong,
     /// The reader failed.
+    #[error("{}", CANNOT_READ)]
     Read,
 }
 

@@ -4,9 +4,11 @@ ghost use Rattle.std.specs.Prelude.{◌≡◌, ℕ, ◌+◌, ◌-◌, ◌^◌, �
 ghost use Rattle.lsif.specs.Streams.{CanCount, CountsFailure, Output, Pulls, Pushes, counted, unless_failed};
 
 use std::io::{Read, Write};
+use thiserror::Error;
 
 /// A read or a write failed.
-#[derive(Clone, Copy, Debug, PartialEq, Eq)]
+#[derive(Clone, Copy, Debug, PartialEq, Eq, Error)]
+#[error("a read or a write failed")]
 pub struct Failed;
 
 /// What bytes are pulled from.

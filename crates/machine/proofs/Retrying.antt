@@ -12,7 +12,7 @@ use Rattle.machine.specs.Judging.{judged, judged_dump, judged_tags, dump_change,
 use Rattle.machine.specs.State.{Change, Accepted, State, nothing, dump_after, tags_after, accepted}
 use Rattle.machine.specs.Machine.{reply_of, effect_by, reply_to, after, is_new}
 use Rattle.machine.specs.Reply.{ReplyValue, refused, made, is_refusal, reply_status, dump_refused, tags_refused}
-use Rattle.machine.specs.declared.code.Code.TheVariants.{D01, D02, D03, S01, S02}
+use Rattle.machine.specs.declared.code.Code.TheVariants.{D01, D02, S01, S02}
 use Rattle.machine.specs.Requests.{ActionValue, put_dump, put_tags, remove, CommandValue, RequestValue, command, query}
 use Rattle.machine.specs.Runs.{MayReply, own, no_memory, no_store, moved, after_a_stop, Run, after_a_stop_of_run}
 use Rattle.machine.specs.Retries.{KeptValue, has_key, with_command, once, plain_dump, plain_tags, plain_kept, Event, sent, stop, StopValue, Moment, first_moment, moment_after_reply, moment_after_stop, Goes, Life, IsPlain, with_run, states_after_a_stop}
@@ -186,7 +186,6 @@ no_refusal : (r : ReplyValue) → reply_status r ≡ 200 → is_refusal r ≡ fa
 no_refusal (made status body) ok = refl
 no_refusal (refused D01) ok = refl
 no_refusal (refused D02) ok = refl
-no_refusal (refused D03) ok = refl
 no_refusal (refused S01) ok = absurd (omega (arith, ok))
 no_refusal (refused S02) ok = absurd (omega (arith, ok))
 

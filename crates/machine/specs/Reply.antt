@@ -16,7 +16,7 @@ use Rattle.machine.specs.FoundTags.{FoundTag}
 use Rattle.machine.specs.Projects.{ProjectValue}
 use Rattle.machine.specs.State.{count_data, removed_data}
 use Rattle.machine.specs.declared.code.Code.{Code}
-use Rattle.machine.specs.declared.code.Code.TheVariants.{D01, D02, D03, S01, S02}
+use Rattle.machine.specs.declared.code.Code.TheVariants.{D01, D02, S01, S02}
 
 -- ---- codes that are of no line
 
@@ -29,7 +29,6 @@ pub record CodeRow : Type 0 where
 abbrev pub row_of : Code → CodeRow
 row_of D01 = record { status = 404; name = codes "D01"; text = codes "project has no dump" }
 row_of D02 = record { status = 404; name = codes "D02"; text = codes "no such document" }
-row_of D03 = record { status = 400; name = codes "D03"; text = codes "bad parameter" }
 row_of S01 = record { status = 503; name = codes "S01"; text = codes "store refused" }
 row_of S02 = record { status = 503; name = codes "S02"; text = codes "out of memory" }
 

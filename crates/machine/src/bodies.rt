@@ -5,7 +5,7 @@ ghost use Rattle.serde_json.specs.View.{view, items_of};
 ghost use Rattle.serde_json.specs.Written.{comma_if, compact_text, has_float};
 ghost use Rattle.tags.specs.Views.{field_value};
 ghost use Rattle.machine.specs.Found.{place_found, tag_found, project_found};
-ghost use Rattle.machine.specs.Reply.{written, fault_data, position_data, place_data, kind_data, tag_data, project_data, projects_data, profile_data, dump_accepted, tags_accepted, removed, dump_refused, tags_refused, places_found, hover_found, tags_found, projects_found, profile_found};
+ghost use Rattle.machine.specs.Reply.{written, fault_data, position_data, place_data, kind_data, tag_data, project_data, projects_data, profile_data, dump_accepted, tags_accepted, removed, dump_refused, tags_refused, hover_found, tags_found, projects_found, profile_found};
 ghost use Rattle.machine.specs.Reply.{field_data, profile_number};
 ghost use Rattle.machine.specs.State.{accepted_text, count_data, parts_removed};
 
@@ -147,20 +147,6 @@ pub fn add_place(
 {
     let value = place(alloc, found)?;
     add_item(alloc, text, later, &value)
-}
-
-/// The reply to a query that these places answer.
-pub fn places_found(alloc: Global, places: &[FoundPlace<'_>]) -> Result<Reply, AllocError>
-    ensures { IfOk result (λ r. r ≡ places_found (map place_found places.now)) }
-{
-    let mut text = String::from_str(alloc, PLACES)?;
-    let mut later = false;
-    for found in places {
-        add_place(alloc, &mut text, later, found)?;
-        later = true;
-    }
-    text.push_str(END)?;
-    Ok(Reply::made(200, text))
 }
 
 // ---- hover

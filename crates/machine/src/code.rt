@@ -9,8 +9,6 @@ pub enum Code {
     D01,
     /// The project's dump has no document of this URL.
     D02,
-    /// A parameter of the request is missing, there twice or not of its form.
-    D03,
     /// The store refused.
     S01,
     /// Memory was refused.
@@ -33,7 +31,6 @@ impl Code {
         match self {
             Code::D01 => (404, r#"{"fault":"D01","text":"project has no dump"}"#),
             Code::D02 => (404, r#"{"fault":"D02","text":"no such document"}"#),
-            Code::D03 => (400, r#"{"fault":"D03","text":"bad parameter"}"#),
             Code::S01 => (503, r#"{"fault":"S01","text":"store refused"}"#),
             Code::S02 => (503, r#"{"fault":"S02","text":"out of memory"}"#),
         }

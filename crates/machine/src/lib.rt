@@ -19,7 +19,7 @@ mod tags_part;
 mod upload;
 
 pub use bodies::{
-    END, PLACES, add_place, dump_accepted, fields_value, hover_found, places_found, profile_found,
+    END, PLACES, add_place, dump_accepted, fields_value, hover_found, profile_found,
     profile_number, projects_found, removal_text, removed, tags_accepted, tags_found,
 };
 pub use change::{Change, judge};

@@ -8,12 +8,15 @@ ghost use Rattle.machine.specs.Runs.{MayReply, moved, Run, after_a_stop, after_a
 use crate::desk::Desk;
 use crate::reply::Reply;
 use crate::request::Request;
+use lsif::OUT_OF_MEMORY;
 use std::alloc::{AllocError, Global};
+use thiserror::Error;
 
 /// Why no request was served.
-#[derive(Clone, Copy, Debug, PartialEq, Eq)]
+#[derive(Clone, Copy, Debug, PartialEq, Eq, Error)]
 pub enum RunFault {
     /// Memory for the replies was refused.
+    #[error("{}", OUT_OF_MEMORY)]
     Memory,
 }
 

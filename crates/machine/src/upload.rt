@@ -12,17 +12,19 @@ use crate::line_reader::{LineReader, ReadingState};
 use crate::names::{Key, ProjectName};
 use crate::reply::Reply;
 use dump::{Checker, fault_law};
-use lsif::{Cutter, LONGEST_LINE, Profile, lines_law as cuts_law};
+use lsif::{Cutter, LONGEST_LINE, OUT_OF_MEMORY, Profile, lines_law as cuts_law};
 use std::alloc::{AllocError, Global};
 use std::marker::Model;
 use tags::{
     LONGEST_LINE as LONGEST_TAG_LINE, TagReader, lines_law, reading_law, state_law, text_law,
 };
+use thiserror::Error;
 
 /// Why a piece isn't taken.
-#[derive(Clone, Copy, Debug, PartialEq, Eq)]
+#[derive(Clone, Copy, Debug, PartialEq, Eq, Error)]
 pub enum UploadFault {
     /// Memory was refused. From then on this is the answer for good.
+    #[error("{}", OUT_OF_MEMORY)]
     Memory,
 }
 

@@ -6,6 +6,8 @@ ghost use Rattle.tags.specs.declared.code.TagsFault.TheVariants as tags_fault;
 ghost use Rattle.tags.specs.declared.code.SplitFault.TheVariants as split_fault;
 
 use std::alloc::{AllocError, AllocFailed};
+use std::error::Error;
+use std::fmt;
 
 /// What may be wrong with a line of a tags file. Of a faulty line the least code that holds is named.
 #[derive(Clone, Copy, Debug, PartialEq, Eq)]
@@ -70,28 +72,41 @@ impl Code {
     }
 }
 
+impl fmt::Display for Code {
+    fn fmt<W: fmt::Write>(&self, f: &mut fmt::Formatter<W>) -> fmt::Result {
+        write!(f, "{} {}", self.name(), self.text())
+    }
+}
+
+impl Error for Code {}
+
 /// A line of a tags file, counted from 1, and what is wrong with it.
-#[derive(Clone, Copy, Debug, PartialEq, Eq)]
+#[derive(Clone, Copy, Debug, PartialEq, Eq, thiserror::Error)]
+#[error("line {line}: {code}")]
 pub struct LineFault {
     pub line: u32,
     pub code: Code,
 }
 
 /// Why a tags file was refused.
-#[derive(Debug, PartialEq, Eq, Drop)]
+#[derive(Debug, PartialEq, Eq, Drop, thiserror::Error)]
 pub enum TagsFault {
     /// Memory ran out.
+    #[error("{}", AllocError)]
     Memory,
     /// The first line that is faulty.
+    #[error(transparent)]
     Line(LineFault),
 }
 
 /// Why a line was refused.
-#[derive(Debug, PartialEq, Eq, Drop)]
+#[derive(Debug, PartialEq, Eq, Drop, thiserror::Error)]
 pub enum SplitFault {
     /// Memory ran out.
+    #[error("{}", AllocError)]
     Memory,
     /// What is wrong with the line.
+    #[error(transparent)]
     Line(Code),
 }
 
