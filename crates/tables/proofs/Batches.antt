@@ -48,7 +48,7 @@ pub record Indexes (schema : Schema) (sql : List ℕ) (at : ℕ) (t : Table) (i 
   pub placed : slice_get schema.tables at ≡ Some t
   pub defined : index_defined_by t (statement_of sql (understood schema sql)) ≡ Ok i
 
-still_kept : (old new base : Trees) (tables : List Table) → AllByRecursion (λ u. old u.tree ≡ base u.tree) tables → KeepsRows tables old new → AllByRecursion (λ u. new u.tree ≡ base u.tree) tables
+pub still_kept : (old new base : Trees) (tables : List Table) → AllByRecursion (λ u. old u.tree ≡ base u.tree) tables → KeepsRows tables old new → AllByRecursion (λ u. new u.tree ≡ base u.tree) tables
 still_kept old new base [] kept keeps = tt
 still_kept old new base (u ∷ tables) kept keeps = (keeps.0 ∙ kept.0, still_kept old new base tables kept.1 keeps.1)
 

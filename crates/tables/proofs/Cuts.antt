@@ -1,7 +1,7 @@
 -- How the batches are cut into statements.
 use Rattle.std.proofs.Common.{refl, drop, [], ◌++◌}
 use Rattle.sqlite_tied.specs.Compute.{everything}
-use Rattle.tables.specs.Steps.Texts.{semicolon, version_text, fill_profiles, set_version, format_text, slot_text, keyed_text, document_text, range_row_text, item_text, hover_text, mark_text, bearer_text, tag_text, range_by_start_text, bearer_by_key_text, tag_by_name_text, part_profile_text, more_text, rest0, rest1, rest2, rest3, rest4, rest5, rest6, rest7, rest8, rest9, rest10, rest11, rest12, rest13, rest14, rest15, upgrade0, upgrade1, upgrade2, upgrade3, upgrade4, upgrade5, upgrade6}
+use Rattle.tables.specs.Steps.Texts.{semicolon, version_text, fill_profiles, set_version, format_text, slot_text, keyed_text, document_text, range_row_text, item_text, hover_text, mark_text, bearer_text, tag_text, range_by_start_text, bearer_by_key_text, tag_by_name_text, part_profile_text, more_text, rest0, rest1, rest2, rest3, rest4, rest5, rest6, rest7, rest8, rest9, rest10, rest11, rest12, rest13, rest14, rest15, upgrade0, upgrade1, upgrade2, upgrade3, upgrade4, upgrade5, upgrade6, upgrade7, upgrade8, upgrade9, drop_range_by_start, drop_bearer_by_key, drop_tag_by_name}
 use Rattle.tables.proofs.Batches.{IsCut}
 
 pub cut0 : IsCut rest0 (format_text ++ semicolon) rest1
@@ -68,30 +68,42 @@ pub cut15 : IsCut version_text version_text []
 unfolding everything
 cut15 = record { byte = 73; more = drop 1 version_text; some = refl; first_is = refl; rest_is = refl }
 
-pub upgrade_cut0 : IsCut upgrade0 (range_by_start_text ++ semicolon) upgrade1
+pub upgrade_cut0 : IsCut upgrade0 (drop_range_by_start ++ semicolon) upgrade1
 unfolding everything
-upgrade_cut0 = record { byte = 67; more = drop 1 upgrade0; some = refl; first_is = refl; rest_is = refl }
+upgrade_cut0 = record { byte = 68; more = drop 1 upgrade0; some = refl; first_is = refl; rest_is = refl }
 
-pub upgrade_cut1 : IsCut upgrade1 (bearer_by_key_text ++ semicolon) upgrade2
+pub upgrade_cut1 : IsCut upgrade1 (drop_bearer_by_key ++ semicolon) upgrade2
 unfolding everything
-upgrade_cut1 = record { byte = 67; more = drop 1 upgrade1; some = refl; first_is = refl; rest_is = refl }
+upgrade_cut1 = record { byte = 68; more = drop 1 upgrade1; some = refl; first_is = refl; rest_is = refl }
 
-pub upgrade_cut2 : IsCut upgrade2 (tag_by_name_text ++ semicolon) upgrade3
+pub upgrade_cut2 : IsCut upgrade2 (drop_tag_by_name ++ semicolon) upgrade3
 unfolding everything
-upgrade_cut2 = record { byte = 67; more = drop 1 upgrade2; some = refl; first_is = refl; rest_is = refl }
+upgrade_cut2 = record { byte = 68; more = drop 1 upgrade2; some = refl; first_is = refl; rest_is = refl }
 
-pub upgrade_cut3 : IsCut upgrade3 (part_profile_text ++ semicolon) upgrade4
+pub upgrade_cut3 : IsCut upgrade3 (range_by_start_text ++ semicolon) upgrade4
 unfolding everything
 upgrade_cut3 = record { byte = 67; more = drop 1 upgrade3; some = refl; first_is = refl; rest_is = refl }
 
-pub upgrade_cut4 : IsCut upgrade4 (more_text ++ semicolon) upgrade5
+pub upgrade_cut4 : IsCut upgrade4 (bearer_by_key_text ++ semicolon) upgrade5
 unfolding everything
 upgrade_cut4 = record { byte = 67; more = drop 1 upgrade4; some = refl; first_is = refl; rest_is = refl }
 
-pub upgrade_cut5 : IsCut upgrade5 (fill_profiles ++ semicolon) upgrade6
+pub upgrade_cut5 : IsCut upgrade5 (tag_by_name_text ++ semicolon) upgrade6
 unfolding everything
-upgrade_cut5 = record { byte = 73; more = drop 1 upgrade5; some = refl; first_is = refl; rest_is = refl }
+upgrade_cut5 = record { byte = 67; more = drop 1 upgrade5; some = refl; first_is = refl; rest_is = refl }
 
-pub upgrade_cut6 : IsCut set_version set_version []
+pub upgrade_cut6 : IsCut upgrade6 (part_profile_text ++ semicolon) upgrade7
 unfolding everything
-upgrade_cut6 = record { byte = 85; more = drop 1 set_version; some = refl; first_is = refl; rest_is = refl }
+upgrade_cut6 = record { byte = 67; more = drop 1 upgrade6; some = refl; first_is = refl; rest_is = refl }
+
+pub upgrade_cut7 : IsCut upgrade7 (more_text ++ semicolon) upgrade8
+unfolding everything
+upgrade_cut7 = record { byte = 67; more = drop 1 upgrade7; some = refl; first_is = refl; rest_is = refl }
+
+pub upgrade_cut8 : IsCut upgrade8 (fill_profiles ++ semicolon) upgrade9
+unfolding everything
+upgrade_cut8 = record { byte = 73; more = drop 1 upgrade8; some = refl; first_is = refl; rest_is = refl }
+
+pub upgrade_cut9 : IsCut set_version set_version []
+unfolding everything
+upgrade_cut9 = record { byte = 85; more = drop 1 set_version; some = refl; first_is = refl; rest_is = refl }

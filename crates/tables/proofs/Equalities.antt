@@ -29,7 +29,7 @@ abbrev pub Agree : List (ℕ × ℕ) → Row → Row → Type 0
 Agree [] params row = Unit {0}
 Agree (p ∷ ps) params row = (column row p.0 ≡ column params p.1) × Agree ps params row
 
-both : (a b : Bool) → a && b ≡ true → (a ≡ true) × (b ≡ true)
+pub both : (a b : Bool) → a && b ≡ true → (a ≡ true) × (b ≡ true)
 both true b h = (refl, h)
 both false b h = absurd cc
 
@@ -45,7 +45,7 @@ unfolding binary
 texts_are s t = rw (value_cmp-Text s t, truly (is_eq (slice_cmp nat_cmp s t)))
 
 -- SQL's equality of two numbers or two texts is theirs
-same_if : (a b : Value) → AreAlike a b → tests_same a b ≡ true → a ≡ b
+pub same_if : (a b : Value) → AreAlike a b → tests_same a b ≡ true → a ≡ b
 same_if (Int m) (Int n) like h = ap Int (same_int_is m n (sym (ints_are m n) ∙ h))
 same_if (Text s) (Text t) like h = ap Text (same_text_is s t (sym (texts_are s t) ∙ h))
 same_if (Int m) Null like h = absurd like
@@ -60,7 +60,7 @@ same_if Null b like h = absurd like
 same_if (Real x) b like h = absurd like
 same_if (Blob t) b like h = absurd like
 
-if_same : (a b : Value) → AreAlike a b → a ≡ b → tests_same a b ≡ true
+pub if_same : (a b : Value) → AreAlike a b → a ≡ b → tests_same a b ≡ true
 if_same (Int m) (Int n) like h = let e : m ≡ n = cc in ints_are m n ∙ subst (λ k. is_eq (int_cmp m k) ≡ true) e (same_int_itself m)
 if_same (Text s) (Text t) like h = let e : s ≡ t = cc in texts_are s t ∙ subst (λ k. is_eq (slice_cmp nat_cmp s k) ≡ true) e (same_text_itself s)
 if_same (Int m) Null like h = absurd like

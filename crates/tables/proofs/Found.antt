@@ -1,10 +1,10 @@
 -- An opening finds the schema that the database lists.
-use Rattle.std.proofs.Common.{◌≡◌, ◌⊎◌, inl, inr, sym}
+use Rattle.std.proofs.Common.{◌≡◌, ◌⊎◌, inl, inr, sym, subst}
 use Rattle.sqlite_schema.specs.declared.schema.Schema.{Schema}
 use Rattle.sqlite_trees.specs.Objects.{catalog_tree}
 use Rattle.sqlite_catalog.proofs.ReadLemmas.{lists_once}
 use Rattle.sqlite.specs.State as sqlite
-use Rattle.tables.specs.Schema.{schema_one, schema_two}
+use Rattle.tables.specs.Schema.{IsSchemaOne, schema_two}
 use Rattle.tables.specs.Databases.{IsFormatOne, IsListed}
 use Rattle.tables.specs.Stands.{Finds, FindsOne, Rests, RestsOne}
 use Rattle.machine.specs.State.{State}
@@ -18,7 +18,7 @@ pub rests_found : (s : sqlite.State) (m : State) → Finds s m → Rests s m
 rests_found s m it = record { schema_is = schema_found s schema_two it.opens it.live it.stands.listed; settled = sym it.opens.clean; stands = it.stands }
 
 pub rests_found_one : (s : sqlite.State) (m : State) → FindsOne s m → RestsOne s m
-rests_found_one s m it = record { schema_is = schema_found s schema_one it.opens it.live it.stands.listed; settled = sym it.opens.clean; stands = it.stands }
+rests_found_one s m it = record { schema_is = subst IsSchemaOne (sym (schema_found s it.stands.listed.0 it.opens it.live it.stands.listed.2)) it.stands.listed.1; settled = sym it.opens.clean; stands = it.stands }
 
 -- tables that rest for a state, or that a new connection finds, rest for it
 pub resting : (s : sqlite.State) (m : State) → Rests s m ⊎ Finds s m → Rests s m

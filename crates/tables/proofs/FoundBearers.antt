@@ -1,50 +1,43 @@
 -- The bearers of a key, as they are selected.
-use Rattle.std.proofs.Common.{◌≡◌, ◌⊎◌, inl, inr, ℕ, ℤ, List, [], ◌∷◌, ◌++◌, map, codes, false, refl, sym, ap, subst, ◌∙◌, ◌↔◌, Contains, Equal}
-use Rattle.std.specs.List.{AllByRecursion}
-use Rattle.sqlite.specs.Listing.{understood, reads_listing}
+use Rattle.std.proofs.Common.{◌≡◌, ◌⊎◌, inl, inr, ℕ, ℤ, true, List, [], ◌∷◌, ◌++◌, length, map, refl, sym, ap, subst, subst₂, ◌∙◌, ◌↔◌, Contains, Equal, string_bytes}
+use Rattle.std.specs.List.{list_all}
+use Rattle.sqlite.specs.Listing.{understood}
 use Rattle.sqlite.specs.State.{State as Store, Shown}
-use Rattle.sqlite.proofs.Callers.{IsPlain, command_of}
 use Rattle.sqlite_tied.specs.Compute.{everything}
-use Rattle.sqlite_value.specs.Order.{Row}
+use Rattle.sqlite_value.specs.Order.{Row, column}
 use Rattle.sqlite_value.specs.declared.value.Value.TheVariants.{Int, Text}
-use Rattle.sqlite_sql.specs.Term.{col}
-use Rattle.sqlite_schema.specs.declared.command.Command.TheVariants.{Select}
+use Rattle.sqlite_sql.specs.Term.{holds}
+use Rattle.sqlite_sql.specs.Query.{IsAnswer, or_nulls}
+use Rattle.sqlite_sql.specs.Program.{overlay}
 use Rattle.sqlite_trees.specs.Tree.{Trees}
 use Rattle.sqlite_rules.specs.Lists.{Has}
-use Rattle.sqlite_rules.proofs.ListLemmas.{has_contained, contains_had}
+use Rattle.sqlite_rules.proofs.ListLemmas.{has_contained, contains_had, has_filtered, has_kept}
 use Rattle.dump.specs.Places.{IsListing}
 use Rattle.flatten.proofs.Listing.{same_listing}
 use Rattle.tables.specs.declared.slots.Part.TheVariants.{Dump}
 use Rattle.tables.proofs.BearerOrder.{tied_bearers}
 use Rattle.dump.specs.Progress.{DumpValue}
-use Rattle.flatten.specs.Flat.{RowsValue, IsFlat, BearerRowValue, IsBearerRow, kind_index}
+use Rattle.flatten.specs.Flat.{ResultsValue, RowsValue, IsFlat, BearerRowValue, IsBearerRow, kind_index}
 use Rattle.tables.specs.Schema.{schema_two}
 use Rattle.tables.specs.Columns.{number, optional, dump_rows, bearer_columns}
 use Rattle.tables.specs.Contents.{owned, slot_row}
 use Rattle.machine.specs.State.{State}
 use Rattle.tables.specs.Stands.{StandsFor}
-use Rattle.tables.specs.Selections.{BearerFound, Bears, FindsBearers, bearer_row, bearer_found_cmp}
-use Rattle.tables.specs.declared.bearers.SlotBearer.{SlotBearer}
+use Rattle.tables.specs.Selections.{BearerFound, Bears, FindsBearers, bearer_found, bearer_row, bearer_found_cmp}
+use Rattle.tables.specs.declared.bearers.FoundBearer.{FoundBearer}
 use Rattle.tables.specs.Steps.SelectionTexts.{select_bearers}
-use Rattle.tables.specs.Steps.Selected.{AreRead, IsQuery, Selects, equals}
+use Rattle.tables.specs.Steps.Selected.{AreRead, IsQuery}
 use Rattle.tables.specs.Steps.DumpEntries.{Entries, entry_values}
-use Rattle.tables.specs.Steps.Known.{TellsBearer, Gathers}
-use Rattle.tables.specs.TableTrees.{slot_tree}
-use Rattle.tables.proofs.DumpEntries.{typed, held, rows_of, listed_are}
+use Rattle.tables.specs.Steps.Known.{IsKnown, IsMore, MoreValue, more_values}
+use Rattle.tables.proofs.DumpEntries.{typed, held, in_dump, rows_of, listed_are}
+use Rattle.tables.proofs.Equalities.{both, same_if, if_same}
 use Rattle.tables.proofs.FoundMarks.{one_kind}
+use Rattle.tables.proofs.FoundSlots.{one_slot}
+use Rattle.tables.proofs.Joined.{joined, of_line, of_slot_and_key, mores, shows, each_joins, all_joins, answer_of, select_bearers_plain}
 use Rattle.tables.proofs.Keeping.{same_some, from_map, to_map}
-use Rattle.tables.proofs.LineResults.{one_optional, one_known}
-use Rattle.tables.proofs.Select.{one_table}
-use Rattle.tables.proofs.Selecting.{IsSelection, selects_typed, all_of, of_all, all_last}
+use Rattle.tables.proofs.LineResults.{one_optional, one_known, nothing, are as more_are, is_owned as more_owned}
+use Rattle.tables.proofs.Reading.{rows_are}
 use Rattle.tables.proofs.Silent.{silent}
-
-select_bearers_is : command_of (understood schema_two select_bearers) ≡ Select (record { lets = []; body = one_table 15 (equals ((3, 0) ∷ [])) (col 1 1 ∷ col 1 2 ∷ col 1 4 ∷ col 1 5 ∷ col 1 6 ∷ col 1 7 ∷ []) }) (codes "slot" ∷ codes "line" ∷ codes "kind" ∷ codes "def" ∷ codes "refs" ∷ codes "hover" ∷ [])
-unfolding understood everything
-select_bearers_is = refl
-
-pub select_bearers_plain : IsPlain (understood schema_two select_bearers) × (reads_listing schema_two select_bearers ≡ false)
-unfolding understood everything
-select_bearers_plain = ((refl, refl), refl)
 
 pub select_bearers_reads : IsQuery select_bearers
 unfolding understood everything
@@ -53,11 +46,14 @@ select_bearers_reads = record { plain = select_bearers_plain.0; silent = silent 
 abbrev IsBearer : DumpValue → BearerRowValue → Type 0
 IsBearer dump row = IsBearerRow dump.elements row
 
-abbrev told_columns : SlotBearer → Row
-told_columns b = Int b.slot ∷ number b.line ∷ number (kind_index b.kind) ∷ optional b.def ∷ optional b.refs ∷ optional b.hover ∷ []
+abbrev told_columns : FoundBearer → Row
+told_columns b =
+    Text (string_bytes b.project) ∷ number b.line ∷ number (kind_index b.kind) ∷ optional b.def ∷ optional b.refs ∷ optional b.hover ∷ optional b.decl ∷ optional b.imp ∷ []
 
-abbrev bearer_shown : ℤ → BearerRowValue → Row
-bearer_shown slot e = Int slot ∷ number e.line ∷ number (kind_index e.kind) ∷ optional e.results.definition ∷ optional e.results.references ∷ optional e.results.hover ∷ []
+abbrev told : BearerFound → Row
+told v =
+    Text v.project ∷ number v.line ∷ number (kind_index v.kind) ∷ optional v.results.definition ∷ optional v.results.references ∷ optional v.results.hover
+    ∷ optional v.results.declaration ∷ optional v.results.implementation ∷ []
 
 are : (d : DumpValue) (flat : RowsValue) → IsFlat d.elements flat → (row : Row) → Has (dump_rows d.profile flat 15) row ↔ ((e : BearerRowValue) × IsBearer d e × (row ≡ bearer_columns e))
 are d flat is = listed_are (IsBearer d) bearer_columns flat.bearers is.bearers
@@ -65,108 +61,131 @@ are d flat is = listed_are (IsBearer d) bearer_columns flat.bearers is.bearers
 is_owned : Has owned 15
 is_owned = inr (inr (inr (inr (inr (inl refl)))))
 
-record IsShown (x : SlotBearer) (slot : ℤ) (e : BearerRowValue) : Type 0 where
-  pub slot_is : slot ≡ x.slot
-  pub line : x.line ≡ e.line
-  pub kind : x.kind ≡ e.kind
-  pub definition : x.def ≡ e.results.definition
-  pub references : x.refs ≡ e.results.references
-  pub hover : x.hover ≡ e.results.hover
-
-is_shown : (x : SlotBearer) (slot : ℤ) (e : BearerRowValue) → told_columns x ≡ bearer_shown slot e → IsShown x slot e
-is_shown x slot e h = record {
-  slot_is = let a = h in cc;
-  line = let a = h in cc;
-  kind = one_kind x.kind e.kind (let a = h in cc);
-  definition = one_optional x.def e.results.definition (let a = h in cc);
-  references = one_optional x.refs e.results.references (let a = h in cc);
-  hover = one_optional x.hover e.results.hover (let a = h in cc);
-}
-
-module _ (key : List ℕ) where
-  module _ (db : Trees) (m : State) where
-    abbrev HasKey : ℤ → Entries IsBearer db m → Type 0
-    HasKey at e = e.0.value.key ≡ key
-
-    abbrev Shows : ℤ → Entries IsBearer db m → Row
-    Shows at e = bearer_shown e.0.slot e.0.value
-
-    selection : IsSelection (entry_values bearer_columns IsBearer db m) Shows HasKey select_bearers (Text key ∷ []) 15
-    selection = record {
-      pairs = (3, 0) ∷ [];
-      terms = col 1 1 ∷ col 1 2 ∷ col 1 4 ∷ col 1 5 ∷ col 1 6 ∷ col 1 7 ∷ [];
-      names = codes "slot" ∷ codes "line" ∷ codes "kind" ∷ codes "def" ∷ codes "refs" ∷ codes "hover" ∷ [];
-      is = select_bearers_is;
-      plain = select_bearers_plain;
-      own = λ db. refl;
-      shows = λ at e. refl;
-      alike = λ at e. (tt, tt);
-      wants = λ at e h. let a = h.0 in cc;
-      wanted = λ at e w. (ap Text w, tt);
+-- what is read is what was shown
+is_found : (x : FoundBearer) (v : BearerFound) → told_columns x ≡ told v → bearer_found x ≡ v
+is_found x v h =
+    let project : string_bytes x.project ≡ v.project = let a = h in cc in
+    let line : x.line ≡ v.line = let a = h in cc in
+    let kind = one_kind x.kind v.kind (let a = h in cc) in
+    let definition = one_optional x.def v.results.definition (let a = h in cc) in
+    let references = one_optional x.refs v.results.references (let a = h in cc) in
+    let hover = one_optional x.hover v.results.hover (let a = h in cc) in
+    let declaration = one_optional x.decl v.results.declaration (let a = h in cc) in
+    let implementation = one_optional x.imp v.results.implementation (let a = h in cc) in
+    λ i. record {
+      project = project i;
+      line = line i;
+      kind = kind i;
+      results = record { definition = definition i; references = references i; hover = hover i; declaration = declaration i; implementation = implementation i };
     }
 
-    tells : (x : SlotBearer) (e : Entries IsBearer db m) → e.0.value.key ≡ key → told_columns x ≡ bearer_shown e.0.slot e.0.value → (v : BearerFound) × TellsBearer db m key x v
-    tells x e under h =
-        let b = e.0.value in
-        let it = is_shown x e.0.slot b h in
-        let v : BearerFound = record { project = e.1.project; line = b.line; kind = b.kind; results = b.results } in (
-          v,
-          record {
-            dump = e.1.dump;
-            slot = subst (λ (i : ℤ). Has (db slot_tree) (slot_row i e.1.project Dump)) it.slot_is e.1.slot;
-            has = e.1.has;
-            is = subst (λ (k : List ℕ). IsBearer e.1.dump (record { line = b.line; key = k; kind = b.kind; results = b.results })) under e.1.is;
-            line = it.line;
-            kind = it.kind;
-            definition = it.definition;
-            references = it.references;
-            hover = it.hover;
-          },
+some_or_null : (l : List Row) → (r : Row) × Has (or_nulls l) r
+some_or_null [] = ([], inl refl)
+some_or_null (x ∷ xs) = (x, inl refl)
+
+module _ (key : List ℕ) (db : Trees) (m : State) (s : StandsFor db m) where
+  abbrev params : Row
+  params = Text key ∷ []
+
+  -- the tables as the statement reads them
+  abbrev read_from : Trees
+  read_from = overlay db []
+
+  abbrev row_of : ℤ → Entries IsBearer db m → Row
+  row_of id e = Int id ∷ entry_values bearer_columns IsBearer db m e
+
+  abbrev value_of : Entries IsBearer db m → BearerFound
+  value_of e = record { project = e.1.project; line = e.0.value.line; kind = e.0.value.kind; results = e.0.value.results }
+
+  module _ (e : Entries IsBearer db m) (id : ℤ) (q : Row) where
+    abbrev of_this : List Row
+    of_this = mores params read_from (row_of id e) q
+
+    abbrev Tells : Row → Type 0
+    Tells r = (column r 3 ≡ optional e.0.value.results.declaration) × (column r 4 ≡ optional e.0.value.results.implementation)
+
+    -- no row of the line, where there's none of a match
+    none_of : of_this ≡ [] → (v : MoreValue) → IsMore e.1.dump v → v.line ≡ e.0.value.line → ⊥
+    none_of none v is at =
+        let w : Entries IsMore db m = (record { slot = e.0.slot; value = v }, record { project = e.1.project; dump = e.1.dump; slot = e.1.slot; has = e.1.has; is = is }) in
+        let there = held db m s IsMore more_values 24 more_owned more_are (λ tags. refl) w in
+        let row = Int there.0 ∷ entry_values more_values IsMore db m w in
+        let passes : list_all (holds (params ∷ row_of id e ∷ q ∷ row ∷ [])) of_line ≡ true = rw (if_same (Int e.0.slot) (Int e.0.slot) tt refl, if_same (number v.line) (number e.0.value.line) tt (ap number at)) refl in
+        subst (λ l. Has l row) none (has_kept (λ r. list_all (holds (params ∷ row_of id e ∷ q ∷ r ∷ [])) of_line) (db 24) row there.1 passes)
+
+    more_of_row : (r : Row) → Has of_this r → Tells r
+    more_of_row r h =
+        let passed = has_filtered (λ r. list_all (holds (params ∷ row_of id e ∷ q ∷ r ∷ [])) of_line) (db 24) r h in
+        let w = typed db m s IsMore more_values 24 more_owned more_are (λ tags. refl) r passed.0 in
+        let ok = subst (λ x. list_all (holds (params ∷ row_of id e ∷ q ∷ x ∷ [])) of_line ≡ true) w.2 passed.1 in
+        let two = both _ _ ok in
+        let slot : w.1.0.slot ≡ e.0.slot = let it = same_if (Int w.1.0.slot) (Int e.0.slot) tt two.0 in cc in
+        let line : w.1.0.value.line ≡ e.0.value.line = let it = same_if (number w.1.0.value.line) (number e.0.value.line) tt (both _ _ two.1).0 in cc in
+        let is = in_dump db m s IsMore more_values 24 more_owned more_are (λ tags. refl) e.1.project e.1.dump e.0.slot e.1.slot e.1.has (λ v. v.line ≡ e.0.value.line) w.1 slot in
+        let v = w.1.0.value in
+        let known = subst (λ n. IsKnown e.1.dump n is.results) line is.known in
+        let same = one_known e.1.dump e.0.value.line is.results e.0.value.results known (inr (e.0.value, e.1.is, refl, refl)) in (
+          ap (λ x. column x 3) w.2 ∙ ap optional (sym is.declaration ∙ ap (λ (x : ResultsValue). x.declaration) same),
+          ap (λ x. column x 4) w.2 ∙ ap optional (sym is.implementation ∙ ap (λ (x : ResultsValue). x.implementation) same),
         )
 
-    module _ (s : StandsFor db m) (xs : List SlotBearer) (found : Selects (entry_values bearer_columns IsBearer db m) Shows HasKey db 15 (map told_columns xs)) where
-      each_tells : AllByRecursion (λ x. (v : BearerFound) × TellsBearer db m key x v) xs
-      each_tells = all_of _ xs (λ x there.
-          let e = of_all _ (map told_columns xs) (told_columns x) found.each (to_map told_columns xs x there) in
-          tells x e.0 e.1.1 e.2)
+    more_is : (l : List Row) → of_this ≡ l → (r : Row) → Has (or_nulls l) r → Tells r
+    more_is [] none r (inl is) =
+        let neither = nothing e.0.value.line e.1.dump e.0.value.results (inr (e.0.value, e.1.is, refl, refl)) (none_of none) e.0.value.results.declaration e.0.value.results.implementation refl refl in
+        (ap (λ x. column x 3) is ∙ ap optional (sym neither.0), ap (λ x. column x 4) is ∙ ap optional (sym neither.1))
+    more_is [] none r (inr never) = absurd never
+    more_is (x ∷ xs) is r h = more_of_row r (subst (λ l. Has l r) (sym is) h)
 
-      all_told : (v : BearerFound) → Bears m key v → (x : SlotBearer) × Has xs x × TellsBearer db m key x v
-      all_told v h =
-          let r = rows_of db m s v.project h.0 h.1 in
-          let slot = s.keeps.there v.project Dump r.0 r.1 in
-          let e : Entries IsBearer db m = (record { slot = slot.0; value = bearer_row key v }, record { project = v.project; dump = h.0; slot = slot.1; has = h.1; is = h.2 }) in
-          let x = from_map told_columns xs (bearer_shown slot.0 (bearer_row key v)) (found.all e (held db m s IsBearer bearer_columns 15 is_owned are (λ tags. refl) e, refl)) in
-          let it = is_shown x.0 slot.0 (bearer_row key v) (sym x.2) in (
-            x.0,
-            x.1,
-            record {
-              dump = h.0;
-              slot = subst (λ (i : ℤ). Has (db slot_tree) (slot_row i v.project Dump)) it.slot_is slot.1;
-              has = h.1;
-              is = h.2;
-              line = it.line;
-              kind = it.kind;
-              definition = it.definition;
-              references = it.references;
-              hover = it.hover;
-            },
-          )
+    shown_is : (r : Row) → Tells r → column q 2 ≡ Text e.1.project → shows params read_from (row_of id e) q r ≡ told (value_of e)
+    shown_is r tells project = λ i.
+        project i ∷ number e.0.value.line ∷ number (kind_index e.0.value.kind) ∷ optional e.0.value.results.definition ∷ optional e.0.value.results.references
+        ∷ optional e.0.value.results.hover ∷ tells.0 i ∷ tells.1 i ∷ []
 
-  pub told_each : (m : State) (old new : Store) (rows : List Row) (xs : List SlotBearer) → StandsFor old.now.trees m → old.now.schema ≡ schema_two → Shown select_bearers (Text key ∷ []) old new rows → AreRead told_columns rows xs
-      → AllByRecursion (λ x. (v : BearerFound) × TellsBearer old.now.trees m key x v) xs
-  unfolding selection
-  told_each m old new rows xs s schema shown read =
-      let db = old.now.trees in
-      each_tells db m s xs (selects_typed (entry_values bearer_columns IsBearer db m) (Shows db m) (HasKey db m) told_columns select_bearers (Text key ∷ []) 15 (selection db m) (λ x. refl) old new rows schema
-      (typed db m s IsBearer bearer_columns 15 is_owned are (λ tags. refl)) shown xs read)
+  module _ (rows : List Row) (a : IsAnswer joined read_from params rows) where
+    each_bears : (row : Row) → Has rows row → (v : BearerFound) × Bears m key v × (row ≡ told v)
+    each_bears row h =
+        let j = each_joins params read_from rows a row h in
+        let b = typed db m s IsBearer bearer_columns 15 is_owned are (λ tags. refl) j.0 j.3.bearer in
+        let e = b.1 in
+        let q = s.keeps.slots j.1 j.3.slot in
+        let ok = subst₂ (λ x y. list_all (holds (params ∷ x ∷ y ∷ j.2 ∷ [])) of_slot_and_key ≡ true) b.2 q.is j.3.passes in
+        let two = both _ _ ok in
+        let slot : q.id ≡ e.0.slot = let it = same_if (Int q.id) (Int e.0.slot) tt two.0 in cc in
+        let under : e.0.value.key ≡ key = let it = same_if (Text e.0.value.key) (Text key) tt (both _ _ two.1).0 in cc in
+        let there : Has (db 1) (slot_row e.0.slot q.project q.part) = subst (λ (i : ℤ). Has (db 1) (slot_row i q.project q.part)) slot (subst (Has (db 1)) q.is j.3.slot) in
+        let project = (one_slot db s.parts _ e.0.slot q.project e.1.project q.part Dump s.keeps there e.1.slot).0 in
+        let tells = more_is e b.0 j.1 _ refl j.2 (subst (λ x. Has (or_nulls (mores params read_from x j.1)) j.2) b.2 j.3.more) in (
+          value_of e,
+          (e.1.dump, e.1.has, subst (λ (k : List ℕ). IsBearer e.1.dump (record { line = e.0.value.line; key = k; kind = e.0.value.kind; results = e.0.value.results })) under e.1.is),
+          j.4 ∙ (ap (λ x. shows params read_from x j.1 j.2) b.2 ∙ shown_is e b.0 j.1 j.2 tells (ap (λ x. column x 2) q.is ∙ ap Text project)),
+        )
 
-  pub told_all : (m : State) (old new : Store) (rows : List Row) (xs : List SlotBearer) → StandsFor old.now.trees m → old.now.schema ≡ schema_two → Shown select_bearers (Text key ∷ []) old new rows → AreRead told_columns rows xs
-      → (v : BearerFound) → Bears m key v → (x : SlotBearer) × Has xs x × TellsBearer old.now.trees m key x v
-  unfolding selection
-  told_all m old new rows xs s schema shown read =
-      let db = old.now.trees in
-      all_told db m s xs (selects_typed (entry_values bearer_columns IsBearer db m) (Shows db m) (HasKey db m) told_columns select_bearers (Text key ∷ []) 15 (selection db m) (λ x. refl) old new rows schema
-      (typed db m s IsBearer bearer_columns 15 is_owned are (λ tags. refl)) shown xs read)
+    all_bears : (v : BearerFound) → Bears m key v → Has rows (told v)
+    all_bears v h =
+        let r = rows_of db m s v.project h.0 h.1 in
+        let slot = s.keeps.there v.project Dump r.0 r.1 in
+        let e : Entries IsBearer db m = (record { slot = slot.0; value = bearer_row key v }, record { project = v.project; dump = h.0; slot = slot.1; has = h.1; is = h.2 }) in
+        let row = held db m s IsBearer bearer_columns 15 is_owned are (λ tags. refl) e in
+        let q = slot_row slot.0 v.project Dump in
+        let more = some_or_null (of_this e row.0 q) in
+        let passes : list_all (holds (params ∷ row_of row.0 e ∷ q ∷ more.0 ∷ [])) of_slot_and_key ≡ true = rw (if_same (Int slot.0) (Int slot.0) tt refl, if_same (Text key) (Text key) tt refl) refl in
+        subst (Has rows) (shown_is e row.0 q more.0 (more_is e row.0 q _ refl more.0 more.1) refl)
+        (all_joins params read_from rows a (row_of row.0 e) q more.0 (record { bearer = row.1; slot = slot.1; more = more.1; passes = passes }))
+
+pub bearers_told : (key : List ℕ) (m : State) (old new : Store) (rows : List Row) (xs : List FoundBearer) → StandsFor old.now.trees m → old.now.schema ≡ schema_two → Shown select_bearers (Text key ∷ []) old new rows → AreRead told_columns rows xs
+    → (v : BearerFound) → Contains (map bearer_found xs) v ↔ Bears m key v
+bearers_told key m old new rows xs s has shown read v =
+    let db = old.now.trees in
+    let a = answer_of (Text key ∷ []) old new rows has shown in
+    let all = rows_are told_columns 8 (λ x. refl) rows xs (λ r h. ap length (each_bears key db m s rows a r h).2) read in (
+      (λ at.
+          let x = from_map bearer_found xs v (has_contained (map bearer_found xs) v at) in
+          let it = each_bears key db m s rows a (told_columns x.0) (subst (λ l. Has l (told_columns x.0)) (sym all) (to_map told_columns xs x.0 x.1)) in
+          subst (Bears m key) (sym (x.2 ∙ is_found x.0 it.0 it.2)) it.1),
+      (λ bears.
+          let x = from_map told_columns xs (told v) (subst (λ l. Has l (told v)) all (all_bears key db m s rows a v bears)) in
+          contains_had (map bearer_found xs) v (subst (Has (map bearer_found xs)) (is_found x.0 v (sym x.2)) (to_map bearer_found xs x.0 x.1))),
+    )
 
 -- ---- one row after the other
 
@@ -185,28 +204,6 @@ last_or [] x y (inr h) = absurd h
 last_or (z ∷ xs) x y (inl e) = inl (inl e)
 last_or (z ∷ xs) x y (inr h) = elim (last_or xs x y h) [ inl a ↦ inl (inr a) | inr e ↦ inr e ]
 
-pub gathers_one : (db : Trees) (m : State) (key : List ℕ) (left rest : List SlotBearer) (x : SlotBearer) (before after : List BearerFound) (y : BearerFound) → left ≡ rest ++ x ∷ [] → after ≡ before ++ y ∷ []
-    → ((v : BearerFound) → TellsBearer db m key x v → y ≡ v) → Gathers db m key left before → Gathers db m key rest after
-gathers_one db m key left rest x before after y is more whole g =
-    let tells = subst (AllByRecursion (λ z. (v : BearerFound) × TellsBearer db m key z v)) is g.tells in
-    let t = of_all _ (rest ++ x ∷ []) x tells (has_last rest x) in
-    let mine : Bears m key y = subst (Bears m key) (sym (whole t.0 t.1)) (t.1.dump, t.1.has, t.1.is) in
-    record {
-      tells = all_of _ rest (λ z there. of_all _ (rest ++ x ∷ []) z tells (has_before rest x z there));
-      each = subst (AllByRecursion (Bears m key)) (sym more) (all_last (Bears m key) before y g.each mine);
-      all = λ v bears. subst (λ l. Has l v ⊎ ((z : SlotBearer) × Has rest z × TellsBearer db m key z v)) (sym more) (elim (g.all v bears) [
-        | inl there ↦ inl (has_before before y v there)
-        | inr told ↦ elim (last_or rest x told.0 (subst (λ l. Has l told.0) is told.1)) [
-          | inl still ↦ inr (told.0, still, told.2)
-          | inr now ↦ inl (subst (Has (before ++ y ∷ [])) (whole v (subst (λ z. TellsBearer db m key z v) now told.2)) (has_last before y))
-        ]
-      ]);
-    }
-
-pub gathers_none : (db : Trees) (m : State) (key : List ℕ) (left : List SlotBearer) → AllByRecursion (λ x. (v : BearerFound) × TellsBearer db m key x v) left
-    → ((v : BearerFound) → Bears m key v → (x : SlotBearer) × Has left x × TellsBearer db m key x v) → Gathers db m key left []
-gathers_none db m key left tells all = record { tells = tells; each = tt; all = λ v bears. inr (all v bears) }
-
 -- two bearers of a key in one place of the order are one
 one_bearer : (m : State) (key : List ℕ) (v w : BearerFound) → Bears m key v → Bears m key w → bearer_found_cmp v w ≡ Equal → v ≡ w
 one_bearer m key v w a b e =
@@ -216,12 +213,6 @@ one_bearer m key v w a b e =
     let results = one_known a.0 w.line v.results w.results (inr (bearer_row key v, a.2, same.1.0, refl)) (inr (bearer_row key w, second, refl, refl)) in
     λ i. record { project = same.0 i; line = same.1.0 i; kind = same.1.1 i; results = results i }
 
-pub bearers_are : (db : Trees) (m : State) (key : List ℕ) (left : List SlotBearer) (found listed : List BearerFound) → left ≡ [] → Gathers db m key left found
+pub bearers_are : (m : State) (key : List ℕ) (found listed : List BearerFound) → ((v : BearerFound) → Contains found v ↔ Bears m key v)
     → (((v w : BearerFound) → Contains found v → Contains found w → bearer_found_cmp v w ≡ Equal → v ≡ w) → IsListing bearer_found_cmp (Contains found) listed) → FindsBearers m key listed
-bearers_are db m key left found listed empty g list = same_listing bearer_found_cmp _ _ listed are_all (list (λ v w p q e. one_bearer m key v w ((are_all v).0 p) ((are_all w).0 q) e))
-  where
-    are_all : (v : BearerFound) → Contains found v ↔ Bears m key v
-    are_all v = (
-      (λ at. of_all (Bears m key) found v g.each (has_contained found v at)),
-      (λ bears. elim (g.all v bears) [ inl there ↦ contains_had found v there | inr told ↦ absurd (subst (λ l. Has l told.0) empty told.1) ]),
-    )
+bearers_are m key found listed are_all list = same_listing bearer_found_cmp _ _ listed are_all (list (λ v w p q e. one_bearer m key v w ((are_all v).0 p) ((are_all w).0 q) e))

@@ -1,5 +1,6 @@
 -- A slot that is known stays known while nothing is changed, and one that is named stays named.
-use Rattle.std.proofs.Common.{◌≡◌, ◌∙◌, ap, sym, subst, List, ℕ, ℤ, Option, None, Some, Result, Ok, Err, OnOk, string_bytes}
+use Rattle.std.proofs.Common.{◌≡◌, ◌∙◌, ap, sym, subst, List, ℕ, ℤ, Option, None, Some, Result, Ok, Err, OnOk, is_ok, string_bytes}
+use Rattle.std.specs.Bool.{OnTrue}
 use Rattle.sqlite.specs.Effect.{Database}
 use Rattle.sqlite.specs.State.{State, HasCleanDisk}
 use Rattle.machine.specs.State as machine
@@ -20,7 +21,7 @@ known_on mid new (Some slot) cleans same knows = λ clean has m s.
     (knows (cleans clean) (ap (λ (d : Database). d.schema) (sym was) ∙ has) m (subst (λ (d : Database). StandsFor d.trees m) was s))
 
 -- where a selection succeeded
-pub known_after : {A E : Type 0} (r : Result A E) (mid new : State) (known : Option ProjectSlot) → (HasCleanDisk new → HasCleanDisk mid) → (HasCleanDisk new → OnOk r (IsAsBefore mid new)) → IsKnown mid known → OnOk r (IsKnown new known)
+pub known_after : {A E : Type 0} (r : Result A E) (mid new : State) (known : Option ProjectSlot) → (HasCleanDisk new → HasCleanDisk mid) → (HasCleanDisk new → OnTrue (is_ok r) (IsAsBefore mid new)) → IsKnown mid known → OnOk r (IsKnown new known)
 known_after (Ok x) mid new known cleans same knows = known_on mid new known cleans same knows
 known_after (Err e) mid new known cleans same knows = tt
 

@@ -9,6 +9,7 @@ pub mod Crashes
 pub mod Creations
 pub mod Cuts
 pub mod Definitions
+pub mod Drops
 pub mod DumpEntries
 pub mod Empty
 pub mod Entries
@@ -28,6 +29,7 @@ pub mod Hovers
 pub mod Insert
 pub mod Inserts
 pub mod Keeping
+pub mod Joined
 pub mod KeptReplies
 pub mod Knowing
 pub mod LineResults

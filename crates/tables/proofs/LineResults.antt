@@ -76,11 +76,11 @@ has_one [] ys x h = inr h
 has_one (z ∷ xs) ys x (inl e) = inl (inl e)
 has_one (z ∷ xs) ys x (inr h) = elim (has_one xs ys x h) [ inl a ↦ inl (inr a) | inr b ↦ inr b ]
 
-from_flat : {X Y : Type 0} (f : X → List Y) (xs : List X) (y : Y) → Has (flat_map f xs) y → (x : X) × Has xs x × Has (f x) y
+pub from_flat : {X Y : Type 0} (f : X → List Y) (xs : List X) (y : Y) → Has (flat_map f xs) y → (x : X) × Has xs x × Has (f x) y
 from_flat f [] y h = absurd h
 from_flat f (x ∷ xs) y h = elim (has_one (f x) (flat_map f xs) y h) [ inl a ↦ (x, inl refl, a) | inr b ↦ let it = from_flat f xs y b in (it.0, inr it.1, it.2) ]
 
-to_flat : {X Y : Type 0} (f : X → List Y) (xs : List X) (x : X) (y : Y) → Has xs x → Has (f x) y → Has (flat_map f xs) y
+pub to_flat : {X Y : Type 0} (f : X → List Y) (xs : List X) (x : X) (y : Y) → Has xs x → Has (f x) y → Has (flat_map f xs) y
 to_flat f [] x y h k = absurd h
 to_flat f (z ∷ xs) x y (inl e) k = has_left (f z) (flat_map f xs) y (subst (λ w. Has (f w) y) e k)
 to_flat f (z ∷ xs) x y (inr h) k = has_right (f z) (flat_map f xs) y (to_flat f xs x y h k)
@@ -97,7 +97,7 @@ to_columns line None None some = absurd cc
 to_columns line None (Some i) some = inl refl
 to_columns line (Some d) i some = inl refl
 
-are : (d : DumpValue) (flat : RowsValue) → IsFlat d.elements flat → (row : Row) → Has (dump_rows d.profile flat 24) row ↔ ((v : MoreValue) × IsMore d v × (row ≡ more_values v))
+pub are : (d : DumpValue) (flat : RowsValue) → IsFlat d.elements flat → (row : Row) → Has (dump_rows d.profile flat 24) row ↔ ((v : MoreValue) × IsMore d v × (row ≡ more_values v))
 are d flat is row = (
   (λ h. elim (has_one (flat_map range_more flat.ranges) (flat_map bearer_more flat.bearers) row h) [
     | inl a ↦
@@ -147,7 +147,7 @@ one_optional (Some a) (Some b) e = cc
 pub first_optional : {a b c d : Option ℕ} → ◌≡◌ {A = Row} (optional a ∷ optional b ∷ []) (optional c ∷ optional d ∷ []) → (a ≡ c) × (b ≡ d)
 first_optional {a} {b} {c} {d} e = (one_optional a c (let x = e in cc), one_optional b d (let x = e in cc))
 
-is_owned : Has owned 24
+pub is_owned : Has owned 24
 is_owned = inr (inr (inr (inr (inr (inr (inr (inr (inl refl))))))))
 
 module _ (line : ℕ) where
@@ -177,7 +177,7 @@ module _ (line : ℕ) where
   Says None results = (results.declaration ≡ None) × (results.implementation ≡ None)
   Says (Some x) results = (x.decl ≡ results.declaration) × (x.imp ≡ results.implementation)
 
-  nothing : (d : DumpValue) (results : ResultsValue) → IsKnown d line results → ((v : MoreValue) → IsMore d v → IsAtLine v → ⊥) → (a b : Option ℕ) → results.declaration ≡ a → results.implementation ≡ b → (a ≡ None) × (b ≡ None)
+  pub nothing : (d : DumpValue) (results : ResultsValue) → IsKnown d line results → ((v : MoreValue) → IsMore d v → IsAtLine v → ⊥) → (a b : Option ℕ) → results.declaration ≡ a → results.implementation ≡ b → (a ≡ None) × (b ≡ None)
   nothing d results known none None None e f = (refl, refl)
   nothing d results known none (Some a) b e f = absurd (none (record { line = line; declaration = Some a; implementation = b }) (record { results = results; known = known; declaration = e; implementation = f; some = refl }) refl)
   nothing d results known none None (Some b) e f = absurd (none (record { line = line; declaration = None; implementation = Some b }) (record { results = results; known = known; declaration = e; implementation = f; some = refl }) refl)

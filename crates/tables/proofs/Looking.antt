@@ -1,5 +1,5 @@
 -- What queries leave.
-use Rattle.std.proofs.Common.{◌≡◌, inl, inr, List, ℕ, Result, Ok, Err, Vec, IfOk, IfErr, IsTrue, sym, ap, subst, ◌∙◌, arith}
+use Rattle.std.proofs.Common.{◌≡◌, inl, inr, Bool, true, false, List, ℕ, Result, Ok, Err, Vec, is_ok, IfOk, IfErr, IsTrue, sym, ap, subst, ◌∙◌, arith}
 use Rattle.std.specs.declared.alloc.Global.{Global}
 use Rattle.sqlite_value.specs.Order.{Row}
 use Rattle.sqlite_trees.specs.Tree.{Trees}
@@ -10,7 +10,9 @@ use Rattle.sqlite.specs.declared.error.Error.{Error}
 use Rattle.sqlite.proofs.StateLemmas.{survives_then}
 use Rattle.tables.specs.Stands.{IsAsBefore}
 use Rattle.tables.specs.Schema.{schema_two}
+use Rattle.std.specs.Bool.{OnTrue}
 use Rattle.tables.specs.Steps.Selected.{IsQuery, IsSilent, Looks}
+use Rattle.tables.specs.Steps.Clauses.{Reads}
 use Rattle.tables.proofs.Silent.{never_commits}
 use Rattle.tables.proofs.Versions.{failed, quieter}
 
@@ -63,3 +65,37 @@ still old mid new Q P kept looks says clean has known =
 pub kept_on : (old mid new : State) → (HasCleanDisk mid → IsAsBefore old mid) → Looks mid new → (HasCleanDisk new → IsAsBefore mid new)
     → HasCleanDisk new → IsAsBefore old new
 kept_on old mid new kept looks more clean = kept_then old mid new (kept (survives_clean mid new looks clean)) (more clean)
+
+kept_by : (k : Bool) (a b c : State) → IsAsBefore a b → OnTrue k (IsAsBefore b c) → OnTrue k (IsAsBefore a c)
+kept_by true a b c p q = kept_then a b c p q
+kept_by false a b c p q = tt
+
+-- selections, after those that succeeded
+pub reads_then : {k : Bool} {a b c : State} → Reads true a b → Reads k b c → Reads k a c
+reads_then {k} {a} {b} {c} p q = record {
+  kept = λ clean. kept_by k a b c (p.kept (survives_clean b c q.looks clean)) (q.kept clean);
+  looks = looks_then a b c p.looks p.kept q.looks;
+  mode = λ h. q.mode (p.mode h);
+}
+
+none_kept : (j : Bool) (a b : State) → j ≡ false → OnTrue j (IsAsBefore a b)
+none_kept true a b h = absurd (cc)
+none_kept false a b h = tt
+
+-- selections, and then a failure that reads no more
+pub reads_failed : {j k : Bool} {a b : State} → j ≡ false → Reads k a b → Reads j a b
+reads_failed {j} {k} {a} {b} failed p = record { kept = λ clean. none_kept j a b failed; looks = p.looks; mode = p.mode }
+
+-- a query that can't write, and whose rows are all taken
+pub queried : (sql : List ℕ) (params : Row) (old new : State) (r : Result (Vec Row Global) Error) → IsQuery sql → (HasCleanDisk new → IfOk r (λ rows. Shown sql params old new rows.items)) → (HasCleanDisk new → IfErr r (FailsToQuery sql params old new))
+    → Survives old new (CommitsShowing sql params old) → (old.in_transaction ≡ false → new.in_transaction ≡ false) → Reads (is_ok r) old new
+queried sql params old new (Ok rows) only ok err survives mode = record {
+  kept = λ clean. shown_kept sql params old new rows.items only (ok clean);
+  looks = looks sql params old new (Ok rows) only ok err survives;
+  mode = mode;
+}
+queried sql params old new (Err e) only ok err survives mode = record {
+  kept = λ clean. tt;
+  looks = looks sql params old new (Err e) only ok err survives;
+  mode = mode;
+}

@@ -1,5 +1,5 @@
 -- Rows that are put one after another.
-use Rattle.std.proofs.Common.{arith, zero, suc, flat_map, map, take, get_or, ◌<◌, ◌+◌, Ok, Err, Result, ℤ, ◌≡◌, ◌≢◌, ◌⊎◌, ◌↔◌, ◌/◌, inl, inr, ℕ, List, [], ◌∷◌, ◌++◌, length, slice_get, Some, refl, sym, ap, subst, subst₂, ◌∙◌, IsTrue, OnOk}
+use Rattle.std.proofs.Common.{arith, rules, zero, suc, flat_map, map, take, get_or, ◌<◌, ◌+◌, Ok, Err, Result, ℤ, ◌≡◌, ◌≢◌, ◌⊎◌, ◌↔◌, ◌/◌, inl, inr, ℕ, List, [], ◌∷◌, ◌++◌, length, slice_get, Some, refl, sym, ap, subst, subst₂, ◌∙◌, IsTrue, OnOk}
 use Rattle.std.specs.List.{AllByRecursion}
 use Rattle.std.proofs.lemmas.List.{map_more, take_more, flat_map_more, map-append}
 use Rattle.std.specs.Result.{is_ok}
@@ -8,6 +8,7 @@ use Rattle.sqlite_value.specs.declared.value.ValueRef.{ValueRef}
 use Rattle.sqlite.specs.Values.{bound}
 use Rattle.sqlite_value.specs.Order.{Row}
 use Rattle.sqlite_value.specs.declared.value.Value.TheVariants.{Int, Null}
+use Rattle.sqlite_trees.specs.declared.store.Store.{Ghosts}
 use Rattle.sqlite_trees.specs.Tree.{Trees, rowid, put_row}
 use Rattle.sqlite_trees.proofs.TreeLemmas.{IsTable-put_row}
 use Rattle.sqlite_sql.specs.Term.{Term}
@@ -23,11 +24,14 @@ use Rattle.sqlite_rules.proofs.TableLemmas.{put_all_has, put_all_keeps, put_all_
 use Rattle.sqlite_rules.specs.Cast.{cast_row}
 use Rattle.sqlite.specs.Effect.{value_rows}
 use Rattle.sqlite.specs.Listing.{understood}
+use Rattle.std.specs.Borrow.{MutBor}
+use Rattle.sqlite.specs.Held.{Held, state}
 use Rattle.sqlite.specs.State.{State, Survives, KeepsCommit, Executes, ExecutesInside}
 use Rattle.sqlite.specs.declared.error.Error.{Error}
 use Rattle.sqlite.proofs.Callers.{IsPlain, command_of}
 use Rattle.sqlite.proofs.StateLemmas.{survives_then}
 use Rattle.tables.specs.Schema.{schema_two}
+use Rattle.tables.specs.Steps.Clauses.{CommitsNothing}
 use Rattle.tables.specs.Steps.Puts.{Steps, Puts, PutsAll}
 use Rattle.tables.specs.Databases.{IsListed, IsOrdered}
 use Rattle.tables.specs.Steps.Inserts.{Inserts, plainly}
@@ -212,6 +216,18 @@ commit_then a b c p q = record { was_open = λ up. p.was_open (q.was_open up); c
 
 pub commit_same : (a : State) → KeepsCommit a a
 commit_same a = record { was_open = λ up. up; committed = λ _. refl }
+
+-- nothing was done
+pub nothing_yet : {S : Type 0} {g : Ghosts S} (a : MutBor (Held S)) → CommitsNothing g a a
+nothing_yet {S} {g} a = record { same_reference = refl; kept = λ clean. commit_same (state g a.now); survives = search rules }
+
+-- one statement after another
+pub nothing_then : {S : Type 0} {g : Ghosts S} {a b c : MutBor (Held S)} → CommitsNothing g a b → CommitsNothing g b c → CommitsNothing g a c
+nothing_then {S} {g} {a} {b} {c} p q = record {
+  same_reference = q.same_reference ∙ p.same_reference;
+  kept = λ clean. commit_then (state g a.now) (state g b.now) (state g c.now) (p.kept (omega (arith, q.survives.clean))) (q.kept clean);
+  survives = quiet_then (state g a.now) (state g b.now) (state g c.now) p.survives q.survives;
+}
 
 -- what was added to the values of a statement
 pub bound_more : {T E : Type 0} (r : Result T E) (was now more : List ValueRef) (values : Row) → now ≡ (if is_ok r then was ++ more else was) → bound more ≡ values → OnOk r (bound now ≡ bound was ++ values)

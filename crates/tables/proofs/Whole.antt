@@ -2,6 +2,7 @@
 use Rattle.std.proofs.Common.{◌≡◌, ◌≢◌, ◌/◌, map, inl, inr, refl, sym, ap, ◌∙◌, subst, ℕ, pos, List, [], ◌∷◌, true, false, length, Some, Ok, Err, Result, OnOk, nat_lt, if◌then◌else◌, true≢false, subst₂, ◌↔◌, ℤ, arith}
 use Rattle.std.specs.List.{AllByRecursion}
 use Rattle.sqlite_schema.specs.declared.schema.Table.{Table}
+use Rattle.sqlite_schema.specs.declared.schema.Index.{Index}
 use Rattle.sqlite_schema.specs.Names.{same_name}
 use Rattle.sqlite_schema.specs.declared.command.Command.TheVariants.{Insert}
 use Rattle.sqlite_schema.specs.declared.command.Source.TheVariants.{Values}
@@ -21,10 +22,10 @@ use Rattle.sqlite.specs.Effect.{Database, value_rows}
 use Rattle.sqlite.specs.Listing.{understood, listing_schema}
 use Rattle.sqlite.specs.Held.{Held, state}
 use Rattle.sqlite.specs.State.{State, ExecutesIn}
-use Rattle.sqlite.specs.Batch.{ExecutesAllInside}
+use Rattle.sqlite.specs.Batch.{ExecutesAllInside, RunInTurn}
 use Rattle.sqlite.proofs.Callers.{IsPlain, command_of}
-use Rattle.tables.specs.Steps.Texts.{version_text, rest0, rest15, upgrade0, upgrade5, upgrade6, set_version}
-use Rattle.tables.specs.Schema.{empty_schema, schema_one, schema_two, format, slot, part_profile, more}
+use Rattle.tables.specs.Steps.Texts.{version_text, rest0, rest15, upgrade0, upgrade1, upgrade2, upgrade3, upgrade8, upgrade9, set_version}
+use Rattle.tables.specs.Schema.{AreAdded, with_indexes, empty_schema, schema_one, schema_two, format, slot, part_profile, more}
 use Rattle.tables.specs.Steps.Kept.{IsKept, no_rows}
 use Rattle.tables.specs.Databases.{IsListed, IsMade, IsFormatOne, IsUpgraded, WasUpgraded, AreNumbered, IsOrdered, chosen, dump_tests, profile_shown, version_row}
 use Rattle.tables.specs.TableTrees.{format_tree, part_profile_tree, slot_tree}
@@ -32,7 +33,8 @@ use Rattle.tables.proofs.Insert.{inserts}
 use Rattle.tables.proofs.Inserts.{cast_null, cast_int, some_rows}
 use Rattle.tables.proofs.Batches.{IsSilent, Script, done, next, also, runs, peel, from_batch}
 use Rattle.tables.proofs.Creations.{stage0, stage10, stage15, makes_one, makes_two, format_makes, slot_makes, keyed_makes, document_makes, range_row_makes, item_makes, hover_makes, mark_makes, bearer_makes, tag_makes, range_by_start_makes, bearer_by_key_makes, tag_by_name_makes, part_profile_makes, more_makes}
-use Rattle.tables.proofs.Cuts.{cut0, cut1, cut2, cut3, cut4, cut5, cut6, cut7, cut8, cut9, cut10, cut11, cut12, cut13, cut14, cut15, upgrade_cut0, upgrade_cut1, upgrade_cut2, upgrade_cut3, upgrade_cut4, upgrade_cut5, upgrade_cut6}
+use Rattle.tables.proofs.Cuts.{cut0, cut1, cut2, cut3, cut4, cut5, cut6, cut7, cut8, cut9, cut10, cut11, cut12, cut13, cut14, cut15, upgrade_cut0, upgrade_cut1, upgrade_cut2, upgrade_cut3, upgrade_cut4, upgrade_cut5, upgrade_cut6, upgrade_cut7, upgrade_cut8, upgrade_cut9}
+use Rattle.tables.proofs.Drops.{drops, still_added, none_left, range_by_start_drops, bearer_by_key_drops, tag_by_name_drops}
 use Rattle.tables.proofs.Fill.{fill_text, Filled, Risen, fills, profiles, profiles_ordered, rises}
 
 -- ---- from nothing
@@ -107,13 +109,13 @@ made_ok g old new (Ok tt) blank h = made g old new blank h
 abbrev older : Trees → Trees
 older db t = if nat_lt t 19 then db t else []
 
-growth : (db : Trees) → Script (older db) upgrade0 stage10 upgrade5 stage15
+growth : (db : Trees) → Script (older db) upgrade3 stage10 upgrade8 stage15
 growth db =
-    also _ _ _ _ _ _ _ _ _ upgrade_cut0 range_by_start_makes (
-    also _ _ _ _ _ _ _ _ _ upgrade_cut1 bearer_by_key_makes (
-    also _ _ _ _ _ _ _ _ _ upgrade_cut2 tag_by_name_makes (
-    next _ _ _ _ _ _ _ upgrade_cut3 part_profile_makes refl (
-    next _ _ _ _ _ _ _ upgrade_cut4 more_makes refl (
+    also _ _ _ _ _ _ _ _ _ upgrade_cut3 range_by_start_makes (
+    also _ _ _ _ _ _ _ _ _ upgrade_cut4 bearer_by_key_makes (
+    also _ _ _ _ _ _ _ _ _ upgrade_cut5 tag_by_name_makes (
+    next _ _ _ _ _ _ _ upgrade_cut6 part_profile_makes refl (
+    next _ _ _ _ _ _ _ upgrade_cut7 more_makes refl (
     done _ _)))))
 
 all_old : AllByRecursion (λ t. nat_lt t.tree 19 ≡ true) schema_one.tables
@@ -122,8 +124,8 @@ all_old = (refl, (refl, (refl, (refl, (refl, (refl, (refl, (refl, (refl, (refl, 
 older_is : (db : Trees) (t : ℕ) → nat_lt t 19 ≡ true → older db t ≡ db t
 older_is db t low = rw low refl
 
-as_before : (db : Database) → db.schema ≡ schema_one → IsKept schema_one (older db.trees) db
-as_before db has = record { schema_is = has; rows = all_from (λ t. db.trees t.tree ≡ older db.trees t.tree) schema_one.tables (λ t there. sym (older_is db.trees t.tree (all_has (λ t. nat_lt t.tree 19 ≡ true) schema_one.tables t all_old there))) }
+as_before : (db : Database) (extra : List Index) → db.schema ≡ with_indexes extra → IsKept (with_indexes extra) (older db.trees) db
+as_before db extra has = record { schema_is = has; rows = all_from (λ t. db.trees t.tree ≡ older db.trees t.tree) schema_one.tables (λ t there. sym (older_is db.trees t.tree (all_has (λ t. nat_lt t.tree 19 ≡ true) schema_one.tables t all_old there))) }
 
 in_both : (t : Table) → Has schema_one.tables t → Has schema_two.tables t
 in_both t = has_left schema_one.tables (part_profile ∷ more ∷ []) t
@@ -153,16 +155,32 @@ after_all was mid late end grown put risen =
       listed = subst (λ s. IsListed s end.trees) risen.schema_is risen.sound.lists;
     }
 
+-- once the first three statements have dropped the indexes that stood there, the tables are as format 1 made them
+pub cleared : {S : Type 0} (g : Ghosts S) (was : Trees) (more : List Index) (old new : Held S) → AreAdded more → IsKept (with_indexes more) (older was) (state g old).now
+    → RunInTurn g (Some 0) (length upgrade0) upgrade0 old new (Ok tt) → (mid : Held S) × (left : ℕ) × IsKept schema_one (older was) (state g mid).now × RunInTurn g (Some 0) left upgrade3 mid new (Ok tt)
+cleared g was more old new added kept h =
+    let a = peel g (Some 0) (length upgrade0) upgrade0 _ upgrade1 upgrade_cut0 old new h in
+    let one = drops _ _ range_by_start_drops (older was) more (state g old) (state g a.0) a.1 added kept a.3.runs in
+    let added_one = still_added _ more one.0 one.2 added in
+    let b = peel g (Some 0) a.2 upgrade1 _ upgrade2 upgrade_cut1 a.0 new a.4 in
+    let two = drops _ _ bearer_by_key_drops (older was) one.0 (state g a.0) (state g b.0) b.1 added_one one.1 b.3.runs in
+    let added_two = still_added _ one.0 two.0 two.2 added_one in
+    let c = peel g (Some 0) b.2 upgrade2 _ upgrade3 upgrade_cut2 b.0 new b.4 in
+    let three = drops _ _ tag_by_name_drops (older was) two.0 (state g b.0) (state g c.0) c.1 added_two two.1 c.3.runs in
+    let none : three.0 ≡ [] = none_left more one.0 two.0 three.0 added one.2 two.2 three.2 in
+    (c.0, c.2, subst (λ l. IsKept (with_indexes l) (older was) (state g c.0).now) none three.1, c.4)
+
 pub upgraded : {S : Type 0} (g : Ghosts S) (old new : Held S) → IsFormatOne (state g old).now → ExecutesAllInside g 0 upgrade0 old new (Ok tt) → IsUpgraded (state g old).now (state g new).now
 unfolding ExecutesAllInside
 upgraded g old new is h =
     let was = (state g old).now in
-    let start = subst (λ s. IsKept s (older was.trees) was) (sym makes_one) (as_before was is.schema_is) in
-    let tables = runs g (Some 0) (older was.trees) (length upgrade0) upgrade0 upgrade5 stage10 stage15 (growth was.trees) old new start h in
+    let first = cleared g was.trees is.schema_is.more old new is.schema_is.added (as_before was is.schema_is.more is.schema_is.is) h in
+    let start = subst (λ s. IsKept s (older was.trees) (state g first.0).now) (sym makes_one) first.2 in
+    let tables = runs g (Some 0) (older was.trees) first.1 upgrade3 upgrade8 stage10 stage15 (growth was.trees) first.0 new start first.3 in
     let grown = subst (λ s. IsKept s (older was.trees) (state g tables.0).now) makes_two tables.2 in
-    let fill = peel g (Some 0) tables.1 upgrade5 fill_text upgrade6 upgrade_cut5 tables.0 new tables.3 in
+    let fill = peel g (Some 0) tables.1 upgrade8 fill_text upgrade9 upgrade_cut8 tables.0 new tables.3 in
     let put = fills (state g tables.0) (state g fill.0) fill.1 grown.schema_is fill.3.runs in
-    let last = peel g (Some 0) fill.2 upgrade6 set_version [] upgrade_cut6 fill.0 new fill.4 in
+    let last = peel g (Some 0) fill.2 upgrade9 set_version [] upgrade_cut9 fill.0 new fill.4 in
     let mid = (state g tables.0).now in
     let late = (state g fill.0).now in
     let format_is : late.trees format_tree ≡ version_row 1 = all_has (λ t. t.tree ≢ part_profile_tree → late.trees t.tree ≡ mid.trees t.tree) schema_two.tables format put.applies.tables (inl refl) (is_not 0 22 refl refl) ∙ grown.rows.0 ∙ is.version in

@@ -15,7 +15,7 @@ use Rattle.sqlite_schema.specs.declared.schema.Table.{Table}
 use Rattle.sqlite_trees.specs.Tree.{Trees, IsTable, rowid}
 use Rattle.sqlite_trees.specs.Objects.{catalog_tree}
 use Rattle.sqlite_catalog.specs.Listing.{Lists}
-use Rattle.tables.specs.Schema.{schema_one, schema_two}
+use Rattle.tables.specs.Schema.{IsSchemaOne, schema_one, schema_two}
 use Rattle.tables.specs.TableTrees.{format_tree}
 
 -- the rows that pass the tests, and what is shown of each
@@ -39,7 +39,7 @@ pub record IsMade (db : Database) : Type 0 where
 
 -- the tables of format 1, or 2, with one row of that version
 pub record IsFormatOne (db : Database) : Type 0 where
-  pub schema_is : db.schema ≡ schema_one
+  pub schema_is : IsSchemaOne db.schema
   pub version : db.trees format_tree ≡ version_row 1
 
 pub record IsFormatTwo (db : Database) : Type 0 where

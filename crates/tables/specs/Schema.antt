@@ -1,5 +1,6 @@
 -- The schemas of formats 1 and 2.
-use Rattle.std.specs.Prelude.{ℕ, suc, Bool, true, false, List, [], ◌∷◌, codes, Some, None}
+use Rattle.std.specs.Prelude.{◌≡◌, ◌≤◌, ℕ, suc, Bool, true, false, List, [], ◌∷◌, ◌++◌, codes, Some, None}
+use Rattle.sqlite_rules.specs.Lists.{Has}
 use Rattle.tables.specs.TableTrees.{format_tree, slot_tree, keyed_tree, document_tree, range_row_tree, item_tree, hover_tree, mark_tree, bearer_tree, tag_tree, part_profile_tree, more_tree}
 use Rattle.sqlite_value.specs.declared.value.Value.TheVariants.{Null}
 use Rattle.sqlite_value.specs.declared.keys.Collation.TheVariants.{Binary}
@@ -180,6 +181,26 @@ schema_one = record {
       ∷ key_of (codes "sqlite_autoindex_tag_1") tag_tree (1 ∷ 2 ∷ []) ∷ [];
   views = [];
 }
+
+-- the same with more indexes, behind those of the keys
+abbrev pub with_indexes : List Index → Schema
+with_indexes more = record schema_one { indexes = schema_one.indexes ++ more }
+
+-- the names of the indexes that format 2 has beside those of the keys
+abbrev pub added_names : List (List ℕ)
+added_names = codes "range_by_start" ∷ codes "bearer_by_key" ∷ codes "tag_by_name" ∷ []
+
+-- indexes of these names, each once at most, in trees behind those of format 1: of whatever columns, and in any order
+pub record AreAdded (more : List Index) : Type 0 where
+  pub named : (i : Index) → Has more i → Has added_names i.name
+  pub once : (i j : Index) → Has more i → Has more j → i.name ≡ j.name → i ≡ j
+  pub behind : (i : Index) → Has more i → 19 ≤ i.tree
+
+-- the schema of a database of format 1, where none, some or all of these indexes stand already
+pub record IsSchemaOne (schema : Schema) : Type 0 where
+  pub more : List Index
+  pub is : schema ≡ with_indexes more
+  pub added : AreAdded more
 
 -- format 2: two tables and three indexes more
 abbrev pub schema_two : Schema

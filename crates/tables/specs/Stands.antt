@@ -1,5 +1,5 @@
 -- Which states of the index the tables stand for.
-use Rattle.std.specs.Prelude.{◌≡◌, ⊤, ℕ, List, [], map, Option, Some, None, option_map, Ok}
+use Rattle.std.specs.Prelude.{◌≡◌, ⊤, ℕ, List, [], map, Option, Some, None, option_map, Ok, IsTrue}
 use Rattle.sqlite_value.specs.Order.{Row}
 use Rattle.sqlite_schema.specs.declared.schema.Schema.{Schema}
 use Rattle.sqlite_trees.specs.Tree.{Trees}
@@ -16,7 +16,7 @@ use Rattle.flatten.specs.Flat.{RowsValue, IsFlat}
 use Rattle.tables.specs.Columns.{dump_rows, tag_rows}
 use Rattle.tables.specs.Contents.{Contents, Replies, Keeps, KeepsOne}
 use Rattle.tables.specs.Databases.{IsListed}
-use Rattle.tables.specs.Schema.{schema_one, schema_two}
+use Rattle.tables.specs.Schema.{IsSchemaOne, schema_two}
 use Rattle.machine.specs.State.{State, Change, accepted_text, text_after}
 use Rattle.tables.specs.TableTrees.{more_tree}
 use Rattle.tables.specs.declared.slots.Part.TheVariants.{Dump, Tags}
@@ -43,18 +43,18 @@ Each HasRows (Some x) (Some rows) = HasRows x rows
 abbrev pub replies_of : State → Replies
 replies_of m project key = option_map accepted_text (m.kept project key)
 
--- The database lists the tables of a schema. They keep rows for each part, which are those of the state's dumps and tags, and its replies: rows as a
+-- The database lists the tables of a format. They keep rows for each part, which are those of the state's dumps and tags, and its replies: rows as the
 -- format keeps them.
-pub record StandsIn (schema : Schema) (KeepsRows : Trees → Contents → Replies → Type 0) (IsDumpOf : DumpValue → (ℕ → List Row) → Type 0) (db : Trees)
-    (m : State) : Type 0 where
-  pub listed : IsListed schema db
+pub record StandsIn (ListsTables : Trees → Type 0) (KeepsRows : Trees → Contents → Replies → Type 0) (IsDumpOf : DumpValue → (ℕ → List Row) → Type 0)
+    (db : Trees) (m : State) : Type 0 where
+  pub listed : ListsTables db
   pub parts : Contents
   pub keeps : KeepsRows db parts (replies_of m)
   pub dumps : (project : List ℕ) → Each IsDumpOf (m.dump project) (parts project Dump)
   pub tags : (project : List ℕ) → Each AreTags (m.tags project) (parts project Tags)
 
 abbrev pub StandsFor : Trees → State → Type 0
-StandsFor = StandsIn schema_two Keeps IsDump
+StandsFor = StandsIn (IsListed schema_two) Keeps IsDump
 
 -- between calls the tables show what is committed, and stand for the state
 pub record Rests (s : sqlite.State) (m : State) : Type 0 where
@@ -78,12 +78,16 @@ pub record IsDumpOne (dump : DumpValue) (rows : ℕ → List Row) : Type 0 where
   pub by_one : dump.profile ≡ One
   pub none_more : rows more_tree ≡ []
 
+-- the database lists the tables of format 1, with or without the indexes of format 2
+abbrev pub IsListedOne : Trees → Type 0
+IsListedOne db = (schema : Schema) × IsSchemaOne schema × IsListed schema db
+
 abbrev pub StandsForOne : Trees → State → Type 0
-StandsForOne = StandsIn schema_one KeepsOne IsDumpOne
+StandsForOne = StandsIn IsListedOne KeepsOne IsDumpOne
 
 -- tables of format 1 show what is committed, and stand for the state
 pub record RestsOne (s : sqlite.State) (m : State) : Type 0 where
-  pub schema_is : s.now.schema ≡ schema_one
+  pub schema_is : IsSchemaOne s.now.schema
   pub settled : s.committed ≡ s.now
   pub stands : StandsForOne s.now.trees m
 
@@ -103,3 +107,12 @@ pub record IsNew (m : State) (project key reply : List ℕ) (change : Change) : 
 -- what is shown and what is committed are as before
 abbrev pub IsAsBefore : sqlite.State → sqlite.State → Type 0
 IsAsBefore old new = (new.now ≡ old.now) × (new.committed ≡ old.committed)
+
+-- What a selection leaves of the tables, also where it refuses: it wrote nothing.
+pub record OnlySelects (old new : sqlite.State) : Type 0 where
+  -- where the store still serves, tables that rested for a state are as before
+  pub same : sqlite.HasCleanDisk new → IsTrue new.is_open → (m : State) → Rests old m → IsAsBefore old new
+  -- where the disk has returned what was written so far, it had before
+  pub clean : sqlite.HasCleanDisk new → sqlite.HasCleanDisk old
+  -- and a crash may leave no more than before
+  pub survives : (m : State) → Rests old m → sqlite.Survives old new (λ _. ⊥)

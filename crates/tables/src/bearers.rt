@@ -1,10 +1,8 @@
 //! The bearers of a moniker key in all projects, as they are selected, in order. `FindsBearers` in `specs/Selections`.
-ghost use Rattle.std.specs.Prelude.{◌≡◌, ◌∷◌, [], List, ℕ, Contains, Some, map, string_bytes, false, IsTrue, IfOk, OnOk, IfErr};
+ghost use Rattle.std.specs.Prelude.{◌≡◌, ◌↔◌, ◌∷◌, [], List, ℕ, Contains, map, string_bytes, IfOk, OnOk, IfErr};
 ghost use Rattle.std.specs.declared.cmp.Ordering.TheVariants.{Equal};
-ghost use Rattle.std.specs.List.{AllByRecursion};
-ghost use Rattle.sqlite_value.specs.declared.value.Value.TheVariants.{Int};
-ghost use Rattle.sqlite_rules.specs.Lists.{Has};
-ghost use Rattle.sqlite.specs.State.{HasCleanDisk, Survives};
+ghost use Rattle.sqlite_value.specs.declared.value.Value.TheVariants.{Text};
+ghost use Rattle.sqlite.specs.State.{HasCleanDisk};
 ghost use Rattle.sqlite.specs.Held.{state};
 ghost use Rattle.dump.specs.Places.{IsListing};
 ghost use Rattle.flatten.specs.Flat.{ResultsValue, kind_index};
@@ -13,13 +11,11 @@ ghost use Rattle.tables.specs.Columns.{number, optional};
 ghost use Rattle.tables.specs.Contents.{Contents, HasSlot, Replies, Keeps};
 ghost use Rattle.machine.specs.State.{State};
 ghost use Rattle.tables.specs.Fault.{IsStoreFault};
-ghost use Rattle.tables.specs.Stands.{IsAsBefore, Rests};
+ghost use Rattle.tables.specs.Stands.{OnlySelects, Rests};
 ghost use Rattle.tables.specs.Selections.{BearerFound, Bears, FindsBearers, bearer_found, bearer_found_cmp};
-ghost use Rattle.tables.specs.declared.bearers.SlotBearer.{SlotBearer};
-ghost use Rattle.tables.specs.Steps.Selected.{Looks};
-ghost use Rattle.tables.specs.Steps.Known.{IsKnown, TellsBearer};
+ghost use Rattle.tables.specs.Steps.Known.{IsKnown};
 ghost use Rattle.tables.specs.Steps.Slots.{IsNamed};
-ghost use Rattle.tables.specs.Steps.Clauses.{OfDump, OfState, StaysAsBefore};
+ghost use Rattle.tables.specs.Steps.Clauses.{OfDump, OfState, OnlyReads};
 ghost use Rattle.tables.specs.declared.slots.Part.{Part};
 
 use crate::columns::{column, kind_of};
@@ -48,29 +44,21 @@ pub struct FoundBearer {
     pub imp: Option<u32>,
 }
 
-/// What the row of a bearer has.
-#[derive(Drop)]
-struct SlotBearer {
-    slot: i64,
-    line: u32,
-    kind: MonikerKind,
-    def: Option<u32>,
-    refs: Option<u32>,
-    hover: Option<u32>,
-}
+impl Listed for FoundBearer {
+    ghost columns = { λ b. Text (string_bytes b.project) ∷ number b.line ∷ number (kind_index b.kind) ∷ optional b.def ∷ optional b.refs ∷ optional b.hover
+        ∷ optional b.decl ∷ optional b.imp ∷ [] };
 
-impl Listed for SlotBearer {
-    ghost columns = { λ b. Int b.slot ∷ number b.line ∷ number (kind_index b.kind) ∷ optional b.def ∷ optional b.refs ∷ optional b.hover ∷ [] };
-
-    fn read(row: &Row) -> Result<SlotBearer, Refusal> {
+    fn read(row: &Row) -> Result<FoundBearer, Refusal> {
         let kind = kind_of(column(row, 2)?)?;
-        Ok(SlotBearer {
-            slot: column(row, 0)?,
-            line: column(row, 1)?,
+        Ok(FoundBearer {
             kind,
+            line: column(row, 1)?,
             def: column(row, 3)?,
             refs: column(row, 4)?,
             hover: column(row, 5)?,
+            decl: column(row, 6)?,
+            imp: column(row, 7)?,
+            project: column(row, 0)?,
         })
     }
 }
@@ -99,11 +87,9 @@ pub(crate) fn more_of<S: Alter>(
     slot: i64,
     line: u32,
 ) -> Result<LineMore, Refusal>
-    ensures more { OfDump (state S.Store conn.old) (state S.Store conn.new) slot (λ dump. (results : ResultsValue) → IsKnown dump line results
+    ensures more { OfDump S.Store conn.old conn.new slot (λ dump. (results : ResultsValue) → IsKnown dump line results
         → IfOk result (λ more. (more.decl ≡ results.declaration) × (more.imp ≡ results.implementation))) }
-    ensures kept { StaysAsBefore result (state S.Store conn.old) (state S.Store conn.new) }
-    ensures looks { Looks (state S.Store conn.old) (state S.Store conn.new) }
-    ensures mode { conn.old.in_transaction ≡ false → conn.new.in_transaction ≡ false }
+    ensures reads { OnlyReads S.Store result conn.old conn.new }
 {
     let found = select_first(
         conn,
@@ -132,9 +118,7 @@ pub(crate) fn slot_project<S: Alter>(
         → (project : List ℕ) (part : Part) → HasSlot (state S.Store conn.old).now.trees slot project part
         → IfOk result (λ found. string_bytes found ≡ project) }
     ensures named { OnOk result (IsNamed (state S.Store conn.new) named.new) }
-    ensures kept { StaysAsBefore result (state S.Store conn.old) (state S.Store conn.new) }
-    ensures looks { Looks (state S.Store conn.old) (state S.Store conn.new) }
-    ensures mode { conn.old.in_transaction ≡ false → conn.new.in_transaction ≡ false }
+    ensures reads { OnlyReads S.Store result conn.old conn.new }
 {
     if let Some(known) = &*named {
         if known.id == slot {
@@ -158,53 +142,20 @@ pub(crate) fn slot_project<S: Alter>(
     Ok(project)
 }
 
-/// The bearer that a row tells, with its project, its declaration and its implementation.
-fn complete<S: Alter>(
-    alloc: Global,
-    conn: &mut Connection<S>,
-    named: &mut Option<ProjectSlot>,
-    row: SlotBearer,
-) -> Result<FoundBearer, Refusal>
-    requires named { IsNamed (state S.Store conn.old) named.old }
-    ensures whole { OfState (state S.Store conn.old) (state S.Store conn.new) (λ m. (key : List ℕ) (v : BearerFound)
-        → TellsBearer (state S.Store conn.old).now.trees m key row v → IfOk result (λ found. bearer_found found ≡ v)) }
-    ensures named { OnOk result (IsNamed (state S.Store conn.new) named.new) }
-    ensures kept { StaysAsBefore result (state S.Store conn.old) (state S.Store conn.new) }
-    ensures looks { Looks (state S.Store conn.old) (state S.Store conn.new) }
-    ensures mode { conn.old.in_transaction ≡ false → conn.new.in_transaction ≡ false }
-{
-    let more = more_of(conn, row.slot, row.line)?;
-    let project = slot_project(alloc, conn, named, row.slot)?;
-    Ok(FoundBearer {
-        project,
-        line: row.line,
-        kind: row.kind,
-        def: row.def,
-        refs: row.refs,
-        hover: row.hover,
-        decl: more.decl,
-        imp: more.imp,
-    })
-}
-
-/// The rows of the bearers of a key.
+/// The bearers of a key, each with its project, its declaration and its implementation, as the join finds them.
 fn select_bearers<S: Alter>(
     alloc: Global,
     conn: &mut Connection<S>,
     key: &str,
-) -> Result<Vec<SlotBearer>, Refusal>
-    ensures each { OfState (state S.Store conn.old) (state S.Store conn.new) (λ m. IfOk result (λ rows. AllByRecursion (λ x. (v : BearerFound)
-        × TellsBearer (state S.Store conn.old).now.trees m key.now x v) rows.items)) }
-    ensures all { OfState (state S.Store conn.old) (state S.Store conn.new) (λ m. IfOk result (λ rows. (v : BearerFound) → Bears m key.now v
-        → (x : SlotBearer) × Has rows.items x × TellsBearer (state S.Store conn.old).now.trees m key.now x v)) }
-    ensures kept { StaysAsBefore result (state S.Store conn.old) (state S.Store conn.new) }
-    ensures looks { Looks (state S.Store conn.old) (state S.Store conn.new) }
-    ensures mode { conn.old.in_transaction ≡ false → conn.new.in_transaction ≡ false }
+) -> Result<Vec<FoundBearer>, Refusal>
+    ensures found { OfState S.Store conn.old conn.new (λ m. IfOk result
+        (λ found. (v : BearerFound) → Contains (map bearer_found found.items) v ↔ Bears m key.now v)) }
+    ensures reads { OnlyReads S.Store result conn.old conn.new }
 {
     select_all(
         alloc,
         conn,
-        "SELECT slot, line, kind, def, refs, hover FROM bearer WHERE keytext = ?1",
+        "SELECT slot.project, bearer.line, bearer.kind, bearer.def, bearer.refs, bearer.hover, more.decl, more.imp FROM bearer JOIN slot ON slot.id = bearer.slot LEFT JOIN more ON more.slot = bearer.slot AND more.line = bearer.line WHERE bearer.keytext = ?1",
         params![key],
     )
 }
@@ -236,21 +187,10 @@ fn find_bearers<S: Alter>(
     conn: &mut Connection<S>,
     key: &str,
 ) -> Result<Vec<FoundBearer>, Refusal>
-    ensures found { OfState (state S.Store conn.old) (state S.Store conn.new) (λ m. IfOk result
-        (λ found. FindsBearers m key.now (map bearer_found found.items))) }
-    ensures kept { StaysAsBefore result (state S.Store conn.old) (state S.Store conn.new) }
-    ensures looks { Looks (state S.Store conn.old) (state S.Store conn.new) }
-    ensures mode { conn.old.in_transaction ≡ false → conn.new.in_transaction ≡ false }
+    ensures found { OfState S.Store conn.old conn.new (λ m. IfOk result (λ found. FindsBearers m key.now (map bearer_found found.items))) }
+    ensures reads { OnlyReads S.Store result conn.old conn.new }
 {
-    let mut left = select_bearers(alloc, conn, key)?;
-    let mut named = None;
-    let mut found = Vec::new(alloc);
-    while let Some(row) = left.pop() {
-        let bearer = complete(alloc, conn, &mut named, row)?;
-        if found.push(bearer).is_err() {
-            return Err(Refusal::Memory);
-        }
-    }
+    let mut found = select_bearers(alloc, conn, key)?;
     list_bearers(&mut found);
     Ok(found)
 }
@@ -262,11 +202,8 @@ impl<S: Alter> Tables<S> {
     pub fn bearers(&mut self, alloc: Global, key: &str) -> Result<Vec<FoundBearer>, TablesFault>
         ensures found { HasCleanDisk (state S.Store self.new) → (m : State) → Rests (state S.Store self.old) m
             → IfOk result (λ found. FindsBearers m key.now (map bearer_found found.items)) }
-        ensures same { HasCleanDisk (state S.Store self.new) → IsTrue (state S.Store self.new).is_open → (m : State) → Rests (state S.Store self.old) m
-            → IsAsBefore (state S.Store self.old) (state S.Store self.new) }
-        ensures clean { HasCleanDisk (state S.Store self.new) → HasCleanDisk (state S.Store self.old) }
+        ensures selects { OnlySelects (state S.Store self.old) (state S.Store self.new) }
         ensures fault { IfErr result IsStoreFault }
-        ensures survives { (m : State) → Rests (state S.Store self.old) m → Survives (state S.Store self.old) (state S.Store self.new) (λ _. ⊥) }
     {
         match find_bearers(alloc, &mut self.conn, key) {
             Ok(found) => Ok(found),

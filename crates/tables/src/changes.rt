@@ -1,8 +1,9 @@
 //! The changes of the index, each one transaction with its kept reply: a dump or tags replaced, and both removed. `specs/Contents` says what they
 //! leave.
 ghost use Rattle.std.specs.Prelude.{◌≡◌, ◌||◌, ℕ, List, Option, Some, None, is_some, false, IsTrue, IfOk, OnOk, OnErr, IfErr};
-ghost use Rattle.sqlite.specs.State.{HasCleanDisk, Survives, KeepsCommit};
+ghost use Rattle.sqlite.specs.State.{HasCleanDisk, Survives};
 ghost use Rattle.sqlite.specs.Held.{state};
+ghost use Rattle.tables.specs.Steps.Clauses.{CommitsNothing};
 ghost use Rattle.flatten.specs.Rows.{rows_value};
 ghost use Rattle.dump.specs.Progress.{DumpValue};
 ghost use Rattle.tags.specs.Views.{tag_values};
@@ -37,7 +38,6 @@ fn change_dump<S: Alter>(
     reply: &str,
     rows: &Rows<'_>,
 ) -> Result<(), Error>
-    ensures same_reference { tx.new.conn.ghost_name ≡ tx.old.conn.ghost_name }
     ensures changed { HasCleanDisk (state S.Store tx.new.conn.now) → IsTrue tx.old.conn.now.in_transaction
         → (state S.Store tx.old.conn.now).now.schema ≡ schema_two
         → (parts : Contents) (replies : Replies) → Keeps (state S.Store tx.old.conn.now).now.trees parts replies → replies project.now key.now ≡ None
@@ -45,8 +45,7 @@ fn change_dump<S: Alter>(
         × Keeps (state S.Store tx.new.conn.now).now.trees (replaced parts project.now Dump (Some (dump_rows rows.now.profile (rows_value rows.now))))
         (kept replies project.now key.now reply.now)
         × IsListed schema_two (state S.Store tx.new.conn.now).now.trees) }
-    ensures kept { HasCleanDisk (state S.Store tx.new.conn.now) → KeepsCommit (state S.Store tx.old.conn.now) (state S.Store tx.new.conn.now) }
-    ensures survives { Survives (state S.Store tx.old.conn.now) (state S.Store tx.new.conn.now) (λ _. ⊥) }
+    ensures uncommitted { CommitsNothing S.Store tx.old.conn tx.new.conn }
 {
     remove_slot(tx, project, Part::Dump)?;
     insert_dump(tx, project, rows)?;
@@ -93,7 +92,6 @@ fn change_tags<S: Alter>(
     reply: &str,
     tags: &[Tag],
 ) -> Result<(), Error>
-    ensures same_reference { tx.new.conn.ghost_name ≡ tx.old.conn.ghost_name }
     ensures changed { HasCleanDisk (state S.Store tx.new.conn.now) → IsTrue tx.old.conn.now.in_transaction
         → (state S.Store tx.old.conn.now).now.schema ≡ schema_two
         → (parts : Contents) (replies : Replies) → Keeps (state S.Store tx.old.conn.now).now.trees parts replies → replies project.now key.now ≡ None
@@ -101,8 +99,7 @@ fn change_tags<S: Alter>(
         × Keeps (state S.Store tx.new.conn.now).now.trees (replaced parts project.now Tags (Some (tag_rows (tag_values tags.now))))
         (kept replies project.now key.now reply.now)
         × IsListed schema_two (state S.Store tx.new.conn.now).now.trees) }
-    ensures kept { HasCleanDisk (state S.Store tx.new.conn.now) → KeepsCommit (state S.Store tx.old.conn.now) (state S.Store tx.new.conn.now) }
-    ensures survives { Survives (state S.Store tx.old.conn.now) (state S.Store tx.new.conn.now) (λ _. ⊥) }
+    ensures uncommitted { CommitsNothing S.Store tx.old.conn tx.new.conn }
 {
     remove_slot(tx, project, Part::Tags)?;
     insert_tags(alloc, tx, project, tags)?;
@@ -141,15 +138,13 @@ fn commit_tags<S: Alter>(
 
 /// Takes out both parts of the project: whether there was one.
 fn clear_parts<S: Alter>(tx: &mut Transaction<'_, S>, project: &str) -> Result<bool, Error>
-    ensures same_reference { tx.new.conn.ghost_name ≡ tx.old.conn.ghost_name }
     ensures gone { HasCleanDisk (state S.Store tx.new.conn.now) → IsTrue tx.old.conn.now.in_transaction
         → (state S.Store tx.old.conn.now).now.schema ≡ schema_two
         → (parts : Contents) (replies : Replies) → Keeps (state S.Store tx.old.conn.now).now.trees parts replies
         → IfOk result (λ was_there. (was_there ≡ (is_some (parts project.now Dump) || is_some (parts project.now Tags)))
         × GoesOn (state S.Store tx.old.conn.now) (state S.Store tx.new.conn.now)
         × Keeps (state S.Store tx.new.conn.now).now.trees (replaced (replaced parts project.now Dump None) project.now Tags None) replies) }
-    ensures kept { HasCleanDisk (state S.Store tx.new.conn.now) → KeepsCommit (state S.Store tx.old.conn.now) (state S.Store tx.new.conn.now) }
-    ensures survives { Survives (state S.Store tx.old.conn.now) (state S.Store tx.new.conn.now) (λ _. ⊥) }
+    ensures uncommitted { CommitsNothing S.Store tx.old.conn tx.new.conn }
 {
     let dumps = remove_slot(tx, project, Part::Dump)?;
     let tags = remove_slot(tx, project, Part::Tags)?;
@@ -162,7 +157,6 @@ fn change_both<S: Alter>(
     project: &str,
     key: &str,
 ) -> Result<bool, Error>
-    ensures same_reference { tx.new.conn.ghost_name ≡ tx.old.conn.ghost_name }
     ensures changed { HasCleanDisk (state S.Store tx.new.conn.now) → IsTrue tx.old.conn.now.in_transaction
         → (state S.Store tx.old.conn.now).now.schema ≡ schema_two
         → (parts : Contents) (replies : Replies) → Keeps (state S.Store tx.old.conn.now).now.trees parts replies → replies project.now key.now ≡ None
@@ -171,8 +165,7 @@ fn change_both<S: Alter>(
         × Keeps (state S.Store tx.new.conn.now).now.trees (replaced (replaced parts project.now Dump None) project.now Tags None)
         (kept replies project.now key.now (accepted_text (parts_removed was_there)))
         × IsListed schema_two (state S.Store tx.new.conn.now).now.trees) }
-    ensures kept { HasCleanDisk (state S.Store tx.new.conn.now) → KeepsCommit (state S.Store tx.old.conn.now) (state S.Store tx.new.conn.now) }
-    ensures survives { Survives (state S.Store tx.old.conn.now) (state S.Store tx.new.conn.now) (λ _. ⊥) }
+    ensures uncommitted { CommitsNothing S.Store tx.old.conn tx.new.conn }
 {
     let was_there = clear_parts(tx, project)?;
     insert_reply(tx, project, key, removal_text(was_there))?;
@@ -210,6 +203,7 @@ impl<S: Alter> Tables<S> {
     ghost use Rattle.std.specs.Prelude.{◌≡◌, ◌||◌, None, is_some, IsTrue, IfOk, OnOk, OnErr};
     ghost use Rattle.sqlite.specs.State.{HasCleanDisk, Survives};
     ghost use Rattle.sqlite.specs.Held.{state};
+    ghost use Rattle.tables.specs.Steps.Clauses.{CommitsNothing};
     ghost use Rattle.flatten.specs.Rows.{rows_value};
     ghost use Rattle.dump.specs.Progress.{DumpValue};
     ghost use Rattle.tags.specs.Views.{tag_values};

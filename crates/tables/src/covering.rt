@@ -1,18 +1,17 @@
 //! The ranges that cover a position, as they are selected: a climb from the one that starts last at the position or before, by the parents.
-ghost use Rattle.std.specs.Prelude.{◌≡◌, List, ℕ, Some, map, false, IsTrue, IfOk, IfErr, OnOk};
-ghost use Rattle.sqlite.specs.State.{HasCleanDisk, Survives};
+ghost use Rattle.std.specs.Prelude.{◌≡◌, List, ℕ, Some, map, IfOk, IfErr, OnOk};
+ghost use Rattle.sqlite.specs.State.{HasCleanDisk};
 ghost use Rattle.sqlite.specs.Held.{state};
 ghost use Rattle.flatten.specs.Flat.{RangeRowValue, IsRangeRow, result_for};
 ghost use Rattle.tables.specs.Contents.{HasSlot};
 ghost use Rattle.machine.specs.State.{State};
 ghost use Rattle.tables.specs.Fault.{IsStoreFault};
-ghost use Rattle.tables.specs.Stands.{IsAsBefore, Rests};
+ghost use Rattle.tables.specs.Stands.{OnlySelects, Rests};
 ghost use Rattle.tables.specs.Selections.{FindsCover, FindsCovering, range_found};
-ghost use Rattle.tables.specs.Steps.Selected.{Looks};
 ghost use Rattle.tables.specs.Steps.Slots.{IsKnown};
 ghost use Rattle.tables.specs.Steps.Climbs.{IsClimbed, TellsRange, row_found};
 ghost use Rattle.tables.specs.declared.slots.Part.TheVariants.{Dump};
-ghost use Rattle.tables.specs.Steps.Clauses.{OfDump, OfState, StaysAsBefore};
+ghost use Rattle.tables.specs.Steps.Clauses.{OfDump, OfState, OnlyReads};
 
 use crate::bearers::more_of;
 use crate::documents::has_document;
@@ -55,10 +54,8 @@ fn climb<S: Alter>(
     uri: &str,
     at: Position,
 ) -> Result<Vec<SlotRange>, Refusal>
-    ensures climbed { OfDump (state S.Store conn.old) (state S.Store conn.new) slot (λ dump. IfOk result (λ found. IsClimbed dump uri.now at found.items)) }
-    ensures kept { StaysAsBefore result (state S.Store conn.old) (state S.Store conn.new) }
-    ensures looks { Looks (state S.Store conn.old) (state S.Store conn.new) }
-    ensures mode { conn.old.in_transaction ≡ false → conn.new.in_transaction ≡ false }
+    ensures climbed { OfDump S.Store conn.old conn.new slot (λ dump. IfOk result (λ found. IsClimbed dump uri.now at found.items)) }
+    ensures reads { OnlyReads S.Store result conn.old conn.new }
 {
     let mut found = Vec::new(alloc);
     let mut next = start_of(conn, slot, uri, at)?;
@@ -78,11 +75,9 @@ fn result_of<S: Alter>(
     request: RequestKind,
     row: &SlotRange,
 ) -> Result<Option<u32>, Refusal>
-    ensures result { OfDump (state S.Store conn.old) (state S.Store conn.new) slot (λ dump. (r : RangeRowValue) → IsRangeRow dump.elements r
+    ensures result { OfDump S.Store conn.old conn.new slot (λ dump. (r : RangeRowValue) → IsRangeRow dump.elements r
         → TellsRange row.now r → IfOk result (λ number. number ≡ result_for request r.results)) }
-    ensures kept { StaysAsBefore result (state S.Store conn.old) (state S.Store conn.new) }
-    ensures looks { Looks (state S.Store conn.old) (state S.Store conn.new) }
-    ensures mode { conn.old.in_transaction ≡ false → conn.new.in_transaction ≡ false }
+    ensures reads { OnlyReads S.Store result conn.old conn.new }
 {
     match request {
         RequestKind::Definition => Ok(row.def),
@@ -100,11 +95,9 @@ fn complete<S: Alter>(
     request: RequestKind,
     row: &SlotRange,
 ) -> Result<FoundRange, Refusal>
-    ensures whole { OfDump (state S.Store conn.old) (state S.Store conn.new) slot (λ dump. (r : RangeRowValue) → IsRangeRow dump.elements r
+    ensures whole { OfDump S.Store conn.old conn.new slot (λ dump. (r : RangeRowValue) → IsRangeRow dump.elements r
         → TellsRange row.now r → IfOk result (λ found. range_found found ≡ row_found request r)) }
-    ensures kept { StaysAsBefore result (state S.Store conn.old) (state S.Store conn.new) }
-    ensures looks { Looks (state S.Store conn.old) (state S.Store conn.new) }
-    ensures mode { conn.old.in_transaction ≡ false → conn.new.in_transaction ≡ false }
+    ensures reads { OnlyReads S.Store result conn.old conn.new }
 {
     let result = result_of(conn, slot, request, row)?;
     Ok(FoundRange {
@@ -123,11 +116,9 @@ fn ranges_in<S: Alter>(
     uri: &str,
     at: Position,
 ) -> Result<Vec<FoundRange>, Refusal>
-    ensures found { OfDump (state S.Store conn.old) (state S.Store conn.new) slot (λ dump. IfOk result
+    ensures found { OfDump S.Store conn.old conn.new slot (λ dump. IfOk result
         (λ found. FindsCover request dump.elements uri.now at (map range_found found.items))) }
-    ensures kept { StaysAsBefore result (state S.Store conn.old) (state S.Store conn.new) }
-    ensures looks { Looks (state S.Store conn.old) (state S.Store conn.new) }
-    ensures mode { conn.old.in_transaction ≡ false → conn.new.in_transaction ≡ false }
+    ensures reads { OnlyReads S.Store result conn.old conn.new }
 {
     let rows = climb(alloc, conn, slot, uri, at)?;
     let mut found = Vec::new(alloc);
@@ -140,7 +131,7 @@ fn ranges_in<S: Alter>(
     Ok(found)
 }
 
-/// What covers the position in a document of the dump that has this slot.
+/// What covers the position in a document of the dump that has this slot. Whether there is such a document is asked only where nothing covers it.
 fn covering_in<S: Alter>(
     alloc: Global,
     conn: &mut Connection<S>,
@@ -149,14 +140,16 @@ fn covering_in<S: Alter>(
     uri: &str,
     at: Position,
 ) -> Result<Covering, Refusal>
-    ensures found { OfState (state S.Store conn.old) (state S.Store conn.new) (λ m. (project : List ℕ)
+    ensures found { OfState S.Store conn.old conn.new (λ m. (project : List ℕ)
         → HasSlot (state S.Store conn.old).now.trees slot project Dump → IfOk result (FindsCovering m request project uri.now at)) }
-    ensures kept { StaysAsBefore result (state S.Store conn.old) (state S.Store conn.new) }
-    ensures looks { Looks (state S.Store conn.old) (state S.Store conn.new) }
-    ensures mode { conn.old.in_transaction ≡ false → conn.new.in_transaction ≡ false }
+    ensures reads { OnlyReads S.Store result conn.old conn.new }
 {
+    let ranges = ranges_in(alloc, conn, slot, request, uri, at)?;
+    if !ranges.is_empty() {
+        return Ok(Covering::Ranges(ranges));
+    }
     if has_document(conn, slot, uri)? {
-        Ok(Covering::Ranges(ranges_in(alloc, conn, slot, request, uri, at)?))
+        Ok(Covering::Ranges(ranges))
     } else {
         Ok(Covering::NoDocument)
     }
@@ -173,10 +166,9 @@ fn find_covering<S: Alter>(
     at: Position,
 ) -> Result<Covering, Refusal>
     requires known { IsKnown (state S.Store conn.old) known.old }
-    ensures found { OfState (state S.Store conn.old) (state S.Store conn.new) (λ m. IfOk result (FindsCovering m request project.now uri.now at)) }
+    ensures found { OfState S.Store conn.old conn.new (λ m. IfOk result (FindsCovering m request project.now uri.now at)) }
     ensures known { OnOk result (IsKnown (state S.Store conn.new) known.new) }
-    ensures looks { Looks (state S.Store conn.old) (state S.Store conn.new) }
-    ensures mode { conn.old.in_transaction ≡ false → conn.new.in_transaction ≡ false }
+    ensures reads { OnlyReads S.Store result conn.old conn.new }
 {
     match dump_slot(alloc, conn, known, project)? {
         Some(slot) => covering_in(alloc, conn, slot, request, uri, at),
@@ -198,11 +190,8 @@ impl<S: Alter> Tables<S> {
     ) -> Result<Covering, TablesFault>
         ensures found { HasCleanDisk (state S.Store self.new) → (m : State) → Rests (state S.Store self.old) m
             → IfOk result (FindsCovering m request project.now uri.now position) }
-        ensures same { HasCleanDisk (state S.Store self.new) → IsTrue (state S.Store self.new).is_open → (m : State) → Rests (state S.Store self.old) m
-            → IsAsBefore (state S.Store self.old) (state S.Store self.new) }
-        ensures clean { HasCleanDisk (state S.Store self.new) → HasCleanDisk (state S.Store self.old) }
+        ensures selects { OnlySelects (state S.Store self.old) (state S.Store self.new) }
         ensures fault { IfErr result IsStoreFault }
-        ensures survives { (m : State) → Rests (state S.Store self.old) m → Survives (state S.Store self.old) (state S.Store self.new) (λ _. ⊥) }
     {
         match find_covering(
             alloc,

@@ -1,9 +1,7 @@
 //! The documents of dumps, as they are selected: whether a dump has one of this URL.
-ghost use Rattle.std.specs.Prelude.{◌≡◌, ◌↔◌, false, IsTrue, IfOk};
-ghost use Rattle.sqlite.specs.Held.{state};
+ghost use Rattle.std.specs.Prelude.{◌↔◌, IsTrue, IfOk};
 ghost use Rattle.dump.specs.Places.{HasDocument};
-ghost use Rattle.tables.specs.Steps.Selected.{Looks};
-ghost use Rattle.tables.specs.Steps.Clauses.{OfDump, StaysAsBefore};
+ghost use Rattle.tables.specs.Steps.Clauses.{OfDump, OnlyReads};
 
 use crate::fault::Refusal;
 use crate::selection::select_first;
@@ -15,11 +13,8 @@ pub(crate) fn has_document<S: Alter>(
     slot: i64,
     uri: &str,
 ) -> Result<bool, Refusal>
-    ensures found { OfDump (state S.Store conn.old) (state S.Store conn.new) slot (λ dump. IfOk result
-        (λ found. IsTrue found ↔ HasDocument dump.elements uri.now)) }
-    ensures kept { StaysAsBefore result (state S.Store conn.old) (state S.Store conn.new) }
-    ensures looks { Looks (state S.Store conn.old) (state S.Store conn.new) }
-    ensures mode { conn.old.in_transaction ≡ false → conn.new.in_transaction ≡ false }
+    ensures found { OfDump S.Store conn.old conn.new slot (λ dump. IfOk result (λ found. IsTrue found ↔ HasDocument dump.elements uri.now)) }
+    ensures reads { OnlyReads S.Store result conn.old conn.new }
 {
     let found: Option<i64> = select_first(
         conn,

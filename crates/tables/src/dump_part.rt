@@ -1,14 +1,14 @@
 //! The rows of a dump, put under a slot of its own, table by table. The rows are made by the crate `flatten`.
 ghost use Rattle.std.specs.Prelude.{◌≡◌, ◌∷◌, [], map, Some, None, IsTrue, OnOk};
 ghost use Rattle.sqlite_value.specs.declared.value.Value.TheVariants.{Int};
-ghost use Rattle.sqlite.specs.State.{HasCleanDisk, Survives, KeepsCommit};
+ghost use Rattle.sqlite.specs.State.{HasCleanDisk};
 ghost use Rattle.sqlite.specs.Held.{state};
 ghost use Rattle.flatten.specs.Rows.{rows_value};
 ghost use Rattle.tables.specs.Schema.{schema_two};
 ghost use Rattle.tables.specs.Columns.{document_columns, range_columns, item_columns, hover_columns, mark_columns, bearer_columns, profile_columns, dump_rows};
 ghost use Rattle.tables.specs.Contents.{Contents, Replies, Keeps, changed, kept};
 ghost use Rattle.tables.specs.Steps.Puts.{PutsAll, Then, GoesOn};
-ghost use Rattle.tables.specs.Steps.Clauses.{Edits};
+ghost use Rattle.tables.specs.Steps.Clauses.{CommitsNothing, Edits};
 ghost use Rattle.tables.specs.TableTrees.{bearer_tree, document_tree, hover_tree, item_tree, mark_tree, part_profile_tree, range_row_tree};
 ghost use Rattle.tables.specs.declared.slots.Part.TheVariants.{Dump};
 
@@ -31,13 +31,11 @@ fn insert_places<S: Alter>(
     slot: i64,
     rows: &Rows<'_>,
 ) -> Result<(), Error>
-    ensures same_reference { tx.new.conn.ghost_name ≡ tx.old.conn.ghost_name }
-    ensures put { Edits result tx.old.conn.now.in_transaction (state S.Store tx.old.conn.now) (state S.Store tx.new.conn.now) (Then
+    ensures put { Edits S.Store result tx.old.conn tx.new.conn (Then
         (PutsAll document_tree (map (λ columns. Int slot ∷ columns) (map document_columns (rows_value rows.now).documents))) (Then
         (PutsAll range_row_tree (map (λ columns. Int slot ∷ columns) (map range_columns (rows_value rows.now).ranges)))
         (PutsAll item_tree (map (λ columns. Int slot ∷ columns) (map item_columns (rows_value rows.now).items))))) }
-    ensures kept { HasCleanDisk (state S.Store tx.new.conn.now) → KeepsCommit (state S.Store tx.old.conn.now) (state S.Store tx.new.conn.now) }
-    ensures survives { Survives (state S.Store tx.old.conn.now) (state S.Store tx.new.conn.now) (λ _. ⊥) }
+    ensures uncommitted { CommitsNothing S.Store tx.old.conn tx.new.conn }
 {
     let alloc = *rows.documents.allocator();
     insert_all(
@@ -72,13 +70,11 @@ fn insert_contents<S: Alter>(
     slot: i64,
     rows: &Rows<'_>,
 ) -> Result<(), Error>
-    ensures same_reference { tx.new.conn.ghost_name ≡ tx.old.conn.ghost_name }
-    ensures put { Edits result tx.old.conn.now.in_transaction (state S.Store tx.old.conn.now) (state S.Store tx.new.conn.now) (Then
+    ensures put { Edits S.Store result tx.old.conn tx.new.conn (Then
         (PutsAll hover_tree (map (λ columns. Int slot ∷ columns) (map hover_columns (rows_value rows.now).hovers))) (Then
         (PutsAll mark_tree (map (λ columns. Int slot ∷ columns) (map mark_columns (rows_value rows.now).marks)))
         (PutsAll bearer_tree (map (λ columns. Int slot ∷ columns) (map bearer_columns (rows_value rows.now).bearers))))) }
-    ensures kept { HasCleanDisk (state S.Store tx.new.conn.now) → KeepsCommit (state S.Store tx.old.conn.now) (state S.Store tx.new.conn.now) }
-    ensures survives { Survives (state S.Store tx.old.conn.now) (state S.Store tx.new.conn.now) (λ _. ⊥) }
+    ensures uncommitted { CommitsNothing S.Store tx.old.conn tx.new.conn }
 {
     let alloc = *rows.hovers.allocator();
     insert_all(
@@ -113,11 +109,8 @@ fn insert_profile<S: Alter>(
     slot: i64,
     profile: Profile,
 ) -> Result<usize, Error>
-    ensures same_reference { tx.new.conn.ghost_name ≡ tx.old.conn.ghost_name }
-    ensures put { Edits result tx.old.conn.now.in_transaction (state S.Store tx.old.conn.now) (state S.Store tx.new.conn.now)
-        (PutsAll part_profile_tree ((Int slot ∷ profile_columns profile) ∷ [])) }
-    ensures kept { HasCleanDisk (state S.Store tx.new.conn.now) → KeepsCommit (state S.Store tx.old.conn.now) (state S.Store tx.new.conn.now) }
-    ensures survives { Survives (state S.Store tx.old.conn.now) (state S.Store tx.new.conn.now) (λ _. ⊥) }
+    ensures put { Edits S.Store result tx.old.conn tx.new.conn (PutsAll part_profile_tree ((Int slot ∷ profile_columns profile) ∷ [])) }
+    ensures uncommitted { CommitsNothing S.Store tx.old.conn tx.new.conn }
 {
     let number = profile_number(profile);
     run(
@@ -133,14 +126,12 @@ pub(crate) fn insert_dump<S: Alter>(
     project: &str,
     rows: &Rows<'_>,
 ) -> Result<(), Error>
-    ensures same_reference { tx.new.conn.ghost_name ≡ tx.old.conn.ghost_name }
     ensures put { HasCleanDisk (state S.Store tx.new.conn.now) → IsTrue tx.old.conn.now.in_transaction → (state S.Store tx.old.conn.now).now.schema ≡ schema_two
         → (parts : Contents) (replies : Replies) → Keeps (state S.Store tx.old.conn.now).now.trees (changed parts project.now Dump None) replies
         → OnOk result (GoesOn (state S.Store tx.old.conn.now) (state S.Store tx.new.conn.now)
         × Keeps (state S.Store tx.new.conn.now).now.trees (changed parts project.now Dump (Some (dump_rows rows.now.profile (rows_value rows.now))))
         replies) }
-    ensures kept { HasCleanDisk (state S.Store tx.new.conn.now) → KeepsCommit (state S.Store tx.old.conn.now) (state S.Store tx.new.conn.now) }
-    ensures survives { Survives (state S.Store tx.old.conn.now) (state S.Store tx.new.conn.now) (λ _. ⊥) }
+    ensures uncommitted { CommitsNothing S.Store tx.old.conn tx.new.conn }
 {
     let slot = insert_slot(tx, project, Part::Dump)?;
     insert_places(tx, slot, rows)?;

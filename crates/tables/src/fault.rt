@@ -1,22 +1,27 @@
-//! Why the tables refuse, with the code of each reason and its text, and the private reason that a row isn't one of the tables'. `specs/Fault`.
+//! Why the tables refuse, with the code of each reason and its message, and the private reason that a row isn't one of the tables'. `specs/Fault`.
 ghost use Rattle.std.specs.Prelude.{◌≡◌};
-ghost use Rattle.tables.specs.Fault.{IsStoreFault, name_of, text_of, fault_of};
+ghost use Rattle.tables.specs.Fault.{IsStoreFault, name_of, fault_of};
 ghost use Rattle.tables.specs.Steps.Refusals.{told_fault};
 ghost use Rattle.tables.specs.declared.fault.Refusal.TheVariants.{Memory, Store};
 
+use lsif::OUT_OF_MEMORY;
 use sqlite::{Error, ErrorCode};
 use std::alloc::{AllocError, AllocFailed};
 
-/// Why a call of the tables is refused.
-#[derive(Clone, Copy, Debug, PartialEq, Eq)]
+/// Why a call of the tables is refused. Its message is what the program prints.
+#[derive(Clone, Copy, Debug, PartialEq, Eq, thiserror::Error)]
 pub enum TablesFault {
     /// The store or a statement refused, for another cause than memory.
+    #[error("store refused")]
     Refused,
     /// Memory was refused, also to the store of a database in memory.
+    #[error("{}", OUT_OF_MEMORY)]
     Memory,
     /// The database isn't the product's: something has the name of one of its tables, and no version can be read.
+    #[error("not a codenav database")]
     Foreign,
     /// The tables are of format 1, which `migrate` upgrades.
+    #[error("database is of format 1")]
     OldFormat,
 }
 
@@ -30,18 +35,6 @@ impl TablesFault {
             TablesFault::Memory => "S02",
             TablesFault::Foreign => "S03",
             TablesFault::OldFormat => "S04",
-        }
-    }
-
-    /// What the fault says to a user, as it is printed behind the code.
-    pub fn text(self) -> &'static str
-        ensures { result.now ≡ text_of self }
-    {
-        match self {
-            TablesFault::Refused => "store refused",
-            TablesFault::Memory => "out of memory",
-            TablesFault::Foreign => "not a codenav database",
-            TablesFault::OldFormat => "database is of format 1",
         }
     }
 }

@@ -6,7 +6,7 @@ ghost use Rattle.sqlite_catalog.specs.Change.{is_used as is_used_in};
 ghost use Rattle.sqlite.specs.State.{HasCleanDisk, Survives, Shown, IsUnchanged};
 ghost use Rattle.sqlite.specs.Held.{state};
 ghost use Rattle.tables.specs.Opening.{StaysCommitted};
-ghost use Rattle.tables.specs.Schema.{empty_schema, schema_one, schema_two};
+ghost use Rattle.tables.specs.Schema.{IsSchemaOne, empty_schema, schema_two};
 ghost use Rattle.tables.specs.Databases.{IsFormatOne, IsFormatTwo, ShowsVersion};
 
 use sqlite::types::ValueRef;
@@ -25,7 +25,8 @@ fn is_used(schema: &Schema, name: &str) -> bool
 /// Something has the name of one of the tables.
 fn has_own_name(schema: &Schema) -> bool
     ensures absent { schema.now ≡ empty_schema → result ≡ false }
-    ensures old { schema.now ≡ schema_one → result ≡ true }
+    ensures format { is_used_in schema.now (codes "format") ≡ true → result ≡ true }
+    ensures old { IsSchemaOne schema.now → result ≡ true }
     ensures known { schema.now ≡ schema_two → result ≡ true }
 {
     if is_used(schema, "format") {
@@ -53,7 +54,7 @@ fn has_own_name(schema: &Schema) -> bool
 
 /// A version can be read.
 fn has_version(schema: &Schema) -> bool
-    ensures old { schema.now ≡ schema_one → result ≡ true }
+    ensures old { IsSchemaOne schema.now → result ≡ true }
     ensures known { schema.now ≡ schema_two → result ≡ true }
 {
     let Some(at) = schema.table_named("format".as_bytes()) else {
@@ -100,6 +101,7 @@ fn format_in(rows: &[Row]) -> Format
     ensures old { rows.now ≡ (Int (pos 1) ∷ []) ∷ [] → result ≡ Format.One }
     ensures known { rows.now ≡ (Int (pos 2) ∷ []) ∷ [] → result ≡ Format.Two }
     ensures one { result ≡ Format.One → (row : Columns) × (rows.now ≡ row ∷ []) × (column row 0 ≡ Int (pos 1)) }
+    ensures two { result ≡ Format.Two → (row : Columns) × (rows.now ≡ row ∷ []) × (column row 0 ≡ Int (pos 2)) }
     ensures present { result ≢ Format.Absent }
 {
     if rows.len() != 1 {
@@ -116,6 +118,8 @@ fn format_in(rows: &[Row]) -> Format
 pub(crate) fn find_format<S: Alter>(conn: &mut Connection<S>) -> Result<Format, Error>
     ensures absent { (state S.Store conn.old).now.schema ≡ empty_schema → (result ≡ Ok Format.Absent) × (conn.new ≡ conn.old) }
     ensures one { HasCleanDisk (state S.Store conn.new) → result ≡ Ok Format.One → ShowsVersion (state S.Store conn.old) (state S.Store conn.new) 1 }
+    ensures two { HasCleanDisk (state S.Store conn.new) → result ≡ Ok Format.Two → ShowsVersion (state S.Store conn.old) (state S.Store conn.new) 2 }
+    ensures present { is_used_in (state S.Store conn.old).now.schema (codes "format") ≡ true → result ≢ Ok Format.Absent }
     ensures old { HasCleanDisk (state S.Store conn.new) → IsFormatOne (state S.Store conn.old).now
         → IfOk result (λ found. (found ≡ Format.One) × IsUnchanged (state S.Store conn.old) (state S.Store conn.new)) }
     ensures known { HasCleanDisk (state S.Store conn.new) → IsFormatTwo (state S.Store conn.old).now

@@ -1,5 +1,5 @@
 //! Tags with their projects, made of the rows that are selected (`names.rt`); the fields are read from their JSON.
-ghost use Rattle.std.specs.Prelude.{◌≡◌, ◌↔◌, List, ℕ, Contains, Some, map, option_map, string_bytes, false, IsTrue, IfOk, OnOk};
+ghost use Rattle.std.specs.Prelude.{◌≡◌, ◌↔◌, List, ℕ, Contains, Some, map, option_map, string_bytes, IsTrue, IfOk, OnOk};
 ghost use Rattle.sqlite.specs.Held.{state};
 ghost use Rattle.serde_json.specs.Data.{string};
 ghost use Rattle.serde_json.specs.Read.{read as read_text};
@@ -10,10 +10,9 @@ ghost use Rattle.machine.specs.Reply.{field_data};
 ghost use Rattle.tables.specs.Columns.{fields_text, tag_columns};
 ghost use Rattle.machine.specs.FoundTags.{FoundTag as FoundTagValue, IsAsked};
 ghost use Rattle.machine.specs.Found.{tag_found};
-ghost use Rattle.tables.specs.Steps.Selected.{Looks};
 ghost use Rattle.tables.specs.Steps.Slots.{IsNamed};
 ghost use Rattle.tables.specs.Steps.TagRows.{AllTell, Grows, IsFoundIf, IsTold, TellsTag, columns_of, tag_row_columns};
-ghost use Rattle.tables.specs.Steps.Clauses.{OfState, StaysAsBefore};
+ghost use Rattle.tables.specs.Steps.Clauses.{OfState, OnlyReads};
 
 use crate::bearers::slot_project;
 use crate::columns::column;
@@ -150,12 +149,10 @@ fn complete<S: Alter>(
     asked: Option<&str>,
 ) -> Result<Option<FoundTag>, Refusal>
     requires named { IsNamed (state S.Store conn.old) named.old }
-    ensures whole { OfState (state S.Store conn.old) (state S.Store conn.new) (λ m. (v : FoundTagValue) → TellsTag (state S.Store conn.old).now.trees m row v
+    ensures whole { OfState S.Store conn.old conn.new (λ m. (v : FoundTagValue) → TellsTag (state S.Store conn.old).now.trees m row v
         → IfOk result (IsFoundIf (option_map (λ p. p.now) asked.entry) v)) }
     ensures named { OnOk result (IsNamed (state S.Store conn.new) named.new) }
-    ensures kept { StaysAsBefore result (state S.Store conn.old) (state S.Store conn.new) }
-    ensures looks { Looks (state S.Store conn.old) (state S.Store conn.new) }
-    ensures mode { conn.old.in_transaction ≡ false → conn.new.in_transaction ≡ false }
+    ensures reads { OnlyReads S.Store result conn.old conn.new }
 {
     let project = slot_project(alloc, conn, named, row.slot)?;
     if !is_asked(asked, project.as_str()) {
@@ -185,13 +182,11 @@ pub(crate) fn complete_all<S: Alter>(
     rows: Vec<TagRow>,
     asked: Option<&str>,
 ) -> Result<Vec<FoundTag>, Refusal>
-    ensures found { OfState (state S.Store conn.old) (state S.Store conn.new) (λ m. AllTell (state S.Store conn.old).now.trees m rows.items
+    ensures found { OfState S.Store conn.old conn.new (λ m. AllTell (state S.Store conn.old).now.trees m rows.items
         → IfOk result (λ found. (v : FoundTagValue)
         → Contains (map tag_found found.items) v ↔ (IsTold (state S.Store conn.old).now.trees m rows.items v
         × IsAsked (option_map (λ p. p.now) asked.entry) v.project))) }
-    ensures kept { StaysAsBefore result (state S.Store conn.old) (state S.Store conn.new) }
-    ensures looks { Looks (state S.Store conn.old) (state S.Store conn.new) }
-    ensures mode { conn.old.in_transaction ≡ false → conn.new.in_transaction ≡ false }
+    ensures reads { OnlyReads S.Store result conn.old conn.new }
 {
     let mut left = rows;
     let mut named = None;

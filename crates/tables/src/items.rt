@@ -1,8 +1,8 @@
 //! The items of results, as they are selected: the places of a result in a role, in order. `FindsItems` in `specs/Selections`.
-ghost use Rattle.std.specs.Prelude.{◌≡◌, ◌∷◌, [], List, ℕ, Contains, map, false, IsTrue, IfOk, IfErr, OnOk};
+ghost use Rattle.std.specs.Prelude.{◌≡◌, ◌∷◌, [], List, ℕ, Contains, map, IfOk, IfErr, OnOk};
 ghost use Rattle.std.specs.Rc.{rc_str_bytes};
 ghost use Rattle.sqlite_value.specs.declared.value.Value.TheVariants.{Text};
-ghost use Rattle.sqlite.specs.State.{HasCleanDisk, Survives};
+ghost use Rattle.sqlite.specs.State.{HasCleanDisk};
 ghost use Rattle.sqlite.specs.Held.{state};
 ghost use Rattle.positions.specs.Position.{IsPosition};
 ghost use Rattle.dump.specs.Places.{IsListing, place_cmp};
@@ -10,12 +10,11 @@ ghost use Rattle.tables.specs.Columns.{position};
 ghost use Rattle.tables.specs.Contents.{HasSlot};
 ghost use Rattle.machine.specs.State.{State};
 ghost use Rattle.tables.specs.Fault.{IsStoreFault};
-ghost use Rattle.tables.specs.Stands.{IsAsBefore, Rests};
+ghost use Rattle.tables.specs.Stands.{OnlySelects, Rests};
 ghost use Rattle.tables.specs.Selections.{FindsItems, item_found};
-ghost use Rattle.tables.specs.Steps.Selected.{Looks};
 ghost use Rattle.tables.specs.Steps.Slots.{IsKnown};
 ghost use Rattle.tables.specs.declared.slots.Part.TheVariants.{Dump};
-ghost use Rattle.tables.specs.Steps.Clauses.{OfState, StaysAsBefore};
+ghost use Rattle.tables.specs.Steps.Clauses.{OfState, OnlyReads};
 
 use crate::columns::{column, span_of};
 use crate::dump_rows::role_number;
@@ -87,12 +86,9 @@ fn items_in<S: Alter>(
     result_number: u32,
     role: Role,
 ) -> Result<Vec<FoundItem>, Refusal>
-    ensures found { OfState (state S.Store conn.old) (state S.Store conn.new) (λ m. (project : List ℕ)
-        → HasSlot (state S.Store conn.old).now.trees slot project Dump
+    ensures found { OfState S.Store conn.old conn.new (λ m. (project : List ℕ) → HasSlot (state S.Store conn.old).now.trees slot project Dump
         → IfOk result (λ found. FindsItems m project result_number role (map item_found found.items))) }
-    ensures kept { StaysAsBefore result (state S.Store conn.old) (state S.Store conn.new) }
-    ensures looks { Looks (state S.Store conn.old) (state S.Store conn.new) }
-    ensures mode { conn.old.in_transaction ≡ false → conn.new.in_transaction ≡ false }
+    ensures reads { OnlyReads S.Store result conn.old conn.new }
 {
     let role = role_number(role);
     let mut found = select_all(
@@ -115,11 +111,10 @@ fn find_items<S: Alter>(
     role: Role,
 ) -> Result<Vec<FoundItem>, Refusal>
     requires known { IsKnown (state S.Store conn.old) known.old }
-    ensures found { OfState (state S.Store conn.old) (state S.Store conn.new) (λ m. IfOk result
+    ensures found { OfState S.Store conn.old conn.new (λ m. IfOk result
         (λ found. FindsItems m project.now result_number role (map item_found found.items))) }
     ensures known { OnOk result (IsKnown (state S.Store conn.new) known.new) }
-    ensures looks { Looks (state S.Store conn.old) (state S.Store conn.new) }
-    ensures mode { conn.old.in_transaction ≡ false → conn.new.in_transaction ≡ false }
+    ensures reads { OnlyReads S.Store result conn.old conn.new }
 {
     match dump_slot(alloc, conn, known, project)? {
         Some(slot) => items_in(alloc, conn, slot, result_number, role),
@@ -140,11 +135,8 @@ impl<S: Alter> Tables<S> {
     ) -> Result<Vec<FoundItem>, TablesFault>
         ensures found { HasCleanDisk (state S.Store self.new) → (m : State) → Rests (state S.Store self.old) m
             → IfOk result (λ found. FindsItems m project.now result_number role (map item_found found.items)) }
-        ensures same { HasCleanDisk (state S.Store self.new) → IsTrue (state S.Store self.new).is_open → (m : State) → Rests (state S.Store self.old) m
-            → IsAsBefore (state S.Store self.old) (state S.Store self.new) }
-        ensures clean { HasCleanDisk (state S.Store self.new) → HasCleanDisk (state S.Store self.old) }
+        ensures selects { OnlySelects (state S.Store self.old) (state S.Store self.new) }
         ensures fault { IfErr result IsStoreFault }
-        ensures survives { (m : State) → Rests (state S.Store self.old) m → Survives (state S.Store self.old) (state S.Store self.new) (λ _. ⊥) }
     {
         match find_items(
             alloc,

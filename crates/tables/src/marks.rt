@@ -1,7 +1,7 @@
 //! Marks, as they are selected: those of a range, by kind and key. `FindsMarks` in `specs/Selections`.
-ghost use Rattle.std.specs.Prelude.{◌≡◌, ◌∷◌, [], List, ℕ, Contains, map, string_bytes, false, IsTrue, IfOk, IfErr, OnOk};
+ghost use Rattle.std.specs.Prelude.{◌≡◌, ◌∷◌, [], List, ℕ, Contains, map, string_bytes, IfOk, IfErr, OnOk};
 ghost use Rattle.sqlite_value.specs.declared.value.Value.TheVariants.{Text};
-ghost use Rattle.sqlite.specs.State.{HasCleanDisk, Survives};
+ghost use Rattle.sqlite.specs.State.{HasCleanDisk};
 ghost use Rattle.sqlite.specs.Held.{state};
 ghost use Rattle.dump.specs.Places.{IsListing};
 ghost use Rattle.flatten.specs.Flat.{kind_index};
@@ -9,12 +9,11 @@ ghost use Rattle.tables.specs.Columns.{number};
 ghost use Rattle.tables.specs.Contents.{HasSlot};
 ghost use Rattle.machine.specs.State.{State};
 ghost use Rattle.tables.specs.Fault.{IsStoreFault};
-ghost use Rattle.tables.specs.Stands.{IsAsBefore, Rests};
+ghost use Rattle.tables.specs.Stands.{OnlySelects, Rests};
 ghost use Rattle.tables.specs.Selections.{FindsMarks, mark_text_cmp, mark_found};
-ghost use Rattle.tables.specs.Steps.Selected.{Looks};
 ghost use Rattle.tables.specs.Steps.Slots.{IsKnown};
 ghost use Rattle.tables.specs.declared.slots.Part.TheVariants.{Dump};
-ghost use Rattle.tables.specs.Steps.Clauses.{OfState, StaysAsBefore};
+ghost use Rattle.tables.specs.Steps.Clauses.{OfState, OnlyReads};
 
 use crate::columns::{column, kind_of};
 use crate::dump_rows::kind_number;
@@ -71,11 +70,9 @@ fn marks_in<S: Alter>(
     slot: i64,
     line: u32,
 ) -> Result<Vec<FoundMark>, Refusal>
-    ensures found { OfState (state S.Store conn.old) (state S.Store conn.new) (λ m. (project : List ℕ)
+    ensures found { OfState S.Store conn.old conn.new (λ m. (project : List ℕ)
         → HasSlot (state S.Store conn.old).now.trees slot project Dump → IfOk result (λ found. FindsMarks m project line (map mark_found found.items))) }
-    ensures kept { StaysAsBefore result (state S.Store conn.old) (state S.Store conn.new) }
-    ensures looks { Looks (state S.Store conn.old) (state S.Store conn.new) }
-    ensures mode { conn.old.in_transaction ≡ false → conn.new.in_transaction ≡ false }
+    ensures reads { OnlyReads S.Store result conn.old conn.new }
 {
     let mut found = select_all(
         alloc,
@@ -96,11 +93,9 @@ fn find_marks<S: Alter>(
     line: u32,
 ) -> Result<Vec<FoundMark>, Refusal>
     requires known { IsKnown (state S.Store conn.old) known.old }
-    ensures found { OfState (state S.Store conn.old) (state S.Store conn.new) (λ m. IfOk result
-        (λ found. FindsMarks m project.now line (map mark_found found.items))) }
+    ensures found { OfState S.Store conn.old conn.new (λ m. IfOk result (λ found. FindsMarks m project.now line (map mark_found found.items))) }
     ensures known { OnOk result (IsKnown (state S.Store conn.new) known.new) }
-    ensures looks { Looks (state S.Store conn.old) (state S.Store conn.new) }
-    ensures mode { conn.old.in_transaction ≡ false → conn.new.in_transaction ≡ false }
+    ensures reads { OnlyReads S.Store result conn.old conn.new }
 {
     match dump_slot(alloc, conn, known, project)? {
         Some(slot) => marks_in(alloc, conn, slot, line),
@@ -120,11 +115,8 @@ impl<S: Alter> Tables<S> {
     ) -> Result<Vec<FoundMark>, TablesFault>
         ensures found { HasCleanDisk (state S.Store self.new) → (m : State) → Rests (state S.Store self.old) m
             → IfOk result (λ found. FindsMarks m project.now line (map mark_found found.items)) }
-        ensures same { HasCleanDisk (state S.Store self.new) → IsTrue (state S.Store self.new).is_open → (m : State) → Rests (state S.Store self.old) m
-            → IsAsBefore (state S.Store self.old) (state S.Store self.new) }
-        ensures clean { HasCleanDisk (state S.Store self.new) → HasCleanDisk (state S.Store self.old) }
+        ensures selects { OnlySelects (state S.Store self.old) (state S.Store self.new) }
         ensures fault { IfErr result IsStoreFault }
-        ensures survives { (m : State) → Rests (state S.Store self.old) m → Survives (state S.Store self.old) (state S.Store self.new) (λ _. ⊥) }
     {
         match find_marks(alloc, &mut self.conn, &mut self.slot, project, line) {
             Ok(found) => Ok(found),

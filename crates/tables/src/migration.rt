@@ -2,30 +2,33 @@
 ghost use Rattle.std.specs.Prelude.{◌≡◌, ◌≢◌, ◌⊎◌, true, false, IsTrue, IfOk, IfErr, OnOk, OnErr};
 ghost use Rattle.tables.specs.Fault.{IsStoreFault};
 ghost use Rattle.tables.specs.Opening.{AfterMigration, StaysCommitted, IsRolledBack, Migrates};
-ghost use Rattle.sqlite.specs.State.{HasCleanDisk, Survives, KeepsCommit, IsUnchanged};
+ghost use Rattle.sqlite.specs.State.{HasCleanDisk, Survives, IsUnchanged};
 ghost use Rattle.sqlite.specs.Held.{state};
+ghost use Rattle.tables.specs.Steps.Clauses.{CommitsNothing};
 ghost use Rattle.tables.specs.Schema.{empty_schema};
 ghost use Rattle.tables.specs.Stands.{Finds, FindsOne, Rests, RestsOne, StandsFor};
 ghost use Rattle.machine.specs.State.{State};
-ghost use Rattle.tables.specs.Databases.{IsFormatOne, IsFormatTwo, IsUpgraded, WasUpgraded};
+ghost use Rattle.tables.specs.Databases.{IsFormatOne, IsFormatTwo, IsUpgraded, ShowsVersion, WasUpgraded};
 
 use crate::fault::{TablesFault, fault_of};
 use crate::format::{Format, find_format};
 use crate::tables::Tables;
 use sqlite::{Alter, Connection, Error, Transaction};
 
-/// The statements that make format 2 of format 1, within a transaction.
+/// The statements that make format 2 of format 1, within a transaction. Indexes that have the names of those of format 2 are made anew, so that they are
+/// on the columns that format 2 has them on.
 fn upgrade_tables<S: Alter>(tx: &mut Transaction<'_, S>) -> Result<(), Error>
-    ensures same_reference { tx.new.conn.ghost_name ≡ tx.old.conn.ghost_name }
     ensures made { IsFormatOne (state S.Store tx.old.conn.now).now → HasCleanDisk (state S.Store tx.new.conn.now)
         → OnOk result (IsUpgraded (state S.Store tx.old.conn.now).now (state S.Store tx.new.conn.now).now) }
     ensures inside { HasCleanDisk (state S.Store tx.new.conn.now)
         → OnOk result ((state S.Store tx.new.conn.now).in_transaction ≡ (state S.Store tx.old.conn.now).in_transaction) }
-    ensures kept { HasCleanDisk (state S.Store tx.new.conn.now) → KeepsCommit (state S.Store tx.old.conn.now) (state S.Store tx.new.conn.now) }
-    ensures survives { Survives (state S.Store tx.old.conn.now) (state S.Store tx.new.conn.now) (λ _. ⊥) }
+    ensures uncommitted { CommitsNothing S.Store tx.old.conn tx.new.conn }
 {
     tx.execute_batch(
-        "CREATE INDEX range_by_start ON range_row (slot, uri, first, last DESC);\
+        "DROP INDEX IF EXISTS range_by_start;\
+         DROP INDEX IF EXISTS bearer_by_key;\
+         DROP INDEX IF EXISTS tag_by_name;\
+         CREATE INDEX range_by_start ON range_row (slot, uri, first, last DESC);\
          CREATE INDEX bearer_by_key ON bearer (keytext, kind);\
          CREATE INDEX tag_by_name ON tag (name, slot, line);\
          CREATE TABLE part_profile (slot INTEGER NOT NULL REFERENCES slot ON DELETE CASCADE, profile INTEGER NOT NULL, UNIQUE (slot)) STRICT;\
@@ -83,6 +86,7 @@ pub fn migrate<S: Alter>(
         → AfterMigration (state S.Store) result (λ s. HasCleanDisk s → Survives (state S.Store conn) s (WasUpgraded (state S.Store conn).now.trees)) }
     ensures left { (m : State) → RestsOne (state S.Store conn) m
         → AfterMigration (state S.Store) result (λ s. HasCleanDisk s → Survives (state S.Store conn) s (λ db. StandsFor db m)) }
+    ensures two { IfOk result (λ r. HasCleanDisk (state S.Store r.0) → r.1 ≡ false → ShowsVersion (state S.Store conn) (state S.Store r.0) 2) }
     ensures whole { IsFormatOne (state S.Store conn).now → IfOk result (λ r. HasCleanDisk (state S.Store r.0) → IsFormatTwo (state S.Store r.0).now) }
 {
     match find_format(&mut conn) {

@@ -1,17 +1,17 @@
 //! The declarations and implementations of ranges and bearers, which format 2 keeps in a table of their own: put and selected.
-ghost use Rattle.std.specs.Prelude.{◌≡◌, ◌∷◌, [], ◌⊎◌, ◌≤◌, length, map, take, IsTrue, OnOk};
+ghost use Rattle.std.specs.Prelude.{◌≡◌, ◌↔◌, ◌∷◌, [], ◌⊎◌, ◌≤◌, length, map, take, IsTrue, OnOk};
 ghost use Rattle.std.specs.List.{flat_map};
 ghost use Rattle.sqlite_value.specs.declared.value.Value.TheVariants.{Int};
 ghost use Rattle.sqlite_value.specs.Order.{Row as Columns};
 ghost use Rattle.sqlite_rules.specs.Lists.{Has};
-ghost use Rattle.sqlite.specs.State.{HasCleanDisk, Survives, KeepsCommit};
+ghost use Rattle.sqlite.specs.State.{HasCleanDisk};
 ghost use Rattle.sqlite.specs.Held.{state};
 ghost use Rattle.flatten.specs.Rows.{range_value, bearer_value, rows_value};
 ghost use Rattle.tables.specs.Schema.{schema_two};
 ghost use Rattle.tables.specs.Databases.{Holds};
 ghost use Rattle.tables.specs.Columns.{number, optional, more_columns, more_rows, range_more, bearer_more};
 ghost use Rattle.tables.specs.Steps.Puts.{PutsAll, Steps};
-ghost use Rattle.tables.specs.Steps.Clauses.{Edits};
+ghost use Rattle.tables.specs.Steps.Clauses.{CommitsNothing, Edits};
 ghost use Rattle.tables.specs.TableTrees.{more_tree};
 
 use crate::statements::run;
@@ -26,11 +26,9 @@ fn insert_row<S: Alter>(
     decl: Option<u32>,
     imp: Option<u32>,
 ) -> Result<usize, Error>
-    ensures same_reference { tx.new.conn.ghost_name ≡ tx.old.conn.ghost_name }
-    ensures put { Edits result tx.old.conn.now.in_transaction (state S.Store tx.old.conn.now) (state S.Store tx.new.conn.now)
+    ensures put { Edits S.Store result tx.old.conn tx.new.conn
         (PutsAll more_tree ((Int slot ∷ number line ∷ optional decl ∷ optional imp ∷ []) ∷ [])) }
-    ensures kept { HasCleanDisk (state S.Store tx.new.conn.now) → KeepsCommit (state S.Store tx.old.conn.now) (state S.Store tx.new.conn.now) }
-    ensures survives { Survives (state S.Store tx.old.conn.now) (state S.Store tx.new.conn.now) (λ _. ⊥) }
+    ensures uncommitted { CommitsNothing S.Store tx.old.conn tx.new.conn }
 {
     run(
         tx,
@@ -47,11 +45,9 @@ fn insert_line<S: Alter>(
     decl: Option<u32>,
     imp: Option<u32>,
 ) -> Result<(), Error>
-    ensures same_reference { tx.new.conn.ghost_name ≡ tx.old.conn.ghost_name }
-    ensures put { Edits result tx.old.conn.now.in_transaction (state S.Store tx.old.conn.now) (state S.Store tx.new.conn.now)
+    ensures put { Edits S.Store result tx.old.conn tx.new.conn
         (PutsAll more_tree (map (λ columns. Int slot ∷ columns) (more_columns line decl imp))) }
-    ensures kept { HasCleanDisk (state S.Store tx.new.conn.now) → KeepsCommit (state S.Store tx.old.conn.now) (state S.Store tx.new.conn.now) }
-    ensures survives { Survives (state S.Store tx.old.conn.now) (state S.Store tx.new.conn.now) (λ _. ⊥) }
+    ensures uncommitted { CommitsNothing S.Store tx.old.conn tx.new.conn }
 {
     if decl.is_none() && imp.is_none() {
         return Ok(());
@@ -66,11 +62,9 @@ fn insert_ranges<S: Alter>(
     slot: i64,
     ranges: &[RangeRow<'_>],
 ) -> Result<(), Error>
-    ensures same_reference { tx.new.conn.ghost_name ≡ tx.old.conn.ghost_name }
-    ensures put { Edits result tx.old.conn.now.in_transaction (state S.Store tx.old.conn.now) (state S.Store tx.new.conn.now)
+    ensures put { Edits S.Store result tx.old.conn tx.new.conn
         (PutsAll more_tree (flat_map (λ row. map (λ columns. Int slot ∷ columns) (range_more (range_value row))) ranges.now)) }
-    ensures kept { HasCleanDisk (state S.Store tx.new.conn.now) → KeepsCommit (state S.Store tx.old.conn.now) (state S.Store tx.new.conn.now) }
-    ensures survives { Survives (state S.Store tx.old.conn.now) (state S.Store tx.new.conn.now) (λ _. ⊥) }
+    ensures uncommitted { CommitsNothing S.Store tx.old.conn tx.new.conn }
 {
     for row in ranges {
         insert_line(tx, slot, row.line, row.decl, row.imp)?;
@@ -80,7 +74,8 @@ fn insert_ranges<S: Alter>(
 
 /// Whether a bearer has the line, the declaration and the implementation of these.
 fn has_same(bearer: &BearerRow, line: u32, decl: Option<u32>, imp: Option<u32>) -> bool
-    ensures { IsTrue result → more_columns line decl imp ≡ bearer_more (bearer_value bearer.now) }
+    ensures is { IsTrue result ↔ ((bearer.now.line ≡ line) × (bearer.now.decl ≡ decl) × (bearer.now.imp ≡ imp)) }
+    ensures more { IsTrue result → more_columns line decl imp ≡ bearer_more (bearer_value bearer.now) }
 {
     bearer.line == line && bearer.decl == decl && bearer.imp == imp
 }
@@ -118,7 +113,6 @@ fn insert_bearer<S: Alter>(
     bearer: &BearerRow,
 ) -> Result<(), Error>
     requires { at ≤ length rows.now.bearers.items }
-    ensures same_reference { tx.new.conn.ghost_name ≡ tx.old.conn.ghost_name }
     ensures put { HasCleanDisk (state S.Store tx.new.conn.now) → IsTrue tx.old.conn.now.in_transaction
         → (state S.Store tx.old.conn.now).now.schema ≡ schema_two
         → ((row : Columns) → Has (map (λ columns. Int slot ∷ columns) (flat_map (λ r. range_more (range_value r)) rows.now.ranges.items)) row
@@ -127,8 +121,7 @@ fn insert_bearer<S: Alter>(
         → Holds (state S.Store tx.old.conn.now).now.trees more_tree row)
         → OnOk result (Steps (PutsAll more_tree (map (λ columns. Int slot ∷ columns) (bearer_more (bearer_value bearer.now))))
         (state S.Store tx.old.conn.now) (state S.Store tx.new.conn.now)) }
-    ensures kept { HasCleanDisk (state S.Store tx.new.conn.now) → KeepsCommit (state S.Store tx.old.conn.now) (state S.Store tx.new.conn.now) }
-    ensures survives { Survives (state S.Store tx.old.conn.now) (state S.Store tx.new.conn.now) (λ _. ⊥) }
+    ensures uncommitted { CommitsNothing S.Store tx.old.conn tx.new.conn }
 {
     if is_listed(rows, at, bearer) {
         return Ok(());
@@ -142,15 +135,13 @@ fn insert_bearers<S: Alter>(
     slot: i64,
     rows: &Rows<'_>,
 ) -> Result<(), Error>
-    ensures same_reference { tx.new.conn.ghost_name ≡ tx.old.conn.ghost_name }
     ensures put { HasCleanDisk (state S.Store tx.new.conn.now) → IsTrue tx.old.conn.now.in_transaction
         → (state S.Store tx.old.conn.now).now.schema ≡ schema_two
         → ((row : Columns) → Has (map (λ columns. Int slot ∷ columns) (flat_map (λ r. range_more (range_value r)) rows.now.ranges.items)) row
         → Holds (state S.Store tx.old.conn.now).now.trees more_tree row)
         → OnOk result (Steps (PutsAll more_tree (flat_map (λ b. map (λ columns. Int slot ∷ columns) (bearer_more (bearer_value b))) rows.now.bearers.items))
         (state S.Store tx.old.conn.now) (state S.Store tx.new.conn.now)) }
-    ensures kept { HasCleanDisk (state S.Store tx.new.conn.now) → KeepsCommit (state S.Store tx.old.conn.now) (state S.Store tx.new.conn.now) }
-    ensures survives { Survives (state S.Store tx.old.conn.now) (state S.Store tx.new.conn.now) (λ _. ⊥) }
+    ensures uncommitted { CommitsNothing S.Store tx.old.conn tx.new.conn }
 {
     for (at, bearer) in rows.bearers.iter().enumerate() {
         insert_bearer(tx, slot, rows, at, bearer)?;
@@ -164,11 +155,9 @@ pub(crate) fn insert_more<S: Alter>(
     slot: i64,
     rows: &Rows<'_>,
 ) -> Result<(), Error>
-    ensures same_reference { tx.new.conn.ghost_name ≡ tx.old.conn.ghost_name }
-    ensures put { Edits result tx.old.conn.now.in_transaction (state S.Store tx.old.conn.now) (state S.Store tx.new.conn.now)
+    ensures put { Edits S.Store result tx.old.conn tx.new.conn
         (PutsAll more_tree (map (λ columns. Int slot ∷ columns) (more_rows (rows_value rows.now)))) }
-    ensures kept { HasCleanDisk (state S.Store tx.new.conn.now) → KeepsCommit (state S.Store tx.old.conn.now) (state S.Store tx.new.conn.now) }
-    ensures survives { Survives (state S.Store tx.old.conn.now) (state S.Store tx.new.conn.now) (λ _. ⊥) }
+    ensures uncommitted { CommitsNothing S.Store tx.old.conn tx.new.conn }
 {
     insert_ranges(tx, slot, rows.ranges.as_slice())?;
     insert_bearers(tx, slot, rows)

@@ -1,17 +1,16 @@
 //! Tags by their names, as they are selected: of one name, or of a prefix, from the first name on. `specs/Names`.
-ghost use Rattle.std.specs.Prelude.{◌≡◌, Contains, map, option_map, false, IsTrue, IfOk, OnOk, IfErr};
-ghost use Rattle.sqlite.specs.State.{HasCleanDisk, Survives};
+ghost use Rattle.std.specs.Prelude.{◌≡◌, Contains, map, option_map, IfOk, OnOk, IfErr};
+ghost use Rattle.sqlite.specs.State.{HasCleanDisk};
 ghost use Rattle.sqlite.specs.Held.{state};
 ghost use Rattle.dump.specs.Places.{IsListing};
 ghost use Rattle.machine.specs.State.{State};
 ghost use Rattle.tables.specs.Fault.{IsStoreFault};
-ghost use Rattle.tables.specs.Stands.{IsAsBefore, Rests};
+ghost use Rattle.tables.specs.Stands.{OnlySelects, Rests};
 ghost use Rattle.machine.specs.FoundTags.{BeginsWith, line_cmp, name_cmp};
 ghost use Rattle.machine.specs.Found.{tag_found};
 ghost use Rattle.tables.specs.Names.{FindsNamed, FindsPrefixed};
-ghost use Rattle.tables.specs.Steps.Selected.{Looks};
 ghost use Rattle.tables.specs.Steps.TagRows.{IsBehind, TellNamed};
-ghost use Rattle.tables.specs.Steps.Clauses.{OfState, StaysAsBefore};
+ghost use Rattle.tables.specs.Steps.Clauses.{OfState, OnlyReads};
 
 use crate::fault::{Refusal, TablesFault};
 use crate::found_tags::{TagRow, complete_all};
@@ -69,11 +68,9 @@ fn select_named<S: Alter>(
     conn: &mut Connection<S>,
     name: &str,
 ) -> Result<Vec<TagRow>, Refusal>
-    ensures rows { OfState (state S.Store conn.old) (state S.Store conn.new) (λ m. IfOk result (λ rows. TellNamed (state S.Store conn.old).now.trees m
+    ensures rows { OfState S.Store conn.old conn.new (λ m. IfOk result (λ rows. TellNamed (state S.Store conn.old).now.trees m
         (λ text. text ≡ name.now) rows.items)) }
-    ensures kept { StaysAsBefore result (state S.Store conn.old) (state S.Store conn.new) }
-    ensures looks { Looks (state S.Store conn.old) (state S.Store conn.new) }
-    ensures mode { conn.old.in_transaction ≡ false → conn.new.in_transaction ≡ false }
+    ensures reads { OnlyReads S.Store result conn.old conn.new }
 {
     select_all(
         alloc,
@@ -90,10 +87,9 @@ fn find_named<S: Alter>(
     name: &str,
     asked: Option<&str>,
 ) -> Result<Vec<FoundTag>, Refusal>
-    ensures found { OfState (state S.Store conn.old) (state S.Store conn.new) (λ m. IfOk result (λ found. FindsNamed m (option_map
+    ensures found { OfState S.Store conn.old conn.new (λ m. IfOk result (λ found. FindsNamed m (option_map
         (λ p. p.now) asked.entry) name.now (map tag_found found.items))) }
-    ensures looks { Looks (state S.Store conn.old) (state S.Store conn.new) }
-    ensures mode { conn.old.in_transaction ≡ false → conn.new.in_transaction ≡ false }
+    ensures reads { OnlyReads S.Store result conn.old conn.new }
 {
     let rows = select_named(alloc, conn, name)?;
     let mut found = complete_all(alloc, conn, rows, asked)?;
@@ -120,11 +116,9 @@ fn select_prefixed<S: Alter>(
     conn: &mut Connection<S>,
     prefix: &str,
 ) -> Result<Vec<TagRow>, Refusal>
-    ensures rows { OfState (state S.Store conn.old) (state S.Store conn.new) (λ m. IfOk result (λ rows. TellNamed (state S.Store conn.old).now.trees m
+    ensures rows { OfState S.Store conn.old conn.new (λ m. IfOk result (λ rows. TellNamed (state S.Store conn.old).now.trees m
         (λ text. BeginsWith text prefix.now) rows.items)) }
-    ensures kept { StaysAsBefore result (state S.Store conn.old) (state S.Store conn.new) }
-    ensures looks { Looks (state S.Store conn.old) (state S.Store conn.new) }
-    ensures mode { conn.old.in_transaction ≡ false → conn.new.in_transaction ≡ false }
+    ensures reads { OnlyReads S.Store result conn.old conn.new }
 {
     let behind = value_behind(alloc, prefix)?;
     select_all(
@@ -142,10 +136,9 @@ fn find_prefixed<S: Alter>(
     prefix: &str,
     asked: Option<&str>,
 ) -> Result<Vec<FoundTag>, Refusal>
-    ensures found { OfState (state S.Store conn.old) (state S.Store conn.new) (λ m. IfOk result (λ found. FindsPrefixed m (option_map
+    ensures found { OfState S.Store conn.old conn.new (λ m. IfOk result (λ found. FindsPrefixed m (option_map
         (λ p. p.now) asked.entry) prefix.now (map tag_found found.items))) }
-    ensures looks { Looks (state S.Store conn.old) (state S.Store conn.new) }
-    ensures mode { conn.old.in_transaction ≡ false → conn.new.in_transaction ≡ false }
+    ensures reads { OnlyReads S.Store result conn.old conn.new }
 {
     let rows = select_prefixed(alloc, conn, prefix)?;
     let mut found = complete_all(alloc, conn, rows, asked)?;
@@ -165,11 +158,8 @@ impl<S: Alter> Tables<S> {
     ) -> Result<Vec<FoundTag>, TablesFault>
         ensures found { HasCleanDisk (state S.Store self.new) → (m : State) → Rests (state S.Store self.old) m
             → IfOk result (λ found. FindsNamed m (option_map (λ p. p.now) project.entry) name.now (map tag_found found.items)) }
-        ensures same { HasCleanDisk (state S.Store self.new) → IsTrue (state S.Store self.new).is_open → (m : State) → Rests (state S.Store self.old) m
-            → IsAsBefore (state S.Store self.old) (state S.Store self.new) }
-        ensures clean { HasCleanDisk (state S.Store self.new) → HasCleanDisk (state S.Store self.old) }
+        ensures selects { OnlySelects (state S.Store self.old) (state S.Store self.new) }
         ensures fault { IfErr result IsStoreFault }
-        ensures survives { (m : State) → Rests (state S.Store self.old) m → Survives (state S.Store self.old) (state S.Store self.new) (λ _. ⊥) }
     {
         self.slot = None;
         match find_named(alloc, &mut self.conn, name, project) {
@@ -189,11 +179,8 @@ impl<S: Alter> Tables<S> {
     ) -> Result<Vec<FoundTag>, TablesFault>
         ensures found { HasCleanDisk (state S.Store self.new) → (m : State) → Rests (state S.Store self.old) m
             → IfOk result (λ found. FindsPrefixed m (option_map (λ p. p.now) project.entry) prefix.now (map tag_found found.items)) }
-        ensures same { HasCleanDisk (state S.Store self.new) → IsTrue (state S.Store self.new).is_open → (m : State) → Rests (state S.Store self.old) m
-            → IsAsBefore (state S.Store self.old) (state S.Store self.new) }
-        ensures clean { HasCleanDisk (state S.Store self.new) → HasCleanDisk (state S.Store self.old) }
+        ensures selects { OnlySelects (state S.Store self.old) (state S.Store self.new) }
         ensures fault { IfErr result IsStoreFault }
-        ensures survives { (m : State) → Rests (state S.Store self.old) m → Survives (state S.Store self.old) (state S.Store self.new) (λ _. ⊥) }
     {
         self.slot = None;
         match find_prefixed(alloc, &mut self.conn, prefix, project) {

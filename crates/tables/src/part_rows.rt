@@ -5,11 +5,9 @@ ghost use Rattle.std.specs.List.{flat_map};
 ghost use Rattle.sqlite_value.specs.declared.value.Value.TheVariants.{Int};
 ghost use Rattle.sqlite_value.specs.Order.{Row as Columns};
 ghost use Rattle.sqlite.specs.Values.{bound};
-ghost use Rattle.sqlite.specs.State.{HasCleanDisk, Survives, KeepsCommit};
-ghost use Rattle.sqlite.specs.Held.{state};
 ghost use Rattle.tables.specs.Steps.Puts.{PutsAll};
 ghost use Rattle.tables.specs.Steps.Inserts.{Inserts, InsertsOne, InsertsEight};
-ghost use Rattle.tables.specs.Steps.Clauses.{Edits};
+ghost use Rattle.tables.specs.Steps.Clauses.{CommitsNothing, Edits};
 
 use crate::statements::run;
 use sqlite::types::ValueRef;
@@ -42,11 +40,8 @@ fn insert_by<'a, S: Alter, R: PartRow>(
     values: &mut Vec<ValueRef<'a>>,
 ) -> Result<(), Error>
     requires inserts { Inserts text.now R.tree (flat_map (λ row. Int slot ∷ R.columns row) rows.now) (map (λ row. Int slot ∷ R.columns row) rows.now) }
-    ensures same_reference { tx.new.conn.ghost_name ≡ tx.old.conn.ghost_name }
-    ensures put { Edits result tx.old.conn.now.in_transaction (state S.Store tx.old.conn.now) (state S.Store tx.new.conn.now)
-        (PutsAll R.tree (map (λ row. Int slot ∷ R.columns row) rows.now)) }
-    ensures kept { HasCleanDisk (state S.Store tx.new.conn.now) → KeepsCommit (state S.Store tx.old.conn.now) (state S.Store tx.new.conn.now) }
-    ensures survives { Survives (state S.Store tx.old.conn.now) (state S.Store tx.new.conn.now) (λ _. ⊥) }
+    ensures put { Edits S.Store result tx.old.conn tx.new.conn (PutsAll R.tree (map (λ row. Int slot ∷ R.columns row) rows.now)) }
+    ensures uncommitted { CommitsNothing S.Store tx.old.conn tx.new.conn }
 {
     values.clear();
     for row in rows {
@@ -65,11 +60,8 @@ fn insert_each<'a, S: Alter, R: PartRow>(
     values: &mut Vec<ValueRef<'a>>,
 ) -> Result<(), Error>
     requires inserts { InsertsOne text.now R.tree R.columns }
-    ensures same_reference { tx.new.conn.ghost_name ≡ tx.old.conn.ghost_name }
-    ensures put { Edits result tx.old.conn.now.in_transaction (state S.Store tx.old.conn.now) (state S.Store tx.new.conn.now)
-        (PutsAll R.tree (map (λ row. Int slot ∷ R.columns row) rows.now)) }
-    ensures kept { HasCleanDisk (state S.Store tx.new.conn.now) → KeepsCommit (state S.Store tx.old.conn.now) (state S.Store tx.new.conn.now) }
-    ensures survives { Survives (state S.Store tx.old.conn.now) (state S.Store tx.new.conn.now) (λ _. ⊥) }
+    ensures put { Edits S.Store result tx.old.conn tx.new.conn (PutsAll R.tree (map (λ row. Int slot ∷ R.columns row) rows.now)) }
+    ensures uncommitted { CommitsNothing S.Store tx.old.conn tx.new.conn }
 {
     for row in rows {
         insert_by(tx, slot, text, from_ref(row), values)?;
@@ -88,11 +80,8 @@ pub(crate) fn insert_all<S: Alter, R: PartRow>(
 ) -> Result<(), Error>
     requires one { InsertsOne one.now R.tree R.columns }
     requires eight { IfSome eight (λ text. InsertsEight text.now R.tree R.columns) }
-    ensures same_reference { tx.new.conn.ghost_name ≡ tx.old.conn.ghost_name }
-    ensures put { Edits result tx.old.conn.now.in_transaction (state S.Store tx.old.conn.now) (state S.Store tx.new.conn.now)
-        (PutsAll R.tree (map (λ row. Int slot ∷ R.columns row) rows.now)) }
-    ensures kept { HasCleanDisk (state S.Store tx.new.conn.now) → KeepsCommit (state S.Store tx.old.conn.now) (state S.Store tx.new.conn.now) }
-    ensures survives { Survives (state S.Store tx.old.conn.now) (state S.Store tx.new.conn.now) (λ _. ⊥) }
+    ensures put { Edits S.Store result tx.old.conn tx.new.conn (PutsAll R.tree (map (λ row. Int slot ∷ R.columns row) rows.now)) }
+    ensures uncommitted { CommitsNothing S.Store tx.old.conn tx.new.conn }
 {
     let mut values = Vec::new(alloc);
     for group in rows.chunks(EIGHT) {

@@ -1,17 +1,16 @@
 //! The parts of projects, as they are selected: the slot of a part, and the profile of a dump.
-ghost use Rattle.std.specs.Prelude.{◌≡◌, Some, option_map, false, IsTrue, IfOk, IfErr, OnOk};
-ghost use Rattle.sqlite.specs.State.{HasCleanDisk, Survives};
+ghost use Rattle.std.specs.Prelude.{◌≡◌, Some, option_map, IfOk, IfErr, OnOk};
+ghost use Rattle.sqlite.specs.State.{HasCleanDisk};
 ghost use Rattle.sqlite.specs.Held.{state};
 ghost use Rattle.tables.specs.Schema.{schema_two};
 ghost use Rattle.tables.specs.Columns.{profile_columns};
 ghost use Rattle.tables.specs.Contents.{Contents, Replies, Keeps};
 ghost use Rattle.machine.specs.State.{State};
 ghost use Rattle.tables.specs.Fault.{IsStoreFault};
-ghost use Rattle.tables.specs.Stands.{IsAsBefore, Rests};
-ghost use Rattle.tables.specs.Steps.Selected.{Looks};
+ghost use Rattle.tables.specs.Stands.{OnlySelects, Rests};
 ghost use Rattle.tables.specs.Steps.Slots.{IsDumpSlot, IsKnown, IsSlotOf};
 ghost use Rattle.tables.specs.declared.slots.Part.TheVariants.{Dump};
-ghost use Rattle.tables.specs.Steps.Clauses.{OfDump, OfState, StaysAsBefore};
+ghost use Rattle.tables.specs.Steps.Clauses.{OfDump, OfState, OnlyReads};
 
 use crate::columns::column;
 use crate::fault::{Refusal, TablesFault};
@@ -31,9 +30,7 @@ pub(crate) fn find_slot<S: Alter>(
     ensures slot { HasCleanDisk (state S.Store conn.new) → (state S.Store conn.old).now.schema ≡ schema_two → (parts : Contents) (replies : Replies)
         → Keeps (state S.Store conn.old).now.trees parts replies
         → IfOk result (IsSlotOf (state S.Store conn.old).now.trees parts project.now part) }
-    ensures kept { StaysAsBefore result (state S.Store conn.old) (state S.Store conn.new) }
-    ensures looks { Looks (state S.Store conn.old) (state S.Store conn.new) }
-    ensures mode { conn.old.in_transaction ≡ false → conn.new.in_transaction ≡ false }
+    ensures reads { OnlyReads S.Store result conn.old conn.new }
 {
     let number = part_number(part);
     select_first(
@@ -58,12 +55,9 @@ pub(crate) fn dump_slot<S: Alter>(
     project: &str,
 ) -> Result<Option<i64>, Refusal>
     requires known { IsKnown (state S.Store conn.old) known.old }
-    ensures slot { OfState (state S.Store conn.old) (state S.Store conn.new) (λ m. IfOk result
-        (IsDumpSlot (state S.Store conn.old).now.trees m project.now)) }
+    ensures slot { OfState S.Store conn.old conn.new (λ m. IfOk result (IsDumpSlot (state S.Store conn.old).now.trees m project.now)) }
     ensures known { OnOk result (IsKnown (state S.Store conn.new) known.new) }
-    ensures kept { StaysAsBefore result (state S.Store conn.old) (state S.Store conn.new) }
-    ensures looks { Looks (state S.Store conn.old) (state S.Store conn.new) }
-    ensures mode { conn.old.in_transaction ≡ false → conn.new.in_transaction ≡ false }
+    ensures reads { OnlyReads S.Store result conn.old conn.new }
 {
     if let Some(slot) = &*known {
         if slot.project.as_str() == project {
@@ -94,9 +88,8 @@ impl Listed for Profile {
 
 /// The profile of the dump that has this slot.
 fn profile_in<S: Alter>(conn: &mut Connection<S>, slot: i64) -> Result<Profile, Refusal>
-    ensures profile { OfDump (state S.Store conn.old) (state S.Store conn.new) slot (λ dump. IfOk result (λ profile. profile ≡ dump.profile)) }
-    ensures looks { Looks (state S.Store conn.old) (state S.Store conn.new) }
-    ensures mode { conn.old.in_transaction ≡ false → conn.new.in_transaction ≡ false }
+    ensures profile { OfDump S.Store conn.old conn.new slot (λ dump. IfOk result (λ profile. profile ≡ dump.profile)) }
+    ensures reads { OnlyReads S.Store result conn.old conn.new }
 {
     let found = select_first(
         conn,
@@ -111,10 +104,8 @@ fn find_profile<S: Alter>(
     conn: &mut Connection<S>,
     project: &str,
 ) -> Result<Option<Profile>, Refusal>
-    ensures found { OfState (state S.Store conn.old) (state S.Store conn.new) (λ m. IfOk result (λ found. found ≡ option_map
-        (λ d. d.profile) (m.dump project.now))) }
-    ensures looks { Looks (state S.Store conn.old) (state S.Store conn.new) }
-    ensures mode { conn.old.in_transaction ≡ false → conn.new.in_transaction ≡ false }
+    ensures found { OfState S.Store conn.old conn.new (λ m. IfOk result (λ found. found ≡ option_map (λ d. d.profile) (m.dump project.now))) }
+    ensures reads { OnlyReads S.Store result conn.old conn.new }
 {
     match find_slot(conn, project, Part::Dump)? {
         Some(slot) => Ok(Some(profile_in(conn, slot)?)),
@@ -128,11 +119,8 @@ impl<S: Alter> Tables<S> {
     pub fn profile(&mut self, project: &str) -> Result<Option<Profile>, TablesFault>
         ensures found { HasCleanDisk (state S.Store self.new) → (m : State) → Rests (state S.Store self.old) m
             → IfOk result (λ found. found ≡ option_map (λ d. d.profile) (m.dump project.now)) }
-        ensures same { HasCleanDisk (state S.Store self.new) → IsTrue (state S.Store self.new).is_open → (m : State) → Rests (state S.Store self.old) m
-            → IsAsBefore (state S.Store self.old) (state S.Store self.new) }
-        ensures clean { HasCleanDisk (state S.Store self.new) → HasCleanDisk (state S.Store self.old) }
+        ensures selects { OnlySelects (state S.Store self.old) (state S.Store self.new) }
         ensures fault { IfErr result IsStoreFault }
-        ensures survives { (m : State) → Rests (state S.Store self.old) m → Survives (state S.Store self.old) (state S.Store self.new) (λ _. ⊥) }
     {
         self.slot = None;
         match find_profile(&mut self.conn, project) {

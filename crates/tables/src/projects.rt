@@ -1,19 +1,18 @@
 //! The projects with a part, as they are selected, by name. `FindsProjects` in `specs/Selections`.
-ghost use Rattle.std.specs.Prelude.{◌≡◌, Contains, is_some, map, string_bytes, false, IsTrue, IfOk, IfErr};
-ghost use Rattle.sqlite.specs.State.{HasCleanDisk, Survives};
+ghost use Rattle.std.specs.Prelude.{◌≡◌, Contains, is_some, map, string_bytes, IfOk, IfErr};
+ghost use Rattle.sqlite.specs.State.{HasCleanDisk};
 ghost use Rattle.sqlite.specs.Held.{state};
 ghost use Rattle.dump.specs.Places.{IsListing};
 ghost use Rattle.tables.specs.Schema.{schema_two};
 ghost use Rattle.tables.specs.Contents.{Contents, Replies, Keeps};
 ghost use Rattle.machine.specs.State.{State};
 ghost use Rattle.tables.specs.Fault.{IsStoreFault};
-ghost use Rattle.tables.specs.Stands.{IsAsBefore, Rests};
+ghost use Rattle.tables.specs.Stands.{OnlySelects, Rests};
 ghost use Rattle.machine.specs.Projects.{text_cmp};
 ghost use Rattle.machine.specs.Found.{project_found};
 ghost use Rattle.tables.specs.Selections.{FindsProjects};
-ghost use Rattle.tables.specs.Steps.Selected.{Looks};
 ghost use Rattle.tables.specs.Steps.Slots.{HasPart, IsTold};
-ghost use Rattle.tables.specs.Steps.Clauses.{OfState, StaysAsBefore};
+ghost use Rattle.tables.specs.Steps.Clauses.{OfState, OnlyReads};
 
 use crate::fault::{Refusal, TablesFault};
 use crate::parts::find_slot;
@@ -29,9 +28,7 @@ fn has_part<S: Alter>(conn: &mut Connection<S>, project: &str, part: Part) -> Re
     ensures part { HasCleanDisk (state S.Store conn.new) → (state S.Store conn.old).now.schema ≡ schema_two → (parts : Contents) (replies : Replies)
         → Keeps (state S.Store conn.old).now.trees parts replies
         → IfOk result (λ has. has ≡ is_some (parts project.now part)) }
-    ensures kept { StaysAsBefore result (state S.Store conn.old) (state S.Store conn.new) }
-    ensures looks { Looks (state S.Store conn.old) (state S.Store conn.new) }
-    ensures mode { conn.old.in_transaction ≡ false → conn.new.in_transaction ≡ false }
+    ensures reads { OnlyReads S.Store result conn.old conn.new }
 {
     let slot = find_slot(conn, project, part)?;
     Ok(slot.is_some())
@@ -40,10 +37,8 @@ fn has_part<S: Alter>(conn: &mut Connection<S>, project: &str, part: Part) -> Re
 /// The project of this name, and which parts it has. It's `Row` where it has neither: the row of a slot that named it is of another part.
 fn project_of<S: Alter>(conn: &mut Connection<S>, name: String) -> Result<FoundProject, Refusal>
     ensures name { IfOk result (λ project. string_bytes project.name ≡ string_bytes name) }
-    ensures told { OfState (state S.Store conn.old) (state S.Store conn.new) (λ m. IfOk result (λ project. IsTold m (project_found project))) }
-    ensures kept { StaysAsBefore result (state S.Store conn.old) (state S.Store conn.new) }
-    ensures looks { Looks (state S.Store conn.old) (state S.Store conn.new) }
-    ensures mode { conn.old.in_transaction ≡ false → conn.new.in_transaction ≡ false }
+    ensures told { OfState S.Store conn.old conn.new (λ m. IfOk result (λ project. IsTold m (project_found project))) }
+    ensures reads { OnlyReads S.Store result conn.old conn.new }
 {
     let dump = has_part(conn, name.as_str(), Part::Dump)?;
     let tags = has_part(conn, name.as_str(), Part::Tags)?;
@@ -66,9 +61,7 @@ fn select_names<S: Alter>(alloc: Global, conn: &mut Connection<S>) -> Result<Vec
     ensures names { HasCleanDisk (state S.Store conn.new) → (state S.Store conn.old).now.schema ≡ schema_two → (parts : Contents) (replies : Replies)
         → Keeps (state S.Store conn.old).now.trees parts replies
         → IfOk result (λ names. IsListing text_cmp (HasPart parts) (map string_bytes names.items)) }
-    ensures kept { StaysAsBefore result (state S.Store conn.old) (state S.Store conn.new) }
-    ensures looks { Looks (state S.Store conn.old) (state S.Store conn.new) }
-    ensures mode { conn.old.in_transaction ≡ false → conn.new.in_transaction ≡ false }
+    ensures reads { OnlyReads S.Store result conn.old conn.new }
 {
     let mut names = select_all(alloc, conn, "SELECT project FROM slot", &[])?;
     list_names(&mut names);
@@ -80,9 +73,8 @@ fn list_projects<S: Alter>(
     alloc: Global,
     conn: &mut Connection<S>,
 ) -> Result<Vec<FoundProject>, Refusal>
-    ensures found { OfState (state S.Store conn.old) (state S.Store conn.new) (λ m. IfOk result (λ found. FindsProjects m (map project_found found.items))) }
-    ensures looks { Looks (state S.Store conn.old) (state S.Store conn.new) }
-    ensures mode { conn.old.in_transaction ≡ false → conn.new.in_transaction ≡ false }
+    ensures found { OfState S.Store conn.old conn.new (λ m. IfOk result (λ found. FindsProjects m (map project_found found.items))) }
+    ensures reads { OnlyReads S.Store result conn.old conn.new }
 {
     let mut left = select_names(alloc, conn)?;
     left.reverse();
@@ -102,11 +94,8 @@ impl<S: Alter> Tables<S> {
     pub fn projects(&mut self, alloc: Global) -> Result<Vec<FoundProject>, TablesFault>
         ensures found { HasCleanDisk (state S.Store self.new) → (m : State) → Rests (state S.Store self.old) m
             → IfOk result (λ found. FindsProjects m (map project_found found.items)) }
-        ensures same { HasCleanDisk (state S.Store self.new) → IsTrue (state S.Store self.new).is_open → (m : State) → Rests (state S.Store self.old) m
-            → IsAsBefore (state S.Store self.old) (state S.Store self.new) }
-        ensures clean { HasCleanDisk (state S.Store self.new) → HasCleanDisk (state S.Store self.old) }
+        ensures selects { OnlySelects (state S.Store self.old) (state S.Store self.new) }
         ensures fault { IfErr result IsStoreFault }
-        ensures survives { (m : State) → Rests (state S.Store self.old) m → Survives (state S.Store self.old) (state S.Store self.new) (λ _. ⊥) }
     {
         self.slot = None;
         match list_projects(alloc, &mut self.conn) {

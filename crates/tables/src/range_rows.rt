@@ -1,11 +1,9 @@
 //! The rows of ranges, as they are selected: the one from which a climb starts, and that of the parent of each.
-ghost use Rattle.std.specs.Prelude.{◌≡◌, ◌<◌, ◌∷◌, [], Some, false, IsTrue, IfOk};
-ghost use Rattle.sqlite.specs.Held.{state};
+ghost use Rattle.std.specs.Prelude.{◌<◌, ◌∷◌, [], Some, IsTrue, IfOk};
 ghost use Rattle.positions.specs.Position.{IsPosition};
 ghost use Rattle.tables.specs.Columns.{number, optional, position};
-ghost use Rattle.tables.specs.Steps.Selected.{Looks};
 ghost use Rattle.tables.specs.Steps.Climbs.{IsStart, IsNamed, weight};
-ghost use Rattle.tables.specs.Steps.Clauses.{OfDump, StaysAsBefore};
+ghost use Rattle.tables.specs.Steps.Clauses.{OfDump, OnlyReads};
 
 use crate::columns::{column, span_of};
 use crate::fault::Refusal;
@@ -51,10 +49,8 @@ pub(crate) fn start_of<S: Alter>(
     uri: &str,
     at: Position,
 ) -> Result<Option<SlotRange>, Refusal>
-    ensures start { OfDump (state S.Store conn.old) (state S.Store conn.new) slot (λ dump. IfOk result (IsStart dump uri.now at)) }
-    ensures kept { StaysAsBefore result (state S.Store conn.old) (state S.Store conn.new) }
-    ensures looks { Looks (state S.Store conn.old) (state S.Store conn.new) }
-    ensures mode { conn.old.in_transaction ≡ false → conn.new.in_transaction ≡ false }
+    ensures start { OfDump S.Store conn.old conn.new slot (λ dump. IfOk result (IsStart dump uri.now at)) }
+    ensures reads { OnlyReads S.Store result conn.old conn.new }
 {
     let packed = at.pack();
     select_first(
@@ -81,11 +77,9 @@ pub(crate) fn parent_of<S: Alter>(
     uri: &str,
     child: &SlotRange,
 ) -> Result<Option<SlotRange>, Refusal>
-    ensures named { OfDump (state S.Store conn.old) (state S.Store conn.new) slot (λ dump. IfOk result (IsNamed dump uri.now child.now)) }
+    ensures named { OfDump S.Store conn.old conn.new slot (λ dump. IfOk result (IsNamed dump uri.now child.now)) }
     ensures lighter { IfOk result (λ parent. weight parent < weight (Some child.now)) }
-    ensures kept { StaysAsBefore result (state S.Store conn.old) (state S.Store conn.new) }
-    ensures looks { Looks (state S.Store conn.old) (state S.Store conn.new) }
-    ensures mode { conn.old.in_transaction ≡ false → conn.new.in_transaction ≡ false }
+    ensures reads { OnlyReads S.Store result conn.old conn.new }
 {
     let Some(line) = child.parent else {
         return Ok(None);

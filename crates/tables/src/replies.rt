@@ -1,12 +1,11 @@
 //! The kept replies, as they are selected: the text under a project and a key.
-ghost use Rattle.std.specs.Prelude.{◌≡◌, false, IsTrue, IfOk, option_map, string_bytes, IfErr};
-ghost use Rattle.sqlite.specs.State.{HasCleanDisk, Survives};
+ghost use Rattle.std.specs.Prelude.{◌≡◌, IfOk, option_map, string_bytes, IfErr};
+ghost use Rattle.sqlite.specs.State.{HasCleanDisk};
 ghost use Rattle.sqlite.specs.Held.{state};
 ghost use Rattle.machine.specs.State.{State, accepted_text};
 ghost use Rattle.tables.specs.Fault.{IsStoreFault};
-ghost use Rattle.tables.specs.Stands.{IsAsBefore, Rests};
-ghost use Rattle.tables.specs.Steps.Selected.{Looks};
-ghost use Rattle.tables.specs.Steps.Clauses.{OfState};
+ghost use Rattle.tables.specs.Stands.{OnlySelects, Rests};
+ghost use Rattle.tables.specs.Steps.Clauses.{OfState, OnlyReads};
 
 use crate::fault::{Refusal, TablesFault};
 use crate::selection::select_first;
@@ -19,10 +18,9 @@ fn find_reply<S: Alter>(
     project: &str,
     key: &str,
 ) -> Result<Option<String>, Refusal>
-    ensures found { OfState (state S.Store conn.old) (state S.Store conn.new) (λ m. IfOk result
+    ensures found { OfState S.Store conn.old conn.new (λ m. IfOk result
         (λ reply. option_map string_bytes reply ≡ option_map accepted_text (m.kept project.now key.now))) }
-    ensures looks { Looks (state S.Store conn.old) (state S.Store conn.new) }
-    ensures mode { conn.old.in_transaction ≡ false → conn.new.in_transaction ≡ false }
+    ensures reads { OnlyReads S.Store result conn.old conn.new }
 {
     select_first(
         conn,
@@ -37,11 +35,8 @@ impl<S: Alter> Tables<S> {
     pub fn kept_reply(&mut self, project: &str, key: &str) -> Result<Option<String>, TablesFault>
         ensures found { HasCleanDisk (state S.Store self.new) → (m : State) → Rests (state S.Store self.old) m
             → IfOk result (λ reply. option_map string_bytes reply ≡ option_map accepted_text (m.kept project.now key.now)) }
-        ensures same { HasCleanDisk (state S.Store self.new) → IsTrue (state S.Store self.new).is_open → (m : State) → Rests (state S.Store self.old) m
-            → IsAsBefore (state S.Store self.old) (state S.Store self.new) }
-        ensures clean { HasCleanDisk (state S.Store self.new) → HasCleanDisk (state S.Store self.old) }
+        ensures selects { OnlySelects (state S.Store self.old) (state S.Store self.new) }
         ensures fault { IfErr result IsStoreFault }
-        ensures survives { (m : State) → Rests (state S.Store self.old) m → Survives (state S.Store self.old) (state S.Store self.new) (λ _. ⊥) }
     {
         self.slot = None;
         match find_reply(&mut self.conn, project, key) {

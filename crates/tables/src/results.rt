@@ -1,16 +1,15 @@
 //! The contents of hover results, as they are selected. `FindsHover` in `specs/Selections`.
-ghost use Rattle.std.specs.Prelude.{◌≡◌, List, ℕ, Some, option_map, string_bytes, false, IsTrue, IfOk, IfErr};
-ghost use Rattle.sqlite.specs.State.{HasCleanDisk, Survives};
+ghost use Rattle.std.specs.Prelude.{List, ℕ, Some, option_map, string_bytes, IfOk, IfErr};
+ghost use Rattle.sqlite.specs.State.{HasCleanDisk};
 ghost use Rattle.sqlite.specs.Held.{state};
 ghost use Rattle.tables.specs.Contents.{HasSlot};
 ghost use Rattle.machine.specs.State.{State};
 ghost use Rattle.tables.specs.Fault.{IsStoreFault};
-ghost use Rattle.tables.specs.Stands.{IsAsBefore, Rests};
+ghost use Rattle.tables.specs.Stands.{OnlySelects, Rests};
 ghost use Rattle.tables.specs.Selections.{FindsHover};
-ghost use Rattle.tables.specs.Steps.Selected.{Looks};
 ghost use Rattle.tables.specs.Steps.Slots.{IsKnown};
 ghost use Rattle.tables.specs.declared.slots.Part.TheVariants.{Dump};
-ghost use Rattle.tables.specs.Steps.Clauses.{OfState, StaysAsBefore};
+ghost use Rattle.tables.specs.Steps.Clauses.{OfState, OnlyReads};
 
 use crate::fault::{Refusal, TablesFault};
 use crate::parts::{ProjectSlot, find_slot};
@@ -25,12 +24,9 @@ fn hover_in<S: Alter>(
     slot: i64,
     result_number: u32,
 ) -> Result<Option<String>, Refusal>
-    ensures found { OfState (state S.Store conn.old) (state S.Store conn.new) (λ m. (project : List ℕ)
-        → HasSlot (state S.Store conn.old).now.trees slot project Dump
+    ensures found { OfState S.Store conn.old conn.new (λ m. (project : List ℕ) → HasSlot (state S.Store conn.old).now.trees slot project Dump
         → IfOk result (λ found. FindsHover m project result_number (option_map string_bytes found))) }
-    ensures kept { StaysAsBefore result (state S.Store conn.old) (state S.Store conn.new) }
-    ensures looks { Looks (state S.Store conn.old) (state S.Store conn.new) }
-    ensures mode { conn.old.in_transaction ≡ false → conn.new.in_transaction ≡ false }
+    ensures reads { OnlyReads S.Store result conn.old conn.new }
 {
     select_first(
         conn,
@@ -47,11 +43,9 @@ fn find_hover<S: Alter>(
     result_number: u32,
 ) -> Result<Option<String>, Refusal>
     requires known { IsKnown (state S.Store conn.old) known.now }
-    ensures found { OfState (state S.Store conn.old) (state S.Store conn.new) (λ m. IfOk result
+    ensures found { OfState S.Store conn.old conn.new (λ m. IfOk result
         (λ found. FindsHover m project.now result_number (option_map string_bytes found))) }
-    ensures kept { StaysAsBefore result (state S.Store conn.old) (state S.Store conn.new) }
-    ensures looks { Looks (state S.Store conn.old) (state S.Store conn.new) }
-    ensures mode { conn.old.in_transaction ≡ false → conn.new.in_transaction ≡ false }
+    ensures reads { OnlyReads S.Store result conn.old conn.new }
 {
     if let Some(slot) = known {
         if slot.project.as_str() == project {
@@ -75,11 +69,8 @@ impl<S: Alter> Tables<S> {
     ) -> Result<Option<String>, TablesFault>
         ensures found { HasCleanDisk (state S.Store self.new) → (m : State) → Rests (state S.Store self.old) m
             → IfOk result (λ found. FindsHover m project.now result_number (option_map string_bytes found)) }
-        ensures same { HasCleanDisk (state S.Store self.new) → IsTrue (state S.Store self.new).is_open → (m : State) → Rests (state S.Store self.old) m
-            → IsAsBefore (state S.Store self.old) (state S.Store self.new) }
-        ensures clean { HasCleanDisk (state S.Store self.new) → HasCleanDisk (state S.Store self.old) }
+        ensures selects { OnlySelects (state S.Store self.old) (state S.Store self.new) }
         ensures fault { IfErr result IsStoreFault }
-        ensures survives { (m : State) → Rests (state S.Store self.old) m → Survives (state S.Store self.old) (state S.Store self.new) (λ _. ⊥) }
     {
         match find_hover(&mut self.conn, &self.slot, project, result_number) {
             Ok(found) => Ok(found),

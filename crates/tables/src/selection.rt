@@ -1,14 +1,14 @@
 //! Selections of typed rows: a statement is run, and each row read by its type's columns, or refused. The statements are in the files of what they
 //! select.
-ghost use Rattle.std.specs.Prelude.{◌≡◌, ◌++◌, ◌∷◌, [], ⊤, List, false, IfOk, IfSome, OnOk};
+ghost use Rattle.std.specs.Prelude.{◌≡◌, ◌++◌, ◌∷◌, [], ⊤, List, IfOk, IfSome, OnOk};
 ghost use Rattle.std.specs.List.{AllByRecursion};
 ghost use Rattle.sqlite_value.specs.Order.{Row as Columns};
 ghost use Rattle.sqlite.specs.Values.{bound};
 ghost use Rattle.sqlite.specs.State.{HasCleanDisk, Shown};
 ghost use Rattle.sqlite.specs.Held.{state};
 ghost use Rattle.tables.specs.Schema.{schema_two};
-ghost use Rattle.tables.specs.Steps.Selected.{Looks, IsQuery, AreColumns, AreRead, IsFirstRead};
-ghost use Rattle.tables.specs.Steps.Clauses.{StaysAsBefore};
+ghost use Rattle.tables.specs.Steps.Selected.{IsQuery, AreColumns, AreRead, IsFirstRead};
+ghost use Rattle.tables.specs.Steps.Clauses.{OnlyReads};
 
 use crate::fault::Refusal;
 use sqlite::types::ValueRef;
@@ -58,9 +58,7 @@ pub(crate) fn select_all<S: Alter, T: Listed>(
     ensures read { HasCleanDisk (state S.Store conn.new) → (state S.Store conn.old).now.schema ≡ schema_two → IfOk result (λ found. (rows : List Columns)
         × Shown sql.now (bound params.now) (state S.Store conn.old) (state S.Store conn.new) rows × AreRead T.columns rows found.items) }
     ensures sound { IfOk result (λ found. AllByRecursion T.is_sound found.items) }
-    ensures kept { StaysAsBefore result (state S.Store conn.old) (state S.Store conn.new) }
-    ensures looks { Looks (state S.Store conn.old) (state S.Store conn.new) }
-    ensures mode { conn.old.in_transaction ≡ false → conn.new.in_transaction ≡ false }
+    ensures reads { OnlyReads S.Store result conn.old conn.new }
 {
     let mut found = Vec::new(alloc);
     let mut rows = conn.query(sql, params)?;
@@ -84,9 +82,7 @@ pub(crate) fn select_first<S: Alter, T: Listed>(
         → IfOk result (λ found. (rows : List Columns) × Shown sql.now (bound params.now) (state S.Store conn.old) (state S.Store conn.new) rows
         × IsFirstRead T.columns rows found) }
     ensures sound { IfOk result (λ found. IfSome found T.is_sound) }
-    ensures kept { StaysAsBefore result (state S.Store conn.old) (state S.Store conn.new) }
-    ensures looks { Looks (state S.Store conn.old) (state S.Store conn.new) }
-    ensures mode { conn.old.in_transaction ≡ false → conn.new.in_transaction ≡ false }
+    ensures reads { OnlyReads S.Store result conn.old conn.new }
 {
     let rows = conn.query_all(sql, params)?;
     match rows.first() {

@@ -1,14 +1,14 @@
 //! The slots, of which each part of a project has one, and the kept replies: put and removed. `specs/Parts` has the parts' numbers.
 ghost use Rattle.std.specs.Prelude.{◌≡◌, ◌∷◌, [], ◌↔◌, None, IsTrue, IfOk, OnOk};
 ghost use Rattle.sqlite_value.specs.declared.value.Value.TheVariants.{Int, Text, Null};
-ghost use Rattle.sqlite.specs.State.{HasCleanDisk, Survives, KeepsCommit};
+ghost use Rattle.sqlite.specs.State.{HasCleanDisk};
 ghost use Rattle.sqlite.specs.Held.{state};
 ghost use Rattle.tables.specs.Schema.{schema_two};
 ghost use Rattle.tables.specs.Contents.{Contents, Replies, Keeps, changed};
 ghost use Rattle.tables.specs.Databases.{IsListed};
 ghost use Rattle.tables.specs.Parts.{part_number};
 ghost use Rattle.tables.specs.Steps.Puts.{Puts, PutsAll, Steps, GoesOn};
-ghost use Rattle.tables.specs.Steps.Clauses.{Edits};
+ghost use Rattle.tables.specs.Steps.Clauses.{CommitsNothing, Edits};
 ghost use Rattle.tables.specs.TableTrees.{keyed_tree, slot_tree};
 
 use crate::statements::run;
@@ -37,15 +37,13 @@ pub(crate) fn remove_slot<S: Alter>(
     project: &str,
     part: Part,
 ) -> Result<usize, Error>
-    ensures same_reference { tx.new.conn.ghost_name ≡ tx.old.conn.ghost_name }
     ensures gone { HasCleanDisk (state S.Store tx.new.conn.now) → IsTrue tx.old.conn.now.in_transaction
         → (state S.Store tx.old.conn.now).now.schema ≡ schema_two
         → (parts : Contents) (replies : Replies) → Keeps (state S.Store tx.old.conn.now).now.trees parts replies
         → IfOk result (λ count. GoesOn (state S.Store tx.old.conn.now) (state S.Store tx.new.conn.now)
         × Keeps (state S.Store tx.new.conn.now).now.trees (changed parts project.now part None) replies
         × ((count ≡ 0) ↔ (parts project.now part ≡ None))) }
-    ensures kept { HasCleanDisk (state S.Store tx.new.conn.now) → KeepsCommit (state S.Store tx.old.conn.now) (state S.Store tx.new.conn.now) }
-    ensures survives { Survives (state S.Store tx.old.conn.now) (state S.Store tx.new.conn.now) (λ _. ⊥) }
+    ensures uncommitted { CommitsNothing S.Store tx.old.conn tx.new.conn }
 {
     let number = part_number(part);
     run(
@@ -61,13 +59,11 @@ pub(crate) fn insert_slot<S: Alter>(
     project: &str,
     part: Part,
 ) -> Result<i64, Error>
-    ensures same_reference { tx.new.conn.ghost_name ≡ tx.old.conn.ghost_name }
     ensures put { HasCleanDisk (state S.Store tx.new.conn.now) → IsTrue tx.old.conn.now.in_transaction
         → (state S.Store tx.old.conn.now).now.schema ≡ schema_two
         → IfOk result (λ id. Steps (Puts slot_tree id (Null ∷ Text project.now ∷ Int (part_number part) ∷ [])) (state S.Store tx.old.conn.now)
         (state S.Store tx.new.conn.now)) }
-    ensures kept { HasCleanDisk (state S.Store tx.new.conn.now) → KeepsCommit (state S.Store tx.old.conn.now) (state S.Store tx.new.conn.now) }
-    ensures survives { Survives (state S.Store tx.old.conn.now) (state S.Store tx.new.conn.now) (λ _. ⊥) }
+    ensures uncommitted { CommitsNothing S.Store tx.old.conn tx.new.conn }
 {
     let number = part_number(part);
     run(
@@ -85,14 +81,11 @@ pub(crate) fn insert_reply<S: Alter>(
     key: &str,
     reply: &str,
 ) -> Result<usize, Error>
-    ensures same_reference { tx.new.conn.ghost_name ≡ tx.old.conn.ghost_name }
-    ensures put { Edits result tx.old.conn.now.in_transaction (state S.Store tx.old.conn.now) (state S.Store tx.new.conn.now)
-        (PutsAll keyed_tree ((Text project.now ∷ Text key.now ∷ Text reply.now ∷ []) ∷ [])) }
+    ensures put { Edits S.Store result tx.old.conn tx.new.conn (PutsAll keyed_tree ((Text project.now ∷ Text key.now ∷ Text reply.now ∷ []) ∷ [])) }
     ensures listed { HasCleanDisk (state S.Store tx.new.conn.now) → IsTrue tx.old.conn.now.in_transaction
         → (state S.Store tx.old.conn.now).now.schema ≡ schema_two
         → OnOk result (IsListed schema_two (state S.Store tx.new.conn.now).now.trees) }
-    ensures kept { HasCleanDisk (state S.Store tx.new.conn.now) → KeepsCommit (state S.Store tx.old.conn.now) (state S.Store tx.new.conn.now) }
-    ensures survives { Survives (state S.Store tx.old.conn.now) (state S.Store tx.new.conn.now) (λ _. ⊥) }
+    ensures uncommitted { CommitsNothing S.Store tx.old.conn tx.new.conn }
 {
     run(
         tx,

@@ -1,8 +1,10 @@
 //! The tables of the index: a database is opened, or its tables are made, or it's refused. Changes and selections are in files of their own.
 //! `specs/Stands` says which states they stand for.
-ghost use Rattle.std.specs.Prelude.{◌≡◌, ◌⊎◌, false, IsTrue, IfOk, IfErr, OnOk, OnErr};
-ghost use Rattle.sqlite.specs.State.{HasCleanDisk, Survives, KeepsCommit, IsUnchanged};
+ghost use Rattle.std.specs.Prelude.{◌≡◌, ◌⊎◌, codes, true, false, IsTrue, IfOk, IfErr, OnOk, OnErr};
+ghost use Rattle.sqlite_catalog.specs.Change.{is_used};
+ghost use Rattle.sqlite.specs.State.{HasCleanDisk, Survives, IsUnchanged};
 ghost use Rattle.sqlite.specs.Held.{state};
+ghost use Rattle.tables.specs.Steps.Clauses.{CommitsNothing};
 ghost use Rattle.tables.specs.Schema.{empty_schema};
 ghost use Rattle.tables.specs.Databases.{IsMade, WasMade, IsFormatOne, IsFormatTwo, ShowsVersion};
 ghost use Rattle.tables.specs.Fault.{IsStoreFault};
@@ -42,13 +44,11 @@ impl<S: Alter> Model for Tables<S> {
 
 /// The statements that make the tables of format 2, within a transaction.
 fn make_tables<S: Alter>(tx: &mut Transaction<'_, S>) -> Result<(), Error>
-    ensures same_reference { tx.new.conn.ghost_name ≡ tx.old.conn.ghost_name }
     ensures made { (state S.Store tx.old.conn.now).now.schema ≡ empty_schema → HasCleanDisk (state S.Store tx.new.conn.now)
         → OnOk result (IsMade (state S.Store tx.new.conn.now).now) }
     ensures inside { HasCleanDisk (state S.Store tx.new.conn.now)
         → OnOk result ((state S.Store tx.new.conn.now).in_transaction ≡ (state S.Store tx.old.conn.now).in_transaction) }
-    ensures kept { HasCleanDisk (state S.Store tx.new.conn.now) → KeepsCommit (state S.Store tx.old.conn.now) (state S.Store tx.new.conn.now) }
-    ensures survives { Survives (state S.Store tx.old.conn.now) (state S.Store tx.new.conn.now) (λ _. ⊥) }
+    ensures uncommitted { CommitsNothing S.Store tx.old.conn tx.new.conn }
 {
     tx.execute_batch(
         "CREATE TABLE format (version INTEGER PRIMARY KEY) STRICT;\
@@ -118,6 +118,8 @@ impl<S: Alter> Tables<S> {
         ensures old { IsFormatOne (state S.Store conn).now ⊎ ((m : State) × FindsOne (state S.Store conn) m) → RefusesOld (state S.Store) result }
         ensures version { IfErr result (λ e. HasCleanDisk (state S.Store e.1) → e.0 ≡ TablesFault.OldFormat
             → ShowsVersion (state S.Store conn) (state S.Store e.1) 1) }
+        ensures shown { is_used (state S.Store conn).now.schema (codes "format") ≡ true
+            → IfOk result (λ c. HasCleanDisk (state S.Store c) → ShowsVersion (state S.Store conn) (state S.Store c) 2) }
         ensures back { (state S.Store conn).now.schema ≡ empty_schema → IfErr result (λ e. HasCleanDisk (state S.Store e.1) → IsTrue (state S.Store e.1).is_open
             → IsRolledBack (state S.Store conn) (state S.Store e.1)) }
         ensures same { IsFormatOne (state S.Store conn).now ⊎ IsFormatTwo (state S.Store conn).now → IfErr result (λ e. HasCleanDisk (state S.Store e.1)

@@ -1,14 +1,14 @@
 //! The rows of tags, put under a slot of their own; the fields are written as JSON. A dump's rows are in `dump_part.rt`.
 ghost use Rattle.std.specs.Prelude.{◌≡◌, ◌∷◌, map, string_bytes, Some, None, IsTrue, IfOk, OnOk};
 ghost use Rattle.sqlite_value.specs.declared.value.Value.TheVariants.{Int};
-ghost use Rattle.sqlite.specs.State.{HasCleanDisk, Survives, KeepsCommit};
+ghost use Rattle.sqlite.specs.State.{HasCleanDisk};
 ghost use Rattle.sqlite.specs.Held.{state};
 ghost use Rattle.tags.specs.Views.{field_value, tag_value, tag_values};
 ghost use Rattle.tables.specs.Schema.{schema_two};
 ghost use Rattle.tables.specs.Columns.{columns_with, fields_text, tag_columns, tag_rows};
 ghost use Rattle.tables.specs.Contents.{Contents, Replies, Keeps, changed};
 ghost use Rattle.tables.specs.Steps.Puts.{PutsAll, GoesOn};
-ghost use Rattle.tables.specs.Steps.Clauses.{Edits};
+ghost use Rattle.tables.specs.Steps.Clauses.{CommitsNothing, Edits};
 ghost use Rattle.tables.specs.TableTrees.{tag_tree};
 ghost use Rattle.tables.specs.declared.slots.Part.TheVariants.{Tags};
 
@@ -80,11 +80,8 @@ fn insert_rows<S: Alter>(
     slot: i64,
     tags: &[Tag],
 ) -> Result<(), Error>
-    ensures same_reference { tx.new.conn.ghost_name ≡ tx.old.conn.ghost_name }
-    ensures put { Edits result tx.old.conn.now.in_transaction (state S.Store tx.old.conn.now) (state S.Store tx.new.conn.now)
-        (PutsAll tag_tree (map (λ tag. Int slot ∷ tag_columns (tag_value tag)) tags.now)) }
-    ensures kept { HasCleanDisk (state S.Store tx.new.conn.now) → KeepsCommit (state S.Store tx.old.conn.now) (state S.Store tx.new.conn.now) }
-    ensures survives { Survives (state S.Store tx.old.conn.now) (state S.Store tx.new.conn.now) (λ _. ⊥) }
+    ensures put { Edits S.Store result tx.old.conn tx.new.conn (PutsAll tag_tree (map (λ tag. Int slot ∷ tag_columns (tag_value tag)) tags.now)) }
+    ensures uncommitted { CommitsNothing S.Store tx.old.conn tx.new.conn }
 {
     for group in tags.chunks(EIGHT) {
         let rows = written(alloc, group)?;
@@ -100,13 +97,11 @@ pub(crate) fn insert_tags<S: Alter>(
     project: &str,
     tags: &[Tag],
 ) -> Result<(), Error>
-    ensures same_reference { tx.new.conn.ghost_name ≡ tx.old.conn.ghost_name }
     ensures put { HasCleanDisk (state S.Store tx.new.conn.now) → IsTrue tx.old.conn.now.in_transaction → (state S.Store tx.old.conn.now).now.schema ≡ schema_two
         → (parts : Contents) (replies : Replies) → Keeps (state S.Store tx.old.conn.now).now.trees (changed parts project.now Tags None) replies
         → OnOk result (GoesOn (state S.Store tx.old.conn.now) (state S.Store tx.new.conn.now)
         × Keeps (state S.Store tx.new.conn.now).now.trees (changed parts project.now Tags (Some (tag_rows (tag_values tags.now)))) replies) }
-    ensures kept { HasCleanDisk (state S.Store tx.new.conn.now) → KeepsCommit (state S.Store tx.old.conn.now) (state S.Store tx.new.conn.now) }
-    ensures survives { Survives (state S.Store tx.old.conn.now) (state S.Store tx.new.conn.now) (λ _. ⊥) }
+    ensures uncommitted { CommitsNothing S.Store tx.old.conn tx.new.conn }
 {
     let slot = insert_slot(tx, project, Part::Tags)?;
     insert_rows(alloc, tx, slot, tags)

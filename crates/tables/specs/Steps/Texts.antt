@@ -110,27 +110,45 @@ rest1 = (slot_text ++ semicolon) ++ rest2
 abbrev pub rest0 : List ℕ
 rest0 = (format_text ++ semicolon) ++ rest1
 
--- and of the batch that makes format 2 of format 1
+-- and of the batch that makes format 2 of format 1, where its indexes may stand already
+abbrev pub drop_range_by_start : List ℕ
+drop_range_by_start = codes "DROP INDEX IF EXISTS range_by_start"
+
+abbrev pub drop_bearer_by_key : List ℕ
+drop_bearer_by_key = codes "DROP INDEX IF EXISTS bearer_by_key"
+
+abbrev pub drop_tag_by_name : List ℕ
+drop_tag_by_name = codes "DROP INDEX IF EXISTS tag_by_name"
+
+abbrev pub upgrade9 : List ℕ
+upgrade9 = set_version
+
+abbrev pub upgrade8 : List ℕ
+upgrade8 = (fill_profiles ++ semicolon) ++ upgrade9
+
+abbrev pub upgrade7 : List ℕ
+upgrade7 = (more_text ++ semicolon) ++ upgrade8
+
 abbrev pub upgrade6 : List ℕ
-upgrade6 = set_version
+upgrade6 = (part_profile_text ++ semicolon) ++ upgrade7
 
 abbrev pub upgrade5 : List ℕ
-upgrade5 = (fill_profiles ++ semicolon) ++ upgrade6
+upgrade5 = (tag_by_name_text ++ semicolon) ++ upgrade6
 
 abbrev pub upgrade4 : List ℕ
-upgrade4 = (more_text ++ semicolon) ++ upgrade5
+upgrade4 = (bearer_by_key_text ++ semicolon) ++ upgrade5
 
 abbrev pub upgrade3 : List ℕ
-upgrade3 = (part_profile_text ++ semicolon) ++ upgrade4
+upgrade3 = (range_by_start_text ++ semicolon) ++ upgrade4
 
 abbrev pub upgrade2 : List ℕ
-upgrade2 = (tag_by_name_text ++ semicolon) ++ upgrade3
+upgrade2 = (drop_tag_by_name ++ semicolon) ++ upgrade3
 
 abbrev pub upgrade1 : List ℕ
-upgrade1 = (bearer_by_key_text ++ semicolon) ++ upgrade2
+upgrade1 = (drop_bearer_by_key ++ semicolon) ++ upgrade2
 
 abbrev pub upgrade0 : List ℕ
-upgrade0 = (range_by_start_text ++ semicolon) ++ upgrade1
+upgrade0 = (drop_range_by_start ++ semicolon) ++ upgrade1
 
 -- ---- of a transaction
 

@@ -1,19 +1,13 @@
 use Rattle.std.proofs.lemmas.Result.{IfOk-weaker}
 use Rattle.sqlite.specs.Held.{state}
-use Rattle.tables.proofs.FoundBearers.{select_bearers_reads, told_each, told_all}
+use Rattle.tables.proofs.FoundBearers.{select_bearers_reads, bearers_told}
 use Rattle.tables.proofs.bearers.select_bearers.Goals as goal
 
 pub select_all-requires : goal.select_all-requires
 select_all-requires g c = select_bearers_reads
 
-pub returns-clause-each : goal.returns-clause-each
-returns-clause-each g c clean has m s =
+pub returns-clause-found : goal.returns-clause-found
+returns-clause-found g c clean has m s =
     let old = state g.S.Store c.args.conn.now in
     let new = state g.S.Store c.select_all.new.conn in
-    IfOk-weaker c.select_all.result _ _ (λ found h. told_each c.args.key.now m old new h.0 found.items s has (rw c.params-to_sql.ensures at h.1) h.2) (c.select_all.ensures.read clean has)
-
-pub returns-clause-all : goal.returns-clause-all
-returns-clause-all g c clean has m s =
-    let old = state g.S.Store c.args.conn.now in
-    let new = state g.S.Store c.select_all.new.conn in
-    IfOk-weaker c.select_all.result _ _ (λ found h. told_all c.args.key.now m old new h.0 found.items s has (rw c.params-to_sql.ensures at h.1) h.2) (c.select_all.ensures.read clean has)
+    IfOk-weaker c.select_all.result _ _ (λ found h. bearers_told c.args.key.now m old new h.0 found.items s has (rw c.params-to_sql.ensures at h.1) h.2) (c.select_all.ensures.read clean has)

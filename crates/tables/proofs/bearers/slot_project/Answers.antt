@@ -30,6 +30,6 @@ returns-clause-named g c clean has parts replies is project part slot =
     let h = c.in_ok-found.ensures.read clean in
     let some : c.in_ok-found.found ≡ Some c.in-Some-found.project = search rules in
     let kept : string_bytes c.in_ok-kept.kept ≡ string_bytes c.in-Some-found.project = search rules in
-    kept ∙ found_named old mid c.args.slot (string_bytes c.in-Some-found.project) (c.in_ok-found.ensures.kept clean)
+    kept ∙ found_named old mid c.args.slot (string_bytes c.in-Some-found.project) (c.in_ok-found.ensures.reads.kept clean)
     (λ schema p r keeps of which has_slot. project_found c.args.slot old mid h.0 c.in_ok-found.found c.in-Some-found.project p r some keeps schema
     (rw (c.params-to_sql.ensures, to_z-of_z c.ranges.slot) at h.1) h.2 of which has_slot) has parts replies is project part (rw (to_z-of_z c.ranges.slot) at slot)

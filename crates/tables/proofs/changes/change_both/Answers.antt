@@ -11,7 +11,7 @@ use Rattle.tables.proofs.changes.change_both.Goals as goal
 
 pub returns-clause-changed : goal.returns-clause-changed
 returns-clause-changed g c clean inside has parts replies is free =
-    let first : HasCleanDisk (state g.S.Store c.clear_parts.new.tx.conn.now) = omega (arith, c.insert_reply.ensures.survives.clean) in
+    let first : HasCleanDisk (state g.S.Store c.clear_parts.new.tx.conn.now) = omega (arith, c.insert_reply.ensures.uncommitted.survives.clean) in
     let gone = c.in_ok-was_there.ensures.gone first inside has parts replies is in
     let put = c.in_ok-insert_reply.ensures.put clean gone.1.inside gone.1.schema in
     let reply = subst (λ text. Steps (PutsAll keyed_tree ((Text c.args.project.now ∷ Text c.args.key.now ∷ Text text ∷ []) ∷ [])) (state g.S.Store c.clear_parts.new.tx.conn.now) (state g.S.Store c.insert_reply.new.tx.conn.now)) c.removal_text.ensures put in (

@@ -7,8 +7,8 @@ use Rattle.tables.proofs.changes.change_dump.Goals as goal
 
 pub returns-clause-changed : goal.returns-clause-changed
 returns-clause-changed g c clean inside has parts replies is free =
-    let last : HasCleanDisk (state g.S.Store c.insert_dump.new.tx.conn.now) = omega (arith, c.insert_reply.ensures.survives.clean) in
-    let first : HasCleanDisk (state g.S.Store c.remove_slot.new.tx.conn.now) = omega (arith, c.insert_dump.ensures.survives.clean) in
+    let last : HasCleanDisk (state g.S.Store c.insert_dump.new.tx.conn.now) = omega (arith, c.insert_reply.ensures.uncommitted.survives.clean) in
+    let first : HasCleanDisk (state g.S.Store c.remove_slot.new.tx.conn.now) = omega (arith, c.insert_dump.ensures.uncommitted.survives.clean) in
     let gone = c.in_ok-remove_slot.ensures.gone first inside has parts replies is in
     let put = c.in_ok-insert_dump.ensures.put last gone.0.inside gone.0.schema parts replies gone.1 in
     let reply = c.in_ok-insert_reply.ensures.put clean put.0.inside put.0.schema in (

@@ -12,7 +12,7 @@ pub returns-in_err-commit-clause-crash : goal.returns-in_err-commit-clause-crash
 returns-in_err-commit-clause-crash g c m is free =
     let begun = c.transaction-tx.ensures.begun in
     let next = changed m c.args.project.now c.args.key.now clear in
-    let all = whole g.S.Store (λ db. StandsFor db next) c.args.conn.now c.change_both.new.tx.conn.now c.commit.new.self.0 (rw begun at c.change_both.ensures.survives)
+    let all = whole g.S.Store (λ db. StandsFor db next) c.args.conn.now c.change_both.new.tx.conn.now c.commit.new.self.0 (rw begun at c.change_both.ensures.uncommitted.survives)
     (λ clean.
     let it = c.in_ok-was_there.ensures.changed clean (rw begun refl) (rw begun is.schema_is) is.stands.parts (replies_of m) (rw begun is.stands.keeps) (unkept m c.args.project.now c.args.key.now free) in
     let text = ap (λ b. accepted_text (parts_removed b)) (it.0 ∙ are_there _ m is.stands c.args.project.now) in
@@ -26,7 +26,7 @@ returns-in_err-commit-clause-same g c clean up m is free =
     let same : c.commit.new.self.0 ≡ c.conn-2-1.given.0 = search rules in
     let late : HasCleanDisk (state g.S.Store c.commit.new.self.0) = search rules in
     let it = c.in_ok-was_there.ensures.changed (omega (arith, c.commit.ensures.survives.clean)) (rw begun refl) (rw begun is.schema_is) is.stands.parts (replies_of m) (rw begun is.stands.keeps) (unkept m c.args.project.now c.args.key.now free) in
-    let keeps = rw begun at (c.change_both.ensures.kept (omega (arith, c.commit.ensures.survives.clean))) in
+    let keeps = rw begun at (c.change_both.ensures.uncommitted.kept (omega (arith, c.commit.ensures.survives.clean))) in
     let back = undone g.S.Store c.args.conn.now c.change_both.new.tx.conn.now c.commit.new.self.0 c.commit.result keeps (c.commit.ensures.err late) it.1.inside (rw same up) is.settled in
     let found : OnErr c.from_residual-in_err-commit.result (IsAsBefore (state g.S.Store c.args.conn.now) (state g.S.Store c.commit.new.self.0)) = search rules in
     subst (λ h. OnErr c.from_residual-in_err-commit.result (IsAsBefore (state g.S.Store c.args.conn.now) (state g.S.Store h))) same found
@@ -35,7 +35,7 @@ pub returns-clause-crash : goal.returns-clause-crash
 returns-clause-crash g c m is free =
     let begun = c.transaction-tx.ensures.begun in
     let next = changed m c.args.project.now c.args.key.now clear in
-    let all = whole g.S.Store (λ db. StandsFor db next) c.args.conn.now c.change_both.new.tx.conn.now c.commit.new.self.0 (rw begun at c.change_both.ensures.survives)
+    let all = whole g.S.Store (λ db. StandsFor db next) c.args.conn.now c.change_both.new.tx.conn.now c.commit.new.self.0 (rw begun at c.change_both.ensures.uncommitted.survives)
     (λ clean.
     let it = c.in_ok-was_there.ensures.changed clean (rw begun refl) (rw begun is.schema_is) is.stands.parts (replies_of m) (rw begun is.stands.keeps) (unkept m c.args.project.now c.args.key.now free) in
     let text = ap (λ b. accepted_text (parts_removed b)) (it.0 ∙ are_there _ m is.stands c.args.project.now) in

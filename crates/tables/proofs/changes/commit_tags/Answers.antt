@@ -14,7 +14,7 @@ pub returns-clause-crash : goal.returns-clause-crash
 returns-clause-crash g c m is new =
     let begun = c.transaction-tx.ensures.begun in
     let next = changed m c.args.project.now c.args.key.now (set_tags (tag_values c.args.tags.now)) in
-    let all = whole g.S.Store (λ db. StandsFor db next) c.args.conn.now c.change_tags.new.tx.conn.now c.commit.new.self.0 (rw begun at c.change_tags.ensures.survives)
+    let all = whole g.S.Store (λ db. StandsFor db next) c.args.conn.now c.change_tags.new.tx.conn.now c.commit.new.self.0 (rw begun at c.change_tags.ensures.uncommitted.survives)
     (λ clean.
     let it = c.in_ok-change_tags.ensures.changed clean (rw begun refl) (rw begun is.schema_is) is.stands.parts (replies_of m) (rw begun is.stands.keeps) (unkept m c.args.project.now c.args.key.now new.unkept) in
     tags_change _ _ m is.stands c.args.project.now c.args.key.now c.args.reply.now (tag_values c.args.tags.now) new.text it.1 it.2) c.commit.ensures.survives in
@@ -42,6 +42,6 @@ returns-clause-same g c clean up m is new =
     let same : c.commit.new.self.0 ≡ c.conn-2-1.given.0 = search rules in
     let late : HasCleanDisk (state g.S.Store c.commit.new.self.0) = search rules in
     let it = c.in_ok-change_tags.ensures.changed (omega (arith, c.commit.ensures.survives.clean)) (rw begun refl) (rw begun is.schema_is) is.stands.parts (replies_of m) (rw begun is.stands.keeps) (unkept m c.args.project.now c.args.key.now new.unkept) in
-    let keeps = rw begun at (c.change_tags.ensures.kept (omega (arith, c.commit.ensures.survives.clean))) in
+    let keeps = rw begun at (c.change_tags.ensures.uncommitted.kept (omega (arith, c.commit.ensures.survives.clean))) in
     subst (λ h. OnErr c.commit.result (IsAsBefore (state g.S.Store c.args.conn.now) (state g.S.Store h))) same
     (undone g.S.Store c.args.conn.now c.change_tags.new.tx.conn.now c.commit.new.self.0 c.commit.result keeps (c.commit.ensures.err late) it.0.inside (rw same up) is.settled)

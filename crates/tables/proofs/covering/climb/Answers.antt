@@ -9,25 +9,23 @@ use Rattle.tables.specs.Steps.Climbs.{IsNamed}
 use Rattle.tables.specs.TableTrees.{slot_tree}
 use Rattle.tables.proofs.Climbing.{ClimbsTo, begins, takes, passes, ended}
 use Rattle.tables.proofs.DumpEntries.{rows_of}
-use Rattle.tables.proofs.Looking.{looks_then, kept_on, still, survives_clean}
+use Rattle.tables.proofs.Looking.{reads_failed, reads_then, still, survives_clean}
 use Rattle.tables.proofs.covering.climb.Goals as goal
 use Rattle.tables.proofs.covering.climb.Goals.{else-covers-via-then-covers+else-is_err, else-covers-via-else-covers}
 
 pub loop-next-init : goal.loop-next-init
 loop-next-init g c = rw (to_z-of_z c.ranges.slot) (record {
-  looks = c.start_of.ensures.looks;
-  kept = c.in_ok-next.ensures.kept;
-  mode = c.start_of.ensures.mode;
+  reads = c.in_ok-next.ensures.reads;
   climbs = λ clean has m s project dump slot is.
       let d = (rows_of (state g.S.Store c.args.conn.now).now.trees m s project dump is).2 in
       rw c.new-found.ensures.items (begins dump c.args.uri.now c.args.at d.faultless d.flat d.is_flat c.in_ok-next.next ((rw (to_z-of_z c.ranges.slot) at c.in_ok-next.ensures.start) clean has m s project dump slot is));
 })
 
-pub returns-in_err-next-2-clause-looks : goal.returns-in_err-next-2-clause-looks
-returns-in_err-next-2-clause-looks g c = looks_then _ (state g.S.Store c.loop-next.conn) _ c.loop-next.invariant.looks c.loop-next.invariant.kept c.parent_of.ensures.looks
+pub returns-in_err-next-2-clause-reads : goal.returns-in_err-next-2-clause-reads
+returns-in_err-next-2-clause-reads g c = reads_failed (search rules) (reads_then c.loop-next.invariant.reads c.parent_of.ensures.reads)
 
-pub returns-then-is_err-clause-looks : goal.returns-then-is_err-clause-looks
-returns-then-is_err-clause-looks g c = looks_then _ (state g.S.Store c.loop-next.conn) _ c.loop-next.invariant.looks c.loop-next.invariant.kept c.parent_of.ensures.looks
+pub returns-then-is_err-clause-reads : goal.returns-then-is_err-clause-reads
+returns-then-is_err-clause-reads g c = reads_failed (search rules) (reads_then c.loop-next.invariant.reads c.parent_of.ensures.reads)
 
 pub loop-next-preserved : goal.loop-next-preserved
 loop-next-preserved g c = rw (to_z-of_z c.ranges.slot) (
@@ -41,14 +39,12 @@ loop-next-preserved g c = rw (to_z-of_z c.ranges.slot) (
     let uri = c.args.uri.now in
     let at_range : c.loop-next.next ≡ Some range = search rules in
     record {
-      looks = looks_then old mid new was.looks was.kept c.parent_of.ensures.looks;
-      kept = kept_on old mid new was.kept c.parent_of.ensures.looks c.in_ok-next-2.ensures.kept;
-      mode = λ h. c.parent_of.ensures.mode (was.mode h);
+      reads = reads_then was.reads c.in_ok-next-2.ensures.reads;
       climbs = λ clean has m s project dump slot is.
           let d = (rows_of old.now.trees m s project dump is).2 in
-          let named = still old mid new (λ db. StandsFor db m × Has (db slot_tree) (slot_row c.args.slot project Dump)) (λ db. IsNamed dump uri range next) was.kept c.parent_of.ensures.looks
+          let named = still old mid new (λ db. StandsFor db m × Has (db slot_tree) (slot_row c.args.slot project Dump)) (λ db. IsNamed dump uri range next) was.reads.kept c.parent_of.ensures.reads.looks
           (λ cleaner schema known. (rw (to_z-of_z c.ranges.slot) at c.in_ok-next-2.ensures.named) cleaner schema m known.0 project dump known.1 is) clean has (s, slot) in
-          let here = subst (ClimbsTo dump uri c.args.at found) at_range ((rw (to_z-of_z c.ranges.slot) at was.climbs) (survives_clean mid new c.parent_of.ensures.looks clean) has m s project dump slot is) in
+          let here = subst (ClimbsTo dump uri c.args.at found) at_range ((rw (to_z-of_z c.ranges.slot) at was.climbs) (survives_clean mid new c.parent_of.ensures.reads.looks clean) has m s project dump slot is) in
           elim c.else-covers.branch [
             | else-covers-via-then-covers+else-is_err w ↦
                 let pushed : c.else-covers.found.items ≡ found ++ range ∷ [] = search rules in

@@ -10,24 +10,22 @@ use Rattle.tables.specs.Steps.Climbs.{TellsRange, row_found}
 use Rattle.tables.specs.TableTrees.{slot_tree}
 use Rattle.tables.proofs.CoverLists.{covers_all, taken_all, told_at, told_next, rows_are}
 use Rattle.tables.proofs.DumpEntries.{rows_of}
-use Rattle.tables.proofs.Looking.{looks_then, kept_on, still, survives_clean}
+use Rattle.tables.proofs.Looking.{reads_failed, reads_then, still, survives_clean}
 use Rattle.tables.proofs.Selecting.{of_all}
 use Rattle.tables.proofs.covering.ranges_in.Goals as goal
 
 pub loop-row-init : goal.loop-row-init
 loop-row-init g c = rw (to_z-of_z c.ranges.slot) (record {
-  looks = c.climb.ensures.looks;
-  kept = c.in_ok-rows.ensures.kept;
+  reads = c.in_ok-rows.ensures.reads;
   cleans = λ clean. clean;
-  mode = c.climb.ensures.mode;
   found = λ clean has m s project dump slot is rows told are. ap (map range_found) c.new-found.ensures.items;
 })
 
-pub returns-in_err-range-clause-looks : goal.returns-in_err-range-clause-looks
-returns-in_err-range-clause-looks g c = looks_then _ (state g.S.Store c.loop-row.conn) _ c.loop-row.invariant.looks c.loop-row.invariant.kept c.complete.ensures.looks
+pub returns-in_err-range-clause-reads : goal.returns-in_err-range-clause-reads
+returns-in_err-range-clause-reads g c = reads_failed (search rules) (reads_then c.loop-row.invariant.reads c.complete.ensures.reads)
 
-pub returns-then-is_err-clause-looks : goal.returns-then-is_err-clause-looks
-returns-then-is_err-clause-looks g c = looks_then _ (state g.S.Store c.loop-row.conn) _ c.loop-row.invariant.looks c.loop-row.invariant.kept c.complete.ensures.looks
+pub returns-then-is_err-clause-reads : goal.returns-then-is_err-clause-reads
+returns-then-is_err-clause-reads g c = reads_failed (search rules) (reads_then c.loop-row.invariant.reads c.complete.ensures.reads)
 
 pub loop-row-preserved : goal.loop-row-preserved
 loop-row-preserved g c = rw (to_z-of_z c.ranges.slot) (
@@ -38,17 +36,15 @@ loop-row-preserved g c = rw (to_z-of_z c.ranges.slot) (
     let range = c.in_ok-range.range in
     let pushed : c.push.new.self.items ≡ c.loop-row.found.items ++ range ∷ [] = search rules in
     record {
-      looks = looks_then old mid new was.looks was.kept c.complete.ensures.looks;
-      kept = kept_on old mid new was.kept c.complete.ensures.looks c.in_ok-range.ensures.kept;
-      cleans = λ clean. was.cleans (survives_clean mid new c.complete.ensures.looks clean);
-      mode = λ h. c.complete.ensures.mode (was.mode h);
+      reads = reads_then was.reads c.in_ok-range.ensures.reads;
+      cleans = λ clean. was.cleans (survives_clean mid new c.complete.ensures.reads.looks clean);
       found = λ clean has m s project dump slot is rows told are.
           let it = told_at c.deref-row-items.result.now rows c.loop-row.row-index c.row-item.result told (omega (arith, c.loop-row-test.true)) in
           let r = it.0 in
           let tells : TellsRange c.row-item.result r = subst (λ x. TellsRange x r) (sym c.row-item.is) it.2 in
-          let whole = still old mid new (λ db. StandsFor db m × Has (db slot_tree) (slot_row c.args.slot project Dump)) (λ db. range_found range ≡ row_found c.args.request r) was.kept c.complete.ensures.looks
+          let whole = still old mid new (λ db. StandsFor db m × Has (db slot_tree) (slot_row c.args.slot project Dump)) (λ db. range_found range ≡ row_found c.args.request r) was.reads.kept c.complete.ensures.reads.looks
           (λ cleaner schema known. (rw (to_z-of_z c.ranges.slot) at c.in_ok-range.ensures.whole) cleaner schema m known.0 project dump known.1 is r (of_all _ rows r are it.1) tells) clean has (s, slot) in
-          let before = (rw (to_z-of_z c.ranges.slot) at was.found) (survives_clean mid new c.complete.ensures.looks clean) has m s project dump slot is rows told are in
+          let before = (rw (to_z-of_z c.ranges.slot) at was.found) (survives_clean mid new c.complete.ensures.reads.looks clean) has m s project dump slot is rows told are in
           ap (map range_found) pushed ∙ told_next c.args.request c.loop-row.found.items range rows r c.loop-row.row-index before whole it.3;
     })
 

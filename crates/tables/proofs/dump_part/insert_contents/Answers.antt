@@ -20,8 +20,8 @@ insert_all-requires-3 g c = record { one = λ slot row. bearer_put slot (bearer_
 
 pub returns-clause-put : goal.returns-clause-put
 returns-clause-put g c clean inside has =
-    let second : HasCleanDisk (state g.S.Store c.insert_all-2.new.tx.conn.now) = omega (arith, c.insert_all-3.ensures.survives.clean) in
-    let first : HasCleanDisk (state g.S.Store c.insert_all.new.tx.conn.now) = omega (arith, c.insert_all-2.ensures.survives.clean) in
+    let second : HasCleanDisk (state g.S.Store c.insert_all-2.new.tx.conn.now) = omega (arith, c.insert_all-3.ensures.uncommitted.survives.clean) in
+    let first : HasCleanDisk (state g.S.Store c.insert_all.new.tx.conn.now) = omega (arith, c.insert_all-2.ensures.uncommitted.survives.clean) in
     let p = put_values hover_tree c.args.slot hover_columns hover_value _ c.args.rows.now.hovers.items _ _ c.as_slice.ensures.value (rw (to_z-of_z c.ranges.slot) at (c.in_ok-insert_all.ensures.put first inside has)) in
     let q = put_values mark_tree c.args.slot mark_columns mark_value _ c.args.rows.now.marks.items _ _ c.as_slice-2.ensures.value (rw (to_z-of_z c.ranges.slot) at (c.in_ok-insert_all-2.ensures.put second p.0.inside p.0.schema)) in
     on_ok_weaker c.insert_all-3.result

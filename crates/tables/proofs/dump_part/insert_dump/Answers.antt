@@ -8,10 +8,10 @@ use Rattle.tables.proofs.dump_part.insert_dump.Goals as goal
 
 pub returns-clause-put : goal.returns-clause-put
 returns-clause-put g c clean inside has parts replies is =
-    let fourth : HasCleanDisk (state g.S.Store c.insert_profile.new.tx.conn.now) = omega (arith, c.insert_more.ensures.survives.clean) in
-    let third : HasCleanDisk (state g.S.Store c.insert_contents.new.tx.conn.now) = omega (arith, c.insert_profile.ensures.survives.clean) in
-    let second : HasCleanDisk (state g.S.Store c.insert_places.new.tx.conn.now) = omega (arith, c.insert_contents.ensures.survives.clean) in
-    let first : HasCleanDisk (state g.S.Store c.insert_slot.new.tx.conn.now) = omega (arith, c.insert_places.ensures.survives.clean) in
+    let fourth : HasCleanDisk (state g.S.Store c.insert_profile.new.tx.conn.now) = omega (arith, c.insert_more.ensures.uncommitted.survives.clean) in
+    let third : HasCleanDisk (state g.S.Store c.insert_contents.new.tx.conn.now) = omega (arith, c.insert_profile.ensures.uncommitted.survives.clean) in
+    let second : HasCleanDisk (state g.S.Store c.insert_places.new.tx.conn.now) = omega (arith, c.insert_contents.ensures.uncommitted.survives.clean) in
+    let first : HasCleanDisk (state g.S.Store c.insert_slot.new.tx.conn.now) = omega (arith, c.insert_places.ensures.uncommitted.survives.clean) in
     let back : to_z w64 (of_z w64 c.in_ok-slot.slot) ≡ c.in_ok-slot.slot = search rules in
     let p = c.in_ok-slot.ensures.put first inside has in
     let q = rw back at (c.in_ok-insert_places.ensures.put second p.0.inside p.0.schema) in

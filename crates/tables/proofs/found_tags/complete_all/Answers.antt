@@ -4,15 +4,15 @@ use Rattle.flatten.proofs.Members.{nil_of}
 use Rattle.tables.specs.Stands.{StandsFor}
 use Rattle.machine.specs.Found.{tag_found}
 use Rattle.tables.specs.Steps.TagRows.{IsFoundIf, TellsTag}
-use Rattle.tables.proofs.Looking.{looks_then, kept_on, still, survives_clean}
+use Rattle.tables.proofs.Looking.{reads_failed, reads_then, still, survives_clean}
 use Rattle.tables.proofs.ToldTags.{finds_one, finds_all}
 use Rattle.tables.proofs.found_tags.complete_all.Goals as goal
 
-pub returns-in_err-tag-clause-looks : goal.returns-in_err-tag-clause-looks
-returns-in_err-tag-clause-looks g c = looks_then _ (state g.S.Store c.loop-row.conn) _ c.loop-row.invariant.looks c.loop-row.invariant.kept c.complete.ensures.looks
+pub returns-in_err-tag-clause-reads : goal.returns-in_err-tag-clause-reads
+returns-in_err-tag-clause-reads g c = reads_failed (search rules) (reads_then c.loop-row.invariant.reads c.complete.ensures.reads)
 
-pub returns-in_err-push_some-clause-looks : goal.returns-in_err-push_some-clause-looks
-returns-in_err-push_some-clause-looks g c = looks_then _ (state g.S.Store c.loop-row.conn) _ c.loop-row.invariant.looks c.loop-row.invariant.kept c.complete.ensures.looks
+pub returns-in_err-push_some-clause-reads : goal.returns-in_err-push_some-clause-reads
+returns-in_err-push_some-clause-reads g c = reads_failed (search rules) (reads_then c.loop-row.invariant.reads c.complete.ensures.reads)
 
 pub loop-row-preserved : goal.loop-row-preserved
 loop-row-preserved g c =
@@ -25,15 +25,13 @@ loop-row-preserved g c =
     let row = c.in-Some.row in
     let popped : c.loop-row.left.items ≡ c.pop.new.self.items ++ row ∷ [] = search rules in
     record {
-      looks = looks_then old mid new was.looks was.kept c.complete.ensures.looks;
-      kept = kept_on old mid new was.kept c.complete.ensures.looks c.in_ok-tag.ensures.kept;
-      mode = λ h. c.complete.ensures.mode (was.mode h);
+      reads = reads_then was.reads c.in_ok-tag.ensures.reads;
       named = c.in_ok-tag.ensures.named;
       finds = λ clean has m s told.
           finds_one old.now.trees m asked c.args.rows.items c.loop-row.left.items c.pop.new.self.items row popped told tag c.loop-row.found.items c.push_some.new.found.items (search rules)
-          (λ v t. still old mid new (λ db. StandsFor db m × TellsTag db m row v) (λ db. IsFoundIf asked v tag) was.kept c.complete.ensures.looks
+          (λ v t. still old mid new (λ db. StandsFor db m × TellsTag db m row v) (λ db. IsFoundIf asked v tag) was.reads.kept c.complete.ensures.reads.looks
           (λ cleaner schema known. c.in_ok-tag.ensures.whole cleaner schema m known.0 v known.1) clean has (s, t))
-          (was.finds (survives_clean mid new c.complete.ensures.looks clean) has m s told);
+          (was.finds (survives_clean mid new c.complete.ensures.reads.looks clean) has m s told);
     }
 
 pub returns-clause-found : goal.returns-clause-found

@@ -9,7 +9,7 @@ use Rattle.tables.proofs.more.insert_more.Goals as goal
 
 pub returns-clause-put : goal.returns-clause-put
 returns-clause-put g c clean inside has =
-    let first : HasCleanDisk (state g.S.Store c.insert_ranges.new.tx.conn.now) = omega (arith, c.insert_bearers.ensures.survives.clean) in
+    let first : HasCleanDisk (state g.S.Store c.insert_ranges.new.tx.conn.now) = omega (arith, c.insert_bearers.ensures.uncommitted.survives.clean) in
     let p = rw (to_z-of_z c.ranges.slot, c.as_slice.ensures.value) at (c.in_ok-insert_ranges.ensures.put first inside has) in
     on_ok_weaker c.insert_bearers.result
     (λ q. two_puts 24 c.args.slot range_more range_value bearer_more bearer_value c.args.rows.now.ranges.items c.args.rows.now.bearers.items _ _ _ p q)

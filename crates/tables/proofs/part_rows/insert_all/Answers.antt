@@ -2,7 +2,7 @@ use Rattle.std.proofs.Common.{rules, arith, ◌≡◌, ◌++◌, ◌∙◌, [], 
 use Rattle.std.proofs.lemmas.List.{map-append, nil_from_length}
 use Rattle.sqlite.specs.Held.{state}
 use Rattle.tables.specs.Steps.Puts.{Steps, PutsAll}
-use Rattle.tables.proofs.Puts.{puts_none, puts_then, quiet_then, commit_then, commit_same}
+use Rattle.tables.proofs.Puts.{puts_none, puts_then, nothing_then, nothing_yet}
 use Rattle.tables.proofs.part_rows.insert_all.Goals as goal
 
 pub loop-group-init : goal.loop-group-init
@@ -10,9 +10,7 @@ loop-group-init g c = record {
   can_next = search rules;
   is_finite = tt;
   size = search rules;
-  same = search rules;
-  survives = search rules;
-  commit = λ clean. commit_same _;
+  uncommitted = nothing_yet _;
   put = ([], search rules, λ clean inside has. puts_none _ _ has inside);
 }
 
@@ -28,14 +26,12 @@ loop-group-preserved g c =
       can_next = search rules;
       is_finite = tt;
       size = steps.0 ∙ c.loop-group.invariant.size;
-      same = search rules;
-      survives = quiet_then _ _ _ c.loop-group.invariant.survives c.insert_each.ensures.survives;
-      commit = λ clean. commit_then _ _ _ (c.loop-group.invariant.commit (omega (arith, c.insert_each.ensures.survives.clean))) (c.insert_each.ensures.kept clean);
+      uncommitted = nothing_then c.loop-group.invariant.uncommitted c.insert_each.ensures.uncommitted;
       put = (
         so_far.0 ++ group,
         append_assoc so_far.0 _ _ ∙ (ap (λ (rest : List g.row.R.Denot). so_far.0 ++ rest) (sym steps.1.0) ∙ so_far.1),
         λ clean inside has.
-            let was = so_far.2 (omega (arith, c.insert_each.ensures.survives.clean)) inside has in
+            let was = so_far.2 (omega (arith, c.insert_each.ensures.uncommitted.survives.clean)) inside has in
             let put = c.in_ok-insert_each-in_default.ensures.put clean was.0.inside was.0.schema in
             subst (λ list. Steps (PutsAll g.R.PartRow.tree list) (state g.S.Store c.args.tx.now.conn.now) (state g.S.Store c.insert_each.new.tx.conn.now)) (sym (map-append _ so_far.0 group)) (puts_then _ _ _ _ _ _ was put),
       );
@@ -50,14 +46,12 @@ loop-group-preserved-then-group-eq-EIGHT g c =
       can_next = search rules;
       is_finite = tt;
       size = steps.0 ∙ c.loop-group.invariant.size;
-      same = search rules;
-      survives = quiet_then _ _ _ c.loop-group.invariant.survives c.insert_by.ensures.survives;
-      commit = λ clean. commit_then _ _ _ (c.loop-group.invariant.commit (omega (arith, c.insert_by.ensures.survives.clean))) (c.insert_by.ensures.kept clean);
+      uncommitted = nothing_then c.loop-group.invariant.uncommitted c.insert_by.ensures.uncommitted;
       put = (
         so_far.0 ++ group,
         append_assoc so_far.0 _ _ ∙ (ap (λ (rest : List g.row.R.Denot). so_far.0 ++ rest) (sym steps.1.0) ∙ so_far.1),
         λ clean inside has.
-            let was = so_far.2 (omega (arith, c.insert_by.ensures.survives.clean)) inside has in
+            let was = so_far.2 (omega (arith, c.insert_by.ensures.uncommitted.survives.clean)) inside has in
             let put = c.in_ok-insert_by-in-Some-eight.ensures.put clean was.0.inside was.0.schema in
             subst (λ list. Steps (PutsAll g.R.PartRow.tree list) (state g.S.Store c.args.tx.now.conn.now) (state g.S.Store c.insert_by.new.tx.conn.now)) (sym (map-append _ so_far.0 group)) (puts_then _ _ _ _ _ _ was put),
       );

@@ -35,4 +35,4 @@ returns-clause-known g c clean has m s =
     let fits : SFits w64 id = search rules in
     let some : c.in_ok-id.field-0 ≡ Some id = search rules in
     rw (to_z-of_z fits, c.in_ok-project.ensures.ok)
-    (found_known old mid c.args.project.now c.in_ok-id.field-0 id some (c.in_ok-id.ensures.kept clean) (λ schema n t. c.in_ok-id.ensures.slot clean schema t.parts _ t.keeps) has m s)
+    (found_known old mid c.args.project.now c.in_ok-id.field-0 id some (c.in_ok-id.ensures.reads.kept clean) (λ schema n t. c.in_ok-id.ensures.slot clean schema t.parts _ t.keeps) has m s)

@@ -9,16 +9,14 @@ use Rattle.machine.specs.Projects.{text_cmp}
 use Rattle.machine.specs.Found.{project_found}
 use Rattle.machine.specs.declared.found.FoundProject.{FoundProject}
 use Rattle.tables.specs.Steps.Slots.{HasPart, IsTold}
-use Rattle.tables.proofs.Looking.{looks_then, kept_on, still, survives_clean}
+use Rattle.tables.proofs.Looking.{reads_failed, reads_then, still, survives_clean}
 use Rattle.tables.proofs.Popping.{all_left, one_less}
 use Rattle.tables.proofs.ProjectNames.{names_of, text_of, projects_are, told_all}
 use Rattle.tables.proofs.projects.list_projects.Goals as goal
 
 pub loop-name-init : goal.loop-name-init
 loop-name-init g c = record {
-  looks = c.select_names.ensures.looks;
-  kept = c.in_ok-left.ensures.kept;
-  mode = c.select_names.ensures.mode;
+  reads = c.in_ok-left.ensures.reads;
   names = λ clean has parts replies is.
       let left = ap (λ xs. reverse (map text_of xs)) c.reverse.ensures.items ∙ all_left text_of c.in_ok-left.left.items in
       subst (λ found. IsListing text_cmp (HasPart parts) (names_of found ++ reverse (map text_of c.reverse.new.self.items))) (sym c.new-found.ensures.items)
@@ -26,11 +24,11 @@ loop-name-init g c = record {
   told = λ clean has m s. subst (λ found. AllByRecursion (IsTold m) (map project_found found)) (sym c.new-found.ensures.items) tt;
 }
 
-pub returns-in_err-project-clause-looks : goal.returns-in_err-project-clause-looks
-returns-in_err-project-clause-looks g c = looks_then _ (state g.S.Store c.loop-name.conn) _ c.loop-name.invariant.looks c.loop-name.invariant.kept c.project_of.ensures.looks
+pub returns-in_err-project-clause-reads : goal.returns-in_err-project-clause-reads
+returns-in_err-project-clause-reads g c = reads_failed (search rules) (reads_then c.loop-name.invariant.reads c.project_of.ensures.reads)
 
-pub returns-then-is_err-clause-looks : goal.returns-then-is_err-clause-looks
-returns-then-is_err-clause-looks g c = looks_then _ (state g.S.Store c.loop-name.conn) _ c.loop-name.invariant.looks c.loop-name.invariant.kept c.project_of.ensures.looks
+pub returns-then-is_err-clause-reads : goal.returns-then-is_err-clause-reads
+returns-then-is_err-clause-reads g c = reads_failed (search rules) (reads_then c.loop-name.invariant.reads c.project_of.ensures.reads)
 
 pub loop-name-preserved : goal.loop-name-preserved
 loop-name-preserved g c =
@@ -43,17 +41,15 @@ loop-name-preserved g c =
     let popped : c.loop-name.left.items ≡ c.pop.new.self.items ++ c.in-Some.name ∷ [] = search rules in
     let more : names_of c.push.new.self.items ≡ names_of c.loop-name.found.items ++ text_of c.in-Some.name ∷ [] =
     ap names_of pushed ∙ (map-append (λ (p : FoundProject). string_bytes p.name) c.loop-name.found.items (project ∷ []) ∙ ap (λ (n : List ℕ). names_of c.loop-name.found.items ++ n ∷ []) c.in_ok-project.ensures.name) in
-    let kept_mid = c.loop-name.invariant.kept in
+    let kept_mid = c.loop-name.invariant.reads.kept in
     record {
-      looks = looks_then old mid new was.looks was.kept c.project_of.ensures.looks;
-      kept = kept_on old mid new was.kept c.project_of.ensures.looks c.in_ok-project.ensures.kept;
-      mode = λ h. c.project_of.ensures.mode (was.mode h);
+      reads = reads_then was.reads c.in_ok-project.ensures.reads;
       names = λ clean has parts replies is.
           subst (IsListing text_cmp (HasPart parts)) (sym (one_less text_of (names_of c.loop-name.found.items) (names_of c.push.new.self.items) c.loop-name.left.items c.pop.new.self.items c.in-Some.name popped more))
-          (was.names (survives_clean mid new c.project_of.ensures.looks clean) has parts replies is);
+          (was.names (survives_clean mid new c.project_of.ensures.reads.looks clean) has parts replies is);
       told = λ clean has m s.
-          let told = still old mid new (λ db. StandsFor db m) (λ db. IsTold m (project_found project)) was.kept c.project_of.ensures.looks (λ cleaner schema stands. c.in_ok-project.ensures.told cleaner schema m stands) clean has s in
-          told_all m c.loop-name.found.items c.push.new.self.items project pushed (was.told (survives_clean mid new c.project_of.ensures.looks clean) has m s) told;
+          let told = still old mid new (λ db. StandsFor db m) (λ db. IsTold m (project_found project)) was.reads.kept c.project_of.ensures.reads.looks (λ cleaner schema stands. c.in_ok-project.ensures.told cleaner schema m stands) clean has s in
+          told_all m c.loop-name.found.items c.push.new.self.items project pushed (was.told (survives_clean mid new c.project_of.ensures.reads.looks clean) has m s) told;
     }
 
 pub returns-clause-found : goal.returns-clause-found

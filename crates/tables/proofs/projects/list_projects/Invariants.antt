@@ -1,4 +1,4 @@
-use Rattle.std.proofs.Common.{◌≡◌, ◌++◌, false, length, map, reverse, string_bytes}
+use Rattle.std.proofs.Common.{◌≡◌, ◌++◌, length, map, reverse, string_bytes, true}
 use Rattle.std.specs.List.{AllByRecursion}
 use Rattle.sqlite.specs.State.{HasCleanDisk}
 use Rattle.sqlite.specs.Held.{state}
@@ -6,12 +6,12 @@ use Rattle.dump.specs.Places.{IsListing}
 use Rattle.tables.specs.Schema.{schema_two}
 use Rattle.tables.specs.Contents.{Contents, Replies, Keeps}
 use Rattle.machine.specs.State.{State}
-use Rattle.tables.specs.Stands.{IsAsBefore, StandsFor}
+use Rattle.tables.specs.Stands.{StandsFor}
 use Rattle.machine.specs.Projects.{text_cmp}
 use Rattle.machine.specs.Found.{project_found}
-use Rattle.tables.specs.Steps.Selected.{Looks}
 use Rattle.tables.specs.Steps.Slots.{HasPart, IsTold}
 use Rattle.tables.proofs.ProjectNames.{names_of}
+use Rattle.tables.specs.Steps.Clauses.{Reads}
 use Rattle.tables.proofs.projects.list_projects.Given as goal
 
 abbrev pub invariant-loop-name : goal.invariant-loop-name
@@ -19,9 +19,7 @@ invariant-loop-name g l =
     let old = state g.S.Store l.fn.conn in
     let now = state g.S.Store l.conn in
     record {
-      looks : Looks old now;
-      kept : HasCleanDisk now → IsAsBefore old now;
-      mode : l.fn.conn.in_transaction ≡ false → l.conn.in_transaction ≡ false;
+      reads : Reads true old now;
       names : HasCleanDisk now → old.now.schema ≡ schema_two → (parts : Contents) (replies : Replies) → Keeps old.now.trees parts replies → IsListing text_cmp (HasPart parts) (names_of l.found.items ++ reverse (map string_bytes l.left.items));
       told : HasCleanDisk now → old.now.schema ≡ schema_two → (m : State) → StandsFor old.now.trees m → AllByRecursion (IsTold m) (map project_found l.found.items);
     }

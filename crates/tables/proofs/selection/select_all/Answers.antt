@@ -8,12 +8,16 @@ use Rattle.tables.specs.Steps.Selected.{Looks}
 use Rattle.tables.proofs.Streaming.{begun, refused_looks, begun_looks, looks_on, shown_from}
 use Rattle.tables.proofs.selection.select_all.Goals as goal
 
-pub returns-in_err-rows-clause-looks : goal.returns-in_err-rows-clause-looks
-returns-in_err-rows-clause-looks g c =
+pub returns-in_err-rows-clause-reads : goal.returns-in_err-rows-clause-reads
+returns-in_err-rows-clause-reads g c =
     let old = state g.S.Store c.args.conn.now in
     let new = state g.S.Store c.query.follows.lender-at-none in
     let held = rw (c.in_err-rows.was) at c.query.follows.holds-at-none in
-    refused_looks c.args.sql.now _ old new c.in_err-rows.field-0.0 c.requires held.err held.survives
+    record {
+      kept = search rules;
+      looks = refused_looks c.args.sql.now _ old new c.in_err-rows.field-0.0 c.requires held.err held.survives;
+      mode = search rules;
+    }
 
 pub rows-init : goal.rows-init
 rows-init g c =
@@ -53,32 +57,44 @@ rows-preserved g c =
       sound = c.in_ok-add_row.ensures.sound was.sound;
     }
 
-pub returns-in_err-row-clause-looks : goal.returns-in_err-row-clause-looks
-returns-in_err-row-clause-looks g c =
+pub returns-in_err-row-clause-reads : goal.returns-in_err-row-clause-reads
+returns-in_err-row-clause-reads g c =
     let was = c.rows.invariant in
     let moved = c.next.follows.holds-at-none in
     let now = c.next.follows.lender-at-none.conn.now in
     let old = state g.S.Store c.args.conn.now in
     let last : now ≡ c.conn-in_err-row-1.given.0 = search rules in
-    subst (λ h. Looks old (state g.S.Store h)) last (looks_on old (state g.S.Store c.rows.rows.conn.now) (state g.S.Store now) c.next.result was.looks was.is_given moved.survives moved.same moved.kept)
+    record {
+      kept = search rules;
+      looks = subst (λ h. Looks old (state g.S.Store h)) last (looks_on old (state g.S.Store c.rows.rows.conn.now) (state g.S.Store now) c.next.result was.looks was.is_given moved.survives moved.same moved.kept);
+      mode = search rules;
+    }
 
-pub returns-in_default-clause-looks : goal.returns-in_default-clause-looks
-returns-in_default-clause-looks g c =
+pub returns-in_default-clause-reads : goal.returns-in_default-clause-reads
+returns-in_default-clause-reads g c =
     let was = c.rows.invariant in
     let moved = c.next.follows.holds-at-none in
     let now = c.next.follows.lender-at-none.conn.now in
     let old = state g.S.Store c.args.conn.now in
     let last : now ≡ c.conn-in_default-1.given.0 = search rules in
-    subst (λ h. Looks old (state g.S.Store h)) last (looks_on old (state g.S.Store c.rows.rows.conn.now) (state g.S.Store now) c.next.result was.looks was.is_given moved.survives moved.same moved.kept)
+    record {
+      kept = search rules;
+      looks = subst (λ h. Looks old (state g.S.Store h)) last (looks_on old (state g.S.Store c.rows.rows.conn.now) (state g.S.Store now) c.next.result was.looks was.is_given moved.survives moved.same moved.kept);
+      mode = search rules;
+    }
 
-pub returns-in_err-add_row-clause-looks : goal.returns-in_err-add_row-clause-looks
-returns-in_err-add_row-clause-looks g c =
+pub returns-in_err-add_row-clause-reads : goal.returns-in_err-add_row-clause-reads
+returns-in_err-add_row-clause-reads g c =
     let was = c.rows.invariant in
     let moved = c.next.follows.holds-at-none in
     let now = c.next.follows.lender-at-none.conn.now in
     let old = state g.S.Store c.args.conn.now in
     let last : now ≡ c.conn-in_err-add_row-1.given.0 = search rules in
-    subst (λ h. Looks old (state g.S.Store h)) last (looks_on old (state g.S.Store c.rows.rows.conn.now) (state g.S.Store now) c.next.result was.looks was.is_given moved.survives moved.same moved.kept)
+    record {
+      kept = search rules;
+      looks = subst (λ h. Looks old (state g.S.Store h)) last (looks_on old (state g.S.Store c.rows.rows.conn.now) (state g.S.Store now) c.next.result was.looks was.is_given moved.survives moved.same moved.kept);
+      mode = search rules;
+    }
 
 pub returns-in_default-clause-read : goal.returns-in_default-clause-read
 returns-in_default-clause-read g c clean has =

@@ -10,7 +10,7 @@ use Rattle.tables.specs.Steps.Puts.{Steps, PutsAll}
 use Rattle.tables.specs.declared.tags_part.WrittenTag.{WrittenTag}
 use Rattle.tables.proofs.Filling.{put_same}
 use Rattle.tables.proofs.Inserts.{tag_put, tags_put}
-use Rattle.tables.proofs.Puts.{puts_none, puts_then, quiet_then, commit_then, commit_same}
+use Rattle.tables.proofs.Puts.{puts_none, puts_then, nothing_then, nothing_yet}
 use Rattle.tables.proofs.tags_part.insert_rows.Goals as goal
 
 pub loop-group-init : goal.loop-group-init
@@ -18,9 +18,7 @@ loop-group-init g c = record {
   can_next = search rules;
   is_finite = tt;
   size = search rules;
-  same = search rules;
-  survives = search rules;
-  commit = λ clean. commit_same _;
+  uncommitted = nothing_yet _;
   put = ([], search rules, λ clean inside has. puts_none _ _ has inside);
 }
 
@@ -33,14 +31,12 @@ loop-group-preserved g c =
       can_next = search rules;
       is_finite = tt;
       size = steps.0 ∙ c.loop-group.invariant.size;
-      same = search rules;
-      survives = quiet_then _ _ _ c.loop-group.invariant.survives c.insert_all.ensures.survives;
-      commit = λ clean. commit_then _ _ _ (c.loop-group.invariant.commit (omega (arith, c.insert_all.ensures.survives.clean))) (c.insert_all.ensures.kept clean);
+      uncommitted = nothing_then c.loop-group.invariant.uncommitted c.insert_all.ensures.uncommitted;
       put = (
         so_far.0 ++ group,
         append_assoc so_far.0 _ _ ∙ (ap (λ (rest : List Tag). so_far.0 ++ rest) (sym steps.1.0) ∙ so_far.1),
         λ clean inside has.
-            let was = so_far.2 (omega (arith, c.insert_all.ensures.survives.clean)) inside has in
+            let was = so_far.2 (omega (arith, c.insert_all.ensures.uncommitted.survives.clean)) inside has in
             let made = c.in_ok-insert_all.ensures.put clean was.0.inside was.0.schema in
             let row_columns : WrittenTag → Row = λ row. columns_with (tag_value row.tag.now) (string_bytes row.fields) in
             let put = put_same tag_tree _ row_columns (λ (tag : Tag). tag_columns (tag_value tag)) c.deref.result.now group _ _ (ap (map row_columns) c.deref.ensures.value ∙ c.in_ok-rows.ensures) made in

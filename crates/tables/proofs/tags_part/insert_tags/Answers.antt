@@ -10,7 +10,7 @@ use Rattle.tables.proofs.tags_part.insert_tags.Goals as goal
 
 pub returns-clause-put : goal.returns-clause-put
 returns-clause-put g c clean inside has parts replies is =
-    let first : HasCleanDisk (state g.S.Store c.insert_slot.new.tx.conn.now) = omega (arith, c.insert_rows.ensures.survives.clean) in
+    let first : HasCleanDisk (state g.S.Store c.insert_slot.new.tx.conn.now) = omega (arith, c.insert_rows.ensures.uncommitted.survives.clean) in
     let back : to_z w64 (of_z w64 c.in_ok-slot.slot) ≡ c.in_ok-slot.slot = search rules in
     let p = c.in_ok-slot.ensures.put first inside has in
     on_ok_weaker c.insert_rows.result

@@ -13,4 +13,4 @@ pub invariant_of-self : goal.invariant_of-self
 invariant_of-self g c =
     let old = state g.S.Store c.self.inside.conn in
     let new = state g.S.Store c.find_hover.new.conn in
-    (c.find_hover.ensures.mode c.self.invariant.0, known_on old new c.self.inside.slot (survives_clean old new c.find_hover.ensures.looks) c.in-Ok.ensures.kept c.self.invariant.1)
+    (c.find_hover.ensures.reads.mode c.self.invariant.0, known_on old new c.self.inside.slot (survives_clean old new c.find_hover.ensures.reads.looks) c.in-Ok.ensures.reads.kept c.self.invariant.1)
