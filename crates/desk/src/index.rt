@@ -6,18 +6,21 @@ ghost use Rattle.desk.specs.declared.index.IndexFault.TheVariants.{Memory};
 
 use dump::{CheckedDump, RequestKind, Role};
 use flatten::FlattenFault;
-use lsif::Profile;
+use lsif::{OUT_OF_MEMORY, Profile};
 use machine::{FoundProject, FoundTag, TagsPart};
 use positions::Position;
 use std::alloc::{AllocError, Global};
 use tables::{Covering, FoundBearer, FoundItem, FoundMark, TablesFault};
+use thiserror::Error;
 
 /// Why an index refuses: S01 and S02 of a reply.
-#[derive(Clone, Copy, Debug, PartialEq, Eq)]
+#[derive(Clone, Copy, Debug, PartialEq, Eq, Error)]
 pub enum IndexFault {
     /// The store refused for another cause than memory, or a row isn't one that this product writes.
+    #[error("{}", TablesFault::Refused)]
     Refused,
     /// Memory was refused, also to a database in memory.
+    #[error("{}", OUT_OF_MEMORY)]
     Memory,
 }
 

@@ -15,10 +15,7 @@ use crate::rows::places::{places_of, places_reply};
 use crate::rows::ranges::{Picked, pick};
 use crate::rows::results::answering_results;
 use dump::{RequestKind, Role};
-use machine::{
-    Code, DocUri, ProjectName, Query, Reply, places_found, profile_found, projects_found,
-    tags_found,
-};
+use machine::{Code, DocUri, ProjectName, Query, Reply, profile_found, projects_found, tags_found};
 use positions::Position;
 use std::alloc::{AllocError, Global};
 
@@ -53,7 +50,7 @@ pub(crate) fn places<I: Index>(
     match pick(alloc, index, request, project, uri, at)? {
         Picked::NoDump => Ok(Reply::refused(Code::D01)),
         Picked::NoDocument => Ok(Reply::refused(Code::D02)),
-        Picked::NoRange => Ok(places_found(alloc, &[])?),
+        Picked::NoRange => Ok(places_reply(alloc, &[])?),
         Picked::Range(range) => {
             let project_results = answering_results(alloc, index, request, project, &range)?;
             let found = places_of(alloc, index, &project_results, roles)?;

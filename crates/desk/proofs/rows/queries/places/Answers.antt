@@ -24,15 +24,15 @@ returns-in-NoDocument-clause-found g c = λ s m stood other.
     renamed (λ q u. AnswersAt m (at_value q u c.args.at) (AnswersPlaces m c.args.request c.args.roles.now (at_value q u c.args.at)) c.refused-in-NoDocument.result) _ _ _ _ c.as_str-project.ensures.value c.as_str-uri.ensures.value
     (subst (AnswersAt m _ _) (sym c.refused-in-NoDocument.ensures) (no_such_document p.0 p.1 p.2))
 
-pub returns-in_ok-places_found-in-NoRange-clause-found : goal.returns-in_ok-places_found-in-NoRange-clause-found
-returns-in_ok-places_found-in-NoRange-clause-found g c = λ s m stood other.
+pub returns-in_ok-places_reply-in-NoRange-clause-found : goal.returns-in_ok-places_reply-in-NoRange-clause-found
+returns-in_ok-places_reply-in-NoRange-clause-found g c = λ s m stood other.
     let own = c.as_str-project.result.now in
     let uri = c.as_str-uri.result.now in
     let at = c.args.at in
     let p = subst (Picks m c.args.request own uri at) c.in-NoRange.is (c.in_ok-pick.ensures.found s m stood) in
     let answer = no_range_places m (c.in_ok-pick.ensures.faultless s m stood) own uri at c.args.request c.args.roles.now p in
-    renamed (λ q u. AnswersAt m (at_value q u at) (AnswersPlaces m c.args.request c.args.roles.now (at_value q u at)) c.in_ok-places_found-in-NoRange.field-0) _ _ _ _ c.as_str-project.ensures.value c.as_str-uri.ensures.value
-    (subst (AnswersAt m _ _) (sym c.in_ok-places_found-in-NoRange.ensures) answer)
+    renamed (λ q u. AnswersAt m (at_value q u at) (AnswersPlaces m c.args.request c.args.roles.now (at_value q u at)) c.in_ok-places_reply-in-NoRange.field-0) _ _ _ _ c.as_str-project.ensures.value c.as_str-uri.ensures.value
+    (subst (AnswersAt m _ _) (sym c.in_ok-places_reply-in-NoRange.ensures) answer)
 
 pub returns-in_ok-places_reply-in-Range-clause-found : goal.returns-in_ok-places_reply-in-Range-clause-found
 returns-in_ok-places_reply-in-Range-clause-found g c = λ s m stood other.
