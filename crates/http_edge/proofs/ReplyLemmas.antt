@@ -1,6 +1,7 @@
 -- The text of replies.
-use Rattle.std.proofs.Common.{◌≡◌, ℕ, List, [], ◌∷◌, ◌++◌, Option, Some, None, Result, Ok, Err, option_map, refl, ap, sym, ◌∙◌, append_assoc, unwrap_or}
-use Rattle.std.specs.Prelude.{◌&&◌, nat_le, nat_lt}
+use Rattle.std.proofs.Common.{◌≡◌, ℕ, List, [], ◌∷◌, ◌++◌, Option, Some, None, Result, Ok, Err, option_map, arith, refl, ap, subst, sym, ◌∙◌, append_assoc, unwrap_or}
+use Rattle.std.specs.Prelude.{◌&&◌, ◌-◌, length, nat_le, nat_lt, take, drop}
+use Rattle.std.proofs.lemmas.List.{take-append-drop, take_all, length-drop}
 use Rattle.std.specs.Borrow.{Bor}
 use Rattle.std.proofs.lemmas.Bool.{le-leb, lt-ltb, leb-true, ltb-true, and_parts, false_from_ne_true}
 use Rattle.http.specs.StatusCode.{IsStatusCode, reason_phrase}
@@ -39,6 +40,18 @@ not_empty (x ∷ p) q some e = cc
 -- a beginning of a text is one of what goes on after it
 pub sends_less : (a b : Output) (p q : List ℕ) (e : Failed) → Sends a p (Err e) b → Sends a (p ++ q) (Err e) b
 sends_less a b p q e s = (s.0, s.1 ++ q, ap (λ l. l ++ q) s.2 ∙ append_assoc s.0 s.1 q, not_empty s.1 q s.3, s.4)
+
+-- a text that was written may be given as an equal one
+pub sends_same : (a b : Output) (p q : List ℕ) (result : Result (Unit {0}) Failed) → p ≡ q → Sends a p result b → Sends a q result b
+sends_same a b p q result e s = subst (λ text. Sends a text result b) e s
+
+-- all bytes of a text behind the first ones, as a slice to the end has them
+whole_rest : (t : List ℕ) (n : ℕ) → take (length t - n) (drop n t) ≡ drop n t
+whole_rest t n = take_all (length t - n) (drop n t) (grind (arith, length-drop n t))
+
+-- the first bytes of a text, and behind them the rest of it
+pub then_the_rest : (h t first : List ℕ) (n : ℕ) → first ≡ h ++ take n t → first ++ take (length t - n) (drop n t) ≡ h ++ t
+then_the_rest h t first n e = rw (e, whole_rest t n, append_assoc h (take n t) (drop n t), take-append-drop n t) refl
 
 -- nine texts, each put behind the one before
 pub nine_texts : (a b c d e f g h i : List ℕ) → ((((((((a ++ b) ++ c) ++ d) ++ e) ++ f) ++ g) ++ h) ++ i) ≡ a ++ (b ++ (c ++ (d ++ (e ++ (f ++ (g ++ (h ++ i)))))))

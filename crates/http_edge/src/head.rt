@@ -5,6 +5,7 @@ ghost use Rattle.http_edge.specs.Steps.Heads.{head_value, FitsIn};
 
 use crate::fields::body_length;
 use crate::refusal::Refusal;
+use http::Method;
 use httparse::Status;
 use httparse::spans::{EMPTY_HEADER_SPAN, Span, parse_request};
 
@@ -53,7 +54,7 @@ fn find_head(bytes: &[u8]) -> Option<usize>
 fn is_put(method: &[u8]) -> bool
     ensures { result ≡ same method.now (codes "PUT") }
 {
-    method == b"PUT".as_slice()
+    method == Method::PUT.as_str().as_bytes()
 }
 
 /// What a head of few enough lines says.

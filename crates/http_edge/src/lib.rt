@@ -5,6 +5,7 @@ mod commands;
 mod fields;
 mod forms;
 mod head;
+mod joined;
 mod laws;
 mod parameters;
 mod queries;

@@ -6,10 +6,11 @@ ghost use Rattle.lsif.specs.Streams.{CanCount};
 ghost use Rattle.http_edge.specs.Replies.{phrase, allow_text, head_text, response_text, answer_text};
 ghost use Rattle.http_edge.specs.Steps.Replies.{answer_value};
 
+use crate::joined::Joined;
 use crate::refusal::Refusal;
 use crate::route::Route;
 use arrayvec::ArrayString;
-use http::StatusCode;
+use http::{Method, StatusCode};
 use itoa::Buffer;
 use lsif::{Failed, Sink, push_all};
 use machine::Reply;
@@ -47,6 +48,15 @@ pub fn phrase_law()
     ensures unavailable { phrase 503 ≡ codes "Service Unavailable" }
 {}
 
+/// Adds a method to a head.
+fn push_method(head: &mut ArrayString<256>, method: &Method)
+    requires { array_string_len head.old + length method.now ≤ 256 }
+    ensures text { head.new.bytes ≡ head.old.bytes ++ method.now }
+    ensures len { array_string_len head.new ≡ array_string_len head.old + length method.now }
+{
+    head.push_str(method.as_str());
+}
+
 /// Adds the field `Allow` to a head where a method is allowed.
 fn push_allow(head: &mut ArrayString<256>, allow: Option<Route>)
     requires { array_string_len head.old + 15 ≤ 256 }
@@ -54,8 +64,9 @@ fn push_allow(head: &mut ArrayString<256>, allow: Option<Route>)
     ensures short { array_string_len head.new ≤ array_string_len head.old + 15 }
 {
     if let Some(route) = allow {
+        let method = route.method();
         head.push_str("Allow: ");
-        head.push_str(route.method());
+        push_method(head, &method);
         head.push_str("\r\n");
     }
 }
@@ -79,9 +90,10 @@ fn head(status: u16, allow: Option<Route>, body_length: usize) -> ArrayString<25
     head
 }
 
-/// Writes a response (RFC 9112, section 2.1): its head, and then its body. The field `Allow` is there where a method is allowed.
+/// Writes a response (RFC 9112, section 2.1): its head joined with the beginning of its body, and then the rest of it. The field `Allow` is there where a method is allowed.
 fn push_response<W: Sink>(
     w: &mut W,
+    joined: &mut Joined,
     status: u16,
     allow: Option<Route>,
     body: &str,
@@ -90,22 +102,23 @@ fn push_response<W: Sink>(
     ensures { Sends (W.output w.old) (response_text status allow body.now) result (W.output w.new) }
 {
     let head = head(status, allow, body.len());
-    match push_all(w, head.as_str().as_bytes()) {
-        Ok(()) => push_all(w, body.as_bytes()),
+    let count = joined.join(head.as_str().as_bytes(), body.as_bytes());
+    match push_all(w, joined.bytes()) {
+        Ok(()) => push_all(w, &body.as_bytes()[count..]),
         Err(e) => Err(e),
     }
 }
 
 impl Answer {
-    /// Writes it.
-    pub(crate) fn write<W: Sink>(&self, w: &mut W) -> Result<(), Failed>
+    /// Writes it: a reply of at most 64 KiB by one write.
+    pub(crate) fn write<W: Sink>(&self, w: &mut W, joined: &mut Joined) -> Result<(), Failed>
         requires { CanCount (W.output w.old) }
         ensures { Sends (W.output w.old) (answer_text (answer_value self.now)) result (W.output w.new) }
     {
         match self {
-            Answer::Reply(reply) => push_response(w, reply.status(), None, reply.body()),
+            Answer::Reply(reply) => push_response(w, joined, reply.status(), None, reply.body()),
             Answer::Refused(refusal) => {
-                push_response(w, refusal.status(), refusal.allow(), refusal.body())
+                push_response(w, joined, refusal.status(), refusal.allow(), refusal.body())
             }
         }
     }

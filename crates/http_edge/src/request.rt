@@ -55,7 +55,7 @@ fn route_in<'p>(router: &Router<Route>, path: &'p [u8]) -> Option<(Route, &'p st
 fn is_method(method: &[u8], route: Route) -> bool
     ensures { result ≡ bytes_eq method.now (method_of route) }
 {
-    method == route.method().as_bytes()
+    method == route.method().as_str().as_bytes()
 }
 
 /// The upload, or the refusal of its parameters.

@@ -1,8 +1,9 @@
 //! The routes: their paths, over `matchit`, and the method of each. What a route asks is in `request.rt`. `specs/Routes`.
-ghost use Rattle.std.specs.Prelude.{◌≡◌, ◌↔◌, ℕ, List, IfOk, Some, option_map};
+ghost use Rattle.std.specs.Prelude.{◌≡◌, ◌≤◌, ◌↔◌, ℕ, length, List, IfOk, Some, option_map};
 ghost use Rattle.http_edge.specs.Steps.Routes.{routes, named_route, template_of};
 ghost use Rattle.http_edge.specs.Routes.{method_of, route_of, IsPathOf};
 
+use http::Method;
 use matchit::{InsertError, Router};
 use std::alloc::Global;
 
@@ -50,13 +51,14 @@ const ROUTES: [Route; 11] = [
 
 impl Route {
     /// The method that the route takes (RFC 9110, section 9).
-    pub(crate) fn method(self) -> &'static str
-        ensures { result.now ≡ method_of self }
+    pub(crate) fn method(self) -> Method
+        ensures value { result ≡ method_of self }
+        ensures short { length result ≤ 6 }
     {
         match self {
-            Route::Lsif | Route::Tags => "PUT",
-            Route::Project => "DELETE",
-            _ => "GET",
+            Route::Lsif | Route::Tags => Method::PUT,
+            Route::Project => Method::DELETE,
+            _ => Method::GET,
         }
     }
 

@@ -12,22 +12,27 @@ ghost use Rattle.http_edge.specs.Serving.{MayAnswer, answered, after_a_stop_of_a
 ghost use Rattle.http_edge.specs.Steps.Serving.{Responds, Says};
 ghost use Rattle.http_edge.specs.declared.serve.ServeFault.TheVariants.{Memory};
 
+use crate::joined::Joined;
 use crate::reading::{Message, MessageReader};
 use crate::reply::Answer;
 use crate::request::Asked;
-use lsif::{Failed, Sink, Source};
+use lsif::{CANNOT_READ, CANNOT_WRITE, Failed, OUT_OF_MEMORY, Sink, Source};
 use machine::{Desk, Reply, Request};
 use matchit::InsertError;
 use std::alloc::{AllocError, Global};
+use thiserror::Error;
 
 /// Why serving stopped.
-#[derive(Clone, Copy, Debug, PartialEq, Eq)]
+#[derive(Clone, Copy, Debug, PartialEq, Eq, Error)]
 pub enum ServeFault {
     /// Memory was refused before anything was read or written.
+    #[error("{}", OUT_OF_MEMORY)]
     Memory,
     /// The reader failed. The request that was being read has no reply and no effect.
+    #[error("{}", CANNOT_READ)]
     Read,
     /// The writer failed, or took no byte. The request whose reply was cut has its effect.
+    #[error("{}", CANNOT_WRITE)]
     Write,
 }
 
@@ -71,14 +76,19 @@ fn answer<D: Desk>(desk: &mut D, message: Message<'_>) -> Answer
 }
 
 /// Answers a message, and writes the reply.
-fn respond<D: Desk, W: Sink>(desk: &mut D, w: &mut W, message: Message<'_>) -> Result<(), Failed>
+fn respond<D: Desk, W: Sink>(
+    desk: &mut D,
+    w: &mut W,
+    joined: &mut Joined,
+    message: Message<'_>,
+) -> Result<(), Failed>
     requires count { CanCount (W.output w.old) }
     ensures sent { (answer : AnswerValue) × Responds D.store_may_refuse (D.stands desk.old) (D.stands desk.new) (D.may_leave desk.old) (D.may_leave desk.new)
         (D.is_reliable desk.old) (D.is_reliable desk.new) message.entry answer × Sends (W.output w.old) (answer_text answer) result (W.output w.new) }
     ensures counted { CountsSending (W.output w.old) result (W.output w.new) }
 {
     let answer = answer(desk, message);
-    answer.write(w)
+    answer.write(w, joined)
 }
 
 /// Whether nothing after the message is served.
@@ -94,6 +104,7 @@ fn ends(message: &Message<'_>) -> bool
 /// Serves at most so many requests, and says how many replies were written.
 fn serve<D: Desk, R: Source, W: Sink>(
     reader: &mut MessageReader,
+    joined: &mut Joined,
     desk: &mut D,
     r: &mut R,
     w: &mut W,
@@ -119,7 +130,7 @@ fn serve<D: Desk, R: Source, W: Sink>(
             Err(_) => return Err(ServeFault::Read),
         };
         let is_last = ends(&message);
-        match respond(desk, w, message) {
+        match respond(desk, w, joined, message) {
             Ok(()) => {}
             Err(_) => return Err(ServeFault::Write),
         }
@@ -135,8 +146,8 @@ fn serve<D: Desk, R: Source, W: Sink>(
 /// many replies were written. Stops at the end of the input, at the limit, and at a refusal that ends the stream.
 ///
 /// A head has at most 8,192 bytes, 34 lines and 32 fields, and a body at most 33,554,432 bytes. A body is never held whole: an upload
-/// takes it in pieces of at most 8,192 bytes, and nothing has an effect before all of it came. The buffer and the router are made
-/// first: where memory for them is refused, nothing was read or written. What is buffered is served before more is read.
+/// takes it in pieces of at most 8,192 bytes, and nothing has an effect before all of it came. A reply of at most 64 KiB goes out by one write.
+/// The buffers and the router are made first: where memory for them is refused, nothing was read or written. What is buffered is served before more is read.
 pub fn serve_stream<D: Desk, R: Source, W: Sink>(
     alloc: Global,
     desk: &mut D,
@@ -156,5 +167,6 @@ pub fn serve_stream<D: Desk, R: Source, W: Sink>(
     ensures write { CountsWrite (W.output w.old) result (W.output w.new) }
 {
     let mut reader = MessageReader::new(alloc)?;
-    serve(&mut reader, desk, r, w, limit)
+    let mut joined = Joined::new(alloc)?;
+    serve(&mut reader, &mut joined, desk, r, w, limit)
 }
