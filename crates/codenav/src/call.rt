@@ -7,7 +7,7 @@ ghost use Rattle.codenav.specs.Steps.Call.{IsMissing, ShowsError, up_to};
 use crate::command_line::{MOST_CONNECTIONS, MOST_PORT, command};
 use clap::error::ErrorKind;
 use clap::{ArgMatches, Command, Error};
-use lsif::Profile;
+use lsif::{OUT_OF_MEMORY, Profile};
 use std::alloc::{AllocError, Global};
 use std::convert::AsStr;
 
@@ -41,11 +41,13 @@ pub enum Call<'a> {
 }
 
 /// Why the program's words are no call.
-#[derive(Debug, Drop)]
+#[derive(Debug, Drop, thiserror::Error)]
 pub enum CallFault {
     /// Memory was refused.
+    #[error("{}", OUT_OF_MEMORY)]
     Memory,
     /// `clap` refuses the words, or they ask for help: its text says which.
+    #[error(transparent)]
     Clap(Error),
 }
 

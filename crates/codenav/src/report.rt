@@ -4,8 +4,9 @@ ghost use Rattle.lsif.specs.Streams.{CanCount};
 ghost use Rattle.codenav.specs.Report.{exit_code_of, report_text, status_of};
 ghost use Rattle.codenav.specs.Steps.Judging.{Sends};
 
-use lsif::{Sink, push_all};
+use lsif::{CANNOT_READ, CANNOT_WRITE, OUT_OF_MEMORY, Sink, push_all};
 use std::alloc::{AllocError, Global};
+use thiserror::Error;
 
 /// A faulty line, and its code as it's printed with its text.
 #[derive(Clone, Copy, Debug, PartialEq, Eq)]
@@ -46,13 +47,16 @@ impl Status {
 }
 
 /// Why there is no report.
-#[derive(Clone, Copy, Debug, PartialEq, Eq)]
+#[derive(Clone, Copy, Debug, PartialEq, Eq, Error)]
 pub enum CheckFault {
     /// Memory was refused.
+    #[error("{}", OUT_OF_MEMORY)]
     Memory,
     /// The reader failed.
+    #[error("{}", CANNOT_READ)]
     Read,
     /// The writer failed, or took no byte.
+    #[error("{}", CANNOT_WRITE)]
     Write,
 }
 

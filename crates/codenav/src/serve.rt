@@ -9,23 +9,26 @@ ghost use Rattle.codenav.specs.Serve.{ConnectionValue, CountsAccept, CountsServe
 use crate::timed::{Limits, Timed};
 use desk::{Desk, IndexDesk, MemoryDesk, memory_law};
 use http_edge::{ServeFault, serve_stream};
-use lsif::{Counted, Sink, Source};
+use lsif::{Counted, OUT_OF_MEMORY, Sink, Source};
 use sqlite::FileStore;
 use std::alloc::{AllocError, Global};
 use std::io::{Read, Write};
 use std::net::{OpenListener, OpenStream};
 use std::time::{Clock, Instant};
 use tables::{MemoryDisk, Tables};
+use thiserror::Error;
 
 /// How many requests of a connection are answered at most.
 const MOST_REQUESTS: u32 = 1;
 
 /// Why no more connections are served.
-#[derive(Clone, Copy, Debug, PartialEq, Eq)]
+#[derive(Clone, Copy, Debug, PartialEq, Eq, Error)]
 pub enum ServerFault {
     /// No connection could be accepted.
+    #[error("cannot accept")]
     Accept,
     /// Memory was refused before anything of a connection was read or written.
+    #[error("{}", OUT_OF_MEMORY)]
     Memory,
 }
 

@@ -1,7 +1,8 @@
 //! The calls of the program, and words that are none.
-use super::asserts::{expect_equal_text, parted};
+use super::asserts::expect_equal_text;
 use crate::call::{Call, CallFault, read_call};
 use clap::Error;
+use samples::parted;
 use std::alloc::Global;
 use std::test::Fail;
 

@@ -1,11 +1,11 @@
 //! Reports of dumps and of tags files: what the tables of other files are asserted by, and readers and writers that fail.
-use super::asserts::{expect_equal, parted, there};
-use super::samples::named::BASE;
-use super::samples::{Marks, Pieces, Slow, changed, in_pieces, slow_writer, text_of};
+use super::asserts::expect_equal;
 use crate::check::check_lsif;
 use crate::check_tags::check_tags;
 use crate::report::{CheckFault, Status};
 use lsif::{Counted, Profile};
+use samples::named::BASE;
+use samples::{Marks, Pieces, Slow, changed, in_pieces, parted, slow_writer, text_of, there};
 use std::alloc::Global;
 use std::process::Abort;
 use std::test::Fail;

@@ -74,13 +74,18 @@ const ROWS: &[(&[u8], &str)] = &[
     (b"x\tf.c\t1\n\xff\tf.c\t1\n", "line 2: T02 not UTF-8\n"),
 ];
 
-/// Files of a few lines, a long line, a line of many fields, and many lines; with a fault of each code.
+/// Files of a few lines, a long line, and a line of many fields; with a fault of each code.
 #[test]
 fn check_tags(rt: HostRuntime) -> Result<(), Fail> {
     for (text, wanted) in ROWS {
         expect(&rt, *text, *wanted);
     }
     long_lines(&rt)?;
-    many_fields(&rt)?;
+    many_fields(&rt)
+}
+
+/// The most lines, and one more.
+#[test]
+fn great_number_of_lines(rt: HostRuntime) -> Result<(), Fail> {
     many_lines(&rt)
 }

@@ -1,12 +1,11 @@
 //! Connections on loopback and clients that take their time, and what they're replied.
-use super::asserts::{expect_equal, expect_equal_text, there};
-use super::databases::opened;
-use super::replay::{NO_PROJECTS, PROJECTS, exchange};
-use super::samples::reply;
+use super::asserts::{expect_equal, expect_equal_text};
 use crate::database::connect_file;
 use crate::serve::{CountedListener, ServerFault, serve_connection, serve_in_memory};
 use crate::timed::Limits;
 use desk::{Desk, PlainDesk, TableDesk};
+use sample_stores::opened;
+use samples::{NO_PROJECTS, PROJECTS, exchange, reply, there};
 use sqlite::{Alter, Connection, Unknown};
 use std::alloc::Global;
 use std::cell::Cell;
@@ -19,7 +18,7 @@ use std::process::Abort;
 use std::test::Fail;
 use std::time::{Clock, Duration};
 
-/// Requests, one a connection, written as the streams of `replay.rt` are: the base dump, a list of projects, a definition and a removal.
+/// Requests, one a connection, written as streams of requests are in `samples`: the base dump, a list of projects, a definition and a removal.
 const ROWS: &str = r#"PUT /projects/app/lsif?key=k1 < base => 200 {"accepted":"lsif","count":11}
 GET /projects => 200 {"projects":[{"dump":true,"name":"app","tags":false}]}
 GET /projects/app/definition?uri=file:///a.ts&line=2&character=1 => 200 {"places":[{"end":{"character":7,"line":0},"project":"app","start":{"character":4,"line":0},"uri":"file:///a.ts"}]}
@@ -98,7 +97,7 @@ fn served(rt: HostRuntime) -> Result<(), Fail> {
     assert_eq!(rt; first_other(&rt, &mut PlainDesk::new(rt.alloc()))?, None);
     match connect_file(&rt, "served.db", Unknown) {
         Ok(conn) => assert_eq!(rt; first_other_over(&rt, conn)?, None),
-        Err(fault) => return Err(fault.text())?,
+        Err(fault) => return Err(fault)?,
     }
     Ok(())
 }

@@ -1,8 +1,7 @@
 //! Faults of dumps: each fault, each two of which one is reported, and the first of several faulty lines.
-use super::asserts::parted;
 use super::check::{BOTH, expect_in, expect_rows};
-use super::samples::named::BASE;
-use super::samples::{GREAT_NUMBERS, Marks, NUMBERS, TEXTS, push_line, text_of};
+use samples::named::{BASE, META_DATA};
+use samples::{GREAT_NUMBERS, Marks, NUMBERS, TEXTS, parted, push_line, text_of};
 use std::process::Abort;
 use std::test::Fail;
 
@@ -39,8 +38,6 @@ L05 {'id':2,'type':'node','label':'project'}
 L07 {'id':2,'type':'vertex','label':'document'}
 L08 {'id':2,'type':'edge','label':'next','inV':1}
 L15 {'id':2,'type':'edge','label':'item','outV':1,'inVs':[]}";
-
-pub(crate) const META_DATA: &str = "metaData 0.6.0";
 
 /// A metaData and a line with each two of these faults that one line can have. L07 is of vertices, L08 and L15 are of
 /// edges, so L07 is beside neither; L01 is beside each of the others in another test. Last, lines with a fault of their

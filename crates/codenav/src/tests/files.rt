@@ -1,15 +1,14 @@
 //! Databases in files: what a second start answers, and what a migration keeps.
-use super::replay::exchange;
-use super::samples::{Slow, in_pieces, slow_writer};
 use crate::database::{close_connection, connect_file, migrate_file};
 use crate::replay::replay_file;
 use lsif::Counted;
+use samples::{Slow, exchange, in_pieces, slow_writer};
 use sqlite::{Alter, Connection, Unknown};
 use std::fs;
 use std::test::Fail;
 use tables::TablesFault;
 
-/// Uploads of two dumps under two keys, the first of them a second time, and what is found then; written as the streams of `replay.rt` are.
+/// Uploads of two dumps under two keys, the first of them a second time, and what is found then; written as streams of requests are in `samples`.
 const TWICE: &str = r#"
 PUT /projects/app/lsif?key=k1 < base => 200 {"accepted":"lsif","count":11}
 PUT /projects/app/lsif?key=k2 < base | 3 range 0:5 0:7 => 200 {"accepted":"lsif","count":11}
@@ -69,7 +68,7 @@ fn written(rt: &HostRuntime, path: &str, rows: &'static str) -> Result<(String, 
             let found = str::from_utf8(&found).unwrap_or("not UTF-8");
             Ok((String::from_str(rt.alloc(), found)?, replies))
         }
-        Err(fault) => Err(fault.text())?,
+        Err(fault) => Err(fault)?,
     }
 }
 
@@ -101,7 +100,7 @@ fn change(rt: &HostRuntime, path: &str, statements: &str) -> Result<(), Fail> {
             close_connection(conn);
             done
         }
-        Err(fault) => Err(fault.text())?,
+        Err(fault) => Err(fault)?,
     }
 }
 

@@ -1,8 +1,8 @@
 //! Reports of dumps with vertices and edges of each label, with ids of each form.
 use super::check::{BOTH, Kind, expect_rows};
-use super::samples::named::{BASE, DECLARED, EXPORT, HOVERED, IMPORT, NESTED, RING, TOUCHING};
-use super::samples::{GREAT_NUMBERS, NUMBERS, TEXTS};
 use lsif::Profile;
+use samples::named::{BASE, DECLARED, EXPORT, HOVERED, IMPORT, NESTED, RING, TOUCHING};
+use samples::{GREAT_NUMBERS, NUMBERS, TEXTS};
 use std::test::Fail;
 
 const OF_BASE: &str = "ok 11

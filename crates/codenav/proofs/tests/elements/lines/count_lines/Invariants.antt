@@ -1,9 +1,0 @@
-use Rattle.std.proofs.Common.{◌≡◌}
-use Rattle.lsif.proofs.Seen.{Seen}
-use Rattle.codenav.proofs.tests.elements.lines.count_lines.Given as goal
-
-abbrev pub invariant-loop-n : goal.invariant-loop-n
-invariant-loop-n g l = record {
-  failures : l.lines.failures ≡ l.fn.lines.failures;
-  seen : Seen l.fn.lines.left l.n l.lines.left;
-}
