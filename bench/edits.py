@@ -143,11 +143,22 @@ class Copy:
         own = {file: (folder / file).read_text(encoding="utf-8") for file in texts}
         for file, text in texts.items():
             (folder / file).write_text(text, encoding="utf-8")
-        ran = subprocess.run(["rt", "check", "--jobs", "2"], cwd=folder, stdin=subprocess.DEVNULL, capture_output=True, text=True, errors="replace")
+        ran = subprocess.run(
+            ["rt", "check", "--jobs", "2"],
+            cwd=folder,
+            stdin=subprocess.DEVNULL,
+            capture_output=True,
+            text=True,
+            errors="replace",
+        )
         for file, text in own.items():
             (folder / file).write_text(text, encoding="utf-8")
         # The libraries below are proved in the same run.
-        return {symbol: words for symbol, words in VERDICT.findall(ran.stdout) if symbol.startswith(f"{crate}::")}, ran
+        return {
+            symbol: words
+            for symbol, words in VERDICT.findall(ran.stdout)
+            if symbol.startswith(f"{crate}::")
+        }, ran
 
 
 def verdict_of(edit, functions, said):
@@ -172,7 +183,9 @@ def tried(copy, crate, batch):
     said, ran = copy.check(crate, texts)
     verdicts = [verdict_of(edit, functions, said) for edit, functions in batch]
     if len(batch) == 1 and not said:
-        first = next((it for it in ran.stdout.splitlines() if "error" in it), "it didn't reach the prover")
+        first = next(
+            (it for it in ran.stdout.splitlines() if "error" in it), "it didn't reach the prover"
+        )
         yield batch[0][0], f"BAD EDIT: {first[:160]}"
         return
     if len(batch) == 1:
@@ -195,7 +208,10 @@ def try_crate(copy, crate, edits):
         for edit, word in tried(copy, crate, batch):
             print(f"{edit}: {word}", flush=True)
             failed += word != "refused"
-    print(f"{crate}: {len(edits)} edits in {count} batches, {time.monotonic() - start:.0f} s", flush=True)
+    print(
+        f"{crate}: {len(edits)} edits in {count} batches, {time.monotonic() - start:.0f} s",
+        flush=True,
+    )
     return failed
 
 
@@ -212,10 +228,21 @@ def unfit(edits):
 
 
 def main():
-    parser = argparse.ArgumentParser(prog="bench/edits.sh", description="Tries the edits that the check must refuse, in batches.")
-    parser.add_argument("--fits", action="store_true", help="tell which texts don't stand exactly once, and try nothing")
+    parser = argparse.ArgumentParser(
+        prog="bench/edits.sh", description="Tries the edits that the check must refuse, in batches."
+    )
+    parser.add_argument(
+        "--fits",
+        action="store_true",
+        help="tell which texts don't stand exactly once, and try nothing",
+    )
     parser.add_argument("--all", action="store_true", help="try the edits of must-fail/ too")
-    parser.add_argument("names", nargs="*", metavar="NAME", help="a crate, or CRATE/EDIT for one of its edits (default: every crate)")
+    parser.add_argument(
+        "names",
+        nargs="*",
+        metavar="NAME",
+        help="a crate, or CRATE/EDIT for one of its edits (default: every crate)",
+    )
     words = parser.parse_args()
     listed = re.findall(r"^(\w+).*:", (TOP / "crates.txt").read_text(encoding="utf-8"), re.M)
     folders = [it.name for it in (TOP / "edits").iterdir()]
@@ -227,7 +254,10 @@ def main():
     crates = [it for it in listed if it in named] if named else listed
     edits = {crate: edits_of(crate, words.all or words.fits or bool(single)) for crate in crates}
     if single:
-        edits = {crate: [it for it in of_crate if str(it) in single or crate in words.names] for crate, of_crate in edits.items()}
+        edits = {
+            crate: [it for it in of_crate if str(it) in single or crate in words.names]
+            for crate, of_crate in edits.items()
+        }
     failed = unfit([it for of_crate in edits.values() for it in of_crate])
     count = sum(map(len, edits.values()))
     if words.fits or failed:

@@ -12,7 +12,23 @@ from collections import Counter
 from contextlib import contextmanager
 from typing import Callable, Iterator, Optional
 
-from watched import (SECONDS, NoReply, NotStarted, Server, Wrong, accepted, at, body_of, dump, ended, said, short, started, status_of, tags)
+from watched import (
+    SECONDS,
+    NoReply,
+    NotStarted,
+    Server,
+    Wrong,
+    accepted,
+    at,
+    body_of,
+    dump,
+    ended,
+    said,
+    short,
+    started,
+    status_of,
+    tags,
+)
 
 SIZE = 8 * 1024 * 1024
 # What is given back first has to hold what the file lacks of its log, up to some 4 MB: before the log can be copied into the file, nothing is accepted.
@@ -30,6 +46,7 @@ class Missing(Exception):
 
 
 # ---- file systems
+
 
 def run(*words: str) -> None:
     """Runs a command that has to succeed."""
@@ -71,6 +88,7 @@ def fill(path: pathlib.Path, count: Optional[int] = None) -> None:
 
 # ---- a disk that fills up
 
+
 class Disk:
     """A server over a file on a disk that fills up, and the uploads that it accepted."""
 
@@ -111,10 +129,18 @@ class Disk:
         """Checks that the upload that was refused last is there in no part: a kept key would be answered by its reply."""
         if self.last not in self.accepted:
             project = f"project_{self.last}"
-            key, names = self.asked("PUT", f"/projects/{project}/lsif?key=k", b"x\n"), self.asked("GET", f"/names?prefix=a&project={project}")
+            key, names = self.asked("PUT", f"/projects/{project}/lsif?key=k", b"x\n"), self.asked(
+                "GET", f"/names?prefix=a&project={project}"
+            )
             profile = self.asked("GET", f"/projects/{project}/profile")
-            if status_of(key) not in (422, 503) or (b'"tags":[]' not in names and status_of(names) != 503) or status_of(profile) not in (404, 503):
-                raise Wrong(f"upload {self.last} was refused by 503, and then came {key!r}, {names!r}, {profile!r}")
+            if (
+                status_of(key) not in (422, 503)
+                or (b'"tags":[]' not in names and status_of(names) != 503)
+                or status_of(profile) not in (404, 503)
+            ):
+                raise Wrong(
+                    f"upload {self.last} was refused by 503, and then came {key!r}, {names!r}, {profile!r}"
+                )
 
     def fill(self) -> str:
         """Uploads until one is refused; says how many were accepted."""
@@ -123,7 +149,10 @@ class Disk:
             self.last += 1
             if self.last > 1000:
                 raise Wrong("a thousand uploads, and none was refused")
-        size, log = self.database.stat().st_size, self.database.with_name("index.db-wal").stat().st_size
+        size, log = (
+            self.database.stat().st_size,
+            self.database.with_name("index.db-wal").stat().st_size,
+        )
         return f"{len(self.accepted) - before} accepted, then {short(self.upload(self.last))}; the file has {size / 1e6:.1f} MB, its log {log / 1e6:.1f}"
 
     def must_accept(self) -> None:
@@ -140,15 +169,21 @@ class Disk:
             project = f"project_{number}"
             requests = {("PUT", f"/projects/{project}/lsif?key=k", b"x\n"): kept}
             if number in self.removed:
-                requests[("GET", f"/projects/{project}/profile", b"")] = b'{"fault":"D01","text":"project has no dump"}'
+                requests[
+                    ("GET", f"/projects/{project}/profile", b"")
+                ] = b'{"fault":"D01","text":"project has no dump"}'
                 requests[("GET", f"/names?prefix=a&project={project}", b"")] = b'{"tags":[]}'
             elif number % 2:
                 for name in "about", f"name_{TAGS - 1:06}":
                     requests[("GET", f"/names?name={name}&project={project}", b"")] = name.encode()
             else:
                 for function in 0, FUNCTIONS - 1:
-                    requests[("GET", at(project, "hover", 4 * function + 1), b"")] = said(project, number, function).encode()
-                    requests[("GET", at(project, "references", 4 * function), b"")] = f'"line":{4 * function + 1}}}'.encode()
+                    requests[("GET", at(project, "hover", 4 * function + 1), b"")] = said(
+                        project, number, function
+                    ).encode()
+                    requests[
+                        ("GET", at(project, "references", 4 * function), b"")
+                    ] = f'"line":{4 * function + 1}}}'.encode()
             for request, wanted in requests.items():
                 reply = self.asked(*request)
                 if wanted in reply:
@@ -186,7 +221,12 @@ class Disk:
 
 def line_of(fault: NotStarted) -> str:
     """The one line on the standard error, of a start that failed as it should: with status 2."""
-    if fault.status != 2 or not fault.error.startswith("codenav: ") or fault.error.count("\n") != 1 or not fault.error.endswith("\n"):
+    if (
+        fault.status != 2
+        or not fault.error.startswith("codenav: ")
+        or fault.error.count("\n") != 1
+        or not fault.error.endswith("\n")
+    ):
         raise Wrong(str(fault))
     return fault.error.strip()
 
@@ -213,7 +253,10 @@ def fills_up(program: str, place: pathlib.Path, told: Callable[[str, str], None]
         disk.must_accept()
         told("further uploads", disk.fill())
         fillers[1].unlink()
-        told(f"a filler is removed: {REMOVALS} removals", ", ".join(disk.removal() for _ in range(REMOVALS)))
+        told(
+            f"a filler is removed: {REMOVALS} removals",
+            ", ".join(disk.removal() for _ in range(REMOVALS)),
+        )
         fill(fillers[1])
         told("the filler is there again, as far as there's room: further uploads", disk.fill())
         told("what was accepted, on the full disk", disk.check(True))
@@ -246,6 +289,7 @@ def sound(database: pathlib.Path) -> None:
 
 # ---- paths that are no database, or one that can't be used
 
+
 def outcome(program: str, path: str, before: tuple[str, ...] = ()) -> tuple[str, int]:
     """What `serve` prints over a path, and its status; where it listens, the statuses of a query and of an upload."""
     try:
@@ -253,7 +297,10 @@ def outcome(program: str, path: str, before: tuple[str, ...] = ()) -> tuple[str,
     except NotStarted as fault:
         return line_of(fault), fault.status
     try:
-        replies = [server.ask("GET", "/projects"), server.ask("PUT", "/projects/app/lsif?key=k", dump("app", 0, 40))]
+        replies = [
+            server.ask("GET", "/projects"),
+            server.ask("PUT", "/projects/app/lsif?key=k", dump("app", 0, 40)),
+        ]
         _, error = server.process.communicate(timeout=20)
         if error:
             raise Wrong(f"serve printed {error!r}")
@@ -313,6 +360,7 @@ def an_empty_file(case: Case) -> tuple[str, int]:
 
 def of_statements(*statements: str) -> Callable[[Case], tuple[str, int]]:
     """A database that SQLite made by these statements."""
+
     def found(case: Case) -> tuple[str, int]:
         base = sqlite3.connect(case.path)
         for statement in statements:
@@ -320,6 +368,7 @@ def of_statements(*statements: str) -> Callable[[Case], tuple[str, int]]:
         base.commit()
         base.close()
         return outcome(case.program, str(case.path))
+
     return found
 
 
@@ -401,10 +450,18 @@ def held_by_sqlite(case: Case) -> tuple[str, int]:
         base.close()
 
 
-def of_a_user(mode: int, owner: int, folder_mode: int, has_log: bool = True, is_new: bool = False) -> Callable[[Case], tuple[str, int]]:
+def of_a_user(
+    mode: int, owner: int, folder_mode: int, has_log: bool = True, is_new: bool = False
+) -> Callable[[Case], tuple[str, int]]:
     """A file of this mode and owner, with its log or without, in a folder of that mode, by a user who isn't root."""
+
     def found(case: Case) -> tuple[str, int]:
-        if os.getuid() != 0 or not shutil.which("setpriv") or subprocess.run([*NOBODY, "true"], stderr=subprocess.DEVNULL, check=False).returncode != 0:
+        if (
+            os.getuid() != 0
+            or not shutil.which("setpriv")
+            or subprocess.run([*NOBODY, "true"], stderr=subprocess.DEVNULL, check=False).returncode
+            != 0
+        ):
             raise Missing("root and setpriv")
         if not is_new:
             case.made()
@@ -415,6 +472,7 @@ def of_a_user(mode: int, owner: int, folder_mode: int, has_log: bool = True, is_
                 os.chown(path, owner, owner)
         case.folder.chmod(folder_mode)
         return outcome(case.program, str(case.path), NOBODY)
+
     return found
 
 
@@ -476,9 +534,17 @@ CASES: list[tuple[str, Callable[[Case], tuple[str, int]], Optional[str]]] = [
     ("a file that SQLite writes", held_by_sqlite, STORE),
     ("a file that may not be read, by another user", of_a_user(0o600, 0, 0o777), STORE),
     ("a file that may be read alone, by another user", of_a_user(0o644, 0, 0o777), STORE),
-    ("a file and its log that the user may write, in a folder that the user may not", of_a_user(0o644, 65534, 0o755), SERVES),
+    (
+        "a file and its log that the user may write, in a folder that the user may not",
+        of_a_user(0o644, 65534, 0o755),
+        SERVES,
+    ),
     ("the same without a log", of_a_user(0o644, 65534, 0o755, has_log=False), None),
-    ("a new file in a folder that the user may not write", of_a_user(0, 0, 0o755, is_new=True), STORE),
+    (
+        "a new file in a folder that the user may not write",
+        of_a_user(0, 0, 0o755, is_new=True),
+        STORE,
+    ),
     ("a database on a file system that may be read alone", read_only, STORE),
     ("a new file on a full file system", no_room, None),
     ("a database on a file system that was filled", no_more_room, None),
@@ -499,7 +565,10 @@ def main() -> int:
         program = shutil.copy(sys.argv[1], folder / "codenav")
         os.chmod(program, 0o755)
         for kind in "tmpfs", "ext4":
-            print(f"\nA disk of {SIZE / 1e6:.0f} MB that fills up, {kind}:\n\n| What | What came |\n|-|-|", flush=True)
+            print(
+                f"\nA disk of {SIZE / 1e6:.0f} MB that fills up, {kind}:\n\n| What | What came |\n|-|-|",
+                flush=True,
+            )
             try:
                 with mounted(kind, folder) as disk:
                     uploads += fills_up(str(program), disk, row)
@@ -524,7 +593,9 @@ def main() -> int:
     print()
     for fault in faults:
         print(f"full_disk: {fault}", file=sys.stderr)
-    print(f"full_disk: {uploads} uploads accepted on disks that filled up, each there at the end; {cases} of {len(CASES)} paths answered; {len(faults)} faults")
+    print(
+        f"full_disk: {uploads} uploads accepted on disks that filled up, each there at the end; {cases} of {len(CASES)} paths answered; {len(faults)} faults"
+    )
     return 1 if faults else 0
 
 

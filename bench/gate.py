@@ -1,11 +1,16 @@
 """Runs the gate and says what each part of it costs in processor time, user and system together; or reads that from a gate's log.
 
-usage: bench/gate.py measure COMMAND..    runs it; before its last line stand `cost:` lines: a crate, its proof, its tests and its edits, in seconds
-       bench/gate.py ratio LOG            the cost of the whole over that of the proofs and tests of the crates that measure it
+usage: bench/gate.py measure COMMAND..    runs it; before its last line stand `cost:` lines: a crate, its proof, its tests and its edits, in seconds; and
+                                          `alone:` lines: for how many seconds nothing ran beside a part
+       bench/gate.py ratio LOG            the cost of the whole over that of the proofs and tests of the crates that measure it; what stood alone; and the
+                                          time by the clock on 2, 4 and 8 processors
        bench/gate.py table LOG            the costs as a table of docs/DEVELOPING.md, in minutes
 
 The whole is what the system counted for the command and all that it started. A part is the time of the processes of one crate, as it was seen
-last before each ended, looked at a few times a second; what no part has is the rest.
+last before each ended, looked at a few times a second; what no part has is the rest. The time by the clock is of a plan: each part takes one processor for as
+long as it cost, once the proofs of the crates below have ended; of those that can begin, the one with the longest way to the end does. Edits come behind the
+proof and the tests of their crate, one after the other or side by side. `rt ci` gives a part that has nothing beside it several processors, which the plan
+leaves out, and waits for memory, which it leaves out too.
 """
 
 import os
@@ -16,6 +21,7 @@ import sys
 import threading
 import time
 from collections import defaultdict
+from pathlib import Path
 
 PARTS = ("proof", "tests", "edits")
 # What these cost is the measure: hosts differ by two.
@@ -23,6 +29,9 @@ MEASURES = ("positions", "tags")
 EDIT_FOLDER = "/rt-edit-"
 TICK = os.sysconf("SC_CLK_TCK")
 COST = re.compile(r"^cost: (\w+) proof (\d+) tests (\d+) edits (\d+)$", re.M)
+ALONE = re.compile(r"^alone: (\w+) (\w+) (\d+)$", re.M)
+TOP = Path(__file__).resolve().parent.parent
+PROCESSORS = (2, 4, 8)
 WHOLE = re.compile(r"^cost: whole (\d+) rest (\d+) minutes (\d+)$", re.M)
 
 
@@ -33,7 +42,11 @@ def part_of(words, folder):
         if EDIT_FOLDER in folder:
             return crate, "edits"
         return crate, "tests" if "--test" in words else "proof"
-    built = re.search(r"(?:/crates/\w+/out/|/bin/|^out/)(\w+?)(_tests)?(?:\.o)?$", words[-1]) if words else None
+    built = (
+        re.search(r"(?:/crates/\w+/out/|/bin/|^out/)(\w+?)(_tests)?(?:\.o)?$", words[-1])
+        if words
+        else None
+    )
     return (built[1], "tests" if built[2] else "proof") if built else None
 
 
@@ -48,6 +61,8 @@ class Watcher(threading.Thread):
     def __init__(self):
         super().__init__(daemon=True)
         self.seen = {}
+        self.alone = defaultdict(float)
+        self.last = time.time()
         self.is_over = threading.Event()
 
     def run(self):
@@ -66,14 +81,23 @@ class Watcher(threading.Thread):
         while found:
             found = [pid for pid, stat in stats.items() if stat[1] in below and pid not in below]
             below.update(found)
+        running = set()
         for pid in below & stats.keys():
             try:
-                part = part_of(read(f"/proc/{pid}/cmdline").rstrip("\0").split("\0"), os.readlink(f"/proc/{pid}/cwd"))
+                part = part_of(
+                    read(f"/proc/{pid}/cmdline").rstrip("\0").split("\0"),
+                    os.readlink(f"/proc/{pid}/cwd"),
+                )
             except OSError:
                 continue
             if part:
                 stat = stats[pid]
                 self.seen[pid, stat[19]] = part, (int(stat[11]) + int(stat[12])) / TICK
+                running.add(part)
+        now = time.time()
+        if len(running) == 1:
+            self.alone[running.pop()] += now - self.last
+        self.last = now
 
     def costs(self):
         found = defaultdict(lambda: dict.fromkeys(PARTS, 0.0))
@@ -96,6 +120,8 @@ def measure(command):
     costs = watcher.costs()
     for crate, cost in costs.items():
         print(f"cost: {crate} " + " ".join(f"{part} {cost[part]:.0f}" for part in PARTS))
+    for (crate, part), seconds in watcher.alone.items():
+        print(f"alone: {crate} {part} {seconds:.0f}")
     used = resource.getrusage(resource.RUSAGE_CHILDREN)
     whole = used.ru_utime + used.ru_stime
     rest = whole - sum(sum(cost.values()) for cost in costs.values())
@@ -108,15 +134,83 @@ def costs_in(log):
     text = read(log)
     whole = WHOLE.search(text)
     if not whole:
-        sys.exit(f"gate.py: {log} has no line of the whole cost: the gate didn't end, or it wasn't measured")
-    return {name: [int(it) for it in costs] for name, *costs in COST.findall(text)}, *(int(it) for it in whole.groups())
+        sys.exit(
+            f"gate.py: {log} has no line of the whole cost: the gate didn't end, or it wasn't measured"
+        )
+    return {name: [int(it) for it in costs] for name, *costs in COST.findall(text)}, *(
+        int(it) for it in whole.groups()
+    )
+
+
+def below(crate, lines):
+    """The crates that one stands on, by the lines of crates.txt, and those that they stand on."""
+    found = set()
+    for name in lines.get(crate, ()):
+        if name in lines:
+            found |= {name} | below(name, lines)
+    return found
+
+
+def jobs_of(crates):
+    """What the plan has of these costs: of each job what it waits for, and its seconds."""
+    lines = {}
+    for line in (TOP / "crates.txt").read_text().splitlines():
+        name, _, names = line.partition(":")
+        if not line.startswith("#"):
+            lines[name.split()[0]] = names.split()
+    jobs = {}
+    for crate, costs in crates.items():
+        waits = [(name, "proof", 0) for name in below(crate, lines) if name in crates]
+        for part, cost in zip(PARTS[:2], costs):
+            jobs[crate, part, 0] = waits, cost
+        edits = len(list((TOP / "crates" / crate / "must-fail").glob("*.edit")))
+        for number in range(edits):
+            own = [(crate, part, 0) for part in PARTS[:2]]
+            jobs[crate, "edits", number] = own, costs[2] / edits
+    return jobs
+
+
+def planned(jobs, processors):
+    """The seconds by the clock that these jobs take on so many processors."""
+    ways = {}
+
+    def way(job):
+        """The seconds from when a job begins to the end of the last that waits for it."""
+        if job not in ways:
+            behind = [other for other, (waits, _) in jobs.items() if job in waits]
+            ways[job] = jobs[job][1] + max(map(way, behind), default=0)
+        return ways[job]
+
+    left, running, ended, now = sorted(jobs, key=way, reverse=True), [], set(), 0.0
+    while left or running:
+        ready = [job for job in left if ended.issuperset(jobs[job][0])]
+        for job in ready[: processors - len(running)]:
+            left.remove(job)
+            running.append((now + jobs[job][1], job))
+        running.sort()
+        now, job = running.pop(0)
+        ended.add(job)
+    return now
 
 
 def ratio(log):
-    crates, whole, _, minutes = costs_in(log)
+    crates, whole, rest, minutes = costs_in(log)
     yardstick = sum(sum(crates[name][:2]) for name in MEASURES)
     last = [line for line in read(log).splitlines() if line.strip()][-1]
-    print(f"{last}: {whole / 60:.0f} processor minutes in {minutes}, {whole / yardstick:.1f} times the {yardstick / 60:.1f} of the proofs and tests of {' and '.join(MEASURES)}")
+    print(
+        f"{last}: {whole / 60:.0f} processor minutes in {minutes}, {whole / yardstick:.1f} times the {yardstick / 60:.1f} of the proofs and tests of {' and '.join(MEASURES)}"
+    )
+    alone = [(int(seconds), crate, part) for crate, part, seconds in ALONE.findall(read(log))]
+    for seconds, crate, part in sorted(alone, reverse=True):
+        if seconds >= 60:
+            print(f"alone for {seconds / 60:.1f} minutes: {crate}, {part}")
+    jobs = jobs_of(crates)
+    plans = [
+        f"{planned(jobs, number) / 60:.0f} minutes on {number} processors" for number in PROCESSORS
+    ]
+    print(
+        f"planned: {', '.join(plans)}; the longest way {planned(jobs, len(jobs)) / 60:.0f}; and what is of no crate, {rest / 60:.1f}"
+    )
 
 
 def table(log):

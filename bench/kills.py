@@ -15,7 +15,24 @@ from collections import Counter, defaultdict
 from dataclasses import dataclass, field
 from typing import Optional
 
-from watched import (APART, NoReply, NotStarted, Server, Wrong, accepted, at, body_of, dump, ended, launched, said, short, started, status_of, tags)
+from watched import (
+    APART,
+    NoReply,
+    NotStarted,
+    Server,
+    Wrong,
+    accepted,
+    at,
+    body_of,
+    dump,
+    ended,
+    launched,
+    said,
+    short,
+    started,
+    status_of,
+    tags,
+)
 
 PROJECTS = [f"project_{number}" for number in range(6)]
 # how many functions a dump has, with some 15 elements each, and how many tags a tags file
@@ -100,23 +117,39 @@ class Index:
 
 def holds(server: Server, index: Index) -> None:
     """Checks that each project has the dump and the tags that it should have, by a few queries."""
-    listed = [{"dump": project in index.dumps, "name": project, "tags": project in index.tags} for project in PROJECTS if index.has(project)]
+    listed = [
+        {"dump": project in index.dumps, "name": project, "tags": project in index.tags}
+        for project in PROJECTS
+        if index.has(project)
+    ]
     found = json.loads(body_of(server.ask("GET", "/projects")))["projects"]
     if found != listed:
         raise Wrong(f"the projects are {found}, and should be {listed}")
     for project in PROJECTS:
         in_effect = index.dumps.get(project)
-        wanted = {f"/projects/{project}/profile": f'{{"profile":{in_effect.profile}}}'.encode() if in_effect else NO_DUMP}
+        wanted = {
+            f"/projects/{project}/profile": f'{{"profile":{in_effect.profile}}}'.encode()
+            if in_effect
+            else NO_DUMP
+        }
         for function in {0, in_effect.size - 1} if in_effect else {0}:
-            told = f'{{"contents":"{said(project, in_effect.number, function)}"}}'.encode() if in_effect else NO_DUMP
+            told = (
+                f'{{"contents":"{said(project, in_effect.number, function)}"}}'.encode()
+                if in_effect
+                else NO_DUMP
+            )
             wanted[at(project, "hover", 4 * function + 1)] = told
         for path, body in wanted.items():
             reply = body_of(server.ask("GET", path))
             if reply != body:
                 raise Wrong(f"{path}: {reply!r} and not {body!r}")
-        named = json.loads(body_of(server.ask("GET", f"/names?name=about&project={project}")))["tags"]
+        named = json.loads(body_of(server.ask("GET", f"/names?name=about&project={project}")))[
+            "tags"
+        ]
         tagged = index.tags.get(project)
-        if [tag["address"] for tag in named] != ([f"/^upload {tagged.number} of {project}$/"] if tagged else []):
+        if [tag["address"] for tag in named] != (
+            [f"/^upload {tagged.number} of {project}$/"] if tagged else []
+        ):
             raise Wrong(f"{project}: the tags are {named}, and should be those of {tagged}")
 
 
@@ -164,7 +197,9 @@ class Run:
         if kind == "tags":
             return Command(self.last, project, kind, chosen.choice(TAGS))
         joined = chosen.choice([other for other in PROJECTS if other != project])
-        return Command(self.last, project, kind, chosen.choice(FUNCTIONS), chosen.choice([1, 2]), joined)
+        return Command(
+            self.last, project, kind, chosen.choice(FUNCTIONS), chosen.choice([1, 2]), joined
+        )
 
     def next_step(self) -> Optional[Command]:
         """The next command, also one that had no reply or one that had; or none, for a query."""
@@ -175,14 +210,26 @@ class Run:
             return self.chosen.choice(list(self.index.kept))
         return None if part < 0.3 else self.new_command()
 
-    def send(self, server: Server, command: Optional[Command], killer: Optional[threading.Thread]) -> None:
+    def send(
+        self, server: Server, command: Optional[Command], killer: Optional[threading.Thread]
+    ) -> None:
         """Sends a command, or a query, whose reply has to be as it should; what is to kill the server meanwhile is started just before."""
         if command is None:
             kind, size = "query", 0
-            method, path, body = "GET", at(self.chosen.choice(PROJECTS), self.chosen.choice(["definition", "references", "hover"]), 0), b""
+            method, path, body = (
+                "GET",
+                at(
+                    self.chosen.choice(PROJECTS),
+                    self.chosen.choice(["definition", "references", "hover"]),
+                    0,
+                ),
+                b"",
+            )
         else:
             kind, size, (method, path, body) = command.kind, command.size, command.request()
-        is_new = command is not None and command.kind != "refused" and command not in self.index.kept
+        is_new = (
+            command is not None and command.kind != "refused" and command not in self.index.kept
+        )
         if killer:
             killer.start()
         try:
@@ -192,7 +239,15 @@ class Run:
         except NoReply as fault:
             self.counts["within" if fault.connected else "between"] += 1
             if fault.connected:
-                self.counts["changing" if is_new else "query" if command is None else "refused" if command.kind == "refused" else "repeated"] += 1
+                self.counts[
+                    "changing"
+                    if is_new
+                    else "query"
+                    if command is None
+                    else "refused"
+                    if command.kind == "refused"
+                    else "repeated"
+                ] += 1
                 self.counts["unsent"] += is_new and not fault.sent
                 self.unknown = command if is_new else None
             if command and command not in self.index.kept and command not in self.waiting:
@@ -233,7 +288,9 @@ class Run:
                 server.listens()
                 self.times["start", 0].append(time.perf_counter() - begin)
                 return server
-            killer = threading.Timer(self.chosen.uniform(0, LATE) * self.typical("start", 0), server.process.kill)
+            killer = threading.Timer(
+                self.chosen.uniform(0, LATE) * self.typical("start", 0), server.process.kill
+            )
             killer.start()
             try:
                 server.listens()
@@ -270,10 +327,20 @@ class Run:
     def killer(self, server: Server, typical: float) -> threading.Thread:
         """What kills a server at a random moment of a request that typically takes so long, or behind it: at any, about when its reply is due, or when
         its log was just written."""
-        moment = self.chosen.choice([self.chosen.uniform(0, LATE), max(0, self.chosen.gauss(1, ABOUT)), None])
+        moment = self.chosen.choice(
+            [self.chosen.uniform(0, LATE), max(0, self.chosen.gauss(1, ABOUT)), None]
+        )
         if moment is not None:
             return threading.Timer(moment * typical, server.process.kill)
-        return threading.Thread(target=kill_at_write, args=(server, f"{self.database}-wal", self.chosen.expovariate(1 / WRITING), 2 * typical + 0.1))
+        return threading.Thread(
+            target=kill_at_write,
+            args=(
+                server,
+                f"{self.database}-wal",
+                self.chosen.expovariate(1 / WRITING),
+                2 * typical + 0.1,
+            ),
+        )
 
     def turn(self) -> None:
         """One start, some requests, and a kill within one of them, or shortly behind it."""
@@ -283,7 +350,9 @@ class Run:
             for _ in range(self.chosen.randrange(4)):
                 self.send(server, self.next_step(), None)
             command = self.next_step()
-            killer = self.killer(server, self.typical(*((command.kind, command.size) if command else ("query", 0))))
+            killer = self.killer(
+                server, self.typical(*((command.kind, command.size) if command else ("query", 0)))
+            )
             try:
                 self.send(server, command, killer)
                 while True:
@@ -308,13 +377,34 @@ class Run:
 
 def paths(index: Index) -> list[tuple[str, str, bytes]]:
     """The requests whose answers are compared: queries of all kinds, and each command's key."""
-    found = ["/projects", "/names?prefix=a", "/names?prefix=name_0000", "/names?name=name_000017", "/names?prefix=none"]
+    found = [
+        "/projects",
+        "/names?prefix=a",
+        "/names?prefix=name_0000",
+        "/names?name=name_000017",
+        "/names?prefix=none",
+    ]
     for project in PROJECTS:
-        found += [f"/projects/{project}/profile", f"/names?prefix=n&project={project}", f"/names?name=about&project={project}"]
+        found += [
+            f"/projects/{project}/profile",
+            f"/names?prefix=n&project={project}",
+            f"/names?name=about&project={project}",
+        ]
         size = index.dumps[project].size if project in index.dumps else 1
-        for function in sorted({0, 1, APART, size // 2 // APART * APART, size // 2, size - 1, size}):
+        for function in sorted(
+            {0, 1, APART, size // 2 // APART * APART, size // 2, size - 1, size}
+        ):
             for line in range(4 * function, 4 * function + 3):
-                found += [at(project, kind, line) for kind in ("definition", "references", "hover", "declaration", "implementation")]
+                found += [
+                    at(project, kind, line)
+                    for kind in (
+                        "definition",
+                        "references",
+                        "hover",
+                        "declaration",
+                        "implementation",
+                    )
+                ]
                 found.append(at(project, "references", line) + "&declaration=no")
     return [("GET", path, b"") for path in found] + [command.probe() for command in index.kept]
 
@@ -333,8 +423,13 @@ def compare(run: Run, server: Server) -> int:
             reply, wanted = server.ask(*request), plain.ask(*request)
             if reply != wanted:
                 raise Wrong(f"{request}: {reply!r}, and without kills {wanted!r}")
-            answers[short(reply) + (", which found nothing" if body_of(reply) in NOTHING else "")] += 1
-        print("kills: equal answers:", "; ".join(f"{count} of status {status}" for status, count in sorted(answers.items())))
+            answers[
+                short(reply) + (", which found nothing" if body_of(reply) in NOTHING else "")
+            ] += 1
+        print(
+            "kills: equal answers:",
+            "; ".join(f"{count} of status {status}" for status, count in sorted(answers.items())),
+        )
         return len(asked)
     finally:
         plain.kill()
@@ -344,7 +439,10 @@ def sound(database: pathlib.Path) -> None:
     """Has SQLite check the file, when the server has ended."""
     base = sqlite3.connect(database)
     try:
-        if base.execute("PRAGMA integrity_check").fetchall() != [("ok",)] or base.execute("PRAGMA foreign_key_check").fetchall():
+        if (
+            base.execute("PRAGMA integrity_check").fetchall() != [("ok",)]
+            or base.execute("PRAGMA foreign_key_check").fetchall()
+        ):
             raise Wrong("SQLite finds the file unsound")
     finally:
         base.close()
@@ -358,7 +456,11 @@ def kills(program: str, folder: pathlib.Path, count: int, seed: int) -> None:
             before = run.counts["kills"]
             run.turn()
             if before // 20 < run.counts["kills"] // 20:
-                print(f"kills: {run.counts['kills']} kills, {len(run.order)} commands took effect", file=sys.stderr, flush=True)
+                print(
+                    f"kills: {run.counts['kills']} kills, {len(run.order)} commands took effect",
+                    file=sys.stderr,
+                    flush=True,
+                )
         server = run.rest()
         try:
             equal = compare(run, server)
@@ -375,16 +477,24 @@ def kills(program: str, folder: pathlib.Path, count: int, seed: int) -> None:
 def told(run: Run, size: int, equal: int) -> None:
     """Prints what was done and seen."""
     found, kinds = run.counts, Counter(command.kind for command in run.order)
-    print(f"kills: {kinds['lsif']} dumps, {kinds['tags']} tags files and {kinds['removal']} removals took effect; "
-          f"the file has {size / 1e6:.1f} MB with its log")
-    print(f"kills: {found['repeats']} commands were sent again that had taken effect, {found['refusals']} uploads refused, {found['queries']} queries answered")
+    print(
+        f"kills: {kinds['lsif']} dumps, {kinds['tags']} tags files and {kinds['removal']} removals took effect; "
+        f"the file has {size / 1e6:.1f} MB with its log"
+    )
+    print(
+        f"kills: {found['repeats']} commands were sent again that had taken effect, {found['refusals']} uploads refused, {found['queries']} queries answered"
+    )
     print(f"kills: {found['keys']} times a key was asked for after a start, and had its reply")
-    print(f"kills: {found['start']} kills before the server listened, {found['between']} between requests, {found['within']} within one: "
-          f"{found['query']} queries,\n"
-          f"kills: {found['repeated']} repeated commands, {found['refused']} uploads that are refused, "
-          f"{found['changing']} others, of which {found['unsent']} weren't all sent")
-    print(f"kills: {found['kills']} kills, {found['changing']} within a request that changes something: "
-          f"{found['done']} were done, {found['not done']} were not; {equal} answers equal those of a run without kills")
+    print(
+        f"kills: {found['start']} kills before the server listened, {found['between']} between requests, {found['within']} within one: "
+        f"{found['query']} queries,\n"
+        f"kills: {found['repeated']} repeated commands, {found['refused']} uploads that are refused, "
+        f"{found['changing']} others, of which {found['unsent']} weren't all sent"
+    )
+    print(
+        f"kills: {found['kills']} kills, {found['changing']} within a request that changes something: "
+        f"{found['done']} were done, {found['not done']} were not; {equal} answers equal those of a run without kills"
+    )
 
 
 def main() -> int:

@@ -53,7 +53,11 @@ def copied(database: Optional[pathlib.Path], copy: pathlib.Path) -> None:
 def replayed(program: str, database: pathlib.Path, requests: pathlib.Path, replies: int) -> Taken:
     """What a call of `replay` takes, which answers so many requests, each by 200."""
     begin = time.perf_counter()
-    process = subprocess.Popen([program, "replay", str(database), str(requests)], stdin=subprocess.DEVNULL, stdout=subprocess.PIPE)
+    process = subprocess.Popen(
+        [program, "replay", str(database), str(requests)],
+        stdin=subprocess.DEVNULL,
+        stdout=subprocess.PIPE,
+    )
     assert process.stdout is not None
     output = process.stdout.read()
     _, status, used = os.wait4(process.pid, 0)
@@ -67,7 +71,12 @@ def replayed(program: str, database: pathlib.Path, requests: pathlib.Path, repli
 
 def asked(database: pathlib.Path, statement: str) -> Taken:
     """What SQLite takes to open a database and to answer a statement, by Python, whose own start isn't counted."""
-    done = subprocess.run([sys.executable, "-c", SQLITE, str(database), statement], capture_output=True, text=True, check=False)
+    done = subprocess.run(
+        [sys.executable, "-c", SQLITE, str(database), statement],
+        capture_output=True,
+        text=True,
+        check=False,
+    )
     if done.returncode != 0:
         raise Failed(f"{statement}: {done.stderr.strip()}")
     used, passed, found = done.stdout.split()
@@ -77,7 +86,10 @@ def asked(database: pathlib.Path, statement: str) -> Taken:
 
 
 def median(found: list[Taken]) -> Taken:
-    return Taken(statistics.median(taken.used for taken in found), statistics.median(taken.passed for taken in found))
+    return Taken(
+        statistics.median(taken.used for taken in found),
+        statistics.median(taken.passed for taken in found),
+    )
 
 
 def put(program: str, database: pathlib.Path, dump: pathlib.Path, count: int) -> pathlib.Path:
@@ -85,7 +97,10 @@ def put(program: str, database: pathlib.Path, dump: pathlib.Path, count: int) ->
     body, requests = dump.read_bytes(), database.with_suffix(".http")
     with open(requests, "wb") as file:
         for number in range(count):
-            file.write(f"PUT /projects/project_{number}/lsif?key=k HTTP/1.1\r\nHost: localhost\r\nContent-Length: {len(body)}\r\n\r\n".encode() + body)
+            file.write(
+                f"PUT /projects/project_{number}/lsif?key=k HTTP/1.1\r\nHost: localhost\r\nContent-Length: {len(body)}\r\n\r\n".encode()
+                + body
+            )
     replayed(program, database, requests, count)
     requests.unlink()
     return database
@@ -105,8 +120,15 @@ def measure(program: str, what: str, database: Optional[pathlib.Path], folder: p
     if not database:
         print(f"| {what} | | {start} | | | | | | |", flush=True)
         return ""
-    size, check, count = sum(path.stat().st_size for path in files_of(database)), median(found[CHECK]), median(found[COUNT])
-    print(f"| {what} | {size / 1e6:.1f} | {start} | {check} | {start.used / check.used:.1f} | {count} | {start.used / count.used:.1f} |", flush=True)
+    size, check, count = (
+        sum(path.stat().st_size for path in files_of(database)),
+        median(found[CHECK]),
+        median(found[COUNT]),
+    )
+    print(
+        f"| {what} | {size / 1e6:.1f} | {start} | {check} | {start.used / check.used:.1f} | {count} | {start.used / count.used:.1f} |",
+        flush=True,
+    )
     return f"{what}, {size / 1e6:.1f} MB: {start.used * 1e3:.0f} ms of the processor, {start.used / check.used:.1f} times SQLite's integrity_check"
 
 
@@ -114,17 +136,25 @@ def main() -> int:
     """Prints the table, over the dump of a folder and by a program."""
     folder, program, elements = pathlib.Path(sys.argv[1]), sys.argv[2], sys.argv[3]
     (folder / "empty.http").touch()
-    print("| Database | MB | Start, ms: processor | wall | `integrity_check`, ms: processor | wall | Ratio | `count(*)`, ms: processor | wall | Ratio |")
+    print(
+        "| Database | MB | Start, ms: processor | wall | `integrity_check`, ms: processor | wall | Ratio | `count(*)`, ms: processor | wall | Ratio |"
+    )
     print("|-|-|-|-|-|-|-|-|-|-|")
     try:
         measure(program, "a new file", None, folder)
         small = folder / "small.db"
-        subprocess.run([program, "replay", str(small), str(TOP / "demo" / "first.http")], stdout=subprocess.DEVNULL, check=True)
+        subprocess.run(
+            [program, "replay", str(small), str(TOP / "demo" / "first.http")],
+            stdout=subprocess.DEVNULL,
+            check=True,
+        )
         measure(program, "demo/first.http", small, folder)
         last = ""
         for count in DUMPS:
             database = put(program, folder / f"dumps_{count}.db", folder / "great.lsif", count)
-            last = measure(program, f"{count} dump{'s' * (count > 1)} of {elements} elements", database, folder)
+            last = measure(
+                program, f"{count} dump{'s' * (count > 1)} of {elements} elements", database, folder
+            )
     except (Failed, OSError, subprocess.CalledProcessError) as fault:
         print(f"opening: {fault}", file=sys.stderr)
         return 1

@@ -3,9 +3,11 @@
 import os
 import pathlib
 import socket
+import sqlite3
 import struct
 import subprocess
 import sys
+import tempfile
 import threading
 import time
 from dataclasses import dataclass
@@ -17,6 +19,7 @@ PROJECTS = b"GET /projects HTTP/1.1\r\n\r\n"
 NAMES = b"GET /names?prefix=n HTTP/1.1\r\n\r\n"
 BAD_FILE, FULL = "codenav: cannot read the file\n", "codenav: cannot write the output\n"
 STORE, MEMORY = "codenav: store refused\n", "codenav: out of memory\n"
+FOREIGN, OLD = "codenav: not a codenav database\n", "codenav: database is of format 1\n"
 
 
 class Wrong(Exception):
@@ -25,14 +28,20 @@ class Wrong(Exception):
 
 def reply(status: str, body: str) -> str:
     """A reply as it's written (RFC 9112, section 4)."""
-    return (f"HTTP/1.1 {status}\r\nConnection: close\r\nContent-Type: application/json\r\n"
-            f"Content-Length: {len(body)}\r\n\r\n{body}")
+    return (
+        f"HTTP/1.1 {status}\r\nConnection: close\r\nContent-Type: application/json\r\n"
+        f"Content-Length: {len(body)}\r\n\r\n{body}"
+    )
 
 
 NO_PROJECTS = reply("200 OK", '{"projects":[]}')
-PLACES = ('{"places":[{"end":{"character":7,"line":0},"project":"app","start":{"character":4,"line":0},"uri":"file:///a.ts"}]}')
-FIRST = (reply("200 OK", '{"accepted":"lsif","count":11}') + reply("200 OK", PLACES) + reply("200 OK", '{"places":[]}')
-         + reply("404 Not Found", '{"fault":"H06","text":"no such route"}'))
+PLACES = '{"places":[{"end":{"character":7,"line":0},"project":"app","start":{"character":4,"line":0},"uri":"file:///a.ts"}]}'
+FIRST = (
+    reply("200 OK", '{"accepted":"lsif","count":11}')
+    + reply("200 OK", PLACES)
+    + reply("200 OK", '{"places":[]}')
+    + reply("404 Not Found", '{"fault":"H06","text":"no such route"}')
+)
 
 # ---- calls that end by themselves: the words, and what is printed on the standard output and the standard error, with the status
 CALLS = [
@@ -40,7 +49,12 @@ CALLS = [
     (["check-lsif", "/dev/stdin"], "ok 11 elements\n", "", 0),
     (["check-lsif", "demo/exchanged.lsif"], "line 8: L09 vertex not emitted before\n", "", 1),
     (["check-lsif", "demo/declared_twice.lsif"], "ok 12 elements\n", "", 0),
-    (["check-lsif", "demo/declared_twice.lsif", "--profile", "2"], "line 9: L13 second edge of a single kind\n", "", 1),
+    (
+        ["check-lsif", "demo/declared_twice.lsif", "--profile", "2"],
+        "line 9: L13 second edge of a single kind\n",
+        "",
+        1,
+    ),
     (["check-lsif", EMPTY], "line 1: L06 metaData missing, wrong or repeated\n", "", 1),
     (["check-tags", "demo/base.tags"], "ok 2 tags\n", "", 0),
     (["check-tags", "demo/descending.tags"], "line 3: T10 names descend\n", "", 1),
@@ -70,14 +84,30 @@ REFUSALS = [
     (["check-lsif", BASE, "--profile", "3"], "error: "),
     (["check-lsif", BASE, "--profile", "02"], "error: "),
     (["check-tags", BASE, "--profile", "2"], "error: unexpected argument '--profile' found"),
-    (["serve", ":memory:", "--port", "0", "--requests", "1"], "error: invalid value '0' for '--port <N>'"),
-    (["serve", ":memory:", "--port", "65536", "--requests", "1"], "error: invalid value '65536' for '--port <N>'"),
-    (["serve", ":memory:", "--port", "8080", "--requests", "1000001"], "error: invalid value '1000001' for '--requests <N>'"),
-    (["serve", ":memory:", "--port", "8080"], "error: the following required arguments were not provided"),
+    (
+        ["serve", ":memory:", "--port", "0", "--requests", "1"],
+        "error: invalid value '0' for '--port <N>'",
+    ),
+    (
+        ["serve", ":memory:", "--port", "65536", "--requests", "1"],
+        "error: invalid value '65536' for '--port <N>'",
+    ),
+    (
+        ["serve", ":memory:", "--port", "8080", "--requests", "1000001"],
+        "error: invalid value '1000001' for '--requests <N>'",
+    ),
+    (
+        ["serve", ":memory:", "--port", "8080"],
+        "error: the following required arguments were not provided",
+    ),
 ]
-HELP = [(["--help"], "Usage: codenav"), (["check-lsif", "--help"], "Usage: codenav check-lsif"),
-        (["check-tags", "--help"], "Usage: codenav check-tags"), (["replay", "--help"], "Usage: codenav replay"),
-        (["serve", "--help"], "Usage: codenav serve")]
+HELP = [
+    (["--help"], "Usage: codenav"),
+    (["check-lsif", "--help"], "Usage: codenav check-lsif"),
+    (["check-tags", "--help"], "Usage: codenav check-tags"),
+    (["replay", "--help"], "Usage: codenav replay"),
+    (["serve", "--help"], "Usage: codenav serve"),
+]
 
 
 @dataclass
@@ -91,14 +121,35 @@ class Program:
         """What a call prints, and its status; the base dump is its standard input."""
         with open(TOP / BASE, "rb") as given:
             more.setdefault("stdout", subprocess.PIPE)
-            done = subprocess.run([self.path, *words], cwd=TOP, stdin=given, stderr=subprocess.PIPE, timeout=60, check=False, **more)
+            more.setdefault("timeout", 60)
+            done = subprocess.run(
+                [self.path, *words],
+                cwd=TOP,
+                stdin=given,
+                stderr=subprocess.PIPE,
+                check=False,
+                **more,
+            )
         return (done.stdout or b"").decode(), done.stderr.decode(), done.returncode
 
-    def start(self, requests: int, before: tuple = (), **more) -> "Server":
+    def start(
+        self, requests: int, before: tuple = (), database: str = ":memory:", **more
+    ) -> "Server":
         """A server of so many requests, which has said that it listens; it's started by the words before it."""
         port = free_port()
-        words = [*before, self.path, "serve", ":memory:", "--port", str(port), "--requests", str(requests)]
-        process = subprocess.Popen(words, stdin=subprocess.DEVNULL, stdout=subprocess.PIPE, stderr=subprocess.PIPE, **more)
+        words = [
+            *before,
+            self.path,
+            "serve",
+            database,
+            "--port",
+            str(port),
+            "--requests",
+            str(requests),
+        ]
+        process = subprocess.Popen(
+            words, stdin=subprocess.DEVNULL, stdout=subprocess.PIPE, stderr=subprocess.PIPE, **more
+        )
         line = process.stdout.readline().decode()
         if line != f"listening on 127.0.0.1:{port}\n":
             process.kill()
@@ -156,11 +207,30 @@ def expect(what: str, found, wanted) -> None:
         raise Wrong(f"{what}: {found!r} and not {wanted!r}")
 
 
+def expect_same(what: str, found: str, wanted: str) -> None:
+    """The same of long texts, of which it shows where they part."""
+    if found == wanted:
+        return
+    at = next((n for n, (a, b) in enumerate(zip(found, wanted)) if a != b), 0)
+    raise Wrong(
+        f"{what}: {len(found)} characters, {found[at : at + 80]!r}, not {len(wanted)}, {wanted[at : at + 80]!r}"
+    )
+
+
+def refusing(program: Program, number: int) -> dict[str, str]:
+    """Has the program's request for memory of this number refused, or with 0 has them counted."""
+    return {**os.environ, "LD_PRELOAD": program.refuse, "REFUSED": str(number)}
+
+
 # ---- calls
+
 
 def calls(program: Program) -> None:
     """Calls that end by themselves, and words that are refused."""
-    found = [(words, program.run(words), (output, error, status)) for words, output, error, status in CALLS]
+    found = [
+        (words, program.run(words), (output, error, status))
+        for words, output, error, status in CALLS
+    ]
     for words, text in REFUSALS:
         output, error, status = program.run(words)
         is_text = error.startswith(text) and error.endswith("For more information, try '--help'.\n")
@@ -168,7 +238,11 @@ def calls(program: Program) -> None:
     for words, text in HELP:
         output, error, status = program.run(words)
         found.append((words, (text in output or output, error, status), (True, "", 0)))
-    wrong = [f"{words}: {answer!r} and not {wanted!r}" for words, answer, wanted in found if answer != wanted]
+    wrong = [
+        f"{words}: {answer!r} and not {wanted!r}"
+        for words, answer, wanted in found
+        if answer != wanted
+    ]
     if wrong:
         raise Wrong("\n".join(wrong))
 
@@ -176,7 +250,13 @@ def calls(program: Program) -> None:
 def full_outputs(program: Program) -> None:
     """A standard output that takes nothing."""
     serve = ["serve", ":memory:", "--port", str(free_port()), "--requests", "1"]
-    for words in (["check-lsif", BASE], ["check-tags", "demo/base.tags"], ["replay", ":memory:", "demo/first.http"], serve, ["--help"]):
+    for words in (
+        ["check-lsif", BASE],
+        ["check-tags", "demo/base.tags"],
+        ["replay", ":memory:", "demo/first.http"],
+        serve,
+        ["--help"],
+    ):
         with open("/dev/full", "wb") as full:
             _, error, status = program.run(words, stdout=full)
         expect(f"{words} into a full device", (error, status), (FULL, 2))
@@ -186,8 +266,16 @@ def taken_port(program: Program) -> None:
     """A port that somebody else listens on; the database is asked for before it."""
     with socket.create_server(("127.0.0.1", 0)) as other:
         words = ["--port", str(other.getsockname()[1]), "--requests", "1"]
-        expect("a taken port", program.run(["serve", ":memory:", *words]), ("", "codenav: cannot listen\n", 2))
-        expect("a bad database and a taken port", program.run(["serve", "no/such/folder/index.db", *words]), ("", STORE, 2))
+        expect(
+            "a taken port",
+            program.run(["serve", ":memory:", *words]),
+            ("", "codenav: cannot listen\n", 2),
+        )
+        expect(
+            "a bad database and a taken port",
+            program.run(["serve", "no/such/folder/index.db", *words]),
+            ("", STORE, 2),
+        )
 
 
 def no_more_files(program: Program) -> None:
@@ -201,15 +289,22 @@ def no_more_files(program: Program) -> None:
 
 def refused_memory(program: Program) -> None:
     """The last request for memory is refused: that of the report of a check, and of the buffers of a stream."""
-    def refusing(number: int) -> dict[str, str]:
-        return {**os.environ, "LD_PRELOAD": program.refuse, "REFUSED": str(number)}
-    for words in (["check-lsif", BASE], ["check-tags", "demo/base.tags"], ["replay", ":memory:", EMPTY]):
-        _, count, _ = program.run(words, env=refusing(0))
-        expect(f"{words} with memory refused", program.run(words, env=refusing(int(count))), ("", MEMORY, 2))
-    server = program.start(1, env=refusing(0))
+
+    for words in (
+        ["check-lsif", BASE],
+        ["check-tags", "demo/base.tags"],
+        ["replay", ":memory:", EMPTY],
+    ):
+        _, count, _ = program.run(words, env=refusing(program, 0))
+        expect(
+            f"{words} with memory refused",
+            program.run(words, env=refusing(program, int(count))),
+            ("", MEMORY, 2),
+        )
+    server = program.start(1, env=refusing(program, 0))
     server.connect().close()
     _, count, _ = server.end(5)
-    server = program.start(1, env=refusing(int(count)))
+    server = program.start(1, env=refusing(program, int(count)))
     server.connect().close()
     expect("serve with memory refused", server.end(5), ("", MEMORY, 2))
 
@@ -226,7 +321,253 @@ def connections(program: Program) -> None:
     expect("the end of serve", server.end(5), ("", "", 0))
 
 
+# ---- where it listens
+
+
+def own_addresses() -> list[str]:
+    """Addresses of this machine beside 127.0.0.1: another one of its loopback, and that of its own network, where it has one."""
+    found = ["127.0.0.2"]
+    with socket.socket(socket.AF_INET, socket.SOCK_DGRAM) as probe:
+        try:
+            # nothing is sent: it only picks the address that would be sent from
+            probe.connect(("192.0.2.1", 9))
+            found.append(probe.getsockname()[0])
+        except OSError:
+            pass
+    return found
+
+
+def other_addresses(program: Program) -> None:
+    """A server listens on 127.0.0.1 alone."""
+    server = program.start(1)
+    for address in own_addresses():
+        with socket.socket() as peer:
+            peer.settimeout(5)
+            answer = peer.connect_ex((address, server.port))
+        expect(f"a connection to {address}", os.strerror(answer), "Connection refused")
+    with socket.socket(socket.AF_INET6) as peer:
+        peer.settimeout(5)
+        if peer.connect_ex(("::1", server.port)) == 0:
+            raise Wrong("a connection to ::1 was accepted")
+    expect("its own address", server.ask(PROJECTS), NO_PROJECTS)
+    expect("the end of serve", server.end(5), ("", "", 0))
+
+
+# ---- databases in files
+
+
+def statements(path: pathlib.Path, text: str) -> list[tuple]:
+    """What SQLite itself finds or changes in a database."""
+    conn = sqlite3.connect(path)
+    try:
+        with conn:
+            rows = []
+            for statement in text.split(";"):
+                rows = conn.execute(statement).fetchall()
+            return rows
+    finally:
+        conn.close()
+
+
+def make_old(path: pathlib.Path) -> None:
+    """Makes a database of format 1 out of one of format 2."""
+    names = statements(
+        path, "SELECT name FROM sqlite_schema WHERE type = 'index' AND sql IS NOT NULL"
+    )
+    drops = [f"DROP INDEX {name}" for (name,) in names]
+    drops += ["DROP TABLE more", "DROP TABLE part_profile", "UPDATE format SET version = 1"]
+    statements(path, ";".join(drops))
+
+
+def has_pages_in_log(path: pathlib.Path) -> bool:
+    """Whether the log beside a database has pages, which it hasn't any more when its user closed it: it's gone then, or its head is left."""
+    log = path.with_name(path.name + "-wal")
+    return log.exists() and log.stat().st_size >= 512
+
+
+def migrations(program: Program) -> None:
+    """What `migrate` prints of each kind of database, and what the other calls print of one that it is needed for, or that isn't the product's."""
+    with tempfile.TemporaryDirectory() as room:
+        path = pathlib.Path(room) / "index.db"
+        expect("a replay", program.run(["replay", path, "demo/first.http"]), (FIRST, "", 0))
+        expect("nothing to do", program.run(["migrate", path]), ("nothing to migrate\n", "", 0))
+        make_old(path)
+        expect("format 1, replay", program.run(["replay", path, EMPTY]), ("", OLD, 2))
+        serve = ["serve", path, "--port", str(free_port()), "--requests", "1"]
+        expect("format 1, serve", program.run(serve), ("", OLD, 2))
+        expect("format 1", program.run(["migrate", path]), ("migrated 1 projects\n", "", 0))
+        expect("the log after a migration", has_pages_in_log(path), False)
+        expect("format 2", statements(path, "SELECT version FROM format"), [(2,)])
+        make_old(path)
+        with open("/dev/full", "wb") as full:
+            _, error, status = program.run(["migrate", path], stdout=full)
+        expect("migrate into a full device", (error, status), (FULL, 2))
+
+        other = pathlib.Path(room) / "other.db"
+        statements(other, "CREATE TABLE tag (name TEXT)")
+        for words in (["migrate", other], ["replay", other, EMPTY], ["serve", other, *serve[2:]]):
+            expect(f"another's database, {words[0]}", program.run(words), ("", FOREIGN, 2))
+        missing = pathlib.Path(room) / "missing.db"
+        for path in (missing, ":memory:"):
+            expect(f"migrate {path}", program.run(["migrate", path]), ("", FOREIGN, 2))
+        expect("what migrate made", missing.exists(), False)
+        # something of that name is there, or can't be: another fault than that nothing is
+        for path in (room, other / "below"):
+            expect(f"migrate {path}", program.run(["migrate", path]), ("", STORE, 2))
+
+
+def closed_logs(program: Program) -> None:
+    """A run and a server close their database: what its log had is in the file. A new file keeps no sums of its pages."""
+    with tempfile.TemporaryDirectory() as room:
+        path = pathlib.Path(room) / "index.db"
+        expect("a replay", program.run(["replay", path, "demo/first.http"]), (FIRST, "", 0))
+        expect("the log after a replay", has_pages_in_log(path), False)
+        expect("bytes kept back on each page", path.read_bytes()[20], 0)
+        expect("what it has", statements(path, "SELECT project FROM slot"), [("app",)])
+        server = program.start(1, database=str(path))
+        removal = b"DELETE /projects/app?key=d1 HTTP/1.1\r\n\r\n"
+        expect("a removal", server.ask(removal), reply("200 OK", '{"removed":true}'))
+        expect("the end of serve", server.end(5), ("", "", 0))
+        expect("the log after serve", has_pages_in_log(path), False)
+        expect("what it has then", statements(path, "SELECT project FROM slot"), [])
+
+
+def refused_memory_of_files(program: Program) -> None:
+    """Each of the first requests for memory of a run over a file is refused: that is what's printed, whichever it was."""
+    with tempfile.TemporaryDirectory() as room:
+        path = pathlib.Path(room) / "index.db"
+        expect("a replay", program.run(["replay", path, EMPTY]), ("", "", 0))
+        words = ["replay", path, EMPTY]
+        _, count, _ = program.run(words, env=refusing(program, 0))
+        for number in range(1, int(count) + 1, max(1, int(count) // 20)):
+            answer = program.run(words, env=refusing(program, number))
+            if answer != ("", "", 0):
+                expect(f"request {number} for memory refused", answer, ("", MEMORY, 2))
+
+
+# ---- replies and requests of great size
+
+
+def exchanged(program: Program, requests: bytes) -> tuple[str, str, int]:
+    """What a replay of these requests over an empty database prints."""
+    with tempfile.NamedTemporaryFile() as file:
+        file.write(requests)
+        file.flush()
+        return program.run(["replay", ":memory:", file.name], timeout=600)
+
+
+def put(part: str, key: str, body: bytes) -> bytes:
+    """An upload to the project `app`."""
+    head = f"PUT /projects/app/{part}?key={key} HTTP/1.1\r\nContent-Length: {len(body)}\r\n\r\n"
+    return head.encode() + body
+
+
+def get(target: str) -> bytes:
+    return f"GET {target} HTTP/1.1\r\n\r\n".encode()
+
+
+def many_places(program: Program) -> None:
+    """A symbol with 50,000 references has them all in one reply."""
+    lines = [
+        '{"id":1,"type":"vertex","label":"metaData","version":"0.6.0"}',
+        '{"id":2,"type":"vertex","label":"document","uri":"file:///a.ts"}',
+        '{"id":3,"type":"vertex","label":"resultSet"}',
+        '{"id":4,"type":"vertex","label":"referenceResult"}',
+        '{"id":5,"type":"edge","label":"textDocument/references","outV":3,"inV":4}',
+    ]
+    ranges = list(range(10, 50_010))
+    for line, number in enumerate(ranges):
+        lines.append(
+            f'{{"id":{number},"type":"vertex","label":"range","start":{{"line":{line},"character":1}},'
+            f'"end":{{"line":{line},"character":3}}}}'
+        )
+    targets = ",".join(map(str, ranges))
+    lines += [
+        '{"id":6,"type":"edge","label":"next","outV":10,"inV":3}',
+        f'{{"id":7,"type":"edge","label":"item","outV":4,"inVs":[{targets}],"property":"references","shard":2}}',
+        f'{{"id":8,"type":"edge","label":"contains","outV":2,"inVs":[{targets}]}}',
+    ]
+    places = ",".join(
+        f'{{"end":{{"character":3,"line":{line}}},"project":"app",'
+        f'"start":{{"character":1,"line":{line}}},"uri":"file:///a.ts"}}'
+        for line in range(len(ranges))
+    )
+    dump = "\n".join(lines).encode() + b"\n"
+    target = "/projects/app/references?uri=file:///a.ts&line=0&character=1"
+    output, error, status = exchanged(program, put("lsif", "k1", dump) + get(target))
+    accepted = reply("200 OK", f'{{"accepted":"lsif","count":{len(lines)}}}')
+    expect("50,000 places", (error, status), ("", 0))
+    expect_same("50,000 places", output, accepted + reply("200 OK", f'{{"places":[{places}]}}'))
+
+
+def many_tags(program: Program) -> None:
+    """A prefix of 100,000 tags finds them all, in a reply of over 10 MB; and a field of 60,000 bytes comes back whole."""
+    names = [f"name{number:05d}" for number in range(100_000)]
+    file = b"".join(f"{name}\tsource.c\t1\n".encode() for name in names)
+    long = "v" * 60_000
+    one = f'one\tsource.c\t1;"\tsignature:{long}\n'.encode()
+    requests = [
+        put("tags", "k1", file),
+        get("/names?prefix=name"),
+        put("tags", "k2", one),
+        get("/names?name=one"),
+    ]
+    found = ",".join(
+        f'{{"address":"1","fields":[],"file":"source.c","kind":null,"line":{number + 1},"name":"{name}","project":"app"}}'
+        for number, name in enumerate(names)
+    )
+    whole = (
+        f'{{"address":"1","fields":[["signature","{long}"]],"file":"source.c","kind":null,"line":1,'
+        '"name":"one","project":"app"}'
+    )
+    wanted = (
+        reply("200 OK", f'{{"accepted":"tags","count":{len(names)}}}')
+        + reply("200 OK", f'{{"tags":[{found}]}}')
+        + reply("200 OK", '{"accepted":"tags","count":1}')
+        + reply("200 OK", f'{{"tags":[{whole}]}}')
+    )
+    output, error, status = exchanged(program, b"".join(requests))
+    expect("100,000 tags", (error, status, len(found) > 10_000_000), ("", 0, True))
+    expect_same("100,000 tags", output, wanted)
+
+
+def parameters(program: Program) -> None:
+    """A query of nine parameters, most of them of another's; and a port that no address has."""
+    place = "line=2&character=1"
+    others = "&".join(f"other{number}=1" for number in range(6))
+    requests = put("lsif", "k1", (TOP / BASE).read_bytes())
+    requests += get(f"/projects/app/definition?{others}&uri=file:///a.ts&{place}")
+    requests += get(f"/projects/app/definition?uri=http://a:99999/&{place}")
+    wanted = (
+        reply("200 OK", '{"accepted":"lsif","count":11}')
+        + reply("200 OK", PLACES)
+        + reply("400 Bad Request", '{"fault":"D03","text":"bad parameter"}')
+    )
+    expect("parameters", exchanged(program, requests), (wanted, "", 0))
+
+
+def held_body(program: Program) -> None:
+    """Of a body of 33 MB a server holds no more than a line or two: its greatest use of memory is told by the system."""
+    line = '{{"id":{},"type":"vertex","label":"other","text":"{}"}}\n'
+    first = (TOP / BASE).read_text().splitlines(keepends=True)[0]
+    dump = (first + "".join(line.format(n, "a" * 1_000_000) for n in range(2, 35))).encode()
+    server = program.start(1)
+    accepted = reply("200 OK", '{"accepted":"lsif","count":34}')
+    try:
+        with server.connect() as peer:
+            peer.sendall(put("lsif", "k1", dump))
+            expect("33 MB", received(peer), accepted)
+            status = pathlib.Path(f"/proc/{server.process.pid}/status").read_text()
+    finally:
+        server.process.kill()
+        server.process.communicate()
+    kilobytes = next(int(row.split()[1]) for row in status.splitlines() if "VmHWM" in row)
+    if kilobytes > 24_000:
+        raise Wrong(f"33 MB: {kilobytes} kB of memory were used")
+
+
 # ---- connections that take their time: what a client does until its connection is over
+
 
 def sends_nothing(_peer: socket.socket, over: threading.Event) -> None:
     over.wait()
@@ -273,8 +614,16 @@ def sends_on_after_the_reply(peer: socket.socket, over: threading.Event) -> None
 
 # the clients, and how many seconds another one waits for its reply meanwhile, at least and at most: where nothing is taken, a write may end
 # after 10 seconds with what the system keeps, and the next one after further 10
-CLIENTS = [(sends_nothing, 10, 10), (stops_in_its_head, 10, 10), (sends_now_and_then, 120, 120), (takes_nothing, 10, 30),
-           (takes_now_and_then, 120, 120), (stays_after_the_reply, 1, 1), (ends_after_the_reply, 0, 0), (sends_on_after_the_reply, 120, 120)]
+CLIENTS = [
+    (sends_nothing, 10, 10),
+    (stops_in_its_head, 10, 10),
+    (sends_now_and_then, 120, 120),
+    (takes_nothing, 10, 30),
+    (takes_now_and_then, 120, 120),
+    (stays_after_the_reply, 1, 1),
+    (ends_after_the_reply, 0, 0),
+    (sends_on_after_the_reply, 120, 120),
+]
 
 
 def late(most: int) -> float:
@@ -286,11 +635,17 @@ def put_tags(server: Server) -> str:
     """An upload of tags that are more than the system keeps for a client that doesn't read, 8 MB; answers the reply to a query of projects then."""
     body = b"".join(b"n%03d\t%s\t1\n" % (number, b"f" * 20000) for number in range(400))
     head = b"PUT /projects/app/tags?key=k1 HTTP/1.1\r\nContent-Length: %d\r\n\r\n" % len(body)
-    expect("an upload of tags", server.ask(head + body), reply("200 OK", '{"accepted":"tags","count":400}'))
+    expect(
+        "an upload of tags",
+        server.ask(head + body),
+        reply("200 OK", '{"accepted":"tags","count":400}'),
+    )
     return reply("200 OK", '{"projects":[{"dump":false,"name":"app","tags":true}]}')
 
 
-def slow_client(program: Program, client: Callable, least: int, most: int, faults: list[str]) -> None:
+def slow_client(
+    program: Program, client: Callable, least: int, most: int, faults: list[str]
+) -> None:
     """One client with a server of its own, and another one that comes after it."""
     what = f"a client that {client.__name__.replace('_', ' ')}"
     over, server = threading.Event(), None
@@ -300,6 +655,7 @@ def slow_client(program: Program, client: Callable, least: int, most: int, fault
             client(peer, over)
         except OSError:
             pass
+
     try:
         has_tags = client in (takes_nothing, takes_now_and_then)
         server = program.start(3 if has_tags else 2)
@@ -321,13 +677,31 @@ def slow_client(program: Program, client: Callable, least: int, most: int, fault
         over.set()
 
 
+PARTS = (
+    calls,
+    full_outputs,
+    taken_port,
+    no_more_files,
+    refused_memory,
+    connections,
+    other_addresses,
+    migrations,
+    closed_logs,
+    refused_memory_of_files,
+    many_places,
+    many_tags,
+    parameters,
+    held_body,
+)
+
+
 def main() -> int:
     program = Program(sys.argv[1], str(pathlib.Path(sys.argv[2]) / "refuse.so"))
     faults: list[str] = []
     slow = [threading.Thread(target=slow_client, args=(program, *row, faults)) for row in CLIENTS]
     for thread in slow:
         thread.start()
-    for part in (calls, full_outputs, taken_port, no_more_files, refused_memory, connections):
+    for part in PARTS:
         try:
             part(program)
         except (Wrong, OSError, ValueError, subprocess.TimeoutExpired) as fault:
@@ -337,7 +711,9 @@ def main() -> int:
     for fault in faults:
         print(f"program: {fault}", file=sys.stderr)
     if not faults:
-        print("program: what it prints, its statuses and the times of its connections are as they should be")
+        print(
+            "program: what it prints, its statuses and the times of its connections are as they should be"
+        )
     return 1 if faults else 0
 
 

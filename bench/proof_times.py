@@ -28,9 +28,18 @@ FILE = re.compile(r"([^/]+?)(?:\.decls)?\.oantt[^/]*$")
 def watch():
     """A descriptor that tells of each file that is closed after it was written, on the file system of this folder and on that of /tmp."""
     libc = ctypes.CDLL(None, use_errno=True)
-    libc.fanotify_mark.argtypes = [ctypes.c_int, ctypes.c_uint, ctypes.c_uint64, ctypes.c_int, ctypes.c_char_p]
+    libc.fanotify_mark.argtypes = [
+        ctypes.c_int,
+        ctypes.c_uint,
+        ctypes.c_uint64,
+        ctypes.c_int,
+        ctypes.c_char_p,
+    ]
     events = libc.fanotify_init(0, os.O_RDONLY)
-    marked = events >= 0 and all(libc.fanotify_mark(events, ADD | WHOLE_MOUNT, CLOSED, HERE, path) == 0 for path in (b".", b"/tmp"))
+    marked = events >= 0 and all(
+        libc.fanotify_mark(events, ADD | WHOLE_MOUNT, CLOSED, HERE, path) == 0
+        for path in (b".", b"/tmp")
+    )
     if not marked:
         sys.exit(f"cannot watch files: {os.strerror(ctypes.get_errno())}")
     return events

@@ -7,7 +7,7 @@ from urllib.parse import urlencode
 
 from servers import ask, least_times, nginx
 
-from navtools.try_it import Failed, ended, free_port, started
+from navtools.serving import Failed, ended, free_port, started
 
 PROJECTS = [f"project_{number}" for number in range(30)]
 SERVERS = 3
@@ -35,11 +35,21 @@ def dump(number: int) -> str:
     lines: list[str] = []
 
     def element(kind: str, label: str, /, **members: object) -> int:
-        lines.append(json.dumps({"id": len(lines) + 1, "type": kind, "label": label, **members}, separators=(",", ":")))
+        lines.append(
+            json.dumps(
+                {"id": len(lines) + 1, "type": kind, "label": label, **members},
+                separators=(",", ":"),
+            )
+        )
         return len(lines)
 
     def span(line: int) -> int:
-        return element("vertex", "range", start={"line": line, "character": 0}, end={"line": line, "character": 9})
+        return element(
+            "vertex",
+            "range",
+            start={"line": line, "character": 0},
+            end={"line": line, "character": 9},
+        )
 
     def moniker(vertex: int, kind: str, name: str) -> None:
         own = element("vertex", "moniker", kind=kind, scheme="bench", identifier=f"{name}::run")
@@ -64,15 +74,31 @@ def dump(number: int) -> str:
     for one in ranges:
         result = element("vertex", "referenceResult")
         element("edge", "textDocument/references", outV=one, inV=result)
-        element("edge", "item", outV=result, inVs=[one], shard=document, property="definitions" if one == own else "references")
+        element(
+            "edge",
+            "item",
+            outV=result,
+            inVs=[one],
+            shard=document,
+            property="definitions" if one == own else "references",
+        )
     element("edge", "contains", outV=document, inVs=ranges)
     return "".join(f"{line}\n" for line in lines)
 
 
 def queries() -> list[tuple[str, str, str]]:
     """The project, the kind and the path of each query at a position."""
-    return [(project, kind, f"/projects/{project}/{kind}?" + urlencode({"uri": f"file:///{project}/main.rs", "line": line, "character": 3}))
-            for project in PROJECTS for kind in ("definition", "references", "hover") for line in range(3)]
+    return [
+        (
+            project,
+            kind,
+            f"/projects/{project}/{kind}?"
+            + urlencode({"uri": f"file:///{project}/main.rs", "line": line, "character": 3}),
+        )
+        for project in PROJECTS
+        for kind in ("definition", "references", "hover")
+        for line in range(3)
+    ]
 
 
 def compare(one: int, proxy: int, home: dict[str, int]) -> None:
@@ -87,13 +113,19 @@ def compare(one: int, proxy: int, home: dict[str, int]) -> None:
             if exporter and home[exporter] != home[project]:
                 expected, hovers = (200, {"contents": None}), hovers + 1
         else:
-            kept = [place for place in whole[1]["places"] if home[place["project"]] == home[project]]
-            places, missed = places + len(whole[1]["places"]), missed + len(whole[1]["places"]) - len(kept)
+            kept = [
+                place for place in whole[1]["places"] if home[place["project"]] == home[project]
+            ]
+            places, missed = places + len(whole[1]["places"]), missed + len(
+                whole[1]["places"]
+            ) - len(kept)
             expected = whole[0], {"places": kept}
         if part != expected or whole[0] != 200:
             raise Failed(f"{path}: the proxy's answer is {part}, and should be {expected}")
         equal, missing = equal + (expected == whole), missing + (expected != whole)
-    print(f"queries {len(queries())}: {equal} answers equal, {missing} without what is on another server: {missed} of {places} places, {hovers} hovers")
+    print(
+        f"queries {len(queries())}: {equal} answers equal, {missing} without what is on another server: {missed} of {places} places, {hovers} hovers"
+    )
 
 
 def compare_names(one: int, proxy: int, ports: list[int]) -> None:
@@ -102,26 +134,41 @@ def compare_names(one: int, proxy: int, ports: list[int]) -> None:
         path = f"/names?name=run&project={project}"
         if ask(one, "GET", path) != ask(proxy, "GET", path):
             raise Failed(f"{path}: other names by the proxy")
-    for path, member, key in ("/names?prefix=r", "tags", lambda tag: (tag["name"], tag["project"], tag["line"])), ("/projects", "projects", lambda p: p["name"]):
-        merged = sorted((found for port in ports for found in ask(port, "GET", path)[1][member]), key=key)
+    for path, member, key in (
+        "/names?prefix=r",
+        "tags",
+        lambda tag: (tag["name"], tag["project"], tag["line"]),
+    ), ("/projects", "projects", lambda p: p["name"]):
+        merged = sorted(
+            (found for port in ports for found in ask(port, "GET", path)[1][member]), key=key
+        )
         if merged != ask(one, "GET", path)[1][member]:
             raise Failed(f"{path}: merged otherwise")
-    print(f"names of one project through the proxy: {len(PROJECTS)} equal; names and projects of all, merged from {len(ports)} servers: equal")
+    print(
+        f"names of one project through the proxy: {len(PROJECTS)} equal; names and projects of all, merged from {len(ports)} servers: equal"
+    )
 
 
 def put_all(one: int, proxy: int) -> None:
     """Puts each project's dump and tags to both."""
     for number, project in enumerate(PROJECTS):
-        tags = f"run\tmain.rs\t/^fn run() {{ {project} }}$/;\"\tf\n"
+        tags = f'run\tmain.rs\t/^fn run() {{ {project} }}$/;"\tf\n'
         for part, body in ("lsif", dump(number)), ("tags", tags):
-            replies = [ask(port, "PUT", f"/projects/{project}/{part}?key=k_{part}", body.encode()) for port in (one, proxy)]
+            replies = [
+                ask(port, "PUT", f"/projects/{project}/{part}?key=k_{part}", body.encode())
+                for port in (one, proxy)
+            ]
             if replies[0] != replies[1] or replies[0][0] != 200:
                 raise Failed(f"{project}: {replies}")
 
 
 def homes(ports: list[int]) -> dict[str, int]:
     """The server that has each project."""
-    home = {found["name"]: port for port in ports for found in ask(port, "GET", "/projects")[1]["projects"]}
+    home = {
+        found["name"]: port
+        for port in ports
+        for found in ask(port, "GET", "/projects")[1]["projects"]
+    }
     if set(home) != set(PROJECTS):
         raise Failed("some project is on no server")
     print("projects on the servers:", *(list(home.values()).count(port) for port in ports))
@@ -131,8 +178,14 @@ def homes(ports: list[int]) -> dict[str, int]:
 def measure(one: int, proxy: int) -> None:
     """Prints what one definition request after the other takes."""
     path = queries()[0][2]
-    times = least_times({"one server": lambda: ask(one, "GET", path), "through the proxy": lambda: ask(proxy, "GET", path),
-                         "nginx, a fixed reply": lambda: ask(proxy, "GET", "/fixed")}, TIMED)
+    times = least_times(
+        {
+            "one server": lambda: ask(one, "GET", path),
+            "through the proxy": lambda: ask(proxy, "GET", path),
+            "nginx, a fixed reply": lambda: ask(proxy, "GET", "/fixed"),
+        },
+        TIMED,
+    )
     for name, taken in times.items():
         print(f"{name:22} {taken * 1e6:6.0f} microseconds a request")
 

@@ -115,6 +115,11 @@ base = sqlite3.connect(sys.argv[1], isolation_level=None)
 SHOWN = "SELECT line, first, last, parent, def, refs, hover FROM range_row WHERE slot = ?1 AND "
 START = SHOWN + "uri = ?2 AND first <= ?3 AND last > first ORDER BY first DESC, last LIMIT 1"
 PARENT = SHOWN + "line = ?2 AND uri = ?3"
+BEARERS = (
+    "SELECT slot.project, bearer.line, bearer.kind, bearer.def, bearer.refs, bearer.hover, more.decl, more.imp FROM bearer "
+    "JOIN slot ON slot.id = bearer.slot LEFT JOIN more ON more.slot = bearer.slot AND more.line = bearer.line "
+    "WHERE bearer.keytext = ?1"
+)
 IMPORT, EXPORT = 0, 1
 
 
@@ -131,13 +136,13 @@ def slot_of(project):
 
 
 def covering(slot, uri, at):
-    if one("SELECT slot FROM document WHERE slot = ?1 AND uri = ?2", slot, uri) is None:
-        return []
     found, row = [], one(START, slot, uri, at)
     while row is not None:
         if at < row[2]:
             found.append(row)
         row = None if row[3] is None else one(PARENT, slot, row[3], uri)
+    if not found:
+        one("SELECT slot FROM document WHERE slot = ?1 AND uri = ?2", slot, uri)
     return found
 
 
@@ -153,9 +158,7 @@ def picked(slot, uri, at, column, kinds):
 def bearers(own, keys, kinds, column):
     found = []
     for key in keys:
-        for slot, line, kind, *results in every("SELECT slot, line, kind, def, refs, hover FROM bearer WHERE keytext = ?1", key):
-            one("SELECT decl, imp FROM more WHERE slot = ?1 AND line = ?2", slot, line)
-            project = one("SELECT project FROM slot WHERE id = ?1", slot)[0]
+        for project, line, kind, *results in every(BEARERS, key):
             if project != own and kind in kinds and results[column - 4] is not None:
                 found.append((project, line, results[column - 4]))
     return sorted(set(found))

@@ -2,8 +2,8 @@
 # Runs `codenav replay :memory: FILE` over a list of uploads, queries and a removal, the whole list twice, with each of its requests for memory refused in
 # turn, and prints what came of it. Where the refusal comes before the first reply, the program must print `codenav: out of memory` with status 2 and no
 # reply. Else no reply is S01, and those that aren't S02 are the replies to the list without the requests that were answered S02.
-# usage: bench/replay_refused_in_turn.sh [PROGRAM [FROM [TO]]]      (the built program, without it the one of this clone, which is built first where it
-#                                                                   isn't yet; default all of the requests; needs a C compiler)
+# usage: bench/replay_refused_in_turn.sh [PROGRAM [FROM [TO [EACH]]]]      (the built program, without it the one of this clone, which is built first
+#                  where it isn't yet; default all of the requests; with 50 each 50th of them; needs a C compiler)
 set -eu
 top=$(cd "$(dirname "${BASH_SOURCE[0]}")/.." && pwd)
 . "$top/bench/refusal.sh"
@@ -11,10 +11,10 @@ find_program "${1-}"
 room=$(mktemp -d)
 trap 'rm -rf "$room"' EXIT
 build_refusal "$room"
-python3 - "$room" "$program" "${2:-1}" "${3:-1000000}" <<'PY'
+python3 - "$room" "$program" "${2:-1}" "${3:-1000000}" "${4:-1}" <<'PY'
 import json, os, subprocess, sys
 
-room, program, first, last = sys.argv[1], sys.argv[2], int(sys.argv[3]), int(sys.argv[4])
+room, program, first, last, each = sys.argv[1], sys.argv[2], int(sys.argv[3]), int(sys.argv[4]), int(sys.argv[5])
 
 
 def dump(*elements):
@@ -65,7 +65,7 @@ last = min(last, int(count))
 assert status == 0 and len(whole) == len(asked) and STORE not in whole and MEMORY not in whole, whole
 known = {(): whole}
 early = answered = 0
-for number in range(first, last + 1):
+for number in range(first, last + 1, each):
     status, replies, told = replay(asked, number)
     if status == 2 and not replies and told == "codenav: out of memory\n":
         early += 1
@@ -78,5 +78,5 @@ for number in range(first, last + 1):
     if [body for body in replies if body != MEMORY] != known[missing]:
         sys.exit(f"request {number} refused: {replies} in place of {known[missing]}")
     answered += len(missing) > 0
-print(f"of {int(count)} requests {first} to {last} refused in turn: {early} before the first reply, {answered} answered by S02, none by S01")
+print(f"of {int(count)} requests {first} to {last} refused in turn, each {each}th: {early} before the first reply, {answered} answered by S02, none by S01")
 PY

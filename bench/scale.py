@@ -17,7 +17,7 @@ from urllib.parse import urlencode
 from proxy import PROJECTS as NAMES, dump
 from servers import TOP, ask, least_times, nginx, resident_bytes
 
-from navtools.try_it import Failed, ended, free_port, started
+from navtools.serving import Failed, ended, free_port, started
 
 PROJECTS = 8
 TAGGED = {"memory": 1, "file": 8}
@@ -40,9 +40,11 @@ def serving(program: str, database: str) -> Iterator[tuple["subprocess.Popen[byt
 
 def query(port: int, path: str, **parameters: object) -> Callable[[], object]:
     """A query that must be answered."""
+
     def call() -> None:
         if ask(port, "GET", f"{path}?{urlencode(parameters)}")[0] != 200:
             raise Failed(f"{path} wasn't answered")
+
     return call
 
 
@@ -70,38 +72,64 @@ def copied(database: pathlib.Path, copy: pathlib.Path) -> pathlib.Path:
     return copy
 
 
-def measure_growth(where: str, size: Callable[[], int], port: int, part: str, body: bytes, projects: int) -> None:
+def measure_growth(
+    where: str, size: Callable[[], int], port: int, part: str, body: bytes, projects: int
+) -> None:
     """Prints by how much a size grows with a part, of so many projects that have the same."""
     before = size()
     for number in range(projects):
         put(port, f"/projects/{part}_{number}/{part}", body)
     grown = (size() - before) / projects
     count = body.count(b"\n")
-    print(f"{where}: {projects} times {part} with {count} lines: {grown / count:.0f} bytes a line, {grown / len(body):.2f} of the body", flush=True)
+    print(
+        f"{where}: {projects} times {part} with {count} lines: {grown / count:.0f} bytes a line, {grown / len(body):.2f} of the body",
+        flush=True,
+    )
 
 
 def measure_queries(where: str, port: int, plain: int) -> None:
     """Prints what queries take over a small project and over a great one, where others are as great."""
     small = {"uri": "file:///a.ts", "line": 2, "character": 1}
     great = {"uri": "file:///src/part_2.rs", "line": 9, "character": 9}
-    calls = {"nginx, a fixed reply": query(plain, "/fixed"), "projects": query(port, "/projects"), "names": query(port, "/names", name="name_000007", project="tags_0"),
-             "definition, 11 elements": query(port, "/projects/small/definition", **small),
-             **{f"{what}, great": query(port, f"/projects/lsif_0/{what}", **great) for what in ("definition", "references", "hover")},
-             "definition of an import": query(port, "/projects/joined/definition", uri=f"file:///{NAMES[0]}/main.rs", line=1, character=3)}
+    calls = {
+        "nginx, a fixed reply": query(plain, "/fixed"),
+        "projects": query(port, "/projects"),
+        "names": query(port, "/names", name="name_000007", project="tags_0"),
+        "definition, 11 elements": query(port, "/projects/small/definition", **small),
+        **{
+            f"{what}, great": query(port, f"/projects/lsif_0/{what}", **great)
+            for what in ("definition", "references", "hover")
+        },
+        "definition of an import": query(
+            port,
+            "/projects/joined/definition",
+            uri=f"file:///{NAMES[0]}/main.rs",
+            line=1,
+            character=3,
+        ),
+    }
     times = least_times(calls, QUERIES)
     for what, taken in times.items():
         beside = taken / times["nginx, a fixed reply"]
-        print(f"{where}: {what:24} {taken * 1e6:7.0f} microseconds, {1 / taken:6.0f} a second, {beside:.2f} of nginx", flush=True)
+        print(
+            f"{where}: {what:24} {taken * 1e6:7.0f} microseconds, {1 / taken:6.0f} a second, {beside:.2f} of nginx",
+            flush=True,
+        )
 
 
 def measure_puts(program: str, where: str, port: int, dumps: list[pathlib.Path]) -> None:
     """Prints what puts take that make a project, and those in the place of a dump, beside a check of the same dump by the program: the least of five turns, or
-    of one that takes ten seconds. Where a put in the place of a dump takes thirty times the check, none is made of greater dumps."""
+    of one that takes ten seconds. Where a put in the place of a dump takes thirty times the check, none is made of greater dumps.
+    """
     has_replacing = True
     for path in dumps:
         body, least = path.read_bytes(), {}
-        calls = {"new": lambda: put(port, f"/projects/new_{next(KEYS)}/lsif", body),
-                 "check": lambda: subprocess.run([program, "check-lsif", str(path)], stdout=subprocess.DEVNULL, check=True)}
+        calls = {
+            "new": lambda: put(port, f"/projects/new_{next(KEYS)}/lsif", body),
+            "check": lambda: subprocess.run(
+                [program, "check-lsif", str(path)], stdout=subprocess.DEVNULL, check=True
+            ),
+        }
         if has_replacing:
             put(port, f"/projects/{path.stem}/lsif", body)
             calls["replacing"] = lambda: put(port, f"/projects/{path.stem}/lsif", body)
@@ -114,7 +142,10 @@ def measure_puts(program: str, where: str, port: int, dumps: list[pathlib.Path])
                 break
         check, count = least.pop("check"), len(body.splitlines())
         for what, taken in least.items():
-            print(f"{where}: put of {count:>5} elements, {what:9} {taken * 1e3:10.2f} ms, {1 / taken:6.1f} a second, {taken / check:.2f} of check-lsif", flush=True)
+            print(
+                f"{where}: put of {count:>5} elements, {what:9} {taken * 1e3:10.2f} ms, {1 / taken:6.1f} a second, {taken / check:.2f} of check-lsif",
+                flush=True,
+            )
         has_replacing = has_replacing and least["replacing"] < 30 * check
 
 
@@ -138,7 +169,10 @@ def check_seconds(database: pathlib.Path) -> float:
         for _ in range(STARTS):
             begin = time.perf_counter()
             base = sqlite3.connect(copy)
-            if base.execute("PRAGMA integrity_check").fetchall() != [("ok",)] or base.execute("PRAGMA foreign_key_check").fetchall():
+            if (
+                base.execute("PRAGMA integrity_check").fetchall() != [("ok",)]
+                or base.execute("PRAGMA foreign_key_check").fetchall()
+            ):
                 raise Failed(f"SQLite finds {database} unsound")
             base.close()
             found.append(time.perf_counter() - begin)
@@ -148,32 +182,54 @@ def check_seconds(database: pathlib.Path) -> float:
 def measure_starts(program: str, database: pathlib.Path) -> None:
     """Prints how long a program takes from its start until it listens: over memory, a new file, an empty one, and the full one, beside SQLite's checks of it."""
     new = [str(database.with_name(f"new_{number}.db")) for number in range(STARTS)]
-    for what, databases in ("memory", [":memory:"] * STARTS), ("a new file", new), ("an empty file", new):
-        print(f"start until it listens, over {what}: {start_seconds(program, databases) * 1e3:.1f} ms", flush=True)
-    taken, check, size = start_seconds(program, [str(database)] * STARTS), check_seconds(database), file_bytes(database)
-    print(f"start until it listens, over the file of {size / 1e6:.0f} MB: {taken * 1e3:.0f} ms, {size / taken / 1e6:.0f} MB a second, {taken / check:.2f} of SQLite's checks")
+    for what, databases in (
+        ("memory", [":memory:"] * STARTS),
+        ("a new file", new),
+        ("an empty file", new),
+    ):
+        print(
+            f"start until it listens, over {what}: {start_seconds(program, databases) * 1e3:.1f} ms",
+            flush=True,
+        )
+    taken, check, size = (
+        start_seconds(program, [str(database)] * STARTS),
+        check_seconds(database),
+        file_bytes(database),
+    )
+    print(
+        f"start until it listens, over the file of {size / 1e6:.0f} MB: {taken * 1e3:.0f} ms, {size / taken / 1e6:.0f} MB a second, {taken / check:.2f} of SQLite's checks"
+    )
 
 
 def measure(program: str, folder: pathlib.Path) -> None:
     """Measures a server over memory and one over a file, which get the same, and then starts over that file."""
     small, great, tags = TOP / "demo" / "base.lsif", folder / "great.lsif", folder / "great.tags"
     database, plain = folder / "index.db", free_port()
-    with tempfile.TemporaryDirectory() as held, nginx(held, plain), serving(program, ":memory:") as memory, serving(program, str(database)) as file:
+    with tempfile.TemporaryDirectory() as held, nginx(held, plain), serving(
+        program, ":memory:"
+    ) as memory, serving(program, str(database)) as file:
         ports = {"memory": memory[1], "file": file[1]}
-        sizes = {"memory": lambda: resident_bytes(memory[0].pid), "file": lambda: file_bytes(database)}
+        sizes = {
+            "memory": lambda: resident_bytes(memory[0].pid),
+            "file": lambda: file_bytes(database),
+        }
         for where, port in ports.items():
             put(port, "/projects/small/lsif", small.read_bytes())
             put(port, "/projects/joined/lsif", dump(0).encode())
             measure_growth(where, sizes[where], port, "lsif", great.read_bytes(), PROJECTS)
             measure_growth(where, sizes[where], port, "tags", tags.read_bytes(), TAGGED[where])
-        print(f"file: {database.stat().st_size} bytes, its log {log_of(database).stat().st_size}; the program over it holds {resident_bytes(file[0].pid)} bytes in memory")
+        print(
+            f"file: {database.stat().st_size} bytes, its log {log_of(database).stat().st_size}; the program over it holds {resident_bytes(file[0].pid)} bytes in memory"
+        )
         filled = copied(database, folder / "filled.db")
         for where, port in ports.items():
             measure_queries(where, port, plain)
             measure_puts(program, where, port, [small, folder / "middle.lsif", great])
     measure_starts(program, filled)
     with serving(program, ":memory:") as fresh:
-        measure_puts(program, "memory, nothing else in it", fresh[1], [small, folder / "middle.lsif", great])
+        measure_puts(
+            program, "memory, nothing else in it", fresh[1], [small, folder / "middle.lsif", great]
+        )
 
 
 def main() -> int:

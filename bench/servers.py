@@ -56,8 +56,13 @@ def ask(port: int, method: str, path: str, body: Optional[bytes] = None) -> tupl
 def nginx(folder: str, port: int, upstream: str = "", locations: str = "") -> Iterator[None]:
     """An nginx on a port, which has at least the path `/fixed`, with a fixed reply."""
     config = pathlib.Path(folder, "nginx.conf")
-    config.write_text(CONFIG.format(folder=folder, port=port, upstream=upstream, locations=locations), encoding="utf-8")
-    process = subprocess.Popen(["/usr/sbin/nginx", "-p", folder, "-e", f"{folder}/error.log", "-c", str(config)])
+    config.write_text(
+        CONFIG.format(folder=folder, port=port, upstream=upstream, locations=locations),
+        encoding="utf-8",
+    )
+    process = subprocess.Popen(
+        ["/usr/sbin/nginx", "-p", folder, "-e", f"{folder}/error.log", "-c", str(config)]
+    )
     try:
         wait_for(lambda: ask(port, "GET", "/fixed")[0] == 200)
         yield

@@ -9,7 +9,7 @@ from typing import Optional
 from urllib.parse import urlencode
 
 SECONDS = 60
-FIRST_LINES = '!_TAG_FILE_FORMAT\t2\t//\n!_TAG_FILE_SORTED\t1\t//\n'
+FIRST_LINES = "!_TAG_FILE_FORMAT\t2\t//\n!_TAG_FILE_SORTED\t1\t//\n"
 APART = 8
 
 
@@ -34,6 +34,7 @@ class NotStarted(Exception):
 
 
 # ---- servers
+
 
 def free_port() -> int:
     """A port of this machine that nobody listens on now."""
@@ -61,7 +62,10 @@ class Server:
 
     def ask(self, method: str, path: str, body: bytes = b"") -> bytes:
         """The reply to a request, as it's written."""
-        text = f"{method} {path} HTTP/1.1\r\nHost: localhost\r\nContent-Length: {len(body)}\r\n\r\n".encode() + body
+        text = (
+            f"{method} {path} HTTP/1.1\r\nHost: localhost\r\nContent-Length: {len(body)}\r\n\r\n".encode()
+            + body
+        )
         connected, sent, reply = False, False, b""
         try:
             with socket.create_connection(("127.0.0.1", self.port), SECONDS) as peer:
@@ -87,14 +91,27 @@ class Server:
         self.process.communicate()
 
 
-def launched(program: str, database: str, before: tuple[str, ...] = (), requests: int = 1_000_000) -> Server:
+def launched(
+    program: str, database: str, before: tuple[str, ...] = (), requests: int = 1_000_000
+) -> Server:
     """A server over a database, of so many requests, which may not listen yet; it's started by the words before it."""
     port = free_port()
     words = [*before, program, "serve", database, "--port", str(port), "--requests", str(requests)]
-    return Server(subprocess.Popen(words, stdin=subprocess.DEVNULL, stdout=subprocess.PIPE, stderr=subprocess.PIPE), port)
+    return Server(
+        subprocess.Popen(
+            words, stdin=subprocess.DEVNULL, stdout=subprocess.PIPE, stderr=subprocess.PIPE
+        ),
+        port,
+    )
 
 
-def started(program: str, database: str, before: tuple[str, ...] = (), requests: int = 1_000_000, seconds: float = SECONDS) -> Server:
+def started(
+    program: str,
+    database: str,
+    before: tuple[str, ...] = (),
+    requests: int = 1_000_000,
+    seconds: float = SECONDS,
+) -> Server:
     """A server over a database that listens."""
     server = launched(program, database, before, requests)
     server.listens(seconds)
@@ -113,10 +130,15 @@ def ended(server: Server) -> None:
 
 # ---- replies
 
+
 def is_whole(reply: bytes) -> bool:
     """Whether there is a head and as many bytes behind it as it says."""
     head, end, body = reply.partition(b"\r\n\r\n")
-    lengths = [line.partition(b":")[2] for line in head.split(b"\r\n") if line.lower().startswith(b"content-length:")]
+    lengths = [
+        line.partition(b":")[2]
+        for line in head.split(b"\r\n")
+        if line.lower().startswith(b"content-length:")
+    ]
     return bool(end) and len(lengths) == 1 and len(body) == int(lengths[0])
 
 
@@ -141,6 +163,7 @@ def accepted(part: str, count: int) -> bytes:
 
 # ---- uploads
 
+
 def document_of(project: str) -> str:
     return f"file:///{project}/main.rs"
 
@@ -150,9 +173,12 @@ def said(project: str, number: int, function: int) -> str:
     return f"function {function} of {project}, upload {number}"
 
 
-def dump(project: str, number: int, functions: int, profile: int = 1, joined: Optional[str] = None) -> bytes:
+def dump(
+    project: str, number: int, functions: int, profile: int = 1, joined: Optional[str] = None
+) -> bytes:
     """The dump of a project: functions that are each defined in one line and called in the next. Every eighth one is exported, and below its call
-    another project's function of the same number is called. In profile 2 each call is a declaration too. Ids are numbers of lines."""
+    another project's function of the same number is called. In profile 2 each call is a declaration too. Ids are numbers of lines.
+    """
     lines: list[str] = []
     ranges: list[int] = []
 
@@ -161,13 +187,22 @@ def dump(project: str, number: int, functions: int, profile: int = 1, joined: Op
         return len(lines)
 
     def edge(label: str, source: int, target: int) -> None:
-        lines.append(f'{{"id":{len(lines) + 1},"type":"edge","label":"{label}","outV":{source},"inV":{target}}}')
+        lines.append(
+            f'{{"id":{len(lines) + 1},"type":"edge","label":"{label}","outV":{source},"inV":{target}}}'
+        )
 
     def item(source: int, targets: str, members: str = "") -> None:
-        lines.append(f'{{"id":{len(lines) + 1},"type":"edge","label":"item","outV":{source},"inVs":[{targets}],"shard":2{members}}}')
+        lines.append(
+            f'{{"id":{len(lines) + 1},"type":"edge","label":"item","outV":{source},"inVs":[{targets}],"shard":2{members}}}'
+        )
 
     def span(line: int) -> int:
-        ranges.append(vertex("range", f',"start":{{"line":{line},"character":0}},"end":{{"line":{line},"character":9}}'))
+        ranges.append(
+            vertex(
+                "range",
+                f',"start":{{"line":{line},"character":0}},"end":{{"line":{line},"character":9}}',
+            )
+        )
         return ranges[-1]
 
     def result(label: str, request: str, owner: int, members: str = "") -> int:
@@ -176,7 +211,9 @@ def dump(project: str, number: int, functions: int, profile: int = 1, joined: Op
         return found
 
     def moniker(owner: int, kind: str, name: str, function: int) -> None:
-        found = vertex("moniker", f',"kind":"{kind}","scheme":"bench","identifier":"{name}::{function}"')
+        found = vertex(
+            "moniker", f',"kind":"{kind}","scheme":"bench","identifier":"{name}::{function}"'
+        )
         package = vertex("packageInformation", f',"name":"{name}","manager":"bench","version":"1"')
         edge("packageInformation", found, package)
         edge("moniker", owner, found)
@@ -192,23 +229,36 @@ def dump(project: str, number: int, functions: int, profile: int = 1, joined: Op
         references = result("referenceResult", "references", both)
         item(references, str(own), ',"property":"definitions"')
         item(references, str(call), ',"property":"references"')
-        result("hoverResult", "hover", both, f',"result":{{"contents":"{said(project, number, function)}"}}')
+        result(
+            "hoverResult",
+            "hover",
+            both,
+            f',"result":{{"contents":"{said(project, number, function)}"}}',
+        )
         if profile == 2:
             item(result("declarationResult", "declaration", both), str(call))
         if function % APART == 0:
             moniker(both, "export", project, function)
             if joined:
                 moniker(span(4 * function + 2), "import", joined, function)
-    lines.append(f'{{"id":{len(lines) + 1},"type":"edge","label":"contains","outV":2,"inVs":[{",".join(map(str, ranges))}]}}')
+    lines.append(
+        f'{{"id":{len(lines) + 1},"type":"edge","label":"contains","outV":2,"inVs":[{",".join(map(str, ranges))}]}}'
+    )
     return "".join(f"{line}\n" for line in lines).encode()
 
 
 def tags(project: str, number: int, count: int) -> bytes:
     """A tags file of so many tags, of which the first says which upload it is."""
     first = f'about\tmain.rs\t/^upload {number} of {project}$/;"\tf\n'
-    return (FIRST_LINES + first + "".join(f'name_{one:06}\tmain.rs\t{one};"\tf\tline:{one}\n' for one in range(1, count))).encode()
+    return (
+        FIRST_LINES
+        + first
+        + "".join(f'name_{one:06}\tmain.rs\t{one};"\tf\tline:{one}\n' for one in range(1, count))
+    ).encode()
 
 
 def at(project: str, kind: str, line: int) -> str:
     """The path of a query at the beginning of a line of a project's document."""
-    return f"/projects/{project}/{kind}?" + urlencode({"uri": document_of(project), "line": line, "character": 3})
+    return f"/projects/{project}/{kind}?" + urlencode(
+        {"uri": document_of(project), "line": line, "character": 3}
+    )

@@ -1,0 +1,182 @@
+"""Runs what the proofs can't show: the tests of the tools, and the scripts that ask, kill, fill and refuse the built program, or try it in an editor or a browser.
+
+usage: bench/beside.py [--only NAME[,NAME..]] [--and 'N passed, M failed'] PROGRAM
+
+The gate calls it behind `rt ci`, with that command's last line, which is added to its own. Parts run side by side, one processor less than there are, and beside them
+the one that mostly waits; one that measures a time runs at the end, alone. What needs a program that isn't here is left out, and said, with the command that installs it. The last line is
+`N passed, M failed`, and the status is 1 where something failed.
+"""
+
+import argparse
+import os
+import re
+import shutil
+import signal
+import subprocess
+import sys
+import tempfile
+import time
+from concurrent.futures import ThreadPoolExecutor
+from dataclasses import dataclass
+from pathlib import Path
+from typing import Optional
+
+TOP = Path(__file__).resolve().parent.parent
+# the longest that a part may take, also on a slow machine: on four quiet processors all take ten minutes at most
+SECONDS = 1500
+COUNTED = re.compile(r"(\d+) passed, (\d+) failed")
+RAN = re.compile(r"^Ran (\d+) tests? in ", re.M)
+NOT_PASSED = re.compile(r"(?:failures|errors|unexpected successes)=(\d+)")
+SKIPPED = re.compile(r"skipped=(\d+)")
+
+
+@dataclass(frozen=True)
+class Part:
+    """A command, the programs that it needs, and the Debian packages that have them."""
+
+    name: str
+    words: tuple[str, ...]
+    needs: tuple[str, ...] = ()
+    packages: str = ""
+    folder: str = "."
+    waits: bool = False
+    runs_alone: bool = False
+    mounts: bool = False
+
+
+def parts(program: str) -> list[Part]:
+    """All parts, those that take longest first."""
+    compiler = os.environ.get("CC", "cc")
+    return [
+        Part("program", ("bench/program.sh", program), (compiler,), "gcc libc6-dev", waits=True),
+        Part(
+            "tools",
+            ("python3", "-B", "-m", "unittest", "discover", "-s", "tests", "-t", "."),
+            folder="tools",
+        ),
+        Part(
+            "refused",
+            ("bench/replay_refused_in_turn.sh", program, "1", "1000000", "50"),
+            (compiler,),
+            "gcc libc6-dev",
+        ),
+        Part("kills", ("bench/kills.sh", program, "40")),
+        Part("disk", ("bench/full_disk.sh", program), mounts=True),
+        Part("neovim", ("tools/tests/neovim", program), ("nvim",), "neovim"),
+        Part(
+            "chromium",
+            ("tools/tests/chromium", program),
+            ("chromium", "chromedriver", "ctags", "rust-analyzer"),
+            "chromium chromium-driver universal-ctags rust-web-analyzer librust-memchr-dev",
+            runs_alone=True,
+        ),
+    ]
+
+
+def may_mount() -> bool:
+    """Whether a process of this user may have file systems of its own."""
+    as_root = [] if os.getuid() == 0 else ["--map-root-user"]
+    tried = ["unshare", "--mount", *as_root, "mount", "-t", "tmpfs", "none", "/mnt"]
+    try:
+        return subprocess.run(tried, capture_output=True, check=False).returncode == 0
+    except OSError:
+        return False
+
+
+def lacking(part: Part) -> Optional[str]:
+    """Why a part is left out, if it is."""
+    missing = [name for name in part.needs if not shutil.which(name)]
+    if missing:
+        return f"{', '.join(missing)} not found: apt-get install {part.packages}"
+    if part.mounts and not may_mount():
+        return "this user may not mount file systems: run it as root"
+    return None
+
+
+@dataclass(frozen=True)
+class Result:
+    """How many checks of a part passed and failed."""
+
+    passed: int
+    failed: int
+
+
+def counted(part: Part, text: str, is_well: bool) -> Result:
+    """What a part counts: the tools' tests one by one, a script once."""
+    ran = RAN.search(text) if part.name == "tools" else None
+    if not ran:
+        return Result(int(is_well), int(not is_well))
+    failed = sum(int(number) for number in NOT_PASSED.findall(text))
+    skipped = sum(int(number) for number in SKIPPED.findall(text))
+    # a run that failed without a count, as of a module that can't be loaded, isn't well either
+    failed = max(failed, int(not is_well))
+    return Result(max(int(ran[1]) - failed - skipped, 0), failed)
+
+
+def run(part: Part) -> Result:
+    """Runs a part, and prints what it printed, all at once."""
+    start = time.monotonic()
+    with tempfile.TemporaryFile("w+", errors="replace") as out:
+        with subprocess.Popen(
+            part.words,
+            cwd=TOP / part.folder,
+            stdin=subprocess.DEVNULL,
+            stdout=out,
+            stderr=subprocess.STDOUT,
+            start_new_session=True,
+        ) as ran:
+            try:
+                status: object = ran.wait(SECONDS)
+            except subprocess.TimeoutExpired:
+                os.killpg(ran.pid, signal.SIGKILL)
+                status = f"killed after {SECONDS} seconds"
+        out.seek(0)
+        text = out.read()
+    result = counted(part, text, status == 0)
+    said = "passed" if status == 0 else f"FAILED, status {status}"
+    end = "" if text.endswith("\n") or not text else "\n"
+    took = time.monotonic() - start
+    print(f"== {part.name}\n{text}{end}{part.name}: {said}, in {took:.0f} s", flush=True)
+    return result
+
+
+def main() -> int:
+    """Answers 0 where nothing failed."""
+    said = (__doc__ or "").strip().split("\n")
+    options = argparse.ArgumentParser(description=said[0])
+    options.add_argument("--only", help="these parts, by their names, with commas between them")
+    options.add_argument("--and", dest="also", default="", help="a line to add to the last one")
+    options.add_argument("program", help="the built program, as crates/codenav/out/codenav")
+    given = options.parse_args()
+    program = os.path.abspath(given.program)
+    if not os.access(program, os.X_OK):
+        sys.exit(f"beside.py: {given.program} is no program")
+    every = parts(program)
+    wanted = given.only.split(",") if given.only else [part.name for part in every]
+    unknown = set(wanted) - {part.name for part in every}
+    if unknown:
+        sys.exit(f"beside.py: no such part: {', '.join(sorted(unknown))}")
+    os.environ["PATH"] = f"/usr/bin:{os.environ['PATH']}"
+    chosen = [part for part in every if part.name in wanted]
+    left_out = {part.name: why for part in chosen if (why := lacking(part)) is not None}
+    chosen = [part for part in chosen if part.name not in left_out]
+    lanes = max(len(os.sched_getaffinity(0)) - 1, 1)
+    with ThreadPoolExecutor(1) as waiting, ThreadPoolExecutor(lanes) as working:
+        jobs = [
+            (waiting if part.waits else working).submit(run, part)
+            for part in chosen
+            if not part.runs_alone
+        ]
+        results = [job.result() for job in jobs]
+    results += [run(part) for part in chosen if part.runs_alone]
+    for name, why in left_out.items():
+        print(f"left out: {name}: {why}")
+    before = COUNTED.search(given.also)
+    passed = sum(result.passed for result in results) + (int(before[1]) if before else 0)
+    failed = sum(result.failed for result in results) + (int(before[2]) if before else 0)
+    print(f"{passed} passed, {failed} failed", flush=True)
+    return int(failed > 0)
+
+
+if __name__ == "__main__":
+    sys.exit(main())

@@ -1,0 +1,214 @@
+"""Shows that the gate fails where it should: breaks one thing that each part of bench/beside.py checks, and asks that this part fails; unbroken, each must pass.
+
+usage: bench/gate_fails.py [--only CASE[,CASE..]] PROGRAM      (the built program, as crates/codenav/out/codenav; run by hand)
+
+What is broken stands in a clone of the repository as it's committed, or in a program that stands before the built one. Last, the whole `.ci/run` is run in a clone
+with a tool broken, over a command `rt` that says that all is proved: its status and its last line must say that something failed.
+"""
+
+import argparse
+import os
+import re
+import shutil
+import subprocess
+import sys
+import tempfile
+from dataclasses import dataclass
+from pathlib import Path
+
+TOP = Path(__file__).resolve().parent.parent
+LAST = re.compile(r"^(\d+) passed, (\d+) failed$")
+
+# programs that stand before the built one, which is REAL: each does one thing wrong
+WRONG_VERSION = """#!/usr/bin/env bash
+[ "$*" != --version ] || { echo "codenav 0.0.0"; exit; }
+exec REAL "$@"
+"""
+FORGETS = """#!/usr/bin/env bash
+# serves a new database each time
+[ "${1-}" != serve ] || set -- serve "$(mktemp -u)" "${@:3}"
+exec REAL "$@"
+"""
+TAKES_ANY_FILE = """#!/usr/bin/env bash
+# ends well where the file is no database
+if [ "${1-}" = serve ] && [ -s "$2" ] && [ "$(head -c 6 "$2")" != SQLite ]; then exit 0; fi
+exec REAL "$@"
+"""
+WRONG_STATUS = """#include <sys/wait.h>
+#include <unistd.h>
+/* ends with status 1 in the place of 2 */
+int main(int count, char **words) {
+    int status;
+    if (!fork()) { execv("REAL", words); _exit(9); }
+    wait(&status);
+    _exit(WEXITSTATUS(status) == 2 ? 1 : WEXITSTATUS(status));
+}
+"""
+PROVED = """#!/usr/bin/env bash
+echo "1 passed, 0 failed"
+"""
+
+
+@dataclass(frozen=True)
+class Case:
+    """A part, and what is broken of it: the program, or a text of a file of the clone."""
+
+    name: str
+    part: str
+    program: str = ""
+    file: str = ""
+    old: str = ""
+    new: str = ""
+
+
+CASES = [
+    Case("program", "program", program=WRONG_VERSION),
+    Case("kills", "kills", program=FORGETS),
+    Case("disk", "disk", program=TAKES_ANY_FILE),
+    Case("refused", "refused", program=WRONG_STATUS),
+    Case(
+        "tools",
+        "tools",
+        file="tools/navtools/jsonrpc.py",
+        old='b"Content-Length: %d',
+        new='b"Content-Size: %d',
+    ),
+    Case(
+        "neovim",
+        "neovim",
+        file="tools/navtools/jsonrpc.py",
+        old='b"Content-Length: %d',
+        new='b"Content-Size: %d',
+    ),
+    Case(
+        "chromium",
+        "chromium",
+        file="tools/navtools/browse_page/page.js",
+        old='mark.id = "word"',
+        new='mark.id = "world"',
+    ),
+]
+
+
+def clone(to: Path) -> None:
+    """A clone of what is committed."""
+    subprocess.run(["git", "clone", "-q", TOP, to], check=True)
+
+
+def broken(case: Case, folder: Path, real: str) -> tuple[Path, str]:
+    """The clone and the program to run, one of them broken."""
+    top = folder / "clone"
+    clone(top)
+    if case.file:
+        file = top / case.file
+        text = file.read_text()
+        if text.count(case.old) != 1:
+            sys.exit(f"gate_fails.py: {case.file} has not one {case.old!r}")
+        file.write_text(text.replace(case.old, case.new))
+        return top, real
+    text = case.program.replace("REAL", real)
+    program = folder / "codenav"
+    if text.startswith("#!"):
+        program.write_text(text)
+        program.chmod(0o755)
+    else:
+        (folder / "wrong.c").write_text(text)
+        compiler = os.environ.get("CC", "cc")
+        subprocess.run([compiler, "-O2", folder / "wrong.c", "-o", program], check=True)
+    return top, str(program)
+
+
+def counts_of(words: list[str], top: Path, path: str = "") -> tuple[int, int, int, str]:
+    """The status of a command, how many it says passed and failed in its last line, and all that it printed."""
+    env = {**os.environ, "PATH": path + os.environ["PATH"]}
+    ran = subprocess.run(
+        words,
+        cwd=top,
+        env=env,
+        stdin=subprocess.DEVNULL,
+        stdout=subprocess.PIPE,
+        stderr=subprocess.STDOUT,
+        text=True,
+        errors="replace",
+        check=False,
+    )
+    last = LAST.match((ran.stdout.splitlines() or [""])[-1])
+    passed, failed = (int(last[1]), int(last[2])) if last else (-1, -1)
+    return ran.returncode, passed, failed, ran.stdout
+
+
+def ask(top: Path, part: str, program: str, may_pass: bool) -> bool:
+    """Whether a part passes or fails as it should; it says which."""
+    words = ["python3", "-B", "bench/beside.py", "--only", part, program]
+    status, passed, failed, text = counts_of(words, top)
+    if "left out:" in text:
+        print(f"{part}: not tried: {text.splitlines()[-2]}", flush=True)
+        return True
+    is_well = (
+        (status == 0 and failed == 0 and passed > 0) if may_pass else (status == 1 and failed > 0)
+    )
+    said = "unbroken" if may_pass else "broken"
+    print(
+        f"{part}, {said}: {passed} passed, {failed} failed, status {status}: {'as it should be' if is_well else 'NOT AS IT SHOULD BE'}",
+        flush=True,
+    )
+    if not is_well:
+        print(text)
+    return is_well
+
+
+def ask_gate(folder: Path, real: str) -> bool:
+    """Whether `.ci/run` fails where a tool is broken, though all is proved; and where the text of an edit that must be refused doesn't stand in its file."""
+    tools = next(case for case in CASES if case.name == "tools")
+    top, program = broken(tools, folder, real)
+    to = top / "crates/codenav/out"
+    to.mkdir(parents=True)
+    shutil.copy(program, to / "codenav")
+    stub = folder / "bin"
+    stub.mkdir()
+    (stub / "rt").write_text(PROVED)
+    (stub / "rt").chmod(0o755)
+    status, passed, failed, text = counts_of(["bash", ".ci/run"], top, f"{stub}:")
+    is_red = status != 0 and passed > 0 and failed > 0
+    print(
+        f"the gate with a tool broken: {passed} passed, {failed} failed, status {status}: {'as it should be' if is_red else 'NOT AS IT SHOULD BE'}",
+        flush=True,
+    )
+    edit = next(iter(sorted(top.glob("crates/*/must-fail/*.edit"))))
+    edit.write_text(edit.read_text().replace("old: ", "old: nowhere ", 1))
+    status, _, _, unfit = counts_of(["bash", ".ci/run"], top, f"{stub}:")
+    print(f"the gate with an edit that doesn't fit: status {status}", flush=True)
+    if not is_red or status == 0:
+        print(text, unfit)
+    return is_red and status != 0
+
+
+def main() -> int:
+    """Answers 0 where each part fails as it should."""
+    said = (__doc__ or "").strip().split("\n")
+    options = argparse.ArgumentParser(description=said[0])
+    options.add_argument(
+        "--only", help="these cases, with commas between them; `gate` for the last"
+    )
+    options.add_argument("program", help="the built program")
+    given = options.parse_args()
+    real = os.path.abspath(given.program)
+    wanted = given.only.split(",") if given.only else [*(case.name for case in CASES), "gate"]
+    wrong = 0
+    for case in CASES:
+        if case.name in wanted:
+            with tempfile.TemporaryDirectory(prefix="gate-") as folder:
+                top, program = broken(case, Path(folder), real)
+                wrong += not ask(top, case.part, program, False)
+                if case.file:
+                    subprocess.run(["git", "checkout", "-q", case.file], cwd=top, check=True)
+                wrong += not ask(top, case.part, real, True)
+    if "gate" in wanted:
+        with tempfile.TemporaryDirectory(prefix="gate-") as folder:
+            wrong += not ask_gate(Path(folder), real)
+    print(f"{wrong} not as they should be" if wrong else "each part fails where it should")
+    return int(wrong > 0)
+
+
+if __name__ == "__main__":
+    sys.exit(main())
