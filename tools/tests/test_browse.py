@@ -10,46 +10,69 @@ import unittest
 from contextlib import redirect_stderr
 from typing import Any, Optional
 from unittest import mock
+from urllib.parse import urlencode
 
-from navtools import browse, curl
-from navtools.browse import Browser, Folder, Pages
+from navtools import browse, questions
+from navtools.browsing import answers, folder
+from navtools.browsing.answers import Browser
+from navtools.browsing.finder import found as found_files
+from navtools.browsing.folder import Folder
+from navtools.browsing.markdown import ELEMENTS, tree_of
+from navtools.browsing.server import Pages
+from navtools.client import Answer
+from navtools.workspace import Settings
+from tests.repository import InRepository
 
 CROSS = {"Sec-Fetch-Site": "cross-site"}
-PLACE = {"project": "app", "uri": "", "start": {"line": 1, "character": 3}, "end": {"line": 1, "character": 6}}
-TAG = {"project": "app", "name": "run", "file": "src/a.rs", "address": "/^fn run() {}$/", "fields": [], "kind": "f", "line": 9}
+PLACE = {
+    "project": "app",
+    "uri": "",
+    "start": {"line": 1, "character": 3},
+    "end": {"line": 1, "character": 6},
+}
+TAG = {
+    "project": "app",
+    "name": "run",
+    "file": "src/a.rs",
+    "address": "/^fn run() {}$/",
+    "fields": [],
+    "kind": "f",
+    "line": 9,
+}
 
 
-class Browse(unittest.TestCase):
-    def setUp(self) -> None:
-        self.home = tempfile.TemporaryDirectory()
-        self.top = os.path.join(self.home.name, "shown")
-        os.makedirs(os.path.join(self.top, "src", "deep"))
-        self.write("src/a.rs", "// <script>alert(1)</script> & \"x\"\nfn run() {}\n")
-        self.write("src/<b> & 'c'.rs", "x\n")
-        self.write("../secret", "secret\n")
-        os.symlink(os.path.join(self.home.name, "secret"), os.path.join(self.top, "out"))
-        os.symlink(self.home.name, os.path.join(self.top, "up"))
-        os.symlink("src/a.rs", os.path.join(self.top, "again.rs"))
-        self.pages = Pages(Browser("http://127.0.0.1:1", "app", Folder(self.top), [], {}), 0)
+class Served:
+    """Tests of the pages of a folder, `top`."""
+
+    top: str
+
+    def serve(self, settings: Settings) -> None:
+        """Serves the pages of the folder up to the end of the test."""
+        self.pages = Pages(Browser(Folder(self.top), settings), 0)
         self.port = self.pages.server_address[1]
-        self.thread = threading.Thread(target=self.pages.serve_forever, kwargs={"poll_interval": 0.01})
+        self.thread = threading.Thread(
+            target=self.pages.serve_forever, kwargs={"poll_interval": 0.01}
+        )
         self.thread.start()
 
-    def tearDown(self) -> None:
+    def stop(self) -> None:
+        """Ends that, with what reads texts."""
         self.pages.shutdown()
         self.thread.join()
         self.pages.server_close()
-        self.home.cleanup()
+        for view in self.pages.RequestHandlerClass.browser.views.values():  # type: ignore[attr-defined]
+            view.end()
 
-    def write(self, name: str, text: str) -> None:
-        with open(os.path.join(self.top, name), "w", encoding="utf-8", newline="") as file:
-            file.write(text)
-
-    def got(self, path: str, method: str = "GET", host: Optional[str] = None, **headers: str) -> tuple[int, str, dict[str, str]]:
+    def got(
+        self, path: str, method: str = "GET", host: Optional[str] = None, **headers: str
+    ) -> tuple[int, str, dict[str, str]]:
         """The status, the body and the headers of an answer."""
         connection = http.client.HTTPConnection("127.0.0.1", self.port, timeout=10)
         connection.putrequest(method, path, skip_host=True)
-        for name, value in {"Host": host or f"127.0.0.1:{self.port}", **{name.replace("_", "-"): value for name, value in headers.items()}}.items():
+        for name, value in {
+            "Host": host or f"127.0.0.1:{self.port}",
+            **{name.replace("_", "-"): value for name, value in headers.items()},
+        }.items():
             connection.putheader(name, value)
         connection.endheaders()
         response = connection.getresponse()
@@ -59,10 +82,32 @@ class Browse(unittest.TestCase):
 
     def asked(self, path: str, reply: Any, status: int = 200) -> tuple[int, Any, Optional[str]]:
         """The status and the answer to a question that the server answers so, and the address that the server was asked by."""
-        answer = curl.Answer(0, status, json.dumps(reply).encode(), "")
-        with mock.patch.object(browse, "request", return_value=answer) as request:
+        answer = Answer("http://127.0.0.1:1", status, json.dumps(reply).encode())
+        with mock.patch.object(questions, "request", return_value=answer) as request:
             code, body, _ = self.got(path)
-        return code, json.loads(body), request.call_args.args[0] if request.called else None
+        return code, json.loads(body), request.call_args_list[0].args[0] if request.called else None
+
+
+class Browse(Served, unittest.TestCase):
+    def setUp(self) -> None:
+        self.home = tempfile.TemporaryDirectory()
+        self.top = os.path.join(self.home.name, "shown")
+        os.makedirs(os.path.join(self.top, "src", "deep"))
+        self.write("src/a.rs", '// <script>alert(1)</script> & "x"\nfn run() {}\n')
+        self.write("src/<b> & 'c'.rs", "x\n")
+        self.write("../secret", "secret\n")
+        os.symlink(os.path.join(self.home.name, "secret"), os.path.join(self.top, "out"))
+        os.symlink(self.home.name, os.path.join(self.top, "up"))
+        os.symlink("src/a.rs", os.path.join(self.top, "again.rs"))
+        self.serve(Settings("http://127.0.0.1:1", "app", self.top))
+
+    def tearDown(self) -> None:
+        self.stop()
+        self.home.cleanup()
+
+    def write(self, name: str, text: str) -> None:
+        with open(os.path.join(self.top, name), "w", encoding="utf-8", newline="") as file:
+            file.write(text)
 
     def uri(self, name: str) -> str:
         return f"file://{self.top}/{name}"
@@ -70,24 +115,44 @@ class Browse(unittest.TestCase):
     def test_pages(self) -> None:
         for path in ("/", "/files/", "/files/src", "/files/src/"):
             status, body, headers = self.got(path)
-            self.assertEqual((status, headers["Content-Type"], "Choose a file." in body), (200, "text/html; charset=utf-8", True))
-            self.assertIn("default-src 'none'; script-src 'self'", headers["Content-Security-Policy"])
+            self.assertEqual(
+                (status, headers["Content-Type"], "Choose a file" in body),
+                (200, "text/html; charset=utf-8", True),
+            )
+            self.assertIn(
+                "default-src 'none'; script-src 'self'", headers["Content-Security-Policy"]
+            )
         status, body, headers = self.got("/files/src/a.rs")
-        self.assertIn('<span class="line" id="L2" data-number="2">fn run() {}</span></div></div>', body)
+        self.assertIn("\nfn run() {}\n</div></div>", body)
         self.assertIn('<a href="/files/src/a.rs" aria-current="page">a.rs</a>', body)
-        self.assertEqual((status, int(headers["Content-Length"]), self.got("/files/src/a.rs", "HEAD")[:2]), (200, len(body.encode()), (200, "")))
+        self.assertEqual(
+            (status, body.rstrip()[-7:], self.got("/files/src/a.rs", "HEAD")[:2]),
+            (200, "</html>", (200, "")),
+        )
         listed = self.got("/files/")[1]
-        self.assertEqual([f'href="/files/{name}"' in listed for name in ("src", "again.rs", "out", "up", "src/a.rs")], [True, True, False, False, False])
+        self.assertEqual(
+            [
+                f'href="/files/{name}"' in listed
+                for name in ("src", "again.rs", "out", "up", "src/a.rs")
+            ],
+            [True, True, False, False, False],
+        )
         self.assertIn('data-path="again.rs"', self.got("/files/again.rs")[1])
-        for path, kind in ("/page.css", "text/css; charset=utf-8"), ("/page.js", "text/javascript; charset=utf-8"):
+        for path, kind in ("/page.css", "text/css; charset=utf-8"), (
+            "/page.js",
+            "text/javascript; charset=utf-8",
+        ):
             self.assertEqual((self.got(path)[0], self.got(path)[2]["Content-Type"]), (200, kind))
-            self.assertNotIn("http", self.got(path)[1])
+            self.assertNotIn("http://", self.got(path)[1])
 
     def test_texts_and_names_are_escaped(self) -> None:
         body = self.got("/files/src/a.rs")[1]
-        self.assertIn(">// &lt;script&gt;alert(1)&lt;/script&gt; &amp; &quot;x&quot;</span>", body)
-        self.assertEqual(body.count("<script"), 1)
-        self.assertIn('<a href="/files/src/%3Cb%3E%20&amp;%20&#x27;c&#x27;.rs">&lt;b&gt; &amp; &#x27;c&#x27;.rs</a>', body)
+        self.assertIn('>// &lt;script&gt;alert(1)&lt;/script&gt; &amp; "x"\n', body)
+        self.assertEqual(body.count("<script"), 1 + body.count('<script type="application/json"'))
+        self.assertIn(
+            '<a href="/files/src/%3Cb%3E%20&amp;%20&#x27;c&#x27;.rs">&lt;b&gt; &amp; &#x27;c&#x27;.rs</a>',
+            body,
+        )
         body = self.got("/files/src/%3Cb%3E%20&%20'c'.rs")[1]
         self.assertIn("<title>src/&lt;b&gt; &amp; &#x27;c&#x27;.rs</title>", body)
         self.assertIn('data-path="src/&lt;b&gt; &amp; &#x27;c&#x27;.rs"', body)
@@ -98,13 +163,44 @@ class Browse(unittest.TestCase):
         self.assertIn('<a href="/files/%FF.rs">', self.got("/files/")[1])
         self.assertEqual(self.got("/files/%FF.rs")[0], 200)
 
+    def refused(self, path: str, status: int, fault: str) -> None:
+        """Sees that a page says that it isn't there, and leads to those that are."""
+        found, body, headers = self.got(path)
+        self.assertEqual((found, headers["Content-Type"]), (status, "text/html; charset=utf-8"))
+        self.assertIn(f"<h1>{status}: {fault}</h1>", body)
+        self.assertIn('<a href="/files/">', body)
+
     def test_paths_outside_the_folder(self) -> None:
-        for path in ("../secret", "src/../../secret", "%2e%2e/secret", "src/%2E%2E/%2e./secret", "..%2fsecret", "/etc/passwd", "%2Fetc/passwd", "src//a.rs",
-                     "out", "up/secret", "up", "src/./a.rs", "src/a.rs%00", f"{os.path.join(self.top, 'src/a.rs')}"):
+        for path in (
+            "../secret",
+            "src/../../secret",
+            "%2e%2e/secret",
+            "src/%2E%2E/%2e./secret",
+            "..%2fsecret",
+            "/etc/passwd",
+            "%2Fetc/passwd",
+            "src//a.rs",
+            "out",
+            "up/secret",
+            "up",
+            "src/./a.rs",
+            "src/a.rs%00",
+            f"{os.path.join(self.top, 'src/a.rs')}",
+        ):
             with self.subTest(path):
-                self.assertEqual(self.got(f"/files/{path}")[:2], (403, '{"fault": "not a path in the folder"}'))
-                self.assertEqual(self.asked(f"/ask?what=hover&line=0&character=0&path={path}", {})[::2], (403, None))
-        for path, status in (("files/no", 404), ("files/src/a.rs/x", 404), ("no", 404), ("page.html", 404), ("files", 404), ("page.js/../browse.py", 404)):
+                self.refused(f"/files/{path}", 403, "not a path in the folder")
+                self.assertEqual(
+                    self.asked(f"/ask?what=hover&line=0&character=0&path={path}", {})[::2],
+                    (403, None),
+                )
+        for path, status in (
+            ("files/no", 404),
+            ("files/src/a.rs/x", 404),
+            ("no", 404),
+            ("page.html", 404),
+            ("files", 404),
+            ("page.js/../browse.py", 404),
+        ):
             self.assertEqual(self.got(f"/{path}")[0], status, path)
 
     def test_files_that_are_not_shown(self) -> None:
@@ -112,95 +208,380 @@ class Browse(unittest.TestCase):
         with open(os.path.join(self.top, "latin"), "wb") as file:
             file.write(b"\xe9\n")
         for path, fault in ("pipe", "not a file"), ("latin", "not a text in UTF-8"):
-            self.assertEqual(self.got(f"/files/{path}")[:2], (403, json.dumps({"fault": fault})))
-        with mock.patch.object(browse, "MOST_BYTES", 10):
-            self.assertEqual(self.got("/files/src/a.rs")[:2], (403, '{"fault": "a file of 47 bytes, and 10 are shown at most"}'))
+            self.refused(f"/files/{path}", 403, fault)
+        with mock.patch.object(folder, "MOST_BYTES", 10):
+            self.refused("/files/src/a.rs", 403, "a file of 47 bytes, and 10 are shown at most")
 
     def test_hosts_and_origins(self) -> None:
         own = f"127.0.0.1:{self.port}"
         page, script, question = "/files/src/a.rs", "/page.js", "/names?prefix="
-        link = {"Sec_Fetch_Site": "cross-site", "Sec_Fetch_Mode": "navigate", "Sec_Fetch_Dest": "document"}
+        link = {
+            "Sec_Fetch_Site": "cross-site",
+            "Sec_Fetch_Mode": "navigate",
+            "Sec_Fetch_Dest": "document",
+        }
         for path, host, headers, status in (
-                (page, f"localhost:{self.port}", {}, 200), (page, f"LOCALHOST:{self.port}", {}, 200), (page, own, {"Origin": f"http://{own}"}, 200),
-                (page, own, {"Sec_Fetch_Site": "same-origin"}, 200), (page, own, {"Sec_Fetch_Site": "none"}, 200), (page, own, link, 200),
-                (page, "evil.example", {}, 403), (page, f"evil.example:{self.port}", {}, 403), (page, "127.0.0.1", {}, 403), (page, f"127.0.0.1:{self.port}1", {}, 403),
-                (page, own, {"Origin": "http://evil.example"}, 403), (page, own, {"Origin": "null"}, 403), (page, own, {"Origin": f"https://{own}"}, 403),
-                (page, own, {"Origin": f"http://localhost:{self.port}"}, 403), (page, own, {**link, "Sec_Fetch_Dest": "iframe"}, 403),
-                (page, own, {**link, "Sec_Fetch_Mode": "no-cors"}, 403), (script, own, {"Sec_Fetch_Site": "same-site"}, 403), (script, own, link, 403),
-                (question, own, link, 403), (question, own, {"Sec_Fetch_Site": "cross-site"}, 403)):
+            (page, f"localhost:{self.port}", {}, 200),
+            (page, f"LOCALHOST:{self.port}", {}, 200),
+            (page, own, {"Origin": f"http://{own}"}, 200),
+            (page, own, {"Sec_Fetch_Site": "same-origin"}, 200),
+            (page, own, {"Sec_Fetch_Site": "none"}, 200),
+            (page, own, link, 200),
+            (page, "evil.example", {}, 403),
+            (page, f"evil.example:{self.port}", {}, 403),
+            (page, "127.0.0.1", {}, 403),
+            (page, f"127.0.0.1:{self.port}1", {}, 403),
+            (page, own, {"Origin": "http://evil.example"}, 403),
+            (page, own, {"Origin": "null"}, 403),
+            (page, own, {"Origin": f"https://{own}"}, 403),
+            (page, own, {"Origin": f"http://localhost:{self.port}"}, 403),
+            (page, own, {**link, "Sec_Fetch_Dest": "iframe"}, 403),
+            (page, own, {**link, "Sec_Fetch_Mode": "no-cors"}, 403),
+            (script, own, {"Sec_Fetch_Site": "same-site"}, 403),
+            (script, own, link, 403),
+            (question, own, link, 403),
+            (question, own, {"Sec_Fetch_Site": "cross-site"}, 403),
+        ):
             with self.subTest(path, host=host, headers=headers):
                 self.assertEqual(self.got(path, host=host, **headers)[0], status)
-        self.assertEqual([self.got(page, method)[0] for method in ("POST", "PUT", "OPTIONS")], [501] * 3)
+        self.assertEqual(
+            [self.got(page, method)[0] for method in ("POST", "PUT", "OPTIONS")], [501] * 3
+        )
 
     def test_places(self) -> None:
         path = "/ask?what=references&path=src/a.rs&line=1&character=3"
-        places = [{**PLACE, "uri": self.uri("src/a.rs")}, {**PLACE, "uri": self.uri("src/a.rs"), "project": "other"}, {**PLACE, "uri": "file:///etc/passwd"},
-                  {**PLACE, "uri": self.uri("out")}, {**PLACE, "uri": "urn:x"}, {**PLACE, "uri": self.uri("src/%3Cb%3E%20&%20'c'.rs")}]
+        places = [
+            {**PLACE, "uri": self.uri("src/a.rs")},
+            {**PLACE, "uri": self.uri("src/a.rs"), "project": "other"},
+            {**PLACE, "uri": "file:///etc/passwd"},
+            {**PLACE, "uri": self.uri("out")},
+            {**PLACE, "uri": "urn:x"},
+            {**PLACE, "uri": self.uri("src/%3Cb%3E%20&%20'c'.rs")},
+        ]
         status, answer, asked = self.asked(path, {"places": places})
-        self.assertEqual((status, answer["said"], asked), (200, "references: 5 places", "http://127.0.0.1:1/projects/app/references?uri="
-                         + curl.urlencode({"uri": self.uri("src/a.rs")})[4:] + "&line=1&character=3"))
-        self.assertEqual([(place["name"], place["href"], place["text"]) for place in answer["places"]], [
-            ("src/a.rs:2", "/files/src/a.rs#L2C4", "fn run() {}"), ("/etc/passwd:2", None, "not in the folder that is shown"),
-            (f"{self.top}/out:2", None, "not in the folder that is shown"), ("urn:x:2", None, "not in the folder that is shown"),
-            ("src/<b> & 'c'.rs:2", "/files/src/%3Cb%3E%20&%20'c'.rs#L2C4", "")])
-        with mock.patch.object(browse, "MOST_PLACES", 2):
+        self.assertEqual(
+            (status, answer["said"], asked),
+            (
+                200,
+                "5 references in 5 files",
+                "http://127.0.0.1:1/projects/app/references?uri="
+                + urlencode({"uri": self.uri("src/a.rs")})[4:]
+                + "&line=1&character=3",
+            ),
+        )
+        self.assertEqual(
+            sorted(
+                (place["file"], place["line"], place["href"], place["text"])
+                for place in answer["places"]
+            ),
+            sorted(
+                [
+                    ("src/a.rs", 2, "/files/src/a.rs#L2C4", "fn run() {}"),
+                    ("/etc/passwd", 2, None, "not in the folder that is shown"),
+                    (f"{self.top}/out", 2, None, "not in the folder that is shown"),
+                    ("urn:x", 2, None, "not in the folder that is shown"),
+                    ("src/<b> & 'c'.rs", 2, "/files/src/%3Cb%3E%20&%20'c'.rs#L2C4", ""),
+                ]
+            ),
+        )
+        [own] = [place for place in answer["places"] if place["file"] == "src/a.rs"]
+        self.assertEqual(
+            (own["text"][own["start"] : own["end"]], own["is_definition"]), ("run", True)
+        )
+        with mock.patch.object(answers, "MOST_PLACES", 2):
             answer = self.asked(path, {"places": places})[1]
-        self.assertEqual((answer["said"], len(answer["places"])), ("references: 5 places, of which 2 are listed", 2))
-        self.assertEqual(self.asked(path, {"places": []})[1], {"places": [], "said": "The index has no references here."})
+        self.assertEqual(
+            (answer["said"], len(answer["places"])),
+            ("5 references in 2 files, of which 2 are listed", 2),
+        )
+        self.assertEqual(
+            self.asked(path, {"places": []})[1],
+            {"places": [], "said": "The index has no references here."},
+        )
 
     def test_a_definition_that_is_the_whole_file(self) -> None:
         path = "/ask?what=definition&path=src/a.rs&line=1&character=3"
-        whole = {**PLACE, "uri": self.uri("src/a.rs"), "start": {"line": 0, "character": 0}, "end": {"line": 2, "character": 0}}
-        self.assertEqual(self.asked(path, {"places": [whole]})[1], {"places": [], "said": "Nothing but a range over the whole file covers this place."})
-        self.assertEqual(len(self.asked(path.replace("a.rs", "%3Cb%3E%20%26%20'c'.rs"), {"places": [whole]})[1]["places"]), 1)
+        whole = {
+            **PLACE,
+            "uri": self.uri("src/a.rs"),
+            "start": {"line": 0, "character": 0},
+            "end": {"line": 2, "character": 0},
+        }
+        self.assertEqual(
+            self.asked(path, {"places": [whole]})[1],
+            {"places": [], "said": "Nothing but a range over the whole file covers this place."},
+        )
+        self.assertEqual(
+            len(
+                self.asked(path.replace("a.rs", "%3Cb%3E%20%26%20'c'.rs"), {"places": [whole]})[1][
+                    "places"
+                ]
+            ),
+            1,
+        )
 
     def test_hovers(self) -> None:
-        for contents, text in ((None, None), ("<b>x</b>", "<b>x</b>"), ({"kind": "markdown", "value": "\n**x**\n"}, "**x**"),
-                               ([{"language": "c", "value": "f"}, "d"], "f\n\nd")):
-            self.assertEqual(self.asked("/ask?what=hover&path=src/a.rs&line=0&character=0", {"contents": contents})[:2], (200, {"text": text}))
+        for contents, nodes in (
+            (None, []),
+            ("<b>x</b>", [["p", {}, ["<b>x</b>"]]]),
+            ({"kind": "markdown", "value": "\n**x**\n"}, [["p", {}, [["strong", {}, ["x"]]]]]),
+            ({"kind": "plaintext", "value": "**x**"}, [["pre", {}, ["**x**"]]]),
+            (
+                [{"language": "none", "value": "f"}, "d"],
+                [["pre", {}, [["code", {}, ["f"]]]], ["p", {}, ["d"]]],
+            ),
+            (
+                [{"language": "c", "value": "int"}],
+                [["pre", {}, [["code", {}, [["span", {"class": "keyword"}, ["int"]]]]]]],
+            ),
+        ):
+            question = "/ask?what=hover&path=src/a.rs&line=0&character=0"
+            self.assertEqual(
+                self.asked(question, {"contents": contents})[:2],
+                (200, {"nodes": nodes, "said": ""}),
+            )
+
+    def test_hostile_hovers(self) -> None:
+        for text in (
+            "<script>alert(1)</script>",
+            "<img src=x onerror=alert(1)>",
+            "[a](javascript:alert(1))",
+            "[a](JaVaScRiPt:alert(1))",
+            "[a](data:text/html,<script>alert(1)</script>)",
+            "[a]: vbscript:x\n\n[a]",
+            "<javascript:alert(1)>",
+            "![a](http://other.example/x.png)",
+            "[a](//other.example/)",
+            "[a](http://[)",
+            "```<script>\nx\n```",
+            "```html\n<script>alert(1)</script>\n```",
+            "> " * 5000,
+            "[" * 19_000,
+            "*a " * 6000,
+            "|" * 9000,
+            "a\0b\ud800",
+        ):
+            with self.subTest(text[:40]):
+                self.see_nodes(tree_of(text))
+
+    def see_nodes(self, nodes: list[Any], depth: int = 0) -> None:
+        """Sees that nodes are texts, or known elements with no attributes but links to web pages and the kinds of code."""
+        self.assertLess(depth, 60)
+        for node in nodes:
+            if isinstance(node, str):
+                continue
+            name, attributes, below = node
+            self.assertIn(name, {*ELEMENTS, "pre", "code", "span"})
+            self.assertLessEqual(
+                set(attributes), {"class"} if name == "span" else {"href"} if name == "a" else set()
+            )
+            self.assertRegex(attributes.get("href", "http://"), "^https?://")
+            self.see_nodes(below, depth + 1)
 
     def test_names(self) -> None:
-        tags = [TAG, {**TAG, "project": "other"}, *({**TAG, "file": file} for file in ("/etc/passwd", "../secret", "out", "no", "src", "a\0")),
-                {**TAG, "file": "again.rs", "address": "1"}]
+        tags = [
+            TAG,
+            {**TAG, "project": "other"},
+            *(
+                {**TAG, "file": file}
+                for file in ("/etc/passwd", "../secret", "out", "no", "src", "a\0")
+            ),
+            {**TAG, "file": "again.rs", "address": "1"},
+        ]
         status, answer, asked = self.asked("/names?prefix=r%26n", {"tags": tags})
-        self.assertEqual((status, asked), (200, "http://127.0.0.1:1/names?prefix=r%26n&project=app"))
-        self.assertEqual(answer, {"said": "2 names", "names": [{"name": "run", "place": "src/a.rs:2", "href": "/files/src/a.rs#L2C4"},
-                                                                {"name": "run", "place": "src/a.rs:1", "href": "/files/src/a.rs#L1C1"}]})
+        self.assertEqual(
+            (status, asked), (200, "http://127.0.0.1:1/names?prefix=r%26n&project=app")
+        )
+        self.assertEqual(
+            answer,
+            {
+                "said": "2 names",
+                "names": [
+                    {"name": "run", "place": "src/a.rs:2", "href": "/files/src/a.rs#L2C4"},
+                    {"name": "run", "place": "src/a.rs:1", "href": "/files/src/a.rs#L1C1"},
+                ],
+            },
+        )
 
-        with mock.patch.object(browse, "MOST_NAMES", 2):
+        with mock.patch.object(answers, "MOST_NAMES", 2):
             self.assertEqual(self.asked("/names?prefix=r", {"tags": tags})[1]["said"], "2 names")
-            self.assertEqual(self.asked("/names?prefix=r", {"tags": [*tags, TAG]})[1]["said"], "the first 2 names")
+            self.assertEqual(
+                self.asked("/names?prefix=r", {"tags": [*tags, TAG]})[1]["said"],
+                "the first 2 names",
+            )
 
     def test_replies_that_are_none(self) -> None:
         place = {**PLACE, "uri": self.uri("src/a.rs")}
         for path, replies in (
-                ("/ask?what=definition&path=src/a.rs&line=0&character=0", [
-                    {}, [], {"places": 1}, {"places": [1]}, {"places": [{}]}, {"places": [{**place, "uri": 1}]}, {"places": [{**place, "start": {"line": "1"}}]},
-                    {"places": [{**place, "start": {"line": -1, "character": 0}}]}, {"places": [{**place, "start": {"line": 1, "character": True}}]}]),
-                ("/ask?what=hover&path=src/a.rs&line=0&character=0", [{}, {"contents": 1}, {"contents": {}}, {"contents": [{}]}]),
-                ("/names?prefix=r", [{}, {"tags": 1}, {"tags": [{}]}, {"tags": [{**TAG, "file": 1}]}, {"tags": [{**TAG, "address": 1}]}, {"tags": [{**TAG, "name": 1}]}])):
+            (
+                "/ask?what=definition&path=src/a.rs&line=0&character=0",
+                [
+                    {},
+                    [],
+                    {"places": 1},
+                    {"places": [1]},
+                    {"places": [{}]},
+                    {"places": [{**place, "uri": 1}]},
+                    {"places": [{**place, "start": {"line": "1"}}]},
+                    {"places": [{**place, "start": {"line": -1, "character": 0}}]},
+                    {"places": [{**place, "start": {"line": 1, "character": True}}]},
+                ],
+            ),
+            (
+                "/ask?what=hover&path=src/a.rs&line=0&character=0",
+                [
+                    {},
+                    {"contents": 1},
+                    {"contents": {}},
+                    {"contents": [{}]},
+                    {"contents": {"value": 1}},
+                ],
+            ),
+            (
+                "/names?prefix=r",
+                [
+                    {},
+                    {"tags": 1},
+                    {"tags": [{}]},
+                    {"tags": [{**TAG, "file": 1}]},
+                    {"tags": [{**TAG, "address": 1}]},
+                    {"tags": [{**TAG, "name": 1}]},
+                ],
+            ),
+        ):
             for reply in replies:
                 with self.subTest(path, reply=reply):
                     status, answer, _ = self.asked(path, reply)
                     self.assertEqual((status, list(answer)), (502, ["fault"]))
-        self.assertEqual(self.asked("/names?prefix=r", {"fault": "D01", "text": "project has no dump"}, 404)[:2],
-                         (502, {"fault": "the index: D01 project has no dump"}))
+        self.assertEqual(
+            self.asked("/names?prefix=r", {"fault": "D01", "text": "project has no dump"}, 404)[:2],
+            (502, {"fault": "the index: D01 project has no dump"}),
+        )
 
     def test_questions_that_are_none(self) -> None:
-        for path in ("/ask", "/ask?what=names&path=src/a.rs&line=0&character=0", "/ask?what=hover&path=src/a.rs&line=x&character=0",
-                     "/ask?what=hover&path=src/a.rs&line=0&character=2147483648", "/ask?what=hover&path=src/a.rs&line=0", "/names", "/names?prefix=",
-                     "/names?prefix=%00"):
+        for path in (
+            "/ask",
+            "/ask?what=names&path=src/a.rs&line=0&character=0",
+            "/ask?what=hover&path=src/a.rs&line=x&character=0",
+            "/ask?what=hover&path=src/a.rs&line=0&character=2147483648",
+            "/ask?what=hover&path=src/a.rs&line=0",
+            "/names",
+            "/names?prefix=",
+            "/names?prefix=%00",
+        ):
             self.assertEqual(self.asked(path, {})[::2], (400, None), path)
 
     def test_calls_that_are_refused(self) -> None:
-        for words, said in ((["x", "app", self.top], "not the address of a server, as http://127.0.0.1:8080: 'x'"),
-                            (["http://127.0.0.1:1", "No", self.top], "a project is 1 to 64 characters of a-z 0-9 _ -, not 'No'"),
-                            (["http://127.0.0.1:1", "app", "no/folder"], "no/folder: not a folder"),
-                            (["http://127.0.0.1:1", "app", self.top, "--port", str(self.port)], f"port {self.port}: Address already in use"),
-                            (["http://127.0.0.1:1", "app", self.top, "--port", "99999"], "port 99999: bind(): port must be 0-65535."),
-                            (["http://127.0.0.1:1", "app", self.top, "--map", "x"], "--map takes URI=FOLDER, neither of them empty")):
+        for words, said in (
+            (["x", "app", self.top], "not the address of a server, as http://127.0.0.1:8080: 'x'"),
+            (
+                ["http://127.0.0.1:1", "No", self.top],
+                "a project is 1 to 64 characters of a-z 0-9 _ -, not 'No'",
+            ),
+            (["http://127.0.0.1:1", "app", "no/folder"], "no/folder: not a folder"),
+            (
+                ["http://127.0.0.1:1", "app", self.top, "--port", str(self.port)],
+                f"{self.port}: Address already in use",
+            ),
+            (
+                ["http://127.0.0.1:1", "app", self.top, "--port", "99999"],
+                "bind(): port must be 0-65535.",
+            ),
+            (
+                ["http://127.0.0.1:1", "app", self.top, "--map", "x"],
+                "--map takes URI=FOLDER, neither of them empty",
+            ),
+            (
+                ["http://127.0.0.1:1", "app", self.top, "--search", "http://h/?q="],
+                "--search takes an address with {} in it, as http://localhost:6070/search?q={}",
+            ),
+        ):
             with redirect_stderr(io.StringIO()) as warned:
                 self.assertEqual((browse.main(words), warned.getvalue()), (2, f"browse: {said}\n"))
+
+
+class Trees(Served, unittest.TestCase):
+    def setUp(self) -> None:
+        self.top = self.enterContext(tempfile.TemporaryDirectory())
+        os.mkdir(os.path.join(self.top, "many"))
+        for number in range(1000):
+            with open(
+                os.path.join(self.top, "many", f"f{number:03}.txt"), "w", encoding="utf-8"
+            ) as file:
+                file.write("x\n")
+        self.serve(Settings("http://127.0.0.1:1", "app", self.top))
+        self.addCleanup(self.stop)
+
+    def test_a_folder_of_many_files(self) -> None:
+        body = self.got("/files/many/f500.txt")[1]
+        shown = [number for number in range(1000) if f'href="/files/many/f{number:03}.txt"' in body]
+        self.assertEqual(shown, list(range(400, 600)))
+        self.assertIn(
+            'data-at="many/" data-start="0" data-end="400" data-before="true">400 more<', body
+        )
+        self.assertIn(
+            'data-at="many/" data-start="600" data-end="1000" data-before="false">400 more<', body
+        )
+        listed = json.loads(self.got("/list?at=many/&start=600&end=602")[1])
+        self.assertEqual(
+            listed["entries"],
+            [{"name": f"f{one}.txt", "href": f"/files/many/f{one}.txt"} for one in (600, 601)],
+        )
+        for query in "at=..&start=0&end=1", "at=many/&start=x&end=1", "at=many/&start=0":
+            self.assertIn(self.got(f"/list?{query}")[0], (400, 403))
+
+    def test_finding_files(self) -> None:
+        names = json.loads(self.got("/find?text=m500")[1])["names"]
+        self.assertEqual([row["href"] for row in names], ["/files/many/f500.txt"])
+        files = ["src/lib.rs", "src/list.rs", "tests/lib.rs", "src/a_long_item_bag.rs", "Lib.md"]
+        for text, first in (
+            ("lib", "Lib.md"),
+            ("src lib", "src/lib.rs"),
+            ("tlib", "tests/lib.rs"),
+            ("list", "src/list.rs"),
+            ("alib", "src/a_long_item_bag.rs"),
+        ):
+            self.assertEqual(found_files(files, text)[0], first, text)
+        self.assertEqual(found_files(files, "xyz"), [])
+        self.assertEqual(len(found_files(files, "")), 5)
+
+
+class OfRevisions(Served, InRepository):
+    def setUp(self) -> None:
+        super().setUp()
+        self.write("a.rs", "fn one() {}\nfn two() { one() }\n")
+        self.commit_name = self.commit()
+        self.write("a.rs", "use x;\nfn one() {}\nfn two() { one() }\n")
+        self.serve(Settings("http://127.0.0.1:1", "app", self.top, revisions=(self.commit_name,)))
+        self.addCleanup(self.stop)
+
+    def data(self, body: str, own: str) -> Any:
+        """The data of a page."""
+        text = body.partition(f'<script type="application/json" id="{own}">')[2]
+        return json.loads(text.partition("</script>")[0])
+
+    def test_words_that_the_index_does_not_know(self) -> None:
+        body = self.got("/files/a.rs")[1]
+        found = self.data(body, "unknown")
+        self.assertEqual(found, {"label": self.commit_name, "lines": [[0, 0, 3, 4, 1]]})
+        self.assertEqual(self.data(body, "colours")["lines"][1][:3], [0, 2, 1])
+
+    def test_the_text_of_a_revision(self) -> None:
+        body = self.got(f"/files/a.rs?revision={self.commit_name}")[1]
+        self.assertIn(">fn one() {}\nfn two()", body)
+        self.assertIn(f"as of {self.commit_name}", body)
+        self.assertEqual(self.data(body, "unknown"), {"label": "", "lines": []})
+        self.assertEqual(self.got("/files/a.rs?revision=none")[0], 404)
+        self.assertEqual(self.got("/files/b.rs?revision=HEAD")[0], 404)
+
+    def test_addresses_that_stay(self) -> None:
+        status, body, _ = self.got("/address?path=a.rs&line=2&character=3")
+        self.assertEqual(status, 200)
+        href = f"/files/a.rs?revision={self.commit_name}#L2C4"
+        self.assertEqual(json.loads(body)["href"], href)
+        status, body, _ = self.got("/address?path=a.rs&line=0&character=0")
+        self.assertEqual(status, 404)
+        self.assertIn("commit it first", json.loads(body)["fault"])
 
 
 if __name__ == "__main__":

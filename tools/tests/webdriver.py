@@ -9,11 +9,25 @@ from typing import Any, Callable, Iterator
 from urllib.error import HTTPError
 from urllib.request import ProxyHandler, Request, build_opener
 
-from navtools.try_it import Failed, ended, free_port
+from navtools.serving import Failed, ended, free_port
 
-OPTIONS = ["--headless=new", "--no-sandbox", "--disable-gpu", "--disable-dev-shm-usage", "--window-size=1200,760", "--force-prefers-reduced-motion"]
+OPTIONS = [
+    "--headless=new",
+    "--no-sandbox",
+    "--disable-gpu",
+    "--disable-dev-shm-usage",
+    "--window-size=1200,760",
+    "--force-prefers-reduced-motion",
+]
 WAIT = 20
-KEYS = {"Enter": "\ue007", "Escape": "\ue00c", "ArrowRight": "\ue014", "ArrowDown": "\ue015", "Tab": "\ue004"}
+KEYS = {
+    "Enter": "\ue007",
+    "Escape": "\ue00c",
+    "ArrowRight": "\ue014",
+    "ArrowDown": "\ue015",
+    "ArrowUp": "\ue013",
+    "Tab": "\ue004",
+}
 OPENER = build_opener(ProxyHandler({}))
 
 
@@ -27,7 +41,10 @@ class Page:
         """A command of WebDriver."""
         body = json.dumps(members).encode() if method == "POST" else None
         try:
-            with OPENER.open(Request(self.url + path, body, {"Content-Type": "application/json"}, method=method), timeout=60) as reply:
+            with OPENER.open(
+                Request(self.url + path, body, {"Content-Type": "application/json"}, method=method),
+                timeout=60,
+            ) as reply:
                 return json.load(reply)["value"]
         except HTTPError as fault:
             raise Failed(f"{path}: {json.load(fault)['value']['message']}") from None
@@ -46,14 +63,39 @@ class Page:
 
     def press(self, *keys: str) -> None:
         """Presses keys, one after the other."""
-        strokes = [{"type": kind, "value": KEYS.get(key, key)} for key in keys for kind in ("keyDown", "keyUp")]
-        self.call("POST", "/actions", actions=[{"type": "key", "id": "keyboard", "actions": strokes}])
+        strokes = [
+            {"type": kind, "value": KEYS.get(key, key)}
+            for key in keys
+            for kind in ("keyDown", "keyUp")
+        ]
+        self.call(
+            "POST", "/actions", actions=[{"type": "key", "id": "keyboard", "actions": strokes}]
+        )
 
     def point(self, box: dict[str, float], click: bool) -> None:
         """Moves the mouse to the middle of a box, and clicks there."""
-        to = {"type": "pointerMove", "duration": 0, "origin": "viewport", "x": round(box["x"] + box["width"] / 2), "y": round(box["y"] + box["height"] / 2)}
-        clicks = [{"type": kind, "button": 0} for kind in ("pointerDown", "pointerUp")] if click else []
-        self.call("POST", "/actions", actions=[{"type": "pointer", "id": "mouse", "parameters": {"pointerType": "mouse"}, "actions": [to, *clicks]}])
+        to = {
+            "type": "pointerMove",
+            "duration": 0,
+            "origin": "viewport",
+            "x": round(box["x"] + box["width"] / 2),
+            "y": round(box["y"] + box["height"] / 2),
+        }
+        clicks = (
+            [{"type": kind, "button": 0} for kind in ("pointerDown", "pointerUp")] if click else []
+        )
+        self.call(
+            "POST",
+            "/actions",
+            actions=[
+                {
+                    "type": "pointer",
+                    "id": "mouse",
+                    "parameters": {"pointerType": "mouse"},
+                    "actions": [to, *clicks],
+                }
+            ],
+        )
 
     def until(self, script: str, wanted: Callable[[Any], bool], what: str) -> Any:
         """What an expression is once it's as wanted."""
@@ -65,6 +107,16 @@ class Page:
             time.sleep(0.02)
         raise Failed(f"{what}: {value!r}")
 
+    def cdp(self, command: str, **members: Any) -> Any:
+        """A command of the Chrome DevTools Protocol."""
+        return self.call("POST", "/goog/cdp/execute", cmd=command, params=members)
+
+    def scheme(self, name: str) -> None:
+        """Has pages shown in `dark` or `light`."""
+        self.cdp(
+            "Emulation.setEmulatedMedia", features=[{"name": "prefers-color-scheme", "value": name}]
+        )
+
     def picture(self) -> bytes:
         """A picture of the window, a PNG."""
         return base64.b64decode(self.call("GET", "/screenshot"))
@@ -74,7 +126,9 @@ class Page:
 def chromium() -> Iterator[Page]:
     """A window of a new browser, which ends with the context."""
     port = free_port()
-    driver = subprocess.Popen(["chromedriver", f"--port={port}"], stdout=subprocess.DEVNULL, stderr=subprocess.DEVNULL)
+    driver = subprocess.Popen(
+        ["chromedriver", f"--port={port}"], stdout=subprocess.DEVNULL, stderr=subprocess.DEVNULL
+    )
     page = Page(f"http://127.0.0.1:{port}")
     try:
         for _ in range(100):
