@@ -1,0 +1,190 @@
+"""Asks a project or a set on a server, for the tools that take the name of either.
+
+A set is many projects, of which its manifest says which one has a document. A query goes to that project, and the places of all parts are shown as
+the set's. Places of parts that the manifest doesn't name, of a revision that comes or goes, are dropped; so are those of other revisions of a code
+base beside it (`NAME@BRANCH`), unless such a one is asked itself.
+
+What was read of manifests is kept, and read again where a part is gone or answers with places of a part that isn't known. So a query meanwhile a
+set is switched is answered from the old revision or from the new one.
+"""
+
+from typing import Any, Callable, Optional
+
+from navtools.client import NoReply
+from navtools.addresses import serialized
+from navtools.sets.manifest import (
+    ABOUT,
+    BRANCH,
+    DOCUMENT,
+    PART,
+    PARTS,
+    Head,
+    NotAManifest,
+    base_name,
+    head_of,
+    shown_name,
+)
+
+Fetch = Callable[[str, dict[str, Any], str], Any]
+Found = dict[str, Any]
+ALIKE = 3
+
+
+class UnknownPart(Exception):
+    """A project that has the form of a part, and that the manifest doesn't name; the text is the set's name."""
+
+
+def order_of(place: Found) -> tuple[Any, ...]:
+    """The order of places in an answer."""
+    ends = [place[end][number] for end in ("start", "end") for number in ("line", "character")]
+    return (place["project"], place["uri"].encode("utf-8", "surrogatepass"), *ends)
+
+
+class Sets:
+    """The manifests on a server, as far as they were asked for."""
+
+    def __init__(self, fetch: Fetch) -> None:
+        self.fetch = fetch
+        self.heads: dict[str, Optional[Head]] = {}
+
+    def head(self, name: str) -> Optional[Head]:
+        """The manifest of a set, or None where there is none."""
+        if name not in self.heads:
+            project = name + PARTS
+            tags = self.fetch("/names", {"prefix": ABOUT, "project": project}, "tags")
+            self.heads[name] = head_of(tags, project)
+        return self.heads[name]
+
+    def other_head(self, name: str) -> Optional[Head]:
+        """The manifest of a set that wasn't asked for by its name: what is no manifest is none."""
+        try:
+            return self.head(name)
+        except NotAManifest:
+            self.heads[name] = None
+            return None
+
+    def is_changed(self, name: str) -> bool:
+        """Reads the manifest of a set again, and says whether it's another one; raises NotAManifest."""
+        before, after = self.heads.pop(name, None), self.head(name)
+        if before is None or after is None:
+            return before is not after
+        return before.mark != after.mark
+
+    def documents(self, head: Head) -> list[str]:
+        """The addresses of all documents of a set."""
+        return [
+            tag["name"][len(DOCUMENT) :]
+            for project in head.holders()
+            for tag in self.fetch("/names", {"prefix": DOCUMENT, "project": project}, "tags")
+        ]
+
+    def alike(self, head: Head, uri: str) -> str:
+        """The documents whose addresses end as one does that isn't there, as text: the more folders they have in common the sooner."""
+        own = uri.split("/")
+        found = []
+        for known in self.documents(head):
+            other = known.split("/")
+            common = 0
+            while common < min(len(own), len(other)) and own[-1 - common] == other[-1 - common]:
+                common += 1
+            if common:
+                found.append((-common, known))
+        first = [known for _, known in sorted(found)[:ALIKE]]
+        return f"; there are {', '.join(first)}" if first else ""
+
+    def shown(self, project: str, asked: str) -> Optional[str]:
+        """What the project of a place is shown as where a project or a set is asked, or None where its places are dropped; raises
+        UnknownPart."""
+        match = PART.fullmatch(project)
+        head = self.other_head(match["set"]) if match else None
+        if match is None or head is None:
+            return project
+        name = match["set"]
+        if project not in head.projects():
+            raise UnknownPart(name)
+        if name != asked and (BRANCH in name or base_name(asked) == base_name(name)):
+            return None
+        return shown_name(name)
+
+
+class Asked:
+    """A project or a set that is asked, by the name that its users write.
+
+    The name is taken for a project's up to when the server has no dump of it: so a project costs no request more.
+    """
+
+    def __init__(self, name: str, fetch: Fetch) -> None:
+        self.name = name.replace("@", BRANCH)
+        self.sets = Sets(fetch)
+
+    def query(self, what: str, parameters: dict[str, Any], member: str) -> Any:
+        """What a query at a position found: the places, shown as those of sets and in order, or the contents of a hover.
+
+        Raises NoReply, and NotAManifest.
+        """
+        for last in (False, False, True):
+            try:
+                found = self.once(what, parameters, member)
+            except NoReply as fault:
+                if last or not is_missing(fault) or not self.sets.is_changed(self.name):
+                    raise self.explained(fault, parameters["uri"]) from None
+                continue
+            if member != "places":
+                return found
+            places, unknown = self.shown(found)
+            if last or not any([self.sets.is_changed(name) for name in sorted(unknown)]):
+                return places
+        raise NoReply(f"the set {shown_name(self.name)} is switched again and again")
+
+    def once(self, what: str, parameters: dict[str, Any], member: str) -> Any:
+        """What the project answers, or the part of the set that has the document."""
+        head = self.sets.heads.get(self.name)
+        project = self.name if head is None else head.part_of(serialized(parameters["uri"]))
+        return self.sets.fetch(f"/projects/{project}/{what}", parameters, member)
+
+    def explained(self, fault: NoReply, uri: str) -> NoReply:
+        """A fault of a part, as one of its set: a part that the manifest names and that is gone was removed by hand."""
+        head, name = self.sets.heads.get(self.name), shown_name(self.name)
+        if head is None or not is_missing(fault):
+            return fault
+        if str(fault).startswith("D01 "):
+            return NoReply(f"a part of the set {name} is gone; publish the set again")
+        return NoReply(
+            f"D02 no such document in the set {name}{self.sets.alike(head, serialized(uri))}"
+        )
+
+    def shown(self, places: list[Found]) -> tuple[list[Found], set[str]]:
+        """Places as they are shown, in order and each once, and the sets that have places of parts that aren't known."""
+        found: dict[tuple[Any, ...], Found] = {}
+        unknown = set()
+        for place in places:
+            try:
+                project = self.sets.shown(place["project"], self.name)
+            except UnknownPart as fault:
+                unknown.add(str(fault))
+                continue
+            if project is not None:
+                own = {**place, "project": project}
+                found[order_of(own)] = own
+        return [found[order] for order in sorted(found)], unknown
+
+    def names(self, parameters: dict[str, Any], every: bool) -> list[Found]:
+        """The tags of a name or a prefix: those of the project or the set, or with `every` those of all; raises NoReply, and NotAManifest."""
+        if not every:
+            tags = self.sets.fetch("/names", {**parameters, "project": self.name}, "tags")
+            if tags or self.sets.head(self.name) is None:
+                return list(tags)
+        found = []
+        for tag in self.sets.fetch("/names", parameters, "tags"):
+            try:
+                project = self.sets.shown(tag["project"], self.name)
+            except UnknownPart:
+                continue
+            if project is not None and (every or project == shown_name(self.name)):
+                found.append({**tag, "project": project})
+        return sorted(found, key=lambda tag: (tag["name"].encode(), tag["project"], tag["line"]))
+
+
+def is_missing(fault: NoReply) -> bool:
+    """Whether a query was refused since there is no dump of its project, or since the dump has no such document."""
+    return str(fault).startswith(("D01 ", "D02 "))

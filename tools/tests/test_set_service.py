@@ -1,0 +1,428 @@
+"""Tests of sets on a server: that they are published, asked and switched, and that what breaks off leaves the old set answering or the new one."""
+
+import io
+import json
+import multiprocessing
+import os
+import tempfile
+import unittest
+from contextlib import redirect_stderr, redirect_stdout
+from typing import Any, Callable
+from unittest import mock
+
+from navtools import ask, client, prepare
+from navtools.client import NoReply, found_in, request
+from navtools.places import uri_of
+from navtools.sets import publish, split
+from navtools.sets.ask import Asked
+from navtools.sets.manifest import NotAManifest
+from navtools.sets.publish import Late, Publish, Store
+from navtools.serving import ended, free_port, started
+from tests.dump_walks import OF_PROFILE, Question, Walk, answered, questions
+from tests.test_lsp import Editor
+from tests.test_sets import PROGRAM, TOP
+
+NAME = "code"
+MOST_STEPS = 40
+REQUESTS = 1_000_000
+
+
+def revision(number: int) -> bytes:
+    """A revision of the demo crate: from the first on one of its files has a line more at its top."""
+    with tempfile.TemporaryDirectory() as folder, redirect_stderr(io.StringIO()):
+        path = os.path.join(folder, "dump")
+        prepare.main([os.path.join(TOP, "demo", "crate.raw.lsif"), path])
+        with open(path, "rb") as file:
+            elements = [json.loads(line) for line in file]
+    document = next(e["id"] for e in elements if str(e.get("uri")).endswith("/scale.rs"))
+    edges = [e for e in elements if e["label"] == "contains" and e["outV"] == document]
+    inside = {end for edge in edges for end in edge["inVs"]}
+    for element in elements:
+        if element["id"] in inside and element["type"] == "vertex":
+            for end in ("start", "end"):
+                element[end]["line"] += number
+    return b"".join(json.dumps(element).encode() + b"\n" for element in elements)
+
+
+def split_into(folder: str, body: bytes, *words: str, most: int = 200) -> None:
+    """Splits a dump into small parts in a folder."""
+    path = os.path.join(os.path.dirname(folder), "whole.lsif")
+    with open(path, "wb") as out:
+        out.write(body)
+    said = io.StringIO()
+    with redirect_stderr(said):
+        status = split.main(
+            ["--jobs", "1", "--name", NAME, "--elements", str(most), *words, path, folder]
+        )
+    assert status == 0, said.getvalue()
+
+
+def asked_at(url: str, name: str) -> Asked:
+    """A set or a project on a server."""
+
+    def fetch(path: str, parameters: dict[str, Any], member: str) -> Any:
+        return found_in(request(client.address(url, path, parameters)), member)
+
+    return Asked(name, fetch)
+
+
+def answer_of(asked: Asked, question: Question) -> Any:
+    """The answer of a set on a server, as a walk answers."""
+    line, character = question.position
+    parameters = {"uri": question.uri, "line": line, "character": character}
+    if not question.declaration:
+        parameters["declaration"] = "no"
+    if question.request == "hover":
+        return asked.query("hover", parameters, "contents")
+    places = asked.query(question.request, parameters, "places")
+    return {
+        (p["project"], p["uri"], *((p[e]["line"], p[e]["character"]) for e in ("start", "end")))
+        for p in places
+    }
+
+
+class Revisions:
+    """Two revisions of the demo crate, split, with the answers of each."""
+
+    def __init__(self, folder: str) -> None:
+        self.folders = [os.path.join(folder, str(number)) for number in range(2)]
+        self.answers = []
+        bodies = [revision(number) for number in range(2)]
+        walk = Walk([json.loads(line) for line in bodies[0].splitlines()], "1")
+        self.questions = [what for what in questions(walk, OF_PROFILE["1"])][::5]
+        for own, body in zip(self.folders, bodies):
+            split_into(own, body)
+            walk = Walk([json.loads(line) for line in body.splitlines()], "1")
+            self.answers.append([answered({NAME: walk}, NAME, what) for what in self.questions])
+
+    def answering(self, url: str) -> int:
+        """Which revision a server answers from; raises AssertionError where it's none."""
+        asked = asked_at(url, NAME)
+        found = [answer_of(asked, what) for what in self.questions]
+        assert found in self.answers, "neither of the revisions"
+        return self.answers.index(found)
+
+
+class Stopped(Exception):
+    """A publish that was stopped in a test."""
+
+
+class Stops(Store):
+    """Stops at a change, before it's made or after."""
+
+    def __init__(self, url: str, at: int, is_made: bool, stop: Callable[[], None]) -> None:
+        super().__init__(url, retry=False)
+        self.at, self.is_made, self.stop = at, is_made, stop
+
+    def change(self, method: str, path: str, parameters: dict[str, Any], body: bytes) -> None:
+        self.at -= 1
+        if self.at == 0 and not self.is_made:
+            self.stop()
+        super().change(method, path, parameters, body)
+        if self.at == 0 and self.is_made:
+            self.stop()
+
+
+def publish_and_die(url: str, folder: str, at: int, is_made: bool) -> None:
+    """Publishes in a process that ends at a change, as if it were killed."""
+    Publish(Stops(url, at, is_made, lambda: os._exit(9)), folder).run()
+    os._exit(0)
+
+
+@unittest.skipUnless(os.path.exists(PROGRAM), "the program isn't built")
+class OnServer(unittest.TestCase):
+    """Tests that ask a server over a database in a file, which they may kill and start again."""
+
+    def setUp(self) -> None:
+        self.folder = self.enterContext(tempfile.TemporaryDirectory())
+        self.port = free_port()
+        self.url = f"http://127.0.0.1:{self.port}"
+        self.start()
+        self.addCleanup(lambda: ended(self.server))
+
+    def start(self) -> None:
+        """Starts the server."""
+        database = os.path.join(self.folder, "index.db")
+        self.server = started(PROGRAM, self.port, REQUESTS, database, quiet=True)
+
+    def kill(self) -> None:
+        """Kills the server."""
+        self.server.kill()
+        self.server.wait()
+        ended(self.server)
+
+    def publish(self, folder: str) -> str:
+        """Publishes a set; answers the report."""
+        return Publish(Store(self.url), folder).run().line()
+
+    def projects(self) -> set[str]:
+        """The projects on the server."""
+        return set(Store(self.url).projects())
+
+
+class Published(OnServer):
+    def test_switch(self) -> None:
+        """A set is published, published again, switched to another revision and back; a part that didn't change is kept."""
+        both = Revisions(self.folder)
+        self.assertEqual(self.publish(both.folders[0]), "parts 2, kept 0, new 2, removed 0")
+        self.assertEqual(both.answering(self.url), 0)
+        self.assertEqual(self.publish(both.folders[0]), "parts 2, kept 2, new 0, removed 0")
+        for number in (1, 0, 1):
+            report = self.publish(both.folders[number])
+            self.assertEqual(both.answering(self.url), number)
+            self.assertIn(
+                report, ("parts 2, kept 0, new 2, removed 2", "parts 2, kept 1, new 1, removed 1")
+            )
+            self.assertEqual(len(self.projects()), 4)
+
+    def test_asked_over_a_switch(self) -> None:
+        """What a tool has read of manifests is read again where it has to be: the same one asks before, in the midst of and after a switch."""
+        both = Revisions(self.folder)
+        self.publish(both.folders[0])
+        asked = asked_at(self.url, NAME)
+        found: list[int] = []
+
+        def ask_all() -> None:
+            found.append(both.answers.index([answer_of(asked, what) for what in both.questions]))
+
+        ask_all()
+        for at in range(2, 8):
+            Publish(Stops(self.url, at, True, ask_all), both.folders[1 - at % 2]).run()
+            ask_all()
+            self.assertEqual(found[-1], 1 - at % 2)
+        self.assertEqual(set(found), {0, 1})
+
+    def test_killed_at_each_step(self) -> None:
+        """A publish is killed before and after each change: the old set answers or the new one, and the next publish cleans up."""
+        both = Revisions(self.folder)
+        self.publish(both.folders[0])
+        switched = []
+        for at in range(1, MOST_STEPS):
+            for is_made in (False, True):
+                words = (self.url, both.folders[1], at, is_made)
+                child = multiprocessing.get_context("fork").Process(
+                    target=publish_and_die, args=words
+                )
+                child.start()
+                child.join(60)
+                self.assertIn(child.exitcode, (0, 9))
+                switched.append(both.answering(self.url))
+                self.publish(both.folders[1])
+                self.assertEqual(both.answering(self.url), 1)
+                self.assertEqual(len(self.projects()), 4)
+                self.publish(both.folders[0])
+                self.assertEqual(both.answering(self.url), 0)
+                self.assertEqual(len(self.projects()), 4)
+            if child.exitcode == 0:
+                break
+        self.assertEqual(child.exitcode, 0)
+        self.assertEqual(set(switched), {0, 1})
+
+    def test_server_killed_at_each_step(self) -> None:
+        """The server is killed before and after each change of a publish, and started again."""
+        both = Revisions(self.folder)
+        self.publish(both.folders[0])
+        for at in range(1, MOST_STEPS):
+            broken = 0
+            for is_made in (False, True):
+                store = Stops(self.url, at, is_made, self.kill)
+                try:
+                    Publish(store, both.folders[1]).run()
+                except NoReply:
+                    broken += 1
+                if self.server.poll() is not None:
+                    self.start()
+                both.answering(self.url)
+                self.publish_after_break(both.folders[1])
+                self.assertEqual(both.answering(self.url), 1)
+                self.assertEqual(len(self.projects()), 4)
+                self.publish(both.folders[0])
+            if store.at > 0:
+                break
+        self.assertGreater(store.at, 0)
+
+    def publish_after_break(self, folder: str) -> None:
+        """Publishes where a claim of this very process may still be there."""
+        with mock.patch.object(publish, "is_alive", lambda record: False):
+            self.publish(folder)
+
+    def test_two_at_once(self) -> None:
+        """While one publish goes on another is refused; one that was taken over is refused too, and never a mixture."""
+        both = Revisions(self.folder)
+        self.publish(both.folders[0])
+        late: list[str] = []
+
+        def other() -> None:
+            try:
+                self.publish(both.folders[0])
+            except Late as fault:
+                late.append(str(fault))
+
+        Publish(Stops(self.url, 2, True, other), both.folders[1]).run()
+        self.assertEqual(len(late), 1)
+        self.assertRegex(late[0], "another publish of code is under way: process [0-9]+ of .*")
+        self.assertEqual(both.answering(self.url), 1)
+        for at in range(2, MOST_STEPS):
+            store = Stops(self.url, at, False, lambda: self.publish_after_break(both.folders[0]))
+            try:
+                Publish(store, both.folders[1]).run()
+            except Late:
+                pass
+            both.answering(self.url)
+            self.publish(both.folders[1])
+            self.assertEqual(both.answering(self.url), 1)
+            if store.at > 0:
+                break
+        self.assertGreater(store.at, 0)
+
+    def test_removed_by_hand(self) -> None:
+        """A part that was removed by hand is one plain line for who asks, and the next publish puts it back."""
+        both = Revisions(self.folder)
+        self.publish(both.folders[0])
+        part = sorted(self.projects())[0]
+        Store(self.url).remove(part)
+        with self.assertRaisesRegex(
+            NoReply, "a part of the set code is gone; publish the set again"
+        ):
+            for question in both.questions:
+                answer_of(asked_at(self.url, NAME), question)
+        self.assertEqual(self.publish(both.folders[0]), "parts 2, kept 1, new 1, removed 0")
+        self.assertEqual(both.answering(self.url), 0)
+        for project in sorted(self.projects()):
+            Store(self.url).remove(project)
+        self.assertEqual(self.publish(both.folders[0]), "parts 2, kept 0, new 2, removed 0")
+        self.assertEqual(both.answering(self.url), 0)
+
+    def test_no_manifest(self) -> None:
+        """A manifest that somebody else wrote is refused in one line, and stays."""
+        both = Revisions(self.folder)
+        for body in (
+            b"\\x02set\tother\t1\n",
+            b"x\ta.c\t1\n",
+            b'\\x02set\tcode\t1;"\tformat:9\tdocuments:1\n',
+        ):
+            Store(self.url).put(f"{NAME}-parts", "tags", body, f"k{len(body)}")
+            with self.assertRaises(NotAManifest):
+                self.publish(both.folders[0])
+            asked = NoReply if body[:1] == b"x" else NotAManifest
+            with self.assertRaises(asked):
+                asked_at(self.url, NAME).query(
+                    "hover", {"uri": "file:///a", "line": 0, "character": 0}, "contents"
+                )
+
+    def test_refused_in_the_midst(self) -> None:
+        """Where the server refuses an upload in the midst the old set answers on."""
+        both = Revisions(self.folder)
+        self.publish(both.folders[0])
+        part = next(f for f in os.listdir(both.folders[1]) if f not in os.listdir(both.folders[0]))
+        with open(os.path.join(both.folders[1], part), "ab") as out:
+            out.write(b"no element\n")
+        with self.assertRaisesRegex(NoReply, "L02 not JSON"):
+            self.publish(both.folders[1])
+        self.assertEqual(both.answering(self.url), 0)
+
+    def test_alike(self) -> None:
+        """A document that no part has is refused, with those that end alike."""
+        both = Revisions(self.folder)
+        self.publish(both.folders[0])
+        parameters = {"uri": "file:///elsewhere/src/scale.rs", "line": 1, "character": 1}
+        with self.assertRaisesRegex(
+            NoReply, "D02 no such document in the set code; there are .*/src/scale.rs"
+        ):
+            asked_at(self.url, NAME).query("definition", parameters, "places")
+
+    def test_branch(self) -> None:
+        """A branch beside its set: each is asked by its own name, and a third project that is joined to both shows the set alone."""
+        both = Revisions(self.folder)
+        self.publish(both.folders[0])
+        branch = os.path.join(self.folder, "branch")
+        split_into(branch, revision(1), "--name", f"{NAME}@old")
+        self.publish(branch)
+        dump = os.path.join(self.folder, "user.lsif")
+        with redirect_stderr(io.StringIO()):
+            prepare.main([os.path.join(TOP, "demo", "user.raw.lsif"), dump])
+        with open(dump, "rb") as file:
+            Store(self.url).put("kettle", "lsif", file.read(), "k")
+        place = Question("references", "file:///src/tr/user/src/lib.rs", (4, 24))
+        shown = {
+            name: {(at[0], at[2]) for at in answer_of(asked_at(self.url, name), question)}
+            for name, question in (
+                ("kettle", place),
+                (NAME, Question("references", "file:///src/tr/crate/src/scale.rs", (3, 7))),
+                (
+                    f"{NAME}@old",
+                    Question("references", "file:///src/tr/crate/src/scale.rs", (4, 7)),
+                ),
+            )
+        }
+        joined = {("kettle", (4, 24)), ("kettle", (3, 7)), ("kettle", (17, 11))}
+        for own, line in (("kettle", 3), (NAME, 3), (f"{NAME}@old", 4)):
+            set_places = {
+                (f"{NAME}@old" if line == 4 else NAME, at) for at in ((line, 7), (17, 11))
+            }
+            self.assertEqual(shown[own] - joined, set_places, own)
+            self.assertIn(("kettle", (4, 24)), shown[own])
+
+    def test_tags(self) -> None:
+        """Tags of a part are shown as the set's, and those of parts that aren't the set's any more aren't."""
+        both = Revisions(self.folder)
+        self.publish(both.folders[0])
+        part = next(
+            name
+            for name in sorted(self.projects())
+            if name[-16:].isalnum() and "-" not in name[-16:]
+        )
+        tags = b"fahrenheit\tsrc/scale.rs\t4\n"
+        for project in (part, f"{NAME}-0123456789abcdef", "other"):
+            Store(self.url).put(project, "tags", tags, "t")
+        asked = asked_at(self.url, NAME)
+        found = [
+            [tag["project"] for tag in asked.names({"name": "fahrenheit"}, every)]
+            for every in (False, True)
+        ]
+        self.assertEqual(found, [[NAME], [NAME, "other"]])
+
+
+CRATE = os.path.join(TOP, "demo", "crate")
+MAP = ["--map", f"file:///src/tr/crate={CRATE}"]
+LIB, SCALE = (os.path.join(CRATE, "src", name) for name in ("lib.rs", "scale.rs"))
+
+
+class Tools(OnServer):
+    """The tools that ask, where they're given a set's name."""
+
+    def setUp(self) -> None:
+        super().setUp()
+        own = os.path.join(self.folder, "own")
+        split_into(own, revision(0))
+        self.assertEqual(self.publish(own), "parts 2, kept 0, new 2, removed 0")
+
+    def test_ask(self) -> None:
+        """A definition in another part, and references over both."""
+        for words, expected in (
+            (["definition", LIB, "18", "12"], [f"{SCALE}:4:8"]),
+            (["references", SCALE, "4", "8"], [f"{LIB}:18:12", f"{SCALE}:4:8"]),
+        ):
+            with redirect_stdout(io.StringIO()) as said:
+                self.assertEqual(ask.main([*MAP, self.url, NAME, *words]), 0)
+            self.assertEqual([os.path.abspath(line) for line in said.getvalue().split()], expected)
+
+    def test_lsp(self) -> None:
+        """The same from an editor, and no message about what was asked meanwhile."""
+        editor = Editor(*MAP, self.url, NAME)
+        editor.call("initialize", {"capabilities": {}, "rootUri": uri_of(CRATE, [])})
+        for path, line, method, expected in (
+            (LIB, 17, "definition", {(uri_of(SCALE, []), 3)}),
+            (SCALE, 3, "references", {(uri_of(SCALE, []), 3), (uri_of(LIB, []), 17)}),
+        ):
+            found, said = editor.call(
+                f"textDocument/{method}",
+                {
+                    "textDocument": {"uri": uri_of(path, [])},
+                    "position": {"line": line, "character": 12 if line == 17 else 8},
+                    "context": {"includeDeclaration": True},
+                },
+            )
+            places = {(place["uri"], place["range"]["start"]["line"]) for place in found}
+            self.assertEqual((places, said), (expected, []))
+        self.assertEqual(editor.end("shutdown", "exit")[0], 0)

@@ -1,0 +1,299 @@
+"""Tests of the call of split-lsif: what it refuses, which cuts it keeps, and what it writes."""
+
+import io
+import os
+import tempfile
+import unittest
+from contextlib import redirect_stderr
+from typing import Any
+from unittest import mock
+
+from navtools import why
+from navtools.sets import flat, manifest, split
+from tests.dump_walks import body_of
+
+Element = dict[str, Any]
+META = '{"id":0,"type":"vertex","label":"metaData","version":"0.6.0"}'
+RANGE = '{"id":2,"type":"vertex","label":"range","start":{"line":0,"character":0},"end":{"line":0,"character":1}}'
+DOCUMENT = '{"id":1,"type":"vertex","label":"document","uri":"file:///a"}'
+
+
+def made(documents: dict[str, int], shared: bool = True) -> list[Element]:
+    """A dump of documents with so many ranges each, a line apart, which all refer to the first range of the first document."""
+    elements: list[Element] = [{"type": "vertex", "label": "metaData", "version": "0.6.0"}]
+
+    def add(kind: str, label: str, **more: Any) -> int:
+        elements.append({"type": kind, "label": label, **more})
+        return len(elements)
+
+    elements[0]["id"] = 1
+    results = (
+        add("vertex", "resultSet"),
+        add("vertex", "definitionResult"),
+        add("vertex", "referenceResult"),
+    )
+    add("edge", "textDocument/definition", outV=results[0], inV=results[1])
+    add("edge", "textDocument/references", outV=results[0], inV=results[2])
+    definition = None
+    for uri, count in documents.items():
+        document = add("vertex", "document", uri=uri)
+        places = [
+            {name: {"line": line, "character": at} for name, at in (("start", 0), ("end", 3))}
+            for line in range(count)
+        ]
+        ranges = [add("vertex", "range", **place) for place in places]
+        add("edge", "contains", outV=document, inVs=ranges)
+        for own in ranges if shared else ranges[:1]:
+            add("edge", "next", outV=own, inV=results[0])
+        add("edge", "item", outV=results[2], inVs=ranges, property="references", shard=document)
+        if definition is None and ranges:
+            definition = add("edge", "item", outV=results[1], inVs=ranges[:1], shard=document)
+    for own, element in enumerate(elements, 1):
+        element["id"] = own
+    return elements
+
+
+class Split(unittest.TestCase):
+    def setUp(self) -> None:
+        self.folder = self.enterContext(tempfile.TemporaryDirectory())
+        self.out = os.path.join(self.folder, "code")
+        self.path = os.path.join(self.folder, "dump.lsif")
+
+    def split(self, body: bytes, *words: str) -> tuple[int, str]:
+        """The status of a call, and what it says."""
+        with open(self.path, "wb") as file:
+            file.write(body)
+        said = io.StringIO()
+        with redirect_stderr(said):
+            status = split.main(["--jobs", "1", *words, self.path, self.out])
+        return status, said.getvalue().replace(self.folder, "")
+
+    def head(self) -> manifest.Head:
+        """What the manifest says."""
+        return manifest.read_head(os.path.join(self.out, "manifest.tags"))
+
+    def firsts(self) -> list[str]:
+        """The first document of each part."""
+        return [part.first for part in self.head().parts]
+
+    def test_refused(self) -> None:
+        """What isn't a prepared dump is one line, with status 2, and nothing is written."""
+        again = RANGE.replace('"id":2', '"id":3')
+        edge = '{"id":9,"type":"edge","label":"%s","outV":%d,%s}'
+        inside = edge % ("contains", 1, '"inVs":[2]')
+        both = edge % ("contains", 1, '"inVs":[2,3]')
+        sets = [
+            '{"id":4,"type":"vertex","label":"resultSet"}',
+            '{"id":5,"type":"vertex","label":"resultSet"}',
+        ]
+        rows = {
+            "dump.lsif: empty": [],
+            "line 1: not JSON (L02)": ["{"],
+            "line 1: no element with an id (L03)": ["[1]"],
+            "line 1: not the metaData": [RANGE],
+            "line 1: of version 0.5.0 and not 0.6.0": [META.replace("0.6", "0.5")],
+            "line 1: its positions aren't counted in utf-16": [
+                META[:-1] + ',"positionEncoding":"utf-8"}'
+            ],
+            "no document to write": [META],
+            "line 3: its id was used before (L04)": [META, RANGE, RANGE],
+            "a range is contained in no document (E01)": [META, DOCUMENT, RANGE],
+            "line 3: a member is missing or names no earlier vertex": [META, DOCUMENT, inside],
+            "line 4: a range that was contained before (L11)": [
+                META,
+                DOCUMENT,
+                RANGE,
+                both.replace("2,3", "2,2"),
+            ],
+            "file:///a, 0:0: a range that equals or overlaps another (L12)": [
+                META,
+                DOCUMENT,
+                RANGE,
+                again,
+                both,
+            ],
+            "line 5: a second `next` edge (L13)": [
+                META,
+                RANGE,
+                sets[0],
+                *[edge % ("next", 2, '"inV":4')] * 2,
+            ],
+            "`next` edges close a cycle (L14)": [
+                META,
+                DOCUMENT,
+                RANGE,
+                *sets,
+                inside,
+                edge % ("next", 2, '"inV":4'),
+                edge % ("next", 4, '"inV":5'),
+                edge % ("next", 5, '"inV":4'),
+            ],
+            "line 4: an edge may not join these (L10)": [
+                META,
+                DOCUMENT,
+                RANGE,
+                edge % ("next", 2, '"inV":1'),
+            ],
+            "two documents have the address file:///a (L19)": [
+                META,
+                DOCUMENT,
+                DOCUMENT.replace('"id":1', '"id":7'),
+            ],
+        }
+        for text, lines in rows.items():
+            with self.subTest(text):
+                status, said = self.split("\n".join(lines).encode())
+                self.assertEqual((status, said.count("\n")), (2, 1), said)
+                self.assertIn(text, said)
+                self.assertFalse(os.path.exists(os.path.join(self.out, "manifest.tags")))
+
+    def test_names(self) -> None:
+        """A name is that of the folder, or one of 47 characters at most; a branch stands behind its set."""
+        body = body_of(made({"file:///a": 2}))
+        self.assertEqual(self.split(body)[0], 0)
+        self.assertEqual(self.head().name, "code")
+        for name in ("x" * 48, "A", "a@b@c", "a/b"):
+            status, said = self.split(body, "--name", name)
+            self.assertEqual((status, said.count("\n")), (2, 1))
+        self.assertEqual(self.split(body, "--name", "code@old")[0], 0)
+        self.assertEqual(self.head().name, "code--old")
+
+    def test_one_document_over_the_limit(self) -> None:
+        """A document that is over the limit by itself is refused by name, or left out."""
+        body = body_of(made({"file:///a": 10, "file:///b": 80, "file:///c": 10, "file:///d": 200}))
+        status, said = self.split(body, "--elements", "100")
+        self.assertEqual(status, 2)
+        self.assertIn("file:///d alone makes 200 elements", said)
+        status, said = self.split(body, "--elements", "100", "--lenient")
+        self.assertEqual(status, 0)
+        self.assertEqual(
+            [uri in said for uri in ("left out: file:///b", "left out: file:///d")], [True, True]
+        )
+        self.assertEqual(self.head().documents, 2)
+
+    def test_cuts_are_kept(self) -> None:
+        """A document that grows changes its own part alone, and one that comes goes to the part around it."""
+        uris = {f"file:///{folder}/{file}": 20 for folder in "abcd" for file in range(6)}
+        self.assertEqual(self.split(body_of(made(uris, shared=False)), "--elements", "200")[0], 0)
+        before, firsts = set(self.head().projects()), self.firsts()
+        self.assertGreater(len(before), 3)
+        for more in ({"file:///b/3": 45}, {"file:///b/3x": 5}, {"file:///b/3": 60}):
+            self.assertEqual(
+                self.split(body_of(made({**uris, **more}, shared=False)), "--elements", "200")[0], 0
+            )
+            self.assertLessEqual(set(firsts), set(self.firsts()))
+            self.assertLessEqual(len(before - set(self.head().projects())), 2)
+            files = {file[:-5] for file in os.listdir(self.out) if file.endswith(".lsif")}
+            self.assertEqual(files, set(self.head().projects()))
+
+    def test_parts_are_half_full(self) -> None:
+        """Where documents go, parts are joined, so that they are half full on average."""
+        uris = {f"file:///{folder}/{file}": 20 for folder in "abcdef" for file in range(6)}
+        self.split(body_of(made(uris, shared=False)), "--elements", "300")
+        fewer = {uri: count for uri, count in uris.items() if uri[-1] in "03"}
+        self.split(body_of(made(fewer, shared=False)), "--elements", "300")
+        elements = [part.elements for part in self.head().parts]
+        self.assertGreaterEqual(sum(elements), 0.5 * 300 * (len(elements) - 1))
+
+    def test_lists(self) -> None:
+        """Where documents are too many for one tags file they stand in lists, in the order of their addresses."""
+        uris = {f"file:///{number:03d}": 1 for number in range(50)}
+        with mock.patch.object(manifest, "MOST_LINES", 20), mock.patch.object(
+            manifest, "LIST_LINES", 15
+        ):
+            self.assertEqual(self.split(body_of(made(uris)), "--elements", "100")[0], 0)
+        head = self.head()
+        self.assertEqual(
+            [one.first for one in head.lists], [f"file:///{n:03d}" for n in (0, 15, 30, 45)]
+        )
+        documents = manifest.read_documents(os.path.join(self.out, "manifest.tags"), head)
+        self.assertEqual([one.uri for one in documents], sorted(uris))
+        self.assertEqual(
+            [head.part_of(one.uri) for one in documents], [one.project for one in documents]
+        )
+
+    def test_texts(self) -> None:
+        """The manifest has a digest of each document's text, the revision and the folder, with characters that are escaped."""
+        text = os.path.join(self.folder, "a")
+        with open(text, "wb") as file:
+            file.write(b"text\n")
+        where = f"file:///src={self.folder}"
+        body = body_of(made({"file:///src/a": 1, "file:///src/b": 1}))
+        self.assertEqual(self.split(body, "--map", where, "--revision", "v1\\\t2")[0], 0)
+        head = self.head()
+        self.assertEqual((head.revision, head.folder), ("v1\\\t2", where))
+        documents = manifest.read_documents(os.path.join(self.out, "manifest.tags"), head)
+        self.assertEqual([one.text for one in documents], ["b9e68e1bea3e5b19", ""])
+
+    def test_deep_references(self) -> None:
+        """Results that lead to too many others are refused, or cut short where that's asked for."""
+        elements = made({"file:///a": 3})
+        first = len(elements) + 1
+        for number in range(30):
+            elements.append({"id": first + number, "type": "vertex", "label": "referenceResult"})
+        for number in range(29):
+            ends = {"outV": first + number, "inVs": [first + number + 1]}
+            more = {"property": "referenceResults", "shard": 7}
+            elements.append(
+                {"id": first + 30 + number, "type": "edge", "label": "item", **ends, **more}
+            )
+        for number in range(30):
+            ends = {"outV": first + number, "inVs": [8]}
+            more = {"property": "references", "shard": 7}
+            elements.append(
+                {"id": first + 60 + number, "type": "edge", "label": "item", **ends, **more}
+            )
+        self.assertEqual(elements[6]["label"], "document")
+        with mock.patch.object(
+            split, "flattened", lambda graph, without: flat.flattened(graph, without, 100)
+        ):
+            status, said = self.split(body_of(elements))
+            self.assertEqual(status, 2)
+            self.assertIn("over referenceResults; --lenient leaves some out", said)
+            status, said = self.split(body_of(elements), "--lenient")
+            self.assertEqual(status, 0)
+            self.assertRegex(said, "referenceResults too deep: [0-9]+ results have not all places")
+
+    def test_profile(self) -> None:
+        """A part that is read in another profile is another one."""
+        body = body_of(made({"file:///a": 2}))
+        names = []
+        for profile in ("1", "2"):
+            self.assertEqual(self.split(body, "--profile", profile)[0], 0)
+            names.append(self.head().projects())
+        self.assertNotEqual(*names)
+
+    def test_tags(self) -> None:
+        """Tags are cut as documents are, with those of other files at the part around them; their part changes with them."""
+        body = body_of(made({"file:///src/a": 30, "file:///src/b": 30}))
+        tags = os.path.join(self.folder, "tags")
+        lines = [
+            b"!_TAG_FILE_SORTED\t1\t/x/\n",
+            b"x\ta\t1\n",
+            b"y\tb\t1\n",
+            b"z\ta\\x62\t1\n",
+            b"z\tc\t1\n",
+        ]
+        words = ["--elements", "120", "--map", f"file:///src={self.folder}"]
+        words += ["--tags", tags, "--tags-folder", self.folder]
+        found = []
+        for last in (lines[4], b"z\tc\t2\n"):
+            with open(tags, "wb") as out:
+                out.writelines([*lines[:4], last])
+            self.assertEqual(self.split(body, *words)[0], 0)
+            bodies = []
+            for part in self.head().parts:
+                with open(os.path.join(self.out, f"{part.project}.tags"), "rb") as file:
+                    bodies.append(file.read().splitlines(keepends=True))
+            self.assertEqual(bodies, [[lines[0], lines[1], lines[3]], [lines[0], lines[2], last]])
+            found.append(self.head().projects())
+        self.assertEqual(found[0][0], found[1][0])
+        self.assertNotEqual(found[0][1], found[1][1])
+
+    def test_why(self) -> None:
+        """`why` takes the folder that a dump was split into."""
+        self.split(body_of(made({"file:///src/a": 30, "file:///src/b": 30})), "--elements", "120")
+        self.assertEqual(len(self.head().parts), 2)
+        with mock.patch("sys.stdout", io.StringIO()) as said:
+            self.assertEqual(why.main([self.out, "src/b", "2", "1"]), 0)
+        self.assertIn("scheme 'codenav-set'", said.getvalue())
