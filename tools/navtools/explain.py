@@ -3,22 +3,46 @@ indexer should have written. Lines count from 1; positions are those of the dump
 """
 
 import argparse
+import io
 import json
 import re
 import sys
+from array import array
 from dataclasses import dataclass
-from typing import Any, Callable, Iterator, Optional
-from urllib.parse import quote, urlsplit, urlunsplit
+from typing import Any, BinaryIO, Callable, Iterator, Optional, Union
 
-from navtools.prepare import Element, Id, NotADump, Span, element_of, is_id, span_of
+from navtools.addresses import serialized
+from navtools.lsif import (
+    Element,
+    Id,
+    NotADump,
+    Span,
+    element_of,
+    is_id,
+    opened,
+    shard_of,
+    span_of,
+)
 from navtools.sentences import sentence
 
 REPORT = re.compile(r"line ([1-9][0-9]{0,11}): ((?:L(?!00)[01][0-9]|L20|E01|E02)(?: .*)?)")
 WHOLE = {"L01", "L02", "L03", "L05", "L20"}
 FITTING = {
-    "L07": ("vertex", None), "L08": ("edge", None), "L09": ("edge", None), "L10": ("edge", None), "L11": ("edge", "contains"),
-    "L12": ("edge", "contains"), "L13": ("edge", None), "L14": ("edge", "next"), "L15": ("edge", "item"), "L16": ("edge", "item"),
-    "L17": ("vertex", "$event"), "L18": ("edge", None), "L19": ("vertex", "document"), "E01": ("vertex", "range"), "E02": ("edge", "item"),
+    "L07": ("vertex", None),
+    "L08": ("edge", None),
+    "L09": ("edge", None),
+    "L10": ("edge", None),
+    "L11": ("edge", "contains"),
+    "L12": ("edge", "contains"),
+    "L13": ("edge", None),
+    "L14": ("edge", "next"),
+    "L15": ("edge", "item"),
+    "L16": ("edge", "item"),
+    "L17": ("vertex", "$event"),
+    "L18": ("edge", None),
+    "L19": ("vertex", "document"),
+    "E01": ("vertex", "range"),
+    "E02": ("edge", "item"),
 }
 MOST_SHOWN = 240
 MOST_RANGES = 5
@@ -38,40 +62,50 @@ class Fault:
 
 
 class Dump:
-    """The lines of a dump, and on which of them each id, and each label, comes."""
+    """The lines of a dump, which stay in the file, and on which of them each id, and each label, comes."""
 
-    def __init__(self, name: str, body: bytes, sound: Optional[int]) -> None:
+    def __init__(self, name: str, given: Union[bytes, BinaryIO], sound: Optional[int]) -> None:
         """Lines before `sound`, or all where that is None, must be elements: a fault is named only where they are."""
         self.name = name
-        self.lines = body.removesuffix(b"\n").split(b"\n") if body else []
+        self.file: BinaryIO = io.BytesIO(given) if isinstance(given, bytes) else given
+        self.begins = array("q", [0])
         self.first: dict[Id, int] = {}
-        self.labels: dict[tuple[str, str], list[int]] = {}
-        for line in range(1, len(self.lines) + 1):
+        self.labels: dict[tuple[str, str], "array[int]"] = {}
+        self.file.seek(0)
+        for line, body in enumerate(self.file, 1):
+            self.begins.append(self.begins[-1] + len(body))
             try:
-                element = self.at(line)
+                element = element_of(body.removesuffix(b"\n"), f"{name}, line {line}")
             except NotADump:
                 if sound is None or line < sound:
                     raise
                 continue
             self.first.setdefault(element["id"], line)
-            self.labels.setdefault((element["type"], element["label"]), []).append(line)
+            self.labels.setdefault((element["type"], element["label"]), array("i")).append(line)
+        self.count = len(self.begins) - 1
+
+    def body(self, line: int) -> bytes:
+        """The bytes of a line, without its end."""
+        self.file.seek(self.begins[line - 1])
+        return self.file.read(self.begins[line] - self.begins[line - 1]).removesuffix(b"\n")
 
     def at(self, line: int) -> Element:
         """The element of a line."""
-        return element_of(self.lines[line - 1], f"{self.name}, line {line}")
+        return element_of(self.body(line), f"{self.name}, line {line}")
 
     def before(self, line: int, kind: str, label: str) -> Iterator[tuple[int, Element]]:
         """The elements of a type and a label before a line, each with its own."""
-        for number in self.labels.get((kind, label), []):
+        for number in self.labels.get((kind, label), ()):
             if number < line:
                 yield number, self.at(number)
 
     def shown(self, line: int) -> str:
         """A line as it's printed: a long one is cut."""
-        text = self.lines[line - 1][:MOST_SHOWN * 4].decode(errors="replace").strip()
+        body = self.body(line)
+        text = body[: MOST_SHOWN * 4].decode(errors="replace").strip()
         text = "".join(character if character.isprintable() else "\ufffd" for character in text)
-        if len(text) > MOST_SHOWN or len(self.lines[line - 1]) > MOST_SHOWN * 4:
-            text = f"{text[:MOST_SHOWN]} .. ({len(self.lines[line - 1])} bytes)"
+        if len(text) > MOST_SHOWN or len(body) > MOST_SHOWN * 4:
+            text = f"{text[:MOST_SHOWN]} .. ({len(body)} bytes)"
         return f"{self.name}:{line}: {text}"
 
     def named(self, own: Any, line: int) -> str:
@@ -99,7 +133,8 @@ def targets(edge: Element) -> list[Id]:
 
 def ends(edge: Element) -> list[Id]:
     """The ids that an edge joins."""
-    return [own for own in (edge.get("outV"), edge.get("inV")) if is_id(own)] + targets(edge)
+    found: list[Any] = [edge.get("outV"), edge.get("inV")]
+    return [own for own in found if is_id(own)] + targets(edge)
 
 
 def contained(dump: Dump, line: int) -> dict[Id, tuple[int, Id]]:
@@ -113,7 +148,11 @@ def contained(dump: Dump, line: int) -> dict[Id, tuple[int, Id]]:
 
 def events(dump: Dump, line: int) -> Iterator[tuple[int, Element]]:
     """The document events before a line."""
-    return ((number, event) for number, event in dump.before(line, "vertex", "$event") if event.get("scope") == "document")
+    return (
+        (number, event)
+        for number, event in dump.before(line, "vertex", "$event")
+        if event.get("scope") == "document"
+    )
 
 
 def nothing(dump: Dump, line: int, element: Element) -> list[str]:
@@ -134,7 +173,11 @@ def other_metadata(dump: Dump, line: int, element: Element) -> list[str]:
 
 def not_earlier(dump: Dump, line: int, element: Element) -> list[str]:
     """L09: what each end names that is no earlier vertex."""
-    late = [own for own in ends(element) if dump.first.get(own, line) >= line or dump.at(dump.first[own])["type"] != "vertex"]
+    late = [
+        own
+        for own in ends(element)
+        if dump.first.get(own, line) >= line or dump.at(dump.first[own])["type"] != "vertex"
+    ]
     return [dump.named(own, line) for own in dict.fromkeys(late)]
 
 
@@ -155,7 +198,10 @@ def contained_before(dump: Dump, line: int, element: Element) -> list[str]:
         if own in homes:
             return [dump.placed(own, homes[own][1]), dump.shown(homes[own][0])]
         if own in here:
-            return [dump.placed(own, element.get("outV")), f"{dump.name}:{line}: its inVs have {json.dumps(own)} twice"]
+            return [
+                dump.placed(own, element.get("outV")),
+                f"{dump.name}:{line}: its inVs have {json.dumps(own)} twice",
+            ]
         here.add(own)
     return []
 
@@ -164,7 +210,9 @@ def crossing(spans: dict[Any, Span]) -> Iterator[tuple[Any, Any]]:
     """Pairs of ranges that are equal, or overlap and aren't nested: one for each range that must go so that no such pair is left, which comes second."""
     covering: list[Any] = []
     first: dict[Span, Any] = {}
-    for own in sorted(spans, key=lambda own: (spans[own][0], spans[own][1], -spans[own][2], -spans[own][3])):
+    for own in sorted(
+        spans, key=lambda own: (spans[own][0], spans[own][1], -spans[own][2], -spans[own][3])
+    ):
         start, end = spans[own][:2], spans[own][2:]
         while covering and spans[covering[-1]][2:] <= start:
             covering.pop()
@@ -179,19 +227,29 @@ def crossing(spans: dict[Any, Span]) -> Iterator[tuple[Any, Any]]:
 def overlapping(dump: Dump, line: int, element: Element) -> list[str]:
     """L12: both ranges."""
     document = element.get("outV")
-    own = [own for own, (_, home) in contained(dump, line).items() if home == document] + targets(element)
-    pair = next(crossing({one: span for one in own for span in [dump.span(one)] if span is not None}), ())
+    own = [own for own, (_, home) in contained(dump, line).items() if home == document] + targets(
+        element
+    )
+    pair = next(
+        crossing({one: span for one in own for span in [dump.span(one)] if span is not None}), ()
+    )
     return [dump.placed(one, document) for one in pair]
 
 
 def edge_before(dump: Dump, line: int, element: Element) -> list[str]:
     """L13: the earlier edge of this label out of the same vertex."""
-    return [dump.shown(number) for number, edge in dump.before(line, "edge", element["label"]) if edge["outV"] == element.get("outV")]
+    return [
+        dump.shown(number)
+        for number, edge in dump.before(line, "edge", element["label"])
+        if edge["outV"] == element.get("outV")
+    ]
 
 
 def way_back(dump: Dump, line: int, element: Element) -> list[str]:
     """L14: the `next` edges from the target to the source."""
-    steps = {edge["outV"]: (number, edge["inV"]) for number, edge in dump.before(line, "edge", "next")}
+    steps = {
+        edge["outV"]: (number, edge["inV"]) for number, edge in dump.before(line, "edge", "next")
+    }
     at, notes = element.get("inV"), []
     while at != element.get("outV") and at in steps:
         number, at = steps.pop(at)
@@ -204,59 +262,56 @@ def shard_named(dump: Dump, line: int, element: Element) -> list[str]:
     return [dump.named(shard_of(element), line)]
 
 
-def shard_of(item: Element) -> Any:
-    """Where the targets of an item are, as it says."""
-    return item["shard"] if "shard" in item else item.get("document")
-
-
 def event_before(dump: Dump, line: int, element: Element) -> list[str]:
     """L17: what the event's data names, and the earlier events of that document."""
     data = element.get("data")
-    return [dump.named(data, line)] + [dump.shown(number) for number, event in events(dump, line) if event.get("data") == data]
+    return [dump.named(data, line)] + [
+        dump.shown(number) for number, event in events(dump, line) if event.get("data") == data
+    ]
 
 
 def ended_before(dump: Dump, line: int, element: Element) -> list[str]:
     """L18: the end of the document and, where a range of it is named, that range and the edge that contains it."""
-    over = {event["data"]: number for number, event in events(dump, line) if event.get("kind") == "end"}
+    over = {
+        event["data"]: number for number, event in events(dump, line) if event.get("kind") == "end"
+    }
     if element["label"] == "contains" and element.get("outV") in over:
         return [dump.shown(over[element["outV"]])]
     homes = contained(dump, line)
     for own in ends(element):
         if own in homes and homes[own][1] in over:
-            return [dump.placed(own, homes[own][1]), dump.shown(homes[own][0]), dump.shown(over[homes[own][1]])]
+            return [
+                dump.placed(own, homes[own][1]),
+                dump.shown(homes[own][0]),
+                dump.shown(over[homes[own][1]]),
+            ]
     return []
-
-
-def serialized(uri: str) -> str:
-    """Nearly the text that the URL Standard makes of a uri: enough to find two of which it makes one."""
-    parts = urlsplit(re.sub(r"[\t\n\r]", "", uri).strip("".join(map(chr, range(33)))).replace("\\", "/"))
-    segments: list[str] = []
-    for segment in parts.path.removeprefix("/").split("/"):
-        plain = segment.lower().replace("%2e", ".")
-        if plain == "..":
-            del segments[-1:]
-        elif plain != ".":
-            segments.append(quote(segment, safe="!$%&'()*+,-./:;=@[]_|~"))
-    host = "" if (parts.scheme, parts.netloc.lower()) == ("file", "localhost") else parts.netloc.lower()
-    return urlunsplit((parts.scheme, host, "/" + "/".join(segments), parts.query, parts.fragment))
 
 
 def same_uri(dump: Dump, line: int, element: Element) -> list[str]:
     """L19: the earlier document."""
     own = serialized(str(element.get("uri")))
-    found = [number for number, document in dump.before(line, "vertex", "document") if serialized(str(document.get("uri"))) == own]
-    return [dump.shown(number) for number in found] or ["the earlier document has a uri that is written in another way"]
+    found = [
+        number
+        for number, document in dump.before(line, "vertex", "document")
+        if serialized(str(document.get("uri"))) == own
+    ]
+    return [dump.shown(number) for number in found] or [
+        "the earlier document has a uri that is written in another way"
+    ]
 
 
 def in_no_document(dump: Dump, line: int, element: Element) -> list[str]:
     """E01: the range."""
-    return [] if element["id"] in contained(dump, len(dump.lines) + 1) else [dump.placed(element["id"])]
+    return [] if element["id"] in contained(dump, dump.count + 1) else [dump.placed(element["id"])]
 
 
 def elsewhere(dump: Dump, line: int, element: Element) -> list[str]:
     """E02: the ranges that aren't in the shard, with the documents that they're in, and the shard."""
-    homes, shard = contained(dump, len(dump.lines) + 1), shard_of(element)
-    away = [own for own in dict.fromkeys(targets(element)) if own in homes and homes[own][1] != shard]
+    homes, shard = contained(dump, dump.count + 1), shard_of(element)
+    away = [
+        own for own in dict.fromkeys(targets(element)) if own in homes and homes[own][1] != shard
+    ]
     notes = [dump.placed(own, homes[own][1]) for own in away[:MOST_RANGES]]
     if len(away) > MOST_RANGES:
         notes.append(f"and {len(away) - MOST_RANGES} ranges more")
@@ -264,9 +319,23 @@ def elsewhere(dump: Dump, line: int, element: Element) -> list[str]:
 
 
 CONFLICTS: dict[str, Callable[[Dump, int, Element], list[str]]] = {
-    "L04": same_id, "L06": other_metadata, "L07": nothing, "L08": nothing, "L09": not_earlier, "L10": joined, "L11": contained_before,
-    "L12": overlapping, "L13": edge_before, "L14": way_back, "L15": nothing, "L16": shard_named, "L17": event_before,
-    "L18": ended_before, "L19": same_uri, "E01": in_no_document, "E02": elsewhere,
+    "L04": same_id,
+    "L06": other_metadata,
+    "L07": nothing,
+    "L08": nothing,
+    "L09": not_earlier,
+    "L10": joined,
+    "L11": contained_before,
+    "L12": overlapping,
+    "L13": edge_before,
+    "L14": way_back,
+    "L15": nothing,
+    "L16": shard_named,
+    "L17": event_before,
+    "L18": ended_before,
+    "L19": same_uri,
+    "E01": in_no_document,
+    "E02": elsewhere,
 }
 
 
@@ -274,7 +343,9 @@ def fault_of(text: str) -> Fault:
     """The fault that a line of `check-lsif` names; raises NoFault."""
     match = REPORT.fullmatch(text.strip())
     if match is None:
-        shown = "".join(character if character.isprintable() else "\ufffd" for character in text.strip()[:80])
+        shown = "".join(
+            character if character.isprintable() else "\ufffd" for character in text.strip()[:80]
+        )
         raise NoFault(f"not a fault of a dump, `line N: CODE text`: `{shown}`")
     return Fault(int(match[1]), match[2][:3], match[2])
 
@@ -282,7 +353,9 @@ def fault_of(text: str) -> Fault:
 def conflicts(dump: Dump, fault: Fault, element: Element) -> list[str]:
     """What an element conflicts with; nothing where it can't have the fault, as where the report is of another dump."""
     kind, label = FITTING.get(fault.code, (None, None))
-    if element["type"] != (kind or element["type"]) or element["label"] != (label or element["label"]):
+    if element["type"] != (kind or element["type"]) or element["label"] != (
+        label or element["label"]
+    ):
         return []
     try:
         return CONFLICTS[fault.code](dump, fault.line, element)
@@ -290,17 +363,20 @@ def conflicts(dump: Dump, fault: Fault, element: Element) -> list[str]:
         return []
 
 
-def explain(name: str, body: bytes, fault: Fault) -> list[str]:
+def explain(name: str, given: Union[bytes, BinaryIO], fault: Fault) -> list[str]:
     """The lines that explain a fault; raises NoFault or NotADump."""
-    if not body and (fault.line, fault.code) == (1, "L06"):
+    file: BinaryIO = io.BytesIO(given) if isinstance(given, bytes) else given
+    if not file.seek(0, 2) and (fault.line, fault.code) == (1, "L06"):
         return [f"{name}:1: {fault.report}", f"{name}: empty", sentence(fault.code, {})]
-    dump = Dump(name, body, None if fault.code.startswith("E") else fault.line)
-    if fault.line > len(dump.lines):
-        raise NoFault(f"{name} has {len(dump.lines)} lines, and no line {fault.line}")
+    dump = Dump(name, file, None if fault.code.startswith("E") else fault.line)
+    if fault.line > dump.count:
+        raise NoFault(f"{name} has {dump.count} lines, and no line {fault.line}")
     element = {} if fault.code in WHOLE else dump.at(fault.line)
     notes = [""] if fault.code in WHOLE else conflicts(dump, fault, element)
     if not notes:
-        raise NoFault(f"{name}, line {fault.line}: {fault.code} isn't its fault; is it the dump that was checked?")
+        raise NoFault(
+            f"{name}, line {fault.line}: {fault.code} isn't its fault; is it the dump that was checked?"
+        )
     head = [f"{name}:{fault.line}: {fault.report}", dump.shown(fault.line)]
     return [*head, *(note for note in notes if note), sentence(fault.code, element)]
 
@@ -309,12 +385,21 @@ def main(words: Optional[list[str]] = None) -> int:
     """Reads the command line; answers 0 where a fault was explained, else 2."""
     parser = argparse.ArgumentParser(prog="explain-fault", description=__doc__)
     parser.add_argument("file", metavar="FILE", help="the dump that was checked")
-    parser.add_argument("fault", metavar="FAULT", nargs="?", help="`line N: CODE text`; without it, it's read from the standard input")
+    parser.add_argument(
+        "fault",
+        metavar="FAULT",
+        nargs="?",
+        help="`line N: CODE text`; without it, it's read from the standard input",
+    )
     call = parser.parse_args(words)
     try:
-        fault = fault_of(sys.stdin.buffer.readline(1000).decode(errors="replace") if call.fault is None else call.fault)
-        with open(call.file, "rb") as file:
-            lines = explain(call.file, file.read(), fault)
+        fault = fault_of(
+            sys.stdin.buffer.readline(1000).decode(errors="replace")
+            if call.fault is None
+            else call.fault
+        )
+        with opened(call.file) as file:
+            lines = explain(call.file, file, fault)
     except (NoFault, NotADump) as refusal:
         print(f"explain-fault: {refusal}", file=sys.stderr)
         return 2

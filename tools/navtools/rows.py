@@ -63,8 +63,15 @@ class RowCounter:
         if element["type"] == "vertex":
             self.take_vertex(element["id"], element["label"], element)
         else:
-            targets = element["inVs"] if isinstance(element.get("inVs"), list) else [element.get("inV")]
-            self.take_edge(element["label"], element.get("outV"), [it for it in targets if type(it) in (int, str)], element)
+            targets = (
+                element["inVs"] if isinstance(element.get("inVs"), list) else [element.get("inV")]
+            )
+            self.take_edge(
+                element["label"],
+                element.get("outV"),
+                [it for it in targets if type(it) in (int, str)],
+                element,
+            )
 
     def take_vertex(self, own: Id, label: str, element: Element) -> None:
         """Takes a vertex."""
@@ -99,7 +106,9 @@ class RowCounter:
                 self.attached[source].append(target)
                 self.attached[target].append(source)
         elif label == "item":
-            (self.leads if element.get("property") == "referenceResults" else self.items)[source].extend(targets)
+            (self.leads if element.get("property") == "referenceResults" else self.items)[
+                source
+            ].extend(targets)
 
     def key_of(self, moniker: Id) -> str:
         """The text of a moniker's key."""
@@ -108,7 +117,13 @@ class RowCounter:
         package = self.packages.get(self.package_of.get(moniker, ""))
         if package is None:
             return text + "0"
-        return text + "1" + "".join(measured(str(package.get(part, ""))) for part in ("manager", "name", "version"))
+        return (
+            text
+            + "1"
+            + "".join(
+                measured(str(package.get(part, ""))) for part in ("manager", "name", "version")
+            )
+        )
 
     def uri_of(self, range_id: Id) -> str:
         """The URL of the document that contains a range."""
@@ -173,9 +188,16 @@ class RowCounter:
             row = tally_of(self.uri_of(own))
             ranges.add(Tally(1, row.counted - 1))
         items, led = self.items_of_results()
-        return {"documents": Tally(len(self.documents)), "ranges": ranges, "items": items, "hovers": Tally(self.hovers),
-                "marks": self.marks_of_ranges(marks), "bearers": bearers,
-                "pairs of referenceResults": Tally(0, led), "pairs of attach": Tally(0, attached)}
+        return {
+            "documents": Tally(len(self.documents)),
+            "ranges": ranges,
+            "items": items,
+            "hovers": Tally(self.hovers),
+            "marks": self.marks_of_ranges(marks),
+            "bearers": bearers,
+            "pairs of referenceResults": Tally(0, led),
+            "pairs of attach": Tally(0, attached),
+        }
 
 
 def walk(pairs: Mapping[Id, list[Id]], start: Id, most: int) -> tuple[Iterable[Id], int]:
@@ -194,10 +216,20 @@ def walk(pairs: Mapping[Id, list[Id]], start: Id, most: int) -> tuple[Iterable[I
 
 def lines(tallies: Mapping[str, Tally]) -> list[str]:
     """How many rows of each kind there are."""
-    return ["rows: " + ", ".join(f"{tally.rows} {kind}" for kind, tally in tallies.items() if not kind.startswith("pairs"))]
+    return [
+        "rows: "
+        + ", ".join(
+            f"{tally.rows} {kind}"
+            for kind, tally in tallies.items()
+            if not kind.startswith("pairs")
+        )
+    ]
 
 
 def excesses(tallies: Mapping[str, Tally]) -> list[str]:
     """Which limits of the server the rows go over."""
-    return [f"over the limits: {tally.counted} {'' if kind.startswith('pairs') else 'rows of '}{kind}, the server takes {MOST_ROWS} (S02)"
-            for kind, tally in tallies.items() if tally.counted > MOST_ROWS]
+    return [
+        f"over the limits: {tally.counted} {'' if kind.startswith('pairs') else 'rows of '}{kind}, the server takes {MOST_ROWS} (S02)"
+        for kind, tally in tallies.items()
+        if tally.counted > MOST_ROWS
+    ]

@@ -11,10 +11,12 @@ from typing import Any, Iterator, Optional
 from urllib.parse import quote
 
 from navtools.ask import hover_text
-from navtools.curl import BadCall
-from navtools.explain import Dump, contained, ends, serialized, targets
+from navtools.addresses import serialized
+from navtools.explain import Dump, contained, ends, targets
 from navtools.places import KEPT, Maps, character_at, maps_of, place_line, place_of, uri_of
-from navtools.prepare import Element, Id, NotADump, Span
+from navtools.lsif import Element, Id, NotADump, Span, opened, plain
+from navtools.sets.manifest import part_file
+from navtools.words import BadCall
 
 Found = dict[str, Any]
 
@@ -34,10 +36,22 @@ REQUESTS = {
     "definition": Request("textDocument/definition", "definition result", ("definitions", None)),
     "declaration": Request("textDocument/declaration", "declaration result", (None,)),
     "implementation": Request("textDocument/implementation", "implementation result", (None,)),
-    "references": Request("textDocument/references", "reference result", ("definitions", "references"), *[("import", "export")] * 2),
+    "references": Request(
+        "textDocument/references",
+        "reference result",
+        ("definitions", "references"),
+        *[("import", "export")] * 2,
+    ),
     "hover": Request("textDocument/hover", "hover result"),
 }
-FOLLOWED = ("next", "moniker", "attach", "packageInformation", "item", *(request.edge for request in REQUESTS.values()))
+FOLLOWED = (
+    "next",
+    "moniker",
+    "attach",
+    "packageInformation",
+    "item",
+    *(request.edge for request in REQUESTS.values()),
+)
 
 
 @dataclass(frozen=True)
@@ -62,7 +76,9 @@ class Trail:
 
     def speaks(self, request: Request) -> bool:
         """Whether the request is asked of the range where no smaller one speaks."""
-        return self.bound is not None or any(moniker.kind in request.asks for moniker in self.monikers)
+        return self.bound is not None or any(
+            moniker.kind in request.asks for moniker in self.monikers
+        )
 
 
 class Graph:
@@ -70,9 +86,12 @@ class Graph:
 
     def __init__(self, dump: Dump) -> None:
         self.dump = dump
-        after = len(dump.lines) + 1
+        after = dump.count + 1
         self.homes = contained(dump, after)
-        self.documents = {line: str(element.get("uri")) for line, element in dump.before(after, "vertex", "document")}
+        self.documents = {
+            line: str(element.get("uri"))
+            for line, element in dump.before(after, "vertex", "document")
+        }
         self.edges: dict[tuple[str, Id], list[int]] = {}
         for label in FOLLOWED:
             for line, edge in dump.before(after, "edge", label):
@@ -103,7 +122,9 @@ class Graph:
         moniker, package = self.vertex(own), "no package"
         for _, edge in self.out("packageInformation", own):
             members = self.vertex(edge["inV"])
-            package = "package " + " ".join(repr(str(members.get(member, ""))) for member in ("manager", "name", "version"))
+            package = "package " + " ".join(
+                repr(str(members.get(member, ""))) for member in ("manager", "name", "version")
+            )
         return f"scheme {str(moniker.get('scheme'))!r}, identifier {str(moniker.get('identifier'))!r}, {package}"
 
     def monikers(self, chain: dict[Id, int]) -> list[Moniker]:
@@ -113,22 +134,44 @@ class Graph:
         while todo:
             line, own = todo.pop()
             if own not in found:
-                found[own] = Moniker(self.dump.first[own], line, str(self.vertex(own).get("kind", "local")), self.key(own))
-                todo += [(number, end) for number, edge in self.out("attach", own) for end in ends(edge)]
+                found[own] = Moniker(
+                    self.dump.first[own],
+                    line,
+                    str(self.vertex(own).get("kind", "local")),
+                    self.key(own),
+                )
+                todo += [
+                    (number, end) for number, edge in self.out("attach", own) for end in ends(edge)
+                ]
         return sorted(found.values(), key=lambda moniker: moniker.line)
 
     def trail(self, own: Id, request: Request) -> Trail:
         """Where a request goes from a range."""
         chain = self.chain(own)
         bound = next((line for member in chain for line, _ in self.out(request.edge, member)), None)
-        return Trail(self.dump.first[own], self.dump.span(own) or (0, 0, 0, 0), list(chain.values())[1:], bound, self.monikers(chain))
+        return Trail(
+            self.dump.first[own],
+            self.dump.span(own) or (0, 0, 0, 0),
+            list(chain.values())[1:],
+            bound,
+            self.monikers(chain),
+        )
 
     def covering(self, document: int, position: tuple[int, int]) -> list[Id]:
         """The ranges of a document that cover a position, the innermost first."""
         home = self.dump.at(document)["id"]
-        spans = {own: self.dump.span(own) for own, (_, source) in self.homes.items() if source == home}
-        found = [(span, own) for own, span in spans.items() if span is not None and span[:2] <= position < span[2:]]
-        return [own for _, own in sorted(found, key=lambda pair: (-pair[0][0], -pair[0][1], pair[0][2:]))]
+        spans = {
+            own: self.dump.span(own) for own, (_, source) in self.homes.items() if source == home
+        }
+        found = [
+            (span, own)
+            for own, span in spans.items()
+            if span is not None and span[:2] <= position < span[2:]
+        ]
+        return [
+            own
+            for _, own in sorted(found, key=lambda pair: (-pair[0][0], -pair[0][1], pair[0][2:]))
+        ]
 
     def results(self, result: Id) -> list[Id]:
         """A result, and those that its `item` edges lead to."""
@@ -145,14 +188,30 @@ class Graph:
         """The ranges that the result of a trail leads to, each with the line of the `item` edge."""
         if trail.bound is None:
             return []
-        edges = [step for own in self.results(self.dump.at(trail.bound)["inV"]) for step in self.out("item", own)]
-        return [(line, own) for line, edge in edges if edge.get("property") in request.properties for own in targets(edge) if own in self.homes]
+        edges = [
+            step
+            for own in self.results(self.dump.at(trail.bound)["inV"])
+            for step in self.out("item", own)
+        ]
+        return [
+            (line, own)
+            for line, edge in edges
+            if edge.get("property") in request.properties
+            for own in targets(edge)
+            if own in self.homes
+        ]
 
     def place(self, own: Id) -> Found:
         """The place of a range, as a reply has it but for the project."""
         span = self.dump.span(own) or (0, 0, 0, 0)
-        start, end = ({"line": line, "character": character} for line, character in (span[:2], span[2:]))
-        return {"uri": serialized(str(self.vertex(self.homes[own][1]).get("uri"))), "start": start, "end": end}
+        start, end = (
+            {"line": line, "character": character} for line, character in (span[:2], span[2:])
+        )
+        return {
+            "uri": serialized(str(self.vertex(self.homes[own][1]).get("uri"))),
+            "start": start,
+            "end": end,
+        }
 
 
 def document_of(graph: Graph, path: str, maps: Maps) -> int:
@@ -162,7 +221,9 @@ def document_of(graph: Graph, path: str, maps: Maps) -> int:
     near = [line for line, known in graph.documents.items() if known == path or known.endswith(end)]
     if len(own or near) != 1:
         known = ", ".join(list(graph.documents.values())[:3])
-        raise BadCall(f"{path} is {len(near)} of the {len(graph.documents)} documents of {graph.dump.name}: {known}")
+        raise BadCall(
+            f"{path} is {len(near)} of the {len(graph.documents)} documents of {graph.dump.name}: {known}"
+        )
     return (own or near)[0]
 
 
@@ -174,7 +235,10 @@ def asked(trails: list[Trail], request: Request) -> Optional[Trail]:
 def places(graph: Graph, trail: Optional[Trail], request: Request) -> list[Found]:
     """The places of this dump that a request is answered with, in order and each once."""
     found = [] if trail is None else [graph.place(own) for _, own in graph.items(trail, request)]
-    by_order = {(place["uri"].encode(), *place["start"].values(), *place["end"].values()): place for place in found}
+    by_order = {
+        (place["uri"].encode(), *place["start"].values(), *place["end"].values()): place
+        for place in found
+    }
     return [by_order[order] for order in sorted(by_order)]
 
 
@@ -191,10 +255,22 @@ def reason(trail: Trail, request: Request) -> str:
     if trail.bound is not None:
         return f"asked, for it has {article} {request.result}"
     count = len(trail.nexts)
-    along = ("itself or along its `next` edge" if count == 1 else f"itself or along its {count} `next` edges") if count else "and no `next` edge"
+    along = (
+        (
+            "itself or along its `next` edge"
+            if count == 1
+            else f"itself or along its {count} `next` edges"
+        )
+        if count
+        else "and no `next` edge"
+    )
     missing = f"it has no {request.result} {along}"
     kinds = " or ".join(request.asks)
-    return f"asked, for {missing}, but an {kinds} moniker" if trail.speaks(request) else f"not asked: {missing}, and no {kinds} moniker"
+    return (
+        f"asked, for {missing}, but an {kinds} moniker"
+        if trail.speaks(request)
+        else f"not asked: {missing}, and no {kinds} moniker"
+    )
 
 
 def steps(graph: Graph, trail: Trail, request: Request, maps: Maps) -> list[str]:
@@ -202,10 +278,17 @@ def steps(graph: Graph, trail: Trail, request: Request, maps: Maps) -> list[str]
     dump, lines = graph.dump, []
     for line in (*trail.nexts, *([] if trail.bound is None else [trail.bound])):
         edge = dump.at(line)
-        lines.append(f"{edge['label']} edge at line {line}, to the {graph.vertex(edge['inV'])['label']} at line {dump.first[edge['inV']]}")
+        lines.append(
+            f"{edge['label']} edge at line {line}, to the {graph.vertex(edge['inV'])['label']} at line {dump.first[edge['inV']]}"
+        )
     for line, own in graph.items(trail, request):
-        lines.append(f"item edge at line {line}, to the range at line {dump.first[own]}: {place_line(place_of(graph.place(own), maps), False)}")
-    lines += [f"{moniker.kind} moniker at line {moniker.line}, by the edge at line {moniker.edge}: {moniker.key}" for moniker in trail.monikers]
+        lines.append(
+            f"item edge at line {line}, to the range at line {dump.first[own]}: {place_line(place_of(graph.place(own), maps), False)}"
+        )
+    lines += [
+        f"{moniker.kind} moniker at line {moniker.line}, by the edge at line {moniker.edge}: {moniker.key}"
+        for moniker in trail.monikers
+    ]
     return [f"  {line}" for line in lines]
 
 
@@ -215,14 +298,19 @@ def outcome(graph: Graph, trail: Optional[Trail], request: Request) -> list[str]
     if trail is None:
         return ["answer: empty, for no range here is asked"]
     if text is not None:
-        return [f"answer: the contents of the {request.result}", *(f"  {line}" for line in text.splitlines())]
+        return [
+            f"answer: the contents of the {request.result}",
+            *(f"  {line}" for line in text.splitlines()),
+        ]
     count = len(places(graph, trail, request))
     lines = [f"answer: {count} place{'' if count == 1 else 's'} of this dump"]
     if trail.bound is not None and count == 0 and request is not REQUESTS["hover"]:
         lines[0] += f", for no `item` edge of its {request.result} leads to a range"
     for moniker in trail.monikers:
         if moniker.kind in request.asks:
-            lines.append(f"  and those of other projects that have an {' or '.join(request.answers)} moniker with the key of line {moniker.line}")
+            lines.append(
+                f"  and those of other projects that have an {' or '.join(request.answers)} moniker with the key of line {moniker.line}"
+            )
     return lines
 
 
@@ -231,7 +319,9 @@ def explained(graph: Graph, trails: list[Trail], request: Request, maps: Maps) -
     speaker, lines, is_asked = asked(trails, request), [], False
     for trail in trails:
         why = "not asked, for a smaller range is" if is_asked else reason(trail, request)
-        lines.append(f"range at line {trail.line}, {trail.span[0]}:{trail.span[1]} to {trail.span[2]}:{trail.span[3]}: {why}")
+        lines.append(
+            f"range at line {trail.line}, {trail.span[0]}:{trail.span[1]} to {trail.span[2]}:{trail.span[3]}: {why}"
+        )
         lines += [] if is_asked else steps(graph, trail, request, maps)
         is_asked = is_asked or trail is speaker
     return [*(lines or ["no range covers the position"]), *outcome(graph, speaker, request)]
@@ -242,32 +332,56 @@ def position_of(call: argparse.Namespace) -> tuple[int, int]:
     if call.line < 1 or call.column < 1:
         raise BadCall(f"lines and columns count from 1, not {min(call.line, call.column)}")
     units = call.utf16 or not os.path.isfile(call.file)
-    return call.line - 1, call.column - 1 if units else character_at(call.file, call.line, call.column, False)
+    return call.line - 1, call.column - 1 if units else character_at(
+        call.file, call.line, call.column, False
+    )
+
+
+def told(graph: Graph, call: argparse.Namespace, maps: Maps) -> int:
+    """Prints what there is at the position that is asked for; answers whether a range is asked, as the status."""
+    request = REQUESTS[call.request]
+    document = document_of(graph, call.file, maps)
+    position = position_of(call)
+    trails = [graph.trail(own, request) for own in graph.covering(document, position)]
+    head = f"{call.request} at {graph.documents[document]} (line {document}), {position[0]}:{position[1]}"
+    print("\n".join([head, *explained(graph, trails, request, maps)]), flush=True)
+    return 0 if asked(trails, request) else 1
 
 
 def main(words: Optional[list[str]] = None) -> int:
     """Reads the command line; answers 0 where a range is asked, 1 where none is, 2 at a fault."""
     parser = argparse.ArgumentParser(prog="why", description=__doc__)
-    parser.add_argument("--map", action="append", default=[], metavar="URI=FOLDER", help="documents below URI are the files of FOLDER")
-    parser.add_argument("--utf16", action="store_true", help="COLUMN counts UTF-16 code units, as it does where FILE can't be read")
-    parser.add_argument("--request", choices=list(REQUESTS), default="definition", help="without it definition; of declarations and "
-                        "implementations as in profile 2")
-    parser.add_argument("dump", metavar="DUMP")
+    parser.add_argument(
+        "--map",
+        action="append",
+        default=[],
+        metavar="URI=FOLDER",
+        help="documents below URI are the files of FOLDER",
+    )
+    parser.add_argument(
+        "--utf16",
+        action="store_true",
+        help="COLUMN counts UTF-16 code units, as it does where FILE can't be read",
+    )
+    parser.add_argument(
+        "--request",
+        choices=list(REQUESTS),
+        default="definition",
+        help="without it definition; of declarations and " "implementations as in profile 2",
+    )
+    parser.add_argument(
+        "dump", metavar="DUMP", help="a dump, or the folder that one was split into"
+    )
     parser.add_argument("file", metavar="FILE", help="a path, or a document's uri or its end")
     parser.add_argument("line", metavar="LINE", type=int)
     parser.add_argument("column", metavar="COLUMN", type=int)
     call = parser.parse_args(words)
-    request = REQUESTS[call.request]
     try:
         maps = maps_of(call.map)
-        with open(call.dump, "rb") as file:
-            graph = Graph(Dump(call.dump, file.read(), None))
-        document = document_of(graph, call.file, maps)
-        position = position_of(call)
-        trails = [graph.trail(own, request) for own in graph.covering(document, position)]
-        head = f"{call.request} at {graph.documents[document]} (line {document}), {position[0]}:{position[1]}"
-        print("\n".join([head, *explained(graph, trails, request, maps)]), flush=True)
-        return 0 if asked(trails, request) else 1
+        if os.path.isdir(call.dump):
+            call.dump = part_file(call.dump, call.file, maps)
+        with opened(call.dump) as file, plain(file, call.dump) as lines:
+            return told(Graph(Dump(call.dump, lines, None)), call, maps)
     except BrokenPipeError:
         os.dup2(os.open(os.devnull, os.O_WRONLY), sys.stdout.fileno())
         return 141

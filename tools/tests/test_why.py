@@ -19,25 +19,93 @@ Question = tuple[str, str, str, int, int]
 
 PACKAGE = vertex("p", "packageInformation", manager="npm", name="lib", version="1.0.0")
 DOCUMENT = vertex(2, "document", uri="file:///src/a.ts")
-MARKED = [META, DOCUMENT, span(3, 0, 3, 1), vertex(4, "moniker", kind="import", scheme="npm", identifier="lib::f"), PACKAGE, edge(6, "moniker", 3, 4),
-          edge(7, "packageInformation", 4, "p"), edge(8, "contains", 2, [3])]
-EXPORTED = [META, DOCUMENT, span(3, 0, 3, 1), vertex(4, "moniker", kind="export", scheme="npm", identifier="f"), edge(5, "moniker", 3, 4),
-            vertex(6, "moniker", kind="import", scheme="tsc", identifier="g"), edge(7, "attach", 6, 4), edge(8, "contains", 2, [3])]
-NESTED = [META, DOCUMENT, span(3, 0, 20), span(4, 5, 8), vertex(5, "definitionResult"), edge(6, "textDocument/definition", 3, 5),
-          edge(7, "item", 5, [3], shard=2), edge(8, "contains", 2, [4, 3])]
-MEETING = [META, DOCUMENT, span(3, 0, 5), span(4, 5, 9), span(5, 5, 5), *(vertex(own, "definitionResult") for own in (6, 7, 8)),
-           *(edge(own, "textDocument/definition", own - 6, own - 3) for own in (9, 10, 11)),
-           *(edge(own, "item", own - 6, [own - 9], shard=2) for own in (12, 13, 14)), edge(15, "contains", 2, [3, 4, 5])]
-CYCLE = [META, DOCUMENT, span(3, 0, 1), span(4, 0, 1, 1), vertex(5, "referenceResult"), vertex(6, "referenceResult"),
-         edge(7, "textDocument/references", 4, 6), edge(8, "item", 5, [6], property="referenceResults", shard=2),
-         edge(9, "item", 6, [5], property="referenceResults", shard=2), edge(10, "item", 5, [3], property="definitions", shard=2),
-         edge(11, "item", 6, [4], property="references", shard=2), edge(12, "item", 5, [4], property="references", shard=2), edge(13, "contains", 2, [3, 4])]
-DECLARED = [META, DOCUMENT, span(3, 0, 1), span(4, 0, 1, 1), vertex(5, "declarationResult"), vertex(6, "implementationResult"),
-            edge(7, "textDocument/declaration", 4, 5), edge(8, "textDocument/implementation", 4, 6), edge(9, "item", 5, [3], shard=2),
-            edge(10, "item", 6, [4], shard=2), edge(11, "contains", 2, [3, 4])]
-EMPTY = [META, DOCUMENT, span(3, 0, 1), vertex(4, "definitionResult"), edge(5, "textDocument/definition", 3, 4), edge(6, "contains", 2, [3])]
-CHAIN = [META, DOCUMENT, span(3, 0, 1), vertex(4, "resultSet"), vertex(5, "resultSet"), edge(6, "next", 3, 4), edge(7, "next", 4, 5),
-         edge(8, "contains", 2, [3])]
+MARKED = [
+    META,
+    DOCUMENT,
+    span(3, 0, 3, 1),
+    vertex(4, "moniker", kind="import", scheme="npm", identifier="lib::f"),
+    PACKAGE,
+    edge(6, "moniker", 3, 4),
+    edge(7, "packageInformation", 4, "p"),
+    edge(8, "contains", 2, [3]),
+]
+EXPORTED = [
+    META,
+    DOCUMENT,
+    span(3, 0, 3, 1),
+    vertex(4, "moniker", kind="export", scheme="npm", identifier="f"),
+    edge(5, "moniker", 3, 4),
+    vertex(6, "moniker", kind="import", scheme="tsc", identifier="g"),
+    edge(7, "attach", 6, 4),
+    edge(8, "contains", 2, [3]),
+]
+NESTED = [
+    META,
+    DOCUMENT,
+    span(3, 0, 20),
+    span(4, 5, 8),
+    vertex(5, "definitionResult"),
+    edge(6, "textDocument/definition", 3, 5),
+    edge(7, "item", 5, [3], shard=2),
+    edge(8, "contains", 2, [4, 3]),
+]
+MEETING = [
+    META,
+    DOCUMENT,
+    span(3, 0, 5),
+    span(4, 5, 9),
+    span(5, 5, 5),
+    *(vertex(own, "definitionResult") for own in (6, 7, 8)),
+    *(edge(own, "textDocument/definition", own - 6, own - 3) for own in (9, 10, 11)),
+    *(edge(own, "item", own - 6, [own - 9], shard=2) for own in (12, 13, 14)),
+    edge(15, "contains", 2, [3, 4, 5]),
+]
+CYCLE = [
+    META,
+    DOCUMENT,
+    span(3, 0, 1),
+    span(4, 0, 1, 1),
+    vertex(5, "referenceResult"),
+    vertex(6, "referenceResult"),
+    edge(7, "textDocument/references", 4, 6),
+    edge(8, "item", 5, [6], property="referenceResults", shard=2),
+    edge(9, "item", 6, [5], property="referenceResults", shard=2),
+    edge(10, "item", 5, [3], property="definitions", shard=2),
+    edge(11, "item", 6, [4], property="references", shard=2),
+    edge(12, "item", 5, [4], property="references", shard=2),
+    edge(13, "contains", 2, [3, 4]),
+]
+DECLARED = [
+    META,
+    DOCUMENT,
+    span(3, 0, 1),
+    span(4, 0, 1, 1),
+    vertex(5, "declarationResult"),
+    vertex(6, "implementationResult"),
+    edge(7, "textDocument/declaration", 4, 5),
+    edge(8, "textDocument/implementation", 4, 6),
+    edge(9, "item", 5, [3], shard=2),
+    edge(10, "item", 6, [4], shard=2),
+    edge(11, "contains", 2, [3, 4]),
+]
+EMPTY = [
+    META,
+    DOCUMENT,
+    span(3, 0, 1),
+    vertex(4, "definitionResult"),
+    edge(5, "textDocument/definition", 3, 4),
+    edge(6, "contains", 2, [3]),
+]
+CHAIN = [
+    META,
+    DOCUMENT,
+    span(3, 0, 1),
+    vertex(4, "resultSet"),
+    vertex(5, "resultSet"),
+    edge(6, "next", 3, 4),
+    edge(7, "next", 4, 5),
+    edge(8, "contains", 2, [3]),
+]
 
 
 def graph_of(name: str) -> why.Graph:
@@ -50,14 +118,30 @@ def graph_of(name: str) -> why.Graph:
 
 def short(places: list[dict[str, Any]]) -> list[Any]:
     """Places, each as its uri and four numbers."""
-    return [[place["uri"], *(place[end][member] for end in ("start", "end") for member in ("line", "character"))] for place in places]
+    return [
+        [
+            place["uri"],
+            *(place[end][member] for end in ("start", "end") for member in ("line", "character")),
+        ]
+        for place in places
+    ]
 
 
 def found(graph: why.Graph, request: str, uri: str, line: int, character: int) -> list[Any]:
     """What `why` finds: places, or the text of a hover."""
     what = why.REQUESTS[request]
-    trail = why.asked([graph.trail(own, what) for own in graph.covering(why.document_of(graph, uri, []), (line, character))], what)
-    return [why.contents(graph, trail, what)] if request == "hover" else short(why.places(graph, trail, what))
+    trail = why.asked(
+        [
+            graph.trail(own, what)
+            for own in graph.covering(why.document_of(graph, uri, []), (line, character))
+        ],
+        what,
+    )
+    return (
+        [why.contents(graph, trail, what)]
+        if request == "hover"
+        else short(why.places(graph, trail, what))
+    )
 
 
 class Row(NamedTuple):
@@ -69,49 +153,136 @@ class Row(NamedTuple):
 
 
 ROWS = [
-    Row(NESTED, "definition", (0, 6), 0, [
-        "range at line 4, 0:5 to 0:8: not asked: it has no definition result and no `next` edge, and no import moniker",
-        "range at line 3, 0:0 to 0:20: asked, for it has a definition result",
-        "  textDocument/definition edge at line 6, to the definitionResult at line 5", "  item edge at line 7, to the range at line 3: /src/a.ts:1:1",
-        "answer: 1 place of this dump"]),
-    Row([*NESTED, vertex(9, "definitionResult"), edge(10, "textDocument/definition", 4, 9)], "definition", (0, 5), 0, [
-        "range at line 4, 0:5 to 0:8: asked, for it has a definition result",
-        "  textDocument/definition edge at line 10, to the definitionResult at line 9", "range at line 3, 0:0 to 0:20: not asked, for a smaller range is",
-        "answer: 0 places of this dump, for no `item` edge of its definition result leads to a range"]),
-    Row(MEETING, "definition", (0, 5), 0, [
-        "range at line 4, 0:5 to 0:9: asked, for it has a definition result",
-        "  textDocument/definition edge at line 10, to the definitionResult at line 7", "  item edge at line 13, to the range at line 4: /src/a.ts:1:6",
-        "answer: 1 place of this dump"]),
-    Row(MEETING, "definition", (0, 9), 1, ["no range covers the position", "answer: empty, for no range here is asked"]),
-    Row(CYCLE, "references", (1, 0), 0, [
-        "range at line 4, 1:0 to 1:1: asked, for it has a reference result",
-        "  textDocument/references edge at line 7, to the referenceResult at line 6", "  item edge at line 11, to the range at line 4: /src/a.ts:2:1",
-        "  item edge at line 10, to the range at line 3: /src/a.ts:1:1", "  item edge at line 12, to the range at line 4: /src/a.ts:2:1",
-        "answer: 2 places of this dump"]),
-    Row(MARKED, "definition", (1, 0), 0, [
-        "range at line 3, 1:0 to 1:3: asked, for it has no definition result and no `next` edge, but an import moniker",
-        "  import moniker at line 4, by the edge at line 6: scheme 'npm', identifier 'lib::f', package 'npm' 'lib' '1.0.0'",
-        "answer: 0 places of this dump", "  and those of other projects that have an export moniker with the key of line 4"]),
-    Row(EXPORTED, "references", (1, 0), 0, [
-        "range at line 3, 1:0 to 1:3: asked, for it has no reference result and no `next` edge, but an import or export moniker",
-        "  export moniker at line 4, by the edge at line 5: scheme 'npm', identifier 'f', no package",
-        "  import moniker at line 6, by the edge at line 7: scheme 'tsc', identifier 'g', no package",
-        "answer: 0 places of this dump", "  and those of other projects that have an import or export moniker with the key of line 4",
-        "  and those of other projects that have an import or export moniker with the key of line 6"]),
-    Row(EXPORTED[:5] + EXPORTED[7:], "definition", (1, 0), 1, [
-        "range at line 3, 1:0 to 1:3: not asked: it has no definition result and no `next` edge, and no import moniker",
-        "  export moniker at line 4, by the edge at line 5: scheme 'npm', identifier 'f', no package", "answer: empty, for no range here is asked"]),
-    Row(CHAIN, "hover", (0, 0), 1, [
-        "range at line 3, 0:0 to 0:1: not asked: it has no hover result itself or along its 2 `next` edges, and no import moniker",
-        "  next edge at line 6, to the resultSet at line 4", "  next edge at line 7, to the resultSet at line 5", "answer: empty, for no range here is asked"]),
-    Row(EMPTY, "definition", (0, 0), 0, [
-        "range at line 3, 0:0 to 0:1: asked, for it has a definition result",
-        "  textDocument/definition edge at line 5, to the definitionResult at line 4",
-        "answer: 0 places of this dump, for no `item` edge of its definition result leads to a range"]),
-    Row(DECLARED, "implementation", (1, 0), 0, [
-        "range at line 4, 1:0 to 1:1: asked, for it has an implementation result",
-        "  textDocument/implementation edge at line 8, to the implementationResult at line 6", "  item edge at line 10, to the range at line 4: /src/a.ts:2:1",
-        "answer: 1 place of this dump"]),
+    Row(
+        NESTED,
+        "definition",
+        (0, 6),
+        0,
+        [
+            "range at line 4, 0:5 to 0:8: not asked: it has no definition result and no `next` edge, and no import moniker",
+            "range at line 3, 0:0 to 0:20: asked, for it has a definition result",
+            "  textDocument/definition edge at line 6, to the definitionResult at line 5",
+            "  item edge at line 7, to the range at line 3: /src/a.ts:1:1",
+            "answer: 1 place of this dump",
+        ],
+    ),
+    Row(
+        [*NESTED, vertex(9, "definitionResult"), edge(10, "textDocument/definition", 4, 9)],
+        "definition",
+        (0, 5),
+        0,
+        [
+            "range at line 4, 0:5 to 0:8: asked, for it has a definition result",
+            "  textDocument/definition edge at line 10, to the definitionResult at line 9",
+            "range at line 3, 0:0 to 0:20: not asked, for a smaller range is",
+            "answer: 0 places of this dump, for no `item` edge of its definition result leads to a range",
+        ],
+    ),
+    Row(
+        MEETING,
+        "definition",
+        (0, 5),
+        0,
+        [
+            "range at line 4, 0:5 to 0:9: asked, for it has a definition result",
+            "  textDocument/definition edge at line 10, to the definitionResult at line 7",
+            "  item edge at line 13, to the range at line 4: /src/a.ts:1:6",
+            "answer: 1 place of this dump",
+        ],
+    ),
+    Row(
+        MEETING,
+        "definition",
+        (0, 9),
+        1,
+        ["no range covers the position", "answer: empty, for no range here is asked"],
+    ),
+    Row(
+        CYCLE,
+        "references",
+        (1, 0),
+        0,
+        [
+            "range at line 4, 1:0 to 1:1: asked, for it has a reference result",
+            "  textDocument/references edge at line 7, to the referenceResult at line 6",
+            "  item edge at line 11, to the range at line 4: /src/a.ts:2:1",
+            "  item edge at line 10, to the range at line 3: /src/a.ts:1:1",
+            "  item edge at line 12, to the range at line 4: /src/a.ts:2:1",
+            "answer: 2 places of this dump",
+        ],
+    ),
+    Row(
+        MARKED,
+        "definition",
+        (1, 0),
+        0,
+        [
+            "range at line 3, 1:0 to 1:3: asked, for it has no definition result and no `next` edge, but an import moniker",
+            "  import moniker at line 4, by the edge at line 6: scheme 'npm', identifier 'lib::f', package 'npm' 'lib' '1.0.0'",
+            "answer: 0 places of this dump",
+            "  and those of other projects that have an export moniker with the key of line 4",
+        ],
+    ),
+    Row(
+        EXPORTED,
+        "references",
+        (1, 0),
+        0,
+        [
+            "range at line 3, 1:0 to 1:3: asked, for it has no reference result and no `next` edge, but an import or export moniker",
+            "  export moniker at line 4, by the edge at line 5: scheme 'npm', identifier 'f', no package",
+            "  import moniker at line 6, by the edge at line 7: scheme 'tsc', identifier 'g', no package",
+            "answer: 0 places of this dump",
+            "  and those of other projects that have an import or export moniker with the key of line 4",
+            "  and those of other projects that have an import or export moniker with the key of line 6",
+        ],
+    ),
+    Row(
+        EXPORTED[:5] + EXPORTED[7:],
+        "definition",
+        (1, 0),
+        1,
+        [
+            "range at line 3, 1:0 to 1:3: not asked: it has no definition result and no `next` edge, and no import moniker",
+            "  export moniker at line 4, by the edge at line 5: scheme 'npm', identifier 'f', no package",
+            "answer: empty, for no range here is asked",
+        ],
+    ),
+    Row(
+        CHAIN,
+        "hover",
+        (0, 0),
+        1,
+        [
+            "range at line 3, 0:0 to 0:1: not asked: it has no hover result itself or along its 2 `next` edges, and no import moniker",
+            "  next edge at line 6, to the resultSet at line 4",
+            "  next edge at line 7, to the resultSet at line 5",
+            "answer: empty, for no range here is asked",
+        ],
+    ),
+    Row(
+        EMPTY,
+        "definition",
+        (0, 0),
+        0,
+        [
+            "range at line 3, 0:0 to 0:1: asked, for it has a definition result",
+            "  textDocument/definition edge at line 5, to the definitionResult at line 4",
+            "answer: 0 places of this dump, for no `item` edge of its definition result leads to a range",
+        ],
+    ),
+    Row(
+        DECLARED,
+        "implementation",
+        (1, 0),
+        0,
+        [
+            "range at line 4, 1:0 to 1:1: asked, for it has an implementation result",
+            "  textDocument/implementation edge at line 8, to the implementationResult at line 6",
+            "  item edge at line 10, to the range at line 4: /src/a.ts:2:1",
+            "answer: 1 place of this dump",
+        ],
+    ),
 ]
 
 
@@ -119,7 +290,9 @@ class Why(unittest.TestCase):
     def said(self, dump: list[str], *words: str) -> tuple[int, str, str]:
         """The status, and what was printed with DUMP as the dump's name."""
         said, warned = io.StringIO(), io.StringIO()
-        with tempfile.NamedTemporaryFile("w", encoding="utf-8") as file, redirect_stdout(said), redirect_stderr(warned):
+        with tempfile.NamedTemporaryFile("w", encoding="utf-8") as file, redirect_stdout(
+            said
+        ), redirect_stderr(warned):
             file.write("\n".join(dump))
             file.flush()
             status = why.main([file.name, *words])
@@ -129,9 +302,18 @@ class Why(unittest.TestCase):
         for row in ROWS:
             with self.subTest(row.said[0]):
                 line, character = row.position
-                status, said, warned = self.said(row.dump, "src/a.ts", str(line + 1), str(character + 1), "--request", row.request)
+                status, said, warned = self.said(
+                    row.dump,
+                    "src/a.ts",
+                    str(line + 1),
+                    str(character + 1),
+                    "--request",
+                    row.request,
+                )
                 head = f"{row.request} at file:///src/a.ts (line 2), {line}:{character}"
-                self.assertEqual((status, said.splitlines(), warned), (row.status, [head, *row.said], ""))
+                self.assertEqual(
+                    (status, said.splitlines(), warned), (row.status, [head, *row.said], "")
+                )
 
     def test_the_answers_of_a_server(self) -> None:
         with open(ANSWERS, encoding="utf-8") as file:
@@ -141,23 +323,48 @@ class Why(unittest.TestCase):
             with self.subTest(name, request=request, line=line, character=character):
                 graph = graphs.get(name) or graphs.setdefault(name, graph_of(name))
                 self.assertEqual(found(graph, request, uri, line, character), answer)
-        starts = {(name, place["uri"], *place["start"].values()) for name, graph in graphs.items() for place in map(graph.place, graph.homes)}
+        starts = {
+            (name, place["uri"], *place["start"].values())
+            for name, graph in graphs.items()
+            for place in map(graph.place, graph.homes)
+        }
         self.assertEqual({(name, *place) for name, _, *place, _ in answers}, starts)
 
     def test_documents(self) -> None:
-        two = [*BASE, vertex(12, "document", uri="file:///b/src/a%20b.ts"), vertex(13, "document", uri="file:///c/src/a%20b.ts")]
+        two = [
+            *BASE,
+            vertex(12, "document", uri="file:///b/src/a%20b.ts"),
+            vertex(13, "document", uri="file:///c/src/a%20b.ts"),
+        ]
         for path, words, line, message in (
-                ("a.ts", [], 2, None), ("./a.ts", [], 2, None), ("file:///a.ts", [], 2, None), ("/a.ts", [], 2, None), ("b/src/a b.ts", [], 12, None),
-                ("/x/a b.ts", ["--map", "file:///c/src=/x"], 13, None),
-                ("src/a b.ts", [], 0, "src/a b.ts is 2 of the 3 documents of DUMP: file:///a.ts, file:///b/src/a%20b.ts, file:///c/src/a%20b.ts"),
-                ("ts", [], 0, "ts is 0 of the 3 documents of DUMP: file:///a.ts, file:///b/src/a%20b.ts, file:///c/src/a%20b.ts")):
+            ("a.ts", [], 2, None),
+            ("./a.ts", [], 2, None),
+            ("file:///a.ts", [], 2, None),
+            ("/a.ts", [], 2, None),
+            ("b/src/a b.ts", [], 12, None),
+            ("/x/a b.ts", ["--map", "file:///c/src=/x"], 13, None),
+            (
+                "src/a b.ts",
+                [],
+                0,
+                "src/a b.ts is 2 of the 3 documents of DUMP: file:///a.ts, file:///b/src/a%20b.ts, file:///c/src/a%20b.ts",
+            ),
+            (
+                "ts",
+                [],
+                0,
+                "ts is 0 of the 3 documents of DUMP: file:///a.ts, file:///b/src/a%20b.ts, file:///c/src/a%20b.ts",
+            ),
+        ):
             with self.subTest(path, words=words):
                 self.check(self.said(two, path, "9", "1", *words), f"(line {line}), 8:0", message)
 
     def check(self, done: tuple[int, str, str], head: str, message: Optional[str]) -> None:
         """A call that finds no range at a place of a document, or that is refused."""
         if message is None:
-            self.assertEqual((done[0], done[1].splitlines()[0].endswith(head), done[2]), (1, True, ""))
+            self.assertEqual(
+                (done[0], done[1].splitlines()[0].endswith(head), done[2]), (1, True, "")
+            )
         else:
             self.assertEqual(done, (2, "", f"why: {message}\n"))
 
@@ -166,19 +373,38 @@ class Why(unittest.TestCase):
             file.write("\U0001f600x\n")
             file.flush()
             dump = [META, vertex(2, "document", uri=f"file://{file.name}")]
-            for words, column, message in (([], "2", None), (["--utf16"], "3", None), ([], "4", f"{file.name} has no line 1 with a column 4")):
-                self.check(self.said(dump, file.name, "1", column, *words), "(line 2), 0:2", message)
+            for words, column, message in (
+                ([], "2", None),
+                (["--utf16"], "3", None),
+                ([], "4", f"{file.name} has no line 1 with a column 4"),
+            ):
+                self.check(
+                    self.said(dump, file.name, "1", column, *words), "(line 2), 0:2", message
+                )
 
     def test_what_is_refused(self) -> None:
-        wrong = [*BASE[:5], json.dumps({"id": 6, "type": "edge", "label": "next", "outV": 3, "inVs": [5]}), *BASE[7:]]
-        for dump, words, message in ((["{}"], ["a.ts", "1", "1"], "DUMP, line 1: no element with an id"),
-                                     (wrong, ["a.ts", "1", "5"], "DUMP: not a dump that `codenav check-lsif` accepts"),
-                                     (BASE, ["a.ts", "0", "5"], "lines and columns count from 1, not 0"),
-                                     (BASE, ["a.ts", "1", "1", "--map", "x"], "--map takes URI=FOLDER, neither of them empty")):
+        wrong = [
+            *BASE[:5],
+            json.dumps({"id": 6, "type": "edge", "label": "next", "outV": 3, "inVs": [5]}),
+            *BASE[7:],
+        ]
+        for dump, words, message in (
+            (["{}"], ["a.ts", "1", "1"], "DUMP, line 1: no element with a type and a label"),
+            (wrong, ["a.ts", "1", "5"], "DUMP: not a dump that `codenav check-lsif` accepts"),
+            (BASE, ["a.ts", "0", "5"], "lines and columns count from 1, not 0"),
+            (
+                BASE,
+                ["a.ts", "1", "1", "--map", "x"],
+                "--map takes URI=FOLDER, neither of them empty",
+            ),
+        ):
             with self.subTest(message):
                 self.assertEqual(self.said(dump, *words), (2, "", f"why: {message}\n"))
         with redirect_stderr(io.StringIO()) as said:
-            self.assertEqual((why.main(["no/dump", "a.ts", "1", "1"]), said.getvalue()), (2, "why: no/dump: No such file or directory\n"))
+            self.assertEqual(
+                (why.main(["no/dump", "a.ts", "1", "1"]), said.getvalue()),
+                (2, "why: no/dump: No such file or directory\n"),
+            )
 
 
 if __name__ == "__main__":

@@ -1,0 +1,69 @@
+#!/usr/bin/env python3
+"""Asks a server for the definition at each identifier of crates, of dumps in two forms: how many are answered, how many by nothing but ranges over whole
+files, and how many not at all.
+
+usage: bench/identifiers.py PROGRAM CRATE=DUMP[,DUMP] ..      (CRATE is the crate's folder, at which the dumps' addresses are; each DUMP is a prepared one)
+"""
+import os
+import sys
+from collections import Counter
+
+sys.path.insert(
+    0, os.path.join(os.path.dirname(os.path.dirname(os.path.abspath(__file__))), "tools")
+)
+
+from importlib.machinery import SourceFileLoader
+from importlib.util import module_from_spec, spec_from_loader
+
+from navtools import client, upload
+from navtools.places import lines_of
+from navtools.serving import serving
+
+TOP = os.path.dirname(os.path.dirname(os.path.abspath(__file__)))
+LOADER = SourceFileLoader("scip_and_lsif", os.path.join(TOP, "tools", "tests", "scip_and_lsif"))
+SPEC = spec_from_loader("scip_and_lsif", LOADER)
+assert SPEC is not None
+COMPARE = module_from_spec(SPEC)
+LOADER.exec_module(COMPARE)
+
+
+def files_of(crate: str) -> list[str]:
+    """The Rust files of a crate."""
+    return sorted(
+        os.path.join(folder, name)
+        for folder, _, names in os.walk(os.path.join(crate, "src"))
+        for name in names
+        if name.endswith(".rs")
+    )
+
+
+def main() -> int:
+    """Reads the command line."""
+    if len(sys.argv) < 3:
+        sys.exit(__doc__)
+    with serving(sys.argv[1], quiet=True) as url:
+        for pair in sys.argv[2:]:
+            crate, _, dumps = pair.partition("=")
+            for number, dump in enumerate(dumps.split(",")):
+                project = f"p{number}"
+                if upload.main("lsif", ["--profile", "2", url, project, dump]) != 0:
+                    sys.exit(f"{dump} isn't accepted")
+                counts: Counter[str] = Counter()
+                for path in files_of(crate):
+                    for position in COMPARE.identifiers(lines_of(path)):
+                        try:
+                            places = COMPARE.definition(url, project, path, position)
+                        except client.NoReply:  # a file that isn't of the crate as it was indexed
+                            break
+                        whole = all(place[3] for place in places)
+                        counts[
+                            "empty" if not places else "whole file" if whole else "answered"
+                        ] += 1
+                print(
+                    f"{os.path.basename(dump)}: {sum(counts.values())} identifiers: {dict(counts)}"
+                )
+    return 0
+
+
+if __name__ == "__main__":
+    sys.exit(main())

@@ -1,0 +1,273 @@
+"""What ranges at one place mean together, and vertices with two edges where one may be: all of them are asked, by a joint result set.
+
+Of the vertices that are joined, the heads, the joint result set has each one's definitions, implementations and declarations, and a reference result that
+leads to each one's. `next` edges lead from it to the first head, over a helper for each further head that has monikers. The helper has these monikers and
+that head's own results alone: so a project that asks by such a moniker gets nothing of the other heads, as it would from the joint result set.
+"""
+
+from typing import Iterator
+
+from navtools.mending import AS_SET, DROPPED, KEPT, MOVED, NewEdge, Plan
+from navtools.survey import (
+    HOVER,
+    MONIKER,
+    NONE,
+    RANGE,
+    REFERENCE,
+    RESULT_OF,
+    RESULT_SET,
+)
+
+LISTED = ("textDocument/definition", "textDocument/declaration", "textDocument/implementation")
+REFERENCES, HOVERS = "textDocument/references", "textDocument/hover"
+
+
+class Joints:
+    """Makes the joints of a plan."""
+
+    def __init__(self, plan: Plan) -> None:
+        self.plan = plan
+        self.monikers: dict[int, list[int]] = {}
+        self.firsts: dict[tuple[str, int], int] = {}
+        self.sets: dict[tuple[int, ...], int] = {}
+        self.results: dict[tuple[int, ...], int] = {}
+        self.parts: dict[int, list[int]] = {}
+        self.empty: dict[int, int] = {}
+
+    def make(self) -> None:
+        """Joins the equal ranges, then the further edges of vertices."""
+        plan = self.plan
+        groups: dict[int, list[int]] = {}
+        for own, first in plan.moved.items():
+            if plan.kinds[own] == RANGE and plan.state[own] == MOVED and first not in plan.mute:
+                groups.setdefault(first, []).append(own)
+        further = {
+            label: found
+            for label, found in plan.further.items()
+            if found and label != "packageInformation"
+        }
+        if groups or further:
+            self.learn_monikers()
+        for label in (*RESULT_OF, "next"):
+            for source, targets in further.get(label, {}).items():
+                self.second(label, source, [plan.final[label][source], *targets])
+            self.firsts.clear()
+        for first, others in groups.items():
+            self.place(first, others)
+        self.fill()
+
+    def learn_monikers(self) -> None:
+        """Finds the monikers of each vertex."""
+        plan = self.plan
+        for source, target, _ in plan.survey.edges["moniker"].all():
+            if (
+                plan.state[source] != DROPPED
+                and plan.state[target] == KEPT
+                and plan.fits("moniker", source, target)
+            ):
+                self.monikers.setdefault(source, []).append(target)
+
+    def second(self, label: str, source: int, targets: list[int]) -> None:
+        """Joins what several edges of a vertex lead to where one may be."""
+        plan = self.plan
+        if plan.state[source] == DROPPED or source in plan.mute:
+            return
+        if label == "next":
+            plan.set(label, source, self.joint(targets))
+        elif label == HOVERS:
+            return
+        else:
+            plan.set(label, source, self.result(RESULT_OF[label], targets))
+
+    def place(self, first: int, others: list[int]) -> None:
+        """Joins what ranges at one place mean."""
+        plan = self.plan
+        heads = self.telling([self.head(own) for own in (first, *others)])
+        for own in others:
+            if own in heads:
+                plan.state[own] = AS_SET
+        if len(heads) > 1:
+            line = plan.survey.numbers.lines[others[0]]
+            plan.notes.mend("two symbols at one place, joined", line)
+            heads = [self.stand_in(own) if own == first else own for own in heads]
+        if len(heads) > 1 or heads and heads[0] != self.head(first):
+            plan.set("next", first, self.joint(heads))
+
+    def head(self, own: int) -> int:
+        """What has a range's meaning: the vertex that its `next` edge leads to, or itself where it has more than that edge."""
+        final = self.plan.final
+        if own in self.monikers or any(final[label][own] != NONE for label in RESULT_OF):
+            return own
+        following = final["next"][own]
+        return own if following == NONE else following
+
+    def chain(self, own: int) -> Iterator[int]:
+        """A vertex, and those that `next` edges lead to."""
+        while own != NONE:
+            self.plan.spend(1)
+            yield own
+            own = self.plan.final["next"][own]
+
+    def first(self, label: str, own: int) -> int:
+        """The first result of a vertex for a request; it's kept for all on the way to it."""
+        found, way = NONE, []
+        for member in self.chain(own):
+            found = self.firsts.get((label, member), self.plan.final[label][member])
+            if found != NONE or (label, member) in self.firsts:
+                break
+            way.append(member)
+        for member in way:
+            self.firsts[label, member] = found
+        return found
+
+    def borne(self, own: int) -> list[int]:
+        """The monikers of a vertex and of those that `next` edges lead to."""
+        found = [moniker for member in self.chain(own) for moniker in self.monikers.get(member, ())]
+        self.plan.spend(len(found))
+        return list(dict.fromkeys(found))
+
+    def telling(self, heads: list[int]) -> list[int]:
+        """The heads that say something which those before don't."""
+        said: set[tuple[str, int]] = set()
+        kept = []
+        for own in dict.fromkeys(heads):
+            says = {(label, self.first(label, own)) for label in RESULT_OF}
+            says = {pair for pair in says if pair[1] != NONE}
+            says |= {("moniker", moniker) for moniker in self.borne(own)}
+            if not says <= said:
+                kept.append(own)
+                said |= says
+        return kept
+
+    def joint(self, heads: list[int]) -> int:
+        """The joint result set of heads; the head itself where it's one."""
+        heads = self.telling(heads) or heads[:1]
+        if len(heads) == 1:
+            return heads[0]
+        key = tuple(heads)
+        if key not in self.sets:
+            self.sets[key] = self.new_joint(heads)
+        return self.sets[key]
+
+    def new_joint(self, heads: list[int]) -> int:
+        """Makes the joint result set of several heads."""
+        plan = self.plan
+        own = plan.fresh(RESULT_SET)
+        for label, kind in RESULT_OF.items():
+            found = [self.first(label, head) for head in heads]
+            found = [result for result in dict.fromkeys(found) if result != NONE]
+            if found:
+                plan.set(label, own, found[0] if label == HOVERS else self.result(kind, found))
+        along = heads[0]
+        for head in reversed(heads[1:]):
+            along = self.helper(head, along)
+        plan.set("next", own, along)
+        return own
+
+    def helper(self, head: int, along: int) -> int:
+        """A result set with the monikers and the results of a head alone, before another in the chain; that one where the head has no moniker."""
+        plan, borne = self.plan, self.borne(head)
+        if not borne:
+            return along
+        own = plan.fresh(RESULT_SET)
+        plan.new_edges += [NewEdge("moniker", own, [moniker]) for moniker in borne]
+        for label, kind in RESULT_OF.items():
+            found = self.first(label, head)
+            if found == NONE and kind != HOVER and self.first(label, along) != NONE:
+                found = self.empty.setdefault(kind, NONE)
+                if found == NONE:
+                    found = self.empty[kind] = plan.fresh(kind)
+            if found != NONE:
+                plan.set(label, own, found)
+        plan.set("next", own, along)
+        return own
+
+    def stand_in(self, own: int) -> int:
+        """A result set with all that a range has itself, which the range has then no more."""
+        plan = self.plan
+        other = plan.fresh(RESULT_SET)
+        for label in ("next", *RESULT_OF):
+            if plan.final[label][own] != NONE:
+                plan.set(label, other, plan.final[label][own])
+                plan.final[label][own] = NONE
+        self.monikers[other] = self.monikers.pop(own, [])
+        plan.new_edges += [NewEdge("moniker", other, [moniker]) for moniker in self.monikers[other]]
+        plan.without_monikers.add(own)
+        return other
+
+    def result(self, kind: int, results: list[int]) -> int:
+        """One result for several: with the places of each, or of references one that leads to each."""
+        results = list(dict.fromkeys(results))
+        if len(results) == 1:
+            return results[0]
+        key = tuple(results)
+        if key not in self.results:
+            own = self.results[key] = self.plan.fresh(kind)
+            if kind == REFERENCE:
+                self.plan.new_edges.append(NewEdge("item", own, results, "referenceResults"))
+            else:
+                for result in results:
+                    self.parts.setdefault(result, []).append(own)
+        return self.results[key]
+
+    def fill(self) -> None:
+        """Gives the joint results the places of those that they're of."""
+        plan, survey = self.plan, self.plan.survey
+        found: dict[int, dict[int, None]] = {}
+        for source, target, _ in survey.items.all() if self.parts else ():
+            for own in self.parts.get(source, ()):
+                target = plan.moved.get(target, target)
+                if plan.kinds[target] == RANGE and plan.state[target] == KEPT:
+                    plan.spend(1)
+                    found.setdefault(own, {})[target] = None
+        for own, places in found.items():
+            homes: dict[int, list[int]] = {}
+            for target in places:
+                homes.setdefault(plan.home[target], []).append(target)
+            plan.new_edges += [
+                NewEdge("item", own, targets, None, home) for home, targets in homes.items()
+            ]
+
+
+def bind_own_exports(plan: Plan) -> None:
+    """Gives what is imported in a dump that exports it itself, and has no definition there, the definition of the export."""
+    keys, groups = plan.survey.keys, attached(plan)
+    exports: dict[bytes, int] = {}
+    imports: dict[bytes, dict[int, int]] = {}
+    definitions = plan.final["textDocument/definition"]
+    for source, target, line in plan.survey.edges["moniker"].all():
+        if plan.state[source] in (DROPPED, MOVED) or source in plan.mute:
+            continue
+        if plan.state[target] or not plan.fits("moniker", source, target):
+            continue
+        group = groups.get(target, [target])
+        plan.spend(len(group) - 1)
+        for moniker in group:
+            if moniker in keys and plan.kinds[moniker] == MONIKER and not plan.state[moniker]:
+                package = plan.final["packageInformation"][moniker]
+                key = keys[moniker][1:] + (keys[package] if package != NONE else b"")
+                if keys[moniker][:1] == b"i":
+                    imports.setdefault(key, {})[source] = line
+                elif exports.get(key, NONE) == NONE or definitions[exports[key]] == NONE:
+                    exports[key] = source
+    joints = Joints(plan)
+    for key in imports.keys() & exports.keys():
+        defined = joints.first("textDocument/definition", exports[key])
+        for source, line in imports[key].items() if defined != NONE else ():
+            if joints.first("textDocument/definition", source) == NONE:
+                plan.set("textDocument/definition", source, defined)
+                plan.notes.mend(
+                    "import of what the dump exports itself, bound to its definition", line
+                )
+
+
+def attached(plan: Plan) -> dict[int, list[int]]:
+    """The monikers that `attach` edges join, read both ways: of each of them the whole group."""
+    group: dict[int, list[int]] = {}
+    for source, target, _ in plan.survey.edges["attach"].all():
+        one, other = group.setdefault(source, [source]), group.setdefault(target, [target])
+        if one is not other:
+            small, large = sorted((one, other), key=len)
+            large += small
+            group.update((member, large) for member in small)
+    return group

@@ -1,0 +1,227 @@
+"""Mends the members of single vertices as the server asks for them. What can't be mended isn't a vertex of its label: it's left out."""
+
+from dataclasses import dataclass
+from typing import Any, Callable, Optional
+
+from navtools.addresses import is_address, spelled
+from navtools.lsif import Element, span_of
+from navtools.notes import Notes
+
+VERSION = "0.6.0"
+MOST_NUMBER = 2147483647
+MOST_TEXT_BYTES = 1_048_576
+KINDS = ("import", "export", "local")
+NARROW = ("document", "project", "group", "workspace")
+NO_EFFECT = {"document": ("contents",), "range": ("tag",)}
+RESULT_MEMBERS = ("definitions", "references", "referenceResults", "declarations")
+
+
+@dataclass
+class Mender:
+    """Mends vertices one by one, and notes it. `root` is the address that documents without a scheme are below."""
+
+    notes: Notes
+    strip: bool = False
+    keep_unique: bool = False
+    root: str = ""
+
+    def mended(self, vertex: Element, line: int, size: int) -> Optional[Element]:
+        """The vertex as it can be written, the same object where nothing changes; None where it's left out."""
+        mend = MENDERS.get(vertex["label"])
+        return vertex if mend is None else mend(self, vertex, line, size)
+
+    def metadata(self, vertex: Element, line: int, size: int) -> Element:
+        """The version is that of the server, and positions count as its do."""
+        changed = dict(vertex)
+        if "positionEncoding" in vertex and vertex["positionEncoding"] != "utf-16":
+            del changed["positionEncoding"]
+        if vertex.get("version") != VERSION:
+            changed["version"] = VERSION
+        return vertex if changed == vertex else changed
+
+    def document(self, vertex: Element, line: int, size: int) -> Optional[Element]:
+        """A document has an address in the one spelling."""
+        uri, kept = vertex.get("uri"), vertex
+        if not isinstance(uri, str) or "\0" in uri or not uri:
+            self.notes.leave_out("document without an address", f"line {line}")
+            return None
+        whole = (
+            uri if is_address(uri) and uri[1:3] not in (":\\", ":/") else resolved(uri, self.root)
+        )
+        if whole is None:
+            self.notes.leave_out("document whose address has no scheme", f"line {line}: {uri!r}")
+            return None
+        own = spelled(whole)
+        if own != uri:
+            self.notes.mend("address of a document, in the one spelling", line)
+            kept = {**vertex, "uri": own}
+        return self.without_text(kept, "contents", line, size)
+
+    def range(self, vertex: Element, line: int, size: int) -> Optional[Element]:
+        """A range has whole numbers as its ends, of which the second isn't before the first."""
+        span, kept = span_of(vertex), vertex
+        if span is None:
+            kept = whole_numbers(vertex)
+            span = span_of(kept)
+            if span is not None:
+                self.notes.mend("number with a fraction of 0, as `1.0`", line)
+        if (
+            span is None
+            or not all(0 <= number <= MOST_NUMBER for number in span)
+            or span[:2] > span[2:]
+        ):
+            self.notes.leave_out("range whose ends are none", f"line {line}")
+            return None
+        return self.without_text(kept, "tag", line, size)
+
+    def without_text(self, vertex: Element, member: str, line: int, size: int) -> Element:
+        """A vertex without a member that has no effect, where the line is too long for the server, or where all such go."""
+        if member not in vertex or not (self.strip or size > MOST_TEXT_BYTES):
+            return vertex
+        self.notes.mend(f"`{member}` of a {vertex['label']}, which has no effect, dropped", line)
+        return {name: value for name, value in vertex.items() if name != member}
+
+    def moniker(self, vertex: Element, line: int, size: int) -> Optional[Element]:
+        """A moniker has texts, and joins projects only where it's the same in all of them."""
+        if not is_text(vertex.get("scheme")) or not is_text(vertex.get("identifier")):
+            self.notes.leave_out("moniker without a scheme or an identifier", f"line {line}")
+            return None
+        kind = vertex.get("kind", "local")
+        if kind not in KINDS:
+            self.notes.mend(f"moniker kind {shown(kind)}, as local", line)
+            return {**vertex, "kind": "local"}
+        if kind != "local" and not self.keep_unique and vertex.get("unique") in NARROW:
+            self.notes.mend(
+                f"moniker that is unique in its {vertex['unique']} alone, as local", line
+            )
+            return {**vertex, "kind": "local"}
+        return vertex
+
+    def package(self, vertex: Element, line: int, size: int) -> Element:
+        """A package has texts as its manager and its name, and as its version, where it has one."""
+        changed = dict(vertex)
+        for member in ("manager", "name"):
+            if not is_text(vertex.get(member)):
+                changed[member] = ""
+        if "version" in vertex and not is_text(vertex["version"]):
+            del changed["version"]
+        if changed == vertex:
+            return vertex
+        self.notes.mend("package without a manager, a name or a version that is a text", line)
+        return changed
+
+    def hover(self, vertex: Element, line: int, size: int) -> Optional[Element]:
+        """A hover has contents of a form that the server reads; one without any is no hover."""
+        result = vertex.get("result")
+        contents = result.get("contents") if isinstance(result, dict) else None
+        read = contents_of(contents)
+        if read is None or read == []:
+            self.notes.mend("hover without contents, dropped", line)
+            return None
+        if read == contents:
+            return vertex
+        self.notes.mend("hover contents of another form, as texts", line)
+        return {**vertex, "result": {"contents": read}}
+
+    def result(self, vertex: Element, line: int, size: int) -> Element:
+        """A result's places are `item` edges; those within it, as in early versions, are read by `inline`."""
+        if vertex["label"] != "referenceResult" and "result" not in vertex:
+            return vertex
+        members = [member for member in ("result", *RESULT_MEMBERS) if member in vertex]
+        if not members:
+            return vertex
+        self.notes.mend("places within a result, as `item` edges", line)
+        return {name: value for name, value in vertex.items() if name not in members}
+
+
+MENDERS: dict[str, Callable[[Mender, Element, int, int], Optional[Element]]] = {
+    "metaData": Mender.metadata,
+    "document": Mender.document,
+    "range": Mender.range,
+    "moniker": Mender.moniker,
+    "packageInformation": Mender.package,
+    "hoverResult": Mender.hover,
+    "definitionResult": Mender.result,
+    "declarationResult": Mender.result,
+    "implementationResult": Mender.result,
+    "referenceResult": Mender.result,
+}
+
+
+def is_text(value: Any) -> bool:
+    """Whether a value is a text that the server keeps."""
+    return isinstance(value, str) and "\0" not in value
+
+
+def shown(value: Any) -> str:
+    """A value as a note has it, cut."""
+    return f"`{str(value)[:40]}`"
+
+
+def resolved(path: str, root: str) -> Optional[str]:
+    """The address of a file that is written as a path; None where it isn't below anything."""
+    path = path.replace("\\", "/")
+    if path.startswith("/"):
+        return "file://" + escaped(path)
+    if path[1:2] == ":" and path[:1].isalpha():
+        return "file:///" + escaped(path)
+    return f"{root.rstrip('/')}/{escaped(path)}" if is_address(root) else None
+
+
+def escaped(path: str) -> str:
+    """A path whose `%` stands for itself."""
+    return path.replace("%", "%25")
+
+
+def whole_numbers(vertex: Element) -> Element:
+    """A range whose numbers are whole where they were written with a fraction of 0."""
+    changed = dict(vertex)
+    for end in ("start", "end"):
+        position = vertex.get(end)
+        if isinstance(position, dict):
+            changed[end] = {
+                name: int(value) if type(value) is float and value.is_integer() else value
+                for name, value in position.items()
+            }
+    return changed
+
+
+def contents_of(contents: Any) -> Any:
+    """Hover contents in a form that the server reads, the same where they are in one; None where there are none."""
+    if isinstance(contents, list):
+        parts = [part_of(part) for part in contents]
+        return [part for part in parts if part is not None]
+    if isinstance(contents, dict) and "kind" in contents:
+        if contents["kind"] in ("plaintext", "markdown") and isinstance(contents.get("value"), str):
+            return contents
+    return part_of(contents)
+
+
+def part_of(part: Any) -> Any:
+    """A part of hover contents: a text, or a text in a language; of others the text alone."""
+    if isinstance(part, str):
+        return part
+    if not isinstance(part, dict) or not isinstance(part.get("value"), str):
+        return None
+    if isinstance(part.get("language"), str) and "kind" not in part:
+        return part
+    return part["value"]
+
+
+def inline(vertex: Element) -> list[tuple[Optional[str], list[Any]]]:
+    """The places that early versions write within a result: the property of the `item` edge that each list stands for, with its members."""
+    found: list[tuple[Optional[str], Any]] = []
+    for member in ("result", *RESULT_MEMBERS):
+        value = vertex.get(member)
+        if isinstance(value, dict) and member == "result":
+            found += [(name, value[name]) for name in RESULT_MEMBERS if name in value]
+        elif value is not None:
+            found.append((None if member == "result" else member, value))
+    return [
+        (
+            "definitions" if name == "declarations" else name,
+            value if isinstance(value, list) else [value],
+        )
+        for name, value in found
+        if value is not None
+    ]

@@ -1,0 +1,1 @@
+import { ff } from "lib"; ff;

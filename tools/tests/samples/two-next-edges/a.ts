@@ -1,0 +1,2 @@
+let aa = 1; let o = { aa };
+o.aa;

@@ -1,0 +1,1 @@
+let é = 1; let aa = é; aa;

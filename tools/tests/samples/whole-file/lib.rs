@@ -1,0 +1,2 @@
+mod b;
+fn f() { b::g(); } // text
