@@ -1,27 +1,71 @@
 """A language server for every editor: speaks the Language Server Protocol 3.17 on its standard input and output, and asks `codenav serve` for the answers.
 
-Positions are those of the indexed files, in UTF-16 code units.
+The project of a file is that of the command line, or that of a file `.codenav.toml` above it. Where it's known which texts were indexed, positions are
+mapped between these and the texts in the editor; else they are those of the indexed files.
 """
 
 import argparse
 import json
 import os
 import sys
-from dataclasses import dataclass
+from dataclasses import replace
 from typing import Any, BinaryIO, Callable, Optional
 
-from navtools.curl import BadCall, NoReply, address, found_in, project_of, request, server_of
-from navtools.jsonrpc import (INVALID_PARAMS, INVALID_REQUEST, METHOD_NOT_FOUND, NOT_INITIALIZED, Fault, Inbox, Message, is_exit, member,
-                              write_message)
-from navtools.places import Maps, maps_of, path_of, uri_of
+from navtools.indexed import NotThere, add_indexed, sources_of, text_of
+from navtools.jsonrpc import (
+    INVALID_PARAMS,
+    INVALID_REQUEST,
+    METHOD_NOT_FOUND,
+    NOT_INITIALIZED,
+    Fault,
+    Inbox,
+    Message,
+    is_exit,
+    member,
+    write_message,
+)
+from navtools.places import Place, link_map, maps_of, path_of, uri_of
+from navtools.questions import name_of
 from navtools.tags import folders_of, places_of
+from navtools.words import BadCall, add_server, parsed, server_of
+from navtools.workspace import Settings, Workspace
 
-SECONDS = 30
 MOST = 2147483647
+MOST_SYMBOLS = 256
 WARNING, INFO = 2, 3
-SYMBOLS = {"n": 3, "namespace": 3, "module": 2, "p": 12, "P": 6, "method": 6, "c": 5, "class": 5, "m": 8, "member": 8, "field": 8, "f": 12, "function": 12,
-           "func": 12, "v": 13, "variable": 13, "C": 14, "constant": 14, "g": 10, "enum": 10, "e": 22, "enumerator": 22, "i": 11, "interface": 11,
-           "s": 23, "struct": 23, "u": 23, "union": 23, "t": 26, "typedef": 26, "type": 26}
+SYMBOLS = {
+    "n": 3,
+    "namespace": 3,
+    "module": 2,
+    "p": 12,
+    "P": 6,
+    "method": 6,
+    "c": 5,
+    "class": 5,
+    "m": 8,
+    "member": 8,
+    "field": 8,
+    "f": 12,
+    "function": 12,
+    "func": 12,
+    "v": 13,
+    "variable": 13,
+    "C": 14,
+    "constant": 14,
+    "g": 10,
+    "enum": 10,
+    "e": 22,
+    "enumerator": 22,
+    "i": 11,
+    "interface": 11,
+    "s": 23,
+    "struct": 23,
+    "u": 23,
+    "union": 23,
+    "t": 26,
+    "typedef": 26,
+    "type": 26,
+}
 VARIABLE = 13
 CAPABILITIES = {
     "positionEncoding": "utf-16",
@@ -35,38 +79,16 @@ CAPABILITIES = {
 }
 
 
-@dataclass(frozen=True)
-class Index:
-    """A project on a server: its address, its name, and where its documents and the tags files of projects are on this machine."""
-
-    server: str
-    project: str
-    maps: Maps
-    folders: dict[str, str]
-
-    def document(self, uri: str) -> str:
-        """The document's address in the index."""
-        path = path_of(uri, [])
-        return uri if path is None else uri_of(path, self.maps)
-
-    def editors(self, uri: str) -> str:
-        """The address that an editor knows the document by."""
-        path = path_of(uri, self.maps)
-        return uri if path is None else uri_of(path, [])
-
-    def folder(self, project: str, root: str) -> Optional[str]:
-        """The folder in which a project's tags file was made: its own, where none is named, at the top of the editor's folder."""
-        return self.folders.get(project, root if project == self.project else None)
-
-
 class Bridge:
     """Serves an editor. What the server refuses is an empty answer and a message to the user."""
 
-    def __init__(self, index: Index, out: BinaryIO, log: Callable[[str, bytes], None]) -> None:
-        self.index = index
+    def __init__(
+        self, given: Optional[Settings], out: BinaryIO, log: Callable[[str, bytes], None]
+    ) -> None:
+        self.given = given
         self.out = out
         self.log = log
-        self.root: Optional[str] = None
+        self.workspace: Optional[Workspace] = None
         self.is_shut = False
         self.texts: dict[str, str] = {}
         self.edited: set[str] = set()
@@ -107,7 +129,7 @@ class Bridge:
             raise Fault(INVALID_REQUEST, "shut down")
         if method == "initialize":
             return self.initialize(params)
-        if self.root is None:
+        if self.workspace is None:
             raise Fault(NOT_INITIALIZED, "not initialized")
         if method == "shutdown":
             self.is_shut = True
@@ -121,18 +143,29 @@ class Bridge:
 
     def initialize(self, params: Any) -> Message:
         """Says what the bridge can do."""
-        if self.root is not None:
+        if self.workspace is not None:
             raise Fault(INVALID_REQUEST, "initialized before")
         if not isinstance(params, dict):
             raise Fault(INVALID_PARAMS, "no parameters")
         folders = params.get("workspaceFolders") or [{"uri": params.get("rootUri")}]
-        uri = folders[0].get("uri") if isinstance(folders, list) and isinstance(folders[0], dict) else None
-        self.root = (path_of(uri, []) if isinstance(uri, str) else None) or os.getcwd()
+        uri = (
+            folders[0].get("uri")
+            if isinstance(folders, list) and isinstance(folders[0], dict)
+            else None
+        )
+        root = (path_of(uri, []) if isinstance(uri, str) else None) or os.getcwd()
+        root = os.path.normpath(root)
+        given = self.given and replace(
+            self.given, folder=root, maps=[*self.given.maps, *link_map(root)]
+        )
+        self.workspace = Workspace(root, given, self.warn, self.today)
         return {"capabilities": CAPABILITIES, "serverInfo": {"name": "codenav"}}
 
     def opened(self, params: Any) -> None:
         """Keeps the text of a document that was opened."""
-        self.texts[member(params, "textDocument.uri", str)] = member(params, "textDocument.text", str)
+        self.texts[member(params, "textDocument.uri", str)] = member(
+            params, "textDocument.text", str
+        )
 
     def changed(self, params: Any) -> None:
         """Keeps the text of a document that was changed; each change has the whole."""
@@ -144,47 +177,68 @@ class Bridge:
         """Forgets a document that was closed."""
         self.texts.pop(member(params, "textDocument.uri", str), None)
 
-    def compare(self, uri: str) -> None:
-        """Says that the text in the editor isn't that of the file: once, up to when it's that again."""
-        if uri not in self.texts:
-            return
-        try:
-            with open(path_of(uri, []) or "", encoding="utf-8", newline="") as file:
-                is_edited = file.read().replace("\r\n", "\n") != self.texts[uri].replace("\r\n", "\n")
-        except (OSError, ValueError):
-            is_edited = True
+    def today(self, path: str) -> str:
+        """The text of a file as the editor has it. Raises BadCall where it can't be read."""
+        text = self.texts.get(uri_of(path, []))
+        return text_of(path) if text is None else text
+
+    def warn(self, text: str) -> None:
+        """Writes a line to the editor's log."""
+        self.tell("window/logMessage", INFO, text)
+
+    def compare(self, uri: str, of: str) -> None:
+        """Says that the text in the editor isn't that of the file, or, where that's known, that it isn't the indexed one: once, up to when it's that again."""
+        text, path = self.texts.get(uri), path_of(uri, [])
+        is_edited = bool(of)
+        if text is not None and not of:
+            try:
+                is_edited = without_returns(text_of(path or "")) != without_returns(text)
+            except BadCall:
+                is_edited = True
         if is_edited and uri not in self.edited:
-            self.tell("window/logMessage", INFO, f"{uri} isn't as in its file: positions are those of the indexed file")
+            self.warn(
+                f"{uri} changed since: answers are of {of}"
+                if of
+                else f"{uri} isn't as in its file: positions are those of the indexed file"
+            )
         (self.edited.add if is_edited else self.edited.discard)(uri)
 
-    def ask(self, path: str, parameters: dict[str, Any], found: str) -> Any:
-        """What a query found, or None where it's refused; a refusal is told once, up to the next answer."""
-        try:
-            answer = found_in(request(address(self.index.server, path, parameters), [], SECONDS), found)
-        except (NoReply, OSError) as fault:
-            text = str(fault) if isinstance(fault, NoReply) else f"{fault.filename}: {fault.strerror}"
-            refusal = f"{text}: {parameters['uri']}" if "uri" in parameters else text
-            if refusal != self.refusal:
-                self.tell("window/showMessage", WARNING, f"{self.index.project}: {refusal}")
-            self.refusal = refusal
-            return None
-        self.refusal = None
-        return answer
-
-    def at_position(self, what: str, params: Any, found: str, **more: str) -> Any:
-        """What a query at a position found, or None."""
+    def ask(self, what: str, params: Any, **more: str) -> Any:
+        """What a query at a position found, or None; a refusal is told once, up to the next answer."""
         uri = member(params, "textDocument.uri", str)
-        line, character = member(params, "position.line", int), member(params, "position.character", int)
-        if not (0 <= line <= MOST and 0 <= character <= MOST):
+        line = member(params, "position.line", int)
+        character = member(params, "position.character", int)
+        if self.workspace is None or not (0 <= line <= MOST and 0 <= character <= MOST):
             raise Fault(INVALID_PARAMS, "no position")
-        self.compare(uri)
-        parameters = {"uri": self.index.document(uri), "line": line, "character": character, **more}
-        return self.ask(f"/projects/{self.index.project}/{what}", parameters, found)
+        path = path_of(uri, []) or uri
+        try:
+            reply = self.workspace.ask(what, path, line, character, **more)
+        except NotThere as fault:
+            self.warn(str(fault))
+            return None
+        except BadCall as fault:
+            self.compare(uri, "")
+            self.tell_refusal(str(fault))
+            return None
+        self.compare(uri, reply.of)
+        self.refusal = None
+        return reply.found
+
+    def tell_refusal(self, text: str) -> None:
+        """Tells the user of a refusal, unless it's the last one."""
+        if text != self.refusal:
+            self.tell("window/showMessage", WARNING, text)
+        self.refusal = text
 
     def locations(self, what: str, params: Any, **more: str) -> list[Message]:
         """The places that a query at a position found, one that several projects have once."""
-        places = self.at_position(what, params, "places", **more) or []
-        found = [{"uri": self.index.editors(place["uri"]), "range": {"start": place["start"], "end": place["end"]}} for place in places]
+        found = [
+            {
+                "uri": uri_of(place["path"], []) if place["path"] else place["uri"],
+                "range": {"start": place["start"], "end": place["end"]},
+            }
+            for place in self.ask(what, params, **more) or []
+        ]
         return list({json.dumps(location): location for location in found}.values())
 
     def definition(self, params: Any) -> list[Message]:
@@ -201,23 +255,52 @@ class Bridge:
 
     def references(self, params: Any) -> list[Message]:
         """Where it's used."""
-        return self.locations("references", params, declaration="yes" if member(params, "context.includeDeclaration", bool) else "no")
+        return self.locations(
+            "references",
+            params,
+            declaration="yes" if member(params, "context.includeDeclaration", bool) else "no",
+        )
 
     def hover(self, params: Any) -> Optional[Message]:
         """What is said of it."""
-        contents = self.at_position("hover", params, "contents")
+        contents = self.ask("hover", params)
         return None if contents is None else {"contents": contents}
 
     def symbols(self, params: Any) -> list[Message]:
-        """The tags whose names begin with a text; an empty one finds nothing."""
+        """The tags whose names begin with a text, of the projects of the editor's files; an empty text finds nothing."""
         prefix = member(params, "query", str)
-        tags = self.ask("/names", {"prefix": prefix}, "tags") if prefix else None
-        symbols = []
-        for tag, place in places_of(tags or [], lambda project: self.index.folder(project, self.root or "")):
-            start = {"line": place.line, "character": place.character}
-            symbols.append({"name": tag["name"], "kind": SYMBOLS.get(tag["kind"], VARIABLE), "containerName": tag["project"],
-                            "location": {"uri": uri_of(place.name, []), "range": {"start": start, "end": start}}})
+        if not prefix or self.workspace is None:
+            return []
+        paths = [path for path in (path_of(uri, []) for uri in self.texts) if path]
+        symbols: list[Message] = []
+        try:
+            for settings, tags in self.workspace.names(prefix, paths):
+                for tag, place in places_of(tags, settings.tags_folder):
+                    if len(symbols) == MOST_SYMBOLS:
+                        self.warn(
+                            f"of the names that begin with {prefix!r} {MOST_SYMBOLS} are shown"
+                        )
+                        return symbols
+                    symbols.append(symbol(tag, place))
+        except BadCall as fault:
+            self.tell_refusal(str(fault))
         return symbols
+
+
+def symbol(tag: dict[str, Any], place: Place) -> Message:
+    """A tag as the protocol has it."""
+    start = {"line": place.line, "character": place.character}
+    return {
+        "name": tag["name"],
+        "kind": SYMBOLS.get(tag["kind"], VARIABLE),
+        "containerName": tag["project"],
+        "location": {"uri": uri_of(place.name, []), "range": {"start": start, "end": start}},
+    }
+
+
+def without_returns(text: str) -> str:
+    """A text with the line ends of Unix."""
+    return text.replace("\r\n", "\n")
 
 
 QUERIES = {
@@ -228,7 +311,11 @@ QUERIES = {
     "textDocument/hover": Bridge.hover,
     "workspace/symbol": Bridge.symbols,
 }
-NOTIFICATIONS = {"textDocument/didOpen": Bridge.opened, "textDocument/didChange": Bridge.changed, "textDocument/didClose": Bridge.closed}
+NOTIFICATIONS = {
+    "textDocument/didOpen": Bridge.opened,
+    "textDocument/didChange": Bridge.changed,
+    "textDocument/didClose": Bridge.closed,
+}
 
 
 def serve(bridge: Bridge, inbox: Inbox) -> int:
@@ -256,21 +343,58 @@ def logger(path: Optional[str]) -> Callable[[str, bytes], None]:
 
 def words_parser() -> argparse.ArgumentParser:
     """What the command line may be."""
-    parser = argparse.ArgumentParser(prog="lsp", description=__doc__, formatter_class=argparse.RawDescriptionHelpFormatter)
-    parser.add_argument("--map", action="append", default=[], metavar="URI=FOLDER", help="documents below URI are the files of FOLDER")
-    parser.add_argument("--tags", action="append", default=[], metavar="PROJECT=FOLDER",
-                        help="the tags file of PROJECT was made in FOLDER; that of the project asked for, without it, in the editor's folder")
+    parser = argparse.ArgumentParser(
+        prog="lsp", description=__doc__, formatter_class=argparse.RawDescriptionHelpFormatter
+    )
+    parser.add_argument(
+        "--map",
+        action="append",
+        default=[],
+        metavar="URI=FOLDER",
+        help="documents below URI are the files of FOLDER",
+    )
+    parser.add_argument(
+        "--tags",
+        action="append",
+        default=[],
+        metavar="PROJECT=FOLDER",
+        help="the tags file of PROJECT was made in FOLDER; that of the project asked for, without it, in the editor's folder",
+    )
     parser.add_argument("--log", metavar="FILE", help="write the traffic with the editor to FILE")
-    parser.add_argument("url", metavar="SERVER")
-    parser.add_argument("project", metavar="PROJECT")
+    add_indexed(parser)
+    add_server(parser, is_optional=True)
+    parser.add_argument(
+        "project",
+        metavar="PROJECT",
+        nargs="?",
+        help="the project or set of the editor's files; without it a .codenav.toml above each file says which",
+    )
     return parser
+
+
+def settings_given(call: argparse.Namespace) -> Optional[Settings]:
+    """What the command line says of the editor's files; nothing where it names no project. Raises BadCall."""
+    if call.project is None:
+        if call.url not in (None, os.environ.get("CODENAV_URL")):
+            raise BadCall(f"no project, of the server {call.url}")
+        return None
+    sources_of(call.revision, call.indexed, call.project, os.getcwd())
+    return Settings(
+        server_of(call.url),
+        name_of(call.project),
+        os.getcwd(),
+        maps_of(call.map),
+        folders_of(call.tags),
+        tuple(call.revision),
+        call.indexed,
+    )
 
 
 def main(words: Optional[list[str]] = None) -> int:
     """Reads the command line and serves; answers 0 after `shutdown` and `exit`, 1 after an end without, and 2 where the call can't be carried out."""
-    call = words_parser().parse_args(words)
+    call = parsed(words_parser(), words)
     try:
-        index = Index(server_of(call.url), project_of(call.project), maps_of(call.map), folders_of(call.tags))
+        given = settings_given(call)
         log = logger(call.log)
     except OSError as fault:
         print(f"lsp: {fault.filename}: {fault.strerror}", file=sys.stderr)
@@ -279,6 +403,6 @@ def main(words: Optional[list[str]] = None) -> int:
         print(f"lsp: {fault}", file=sys.stderr)
         return 2
     try:
-        return serve(Bridge(index, sys.stdout.buffer, log), Inbox(sys.stdin.buffer, log))
+        return serve(Bridge(given, sys.stdout.buffer, log), Inbox(sys.stdin.buffer, log))
     except BrokenPipeError:
         os._exit(1)

@@ -1,14 +1,13 @@
 """Documents and the files that they are, and columns in characters and in UTF-16 code units."""
 
 import os
-import string
-from dataclasses import dataclass
-from typing import Any, Optional
-from urllib.parse import quote, unquote
+from typing import Any, NamedTuple, Optional
+from urllib.parse import quote, unquote_to_bytes
 
-from navtools.curl import BadCall
+from navtools.addresses import KEPT as KEPT
+from navtools.addresses import below, spelled
+from navtools.words import BadCall
 
-KEPT = "".join(c for c in string.punctuation if c not in "\"#<>?`{}%\\")
 Maps = list[tuple[str, str]]
 
 
@@ -41,43 +40,75 @@ def character_at(path: str, line: int, column: int, utf16: bool) -> int:
     text = lines[line - 1] if 1 <= line <= len(lines) else None
     if text is None or not 1 <= column <= (units(text) if utf16 else len(text)) + 1:
         raise BadCall(f"{path} has no line {line} with a column {column}")
-    return column - 1 if utf16 else units(text[:column - 1])
+    return column - 1 if utf16 else units(text[: column - 1])
 
 
 def maps_of(texts: list[str]) -> Maps:
     """The pairs of a URI and a folder, each written as `URI=FOLDER`."""
-    maps = [(uri.rstrip("/"), os.path.abspath(folder)) for uri, _, folder in (text.partition("=") for text in texts) if uri and folder]
+    maps = [
+        (spelled(uri.rstrip("/")), os.path.abspath(folder))
+        for uri, _, folder in (text.partition("=") for text in texts)
+        if uri and folder
+    ]
     if len(maps) != len(texts):
         raise BadCall("--map takes URI=FOLDER, neither of them empty")
-    return maps
+    real = [(uri, os.path.realpath(folder)) for uri, folder in maps]
+    return maps + [one for one in real if one not in maps]
+
+
+def link_map(folder: str) -> Maps:
+    """What a folder that is reached by a symbolic link is a map for: indexers know its files by their real paths. Nothing of another folder."""
+    folder, real = os.path.abspath(folder), os.path.realpath(folder)
+    return [] if folder == real else [(uri_of(real, []), folder)]
+
+
+def is_mapped(path: str, maps: Maps) -> bool:
+    """Whether a map's folder has a file."""
+    return any(is_inside(os.path.relpath(os.path.abspath(path), folder)) for _, folder in maps)
+
+
+def is_inside(inside: str) -> bool:
+    """Whether a path that was made relative to a folder stays in it."""
+    return inside.split(os.sep)[0] != os.pardir
+
+
+def asked_path(path: str, maps: Maps) -> str:
+    """The whole path by which a file is asked for: as it's given where a map's folder has it, else without symbolic links."""
+    return os.path.abspath(path) if is_mapped(path, maps) else os.path.realpath(path)
 
 
 def uri_of(path: str, maps: Maps) -> str:
-    """The document's address: that of the first map whose folder has the file, else the file's own."""
+    """The document's address, in the one spelling: that of the first map whose folder has the file, else the file's own."""
     path = os.path.abspath(path)
     for root, folder in maps:
         inside = os.path.relpath(path, folder)
-        if inside.split(os.sep)[0] != os.pardir:
-            return root + "/" + quote(inside, safe=KEPT)
-    return "file://" + quote(path, safe=KEPT)
+        if is_inside(inside):
+            return root + "/" + quote(os.fsencode(inside), safe=KEPT)
+    return "file://" + quote(os.fsencode(path), safe=KEPT)
 
 
 def path_of(uri: str, maps: Maps) -> Optional[str]:
     """The whole path of a document's file; None where its address is no file's."""
+    uri = spelled(uri)
     for root, folder in maps:
-        if uri.startswith(root + "/"):
-            return os.path.normpath(os.path.join(folder, unquote(uri[len(root) + 1:])))
-    return unquote(uri[7:]) if uri.startswith("file:///") else None
+        inside = below(root, uri)
+        if inside is not None:
+            return os.path.normpath(os.path.join(folder, plain(inside)))
+    return plain(uri[7:]) if uri.startswith("file:///") else None
+
+
+def plain(part: str) -> str:
+    """A part of an address as a path."""
+    return os.fsdecode(unquote_to_bytes(part))
 
 
 def shown(path: str) -> str:
     """A path as it's printed: from the folder that the call was made in where the file lies there."""
     inside = os.path.relpath(path)
-    return path if inside.split(os.sep)[0] == os.pardir else inside
+    return inside if is_inside(inside) else path
 
 
-@dataclass(frozen=True)
-class Place:
+class Place(NamedTuple):
     """A place in a file, or in a document that is no file; the line and the character count from 0, the character in UTF-16 code units."""
 
     name: str
@@ -87,7 +118,11 @@ class Place:
 
 def place_of(found: dict[str, Any], maps: Maps) -> Place:
     """The start of a place that the server found."""
-    return Place(path_of(found["uri"], maps) or found["uri"], found["start"]["line"], found["start"]["character"])
+    return Place(
+        path_of(found["uri"], maps) or found["uri"],
+        found["start"]["line"],
+        found["start"]["character"],
+    )
 
 
 def place_line(place: Place, utf16: bool) -> str:

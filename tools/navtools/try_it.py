@@ -1,17 +1,18 @@
 """Tries the whole way from a dump to an answer: prepares the dump of the demo crate, starts a server, uploads twice, asks for a
-definition, references and a hover, uploads tags and asks for a name, and removes it all; and replays a request for each route. It
-prints each call with its output.
+definition, references and a hover, uploads tags and asks for a name, removes it all, and uploads the dump again; and replays a
+request for each route. It prints each call with its output.
 """
 
 import argparse
 import os
 import shlex
-import socket
 import subprocess
 import sys
 import tempfile
 from dataclasses import dataclass
 from typing import Optional
+
+from navtools.serving import Failed, built_program, ended, free_port, started
 
 TOP = os.path.dirname(os.path.dirname(os.path.dirname(os.path.abspath(__file__))))
 DUMP, TAGS = "demo/crate.raw.lsif", "demo/crate.tags"
@@ -31,12 +32,8 @@ pub fn fahrenheit(celsius: i32) -> i32
 ---
 
 Degrees Fahrenheit of degrees Celsius, rounded towards zero."""
-TAG = ('{"tags":[{"address":"/^pub fn is_warm(reading: &Reading) -> bool {$/","fields":[],"file":"src/lib.rs","kind":"f","line":4,'
-       '"name":"is_warm","project":"temperature"}]}')
-
-
-class Failed(Exception):
-    """The trial can't go on; the text is the one line to print."""
+FOLDER = "temperature=demo/crate"
+TAG = "demo/crate/src/lib.rs:17:8: is_warm"
 
 
 @dataclass(frozen=True)
@@ -54,58 +51,36 @@ def steps(url: str, dump: str) -> list[Step]:
         accepted = f'{{"accepted":"lsif","count":{sum(1 for _ in lines)}}}'
     with open(os.path.join(TOP, TAGS), "rb") as lines:
         tagged = f'{{"accepted":"tags","count":{sum(1 for _ in lines)}}}'
-    ask, curl = ["tools/ask", *MAP, url, "temperature"], ["curl", "--silent", "--noproxy", "*"]
-    upload = ["tools/upload-lsif", "--retry", url, "temperature", dump]
+    ask, project = ["tools/ask", *MAP, url, "temperature"], [url, "temperature"]
+    upload = ["tools/upload-lsif", "--retry", *project, dump]
+    at_definition = ":".join(AT_DEFINITION)
     return [
         Step(upload, accepted),
         Step(upload, accepted),
-        Step([*ask, *DEFINITION], ":".join(AT_DEFINITION)),
-        Step([*ask, "references", *AT_DEFINITION], ":".join(DEFINITION[1:]) + "\n" + ":".join(AT_DEFINITION)),
+        Step([*ask, *DEFINITION], at_definition),
+        Step([*ask, "references", *AT_DEFINITION], ":".join(DEFINITION[1:]) + "\n" + at_definition),
         Step([*ask, "hover", *AT_DEFINITION], HOVER),
-        Step(["tools/upload-tags", "--retry", url, "temperature", TAGS], tagged),
-        Step([*curl, f"{url}/names?name=is_warm"], TAG),
-        Step([*curl, "--request", "DELETE", f"{url}/projects/temperature?key=removed"], '{"removed":true}'),
+        Step(["tools/upload-tags", "--retry", *project, TAGS], tagged),
+        Step(["tools/ask", "--tags", FOLDER, *project, "names", "is_warm"], TAG),
+        Step(["tools/list", url], "temperature: dump and tags"),
+        Step(["tools/remove", *project], "temperature: removed"),
+        Step(
+            [*ask, *DEFINITION], "ask: D01 project has no dump: file:///src/tr/crate/src/lib.rs", 2
+        ),
         Step(upload, accepted),
-        Step([*ask, *DEFINITION], "ask: D01 project has no dump: file:///src/tr/crate/src/lib.rs", 2),
+        Step([*ask, *DEFINITION], at_definition),
     ]
 
 
 def run(words: list[str]) -> tuple[str, int]:
     """Makes a call from the top of the clone and prints it with its output."""
     print(f"$ {shlex.join(words)}", flush=True)
-    done = subprocess.run(words, cwd=TOP, stdout=subprocess.PIPE, stderr=subprocess.STDOUT, check=False)
+    done = subprocess.run(
+        words, cwd=TOP, stdout=subprocess.PIPE, stderr=subprocess.STDOUT, check=False
+    )
     output = done.stdout.decode(errors="replace").removesuffix("\n")
     print(output, flush=True)
     return output, done.returncode
-
-
-def free_port() -> int:
-    """A port of this machine that nobody listens on now."""
-    with socket.socket() as one:
-        one.bind(("127.0.0.1", 0))
-        port: int = one.getsockname()[1]
-    return port
-
-
-def started(program: str, port: int, requests: int, database: str = ":memory:") -> subprocess.Popen[bytes]:
-    """A server over a database that has said that it listens; it ends by itself after so many requests."""
-    words = [program, "serve", database, "--port", str(port), "--requests", str(requests)]
-    print(f"$ {shlex.join(words)} &", flush=True)
-    server = subprocess.Popen(words, stdout=subprocess.PIPE)
-    assert server.stdout is not None
-    line = server.stdout.readline().decode(errors="replace").rstrip("\n")
-    if line != f"listening on 127.0.0.1:{port}":
-        ended(server)
-        raise Failed(f"the server didn't start: {line}")
-    print(line, flush=True)
-    return server
-
-
-def ended(server: subprocess.Popen[bytes]) -> None:
-    """Ends a server that still runs."""
-    if server.poll() is None:
-        server.terminate()
-        server.wait()
 
 
 def trial(program: str, folder: str) -> int:
@@ -137,12 +112,22 @@ def trial(program: str, folder: str) -> int:
 def main(words: Optional[list[str]] = None) -> int:
     """Answers 0 exactly where each answer was as expected."""
     parser = argparse.ArgumentParser(prog="try-it", description=__doc__)
-    parser.add_argument("program", metavar="PROGRAM", nargs="?", default=os.path.join(TOP, "codenav"),
-                        help="the built program; without it the one of this clone, which is built first where it isn't yet")
+    parser.add_argument(
+        "program",
+        metavar="PROGRAM",
+        nargs="?",
+        default=built_program(TOP),
+        help="the built program; without it the one of this clone, which is built first where it isn't yet",
+    )
     call = parser.parse_args(words)
     try:
+        if not os.path.isdir(os.path.join(TOP, "demo")):
+            raise Failed(f"runs in a clone of the repository, and {TOP} is none")
         program = os.path.abspath(call.program)
-        if subprocess.run([program, "--version"], stdin=subprocess.DEVNULL, check=False).returncode != 0:
+        if (
+            subprocess.run([program, "--version"], stdin=subprocess.DEVNULL, check=False).returncode
+            != 0
+        ):
             raise Failed(f"{call.program} doesn't run")
         with tempfile.TemporaryDirectory() as folder:
             count = trial(program, folder)

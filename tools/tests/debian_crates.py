@@ -15,7 +15,9 @@ replace-with = "debian"
 [source.debian]
 directory = "{REGISTRY}"
 """
-DEV_DEPENDENCIES = re.compile(r"^\[(target\.[^\]]*\.)?dev-dependencies.*?(?=^\[|\Z)", re.DOTALL | re.MULTILINE)
+DEV_DEPENDENCIES = re.compile(
+    r"^\[(target\.[^\]]*\.)?dev-dependencies.*?(?=^\[|\Z)", re.DOTALL | re.MULTILINE
+)
 
 
 @contextmanager
@@ -43,12 +45,20 @@ def beside(home: str, name: str) -> str:
 def dump_of(home: str) -> str:
     """The path of the dump that rust-analyzer writes of a crate."""
     with open(beside(home, "raw.lsif"), "wb") as out:
-        subprocess.run([ANALYZER, "lsif", "."], cwd=home, stdout=out, stderr=subprocess.DEVNULL, check=True)
+        subprocess.run(
+            [ANALYZER, "lsif", "."], cwd=home, stdout=out, stderr=subprocess.DEVNULL, check=True
+        )
     return out.name
 
 
 def index_of(home: str) -> str:
     """The path of the SCIP index that rust-analyzer writes of a crate."""
     path = beside(home, "index.scip")
-    subprocess.run([ANALYZER, "scip", ".", "--output", path], cwd=home, stdout=subprocess.DEVNULL, stderr=subprocess.DEVNULL, check=True)
+    subprocess.run(
+        [ANALYZER, "scip", ".", "--output", path],
+        cwd=home,
+        stdout=subprocess.DEVNULL,
+        stderr=subprocess.DEVNULL,
+        check=True,
+    )
     return path

@@ -6,7 +6,8 @@ import tempfile
 from contextlib import contextmanager
 from typing import Iterator
 
-from navtools.try_it import TAGS, TOP, Failed, ended, free_port, run, started
+from navtools.serving import Failed, built_program, serving
+from navtools.try_it import TAGS, TOP, run
 
 REQUESTS = 1000
 PROJECTS = {"temperature": "demo/crate.raw.lsif", "kettle": "demo/user.raw.lsif"}
@@ -20,20 +21,9 @@ def succeed(words: list[str]) -> None:
 
 
 @contextmanager
-def empty_server(program: str, requests: int) -> Iterator[str]:
-    """The address of a server that has nothing; it ends with the context."""
-    port = free_port()
-    server = started(program, port, requests)
-    try:
-        yield f"http://127.0.0.1:{port}"
-    finally:
-        ended(server)
-
-
-@contextmanager
 def demo_server(program: str) -> Iterator[str]:
     """The address of a server that has both dumps and the tags; it ends with the context."""
-    with tempfile.TemporaryDirectory() as folder, empty_server(program, REQUESTS) as url:
+    with tempfile.TemporaryDirectory() as folder, serving(program, REQUESTS) as url:
         for project, raw in PROJECTS.items():
             dump = os.path.join(folder, "prepared.lsif")
             succeed(["tools/prepare-lsif", raw, dump])
@@ -46,4 +36,4 @@ def program_of(words: list[str]) -> str:
     """The built program that the command line names; without it the one of this clone, which is built first where it isn't yet."""
     if len(words) > 1:
         sys.exit("usage: [PROGRAM]")
-    return os.path.abspath(words[0]) if words else os.path.join(TOP, "codenav")
+    return os.path.abspath(words[0]) if words else built_program(TOP)

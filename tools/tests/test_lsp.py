@@ -17,7 +17,14 @@ TOP = os.path.dirname(os.path.dirname(os.path.dirname(os.path.abspath(__file__))
 LSP = os.path.join(TOP, "tools", "lsp")
 TEXT = "fn main() {}\n"
 PLACE = {"start": {"line": 1, "character": 2}, "end": {"line": 1, "character": 5}}
-TAG = {"name": "main", "file": "src/main.rs", "address": "/^fn main() {}$/", "fields": [], "kind": "f", "line": 1}
+TAG = {
+    "name": "main",
+    "file": "src/main.rs",
+    "address": "/^fn main() {}$/",
+    "fields": [],
+    "kind": "f",
+    "line": 1,
+}
 
 
 class Replies(BaseHTTPRequestHandler):
@@ -30,13 +37,19 @@ class Replies(BaseHTTPRequestHandler):
     def do_GET(self) -> None:
         """Answers one request."""
         parts = urlsplit(self.path)
-        type(self).asked.append((parts.path, dict(parse_qsl(parts.query))))
+        asked = dict(parse_qsl(parts.query))
+        type(self).asked.append((parts.path, asked))
+        status, body = self.status, self.body
+        if parts.path == "/names":
+            tags = json.loads(body).get("tags", []) if body.startswith(b"{") else []
+            own = [tag for tag in tags if tag["project"] == asked.get("project", tag["project"])]
+            status, body = 200, json.dumps({"tags": own}).encode()
         if self.gate is not None:
             self.gate.wait(20)
-        self.send_response(self.status)
-        self.send_header("Content-Length", str(len(self.body)))
+        self.send_response(status)
+        self.send_header("Content-Length", str(len(body)))
         self.end_headers()
-        self.wfile.write(self.body)
+        self.wfile.write(body)
 
     def log_message(self, *_: Any) -> None:
         """Prints nothing."""
@@ -46,7 +59,9 @@ class Editor:
     """An editor's end of the bridge."""
 
     def __init__(self, *words: str) -> None:
-        self.run = subprocess.Popen([LSP, *words], stdin=subprocess.PIPE, stdout=subprocess.PIPE, stderr=subprocess.PIPE)
+        self.run = subprocess.Popen(
+            [LSP, *words], stdin=subprocess.PIPE, stdout=subprocess.PIPE, stderr=subprocess.PIPE
+        )
         self.last = 0
 
     def send(self, body: bytes) -> None:
@@ -65,7 +80,11 @@ class Editor:
     def ask(self, method: str, params: Any = None) -> int:
         """Sends a request; answers its id."""
         self.last += 1
-        self.send(json.dumps({"jsonrpc": "2.0", "id": self.last, "method": method, "params": params}).encode())
+        self.send(
+            json.dumps(
+                {"jsonrpc": "2.0", "id": self.last, "method": method, "params": params}
+            ).encode()
+        )
         return self.last
 
     def read(self) -> dict[str, Any]:
@@ -80,7 +99,9 @@ class Editor:
         """What a request is answered, and the messages to the user before that: their methods, types and texts."""
         own, told = self.ask(method, params), []
         while "id" not in (message := self.read()):
-            told.append((message["method"], message["params"]["type"], message["params"]["message"]))
+            told.append(
+                (message["method"], message["params"]["type"], message["params"]["message"])
+            )
         assert message.pop("id") == own
         return message["error"]["code"] if "error" in message else message["result"], told
 
@@ -120,29 +141,59 @@ class Lsp(unittest.TestCase):
     def editor(self, *words: str, url: str = "") -> Editor:
         """An editor that has initialized the bridge, in the folder, for the project `app`."""
         editor = Editor(*words, url or self.url, "app")
-        result, _ = editor.call("initialize", {"processId": None, "rootUri": uri_of(self.folder, []), "capabilities": {}})
+        result, _ = editor.call(
+            "initialize",
+            {"processId": None, "rootUri": uri_of(self.folder, []), "capabilities": {}},
+        )
         editor.notify("initialized", {})
         self.assertEqual(result["capabilities"]["positionEncoding"], "utf-16")
         return editor
 
     def answer(self, reply: Any, status: int = 200) -> None:
         """Stores what the server answers from now on."""
-        Replies.status, Replies.body = status, reply if isinstance(reply, bytes) else json.dumps(reply).encode()
+        Replies.status, Replies.body = (
+            status,
+            reply if isinstance(reply, bytes) else json.dumps(reply).encode(),
+        )
 
     def test_each_request(self) -> None:
-        places = {"places": [{**PLACE, "project": project, "uri": uri} for project, uri in (("app", self.uri), ("app", "http://h/a"), ("lib", self.uri))]}
+        places = {
+            "places": [
+                {**PLACE, "project": project, "uri": uri}
+                for project, uri in (("app", self.uri), ("app", "http://h/a"), ("lib", self.uri))
+            ]
+        }
         found = [{"uri": uri, "range": PLACE} for uri in (self.uri, "http://h/a")]
         at, path = {"uri": self.uri, "line": "0", "character": "3"}, "/projects/app/"
         contents = [{"language": "rust", "value": "fn main()"}, "text"]
         editor = self.editor()
         for method, more, reply, result, asked in (
-                ("textDocument/definition", {}, places, found, (path + "definition", at)),
-                ("textDocument/declaration", {}, places, found, (path + "declaration", at)),
-                ("textDocument/implementation", {}, {"places": []}, [], (path + "implementation", at)),
-                ("textDocument/references", {"context": {"includeDeclaration": True}}, places, found, (path + "references", {**at, "declaration": "yes"})),
-                ("textDocument/references", {"context": {"includeDeclaration": False}}, places, found, (path + "references", {**at, "declaration": "no"})),
-                ("textDocument/hover", {}, {"contents": contents}, {"contents": contents}, (path + "hover", at)),
-                ("textDocument/hover", {}, {"contents": None}, None, (path + "hover", at))):
+            ("textDocument/definition", {}, places, found, (path + "definition", at)),
+            ("textDocument/declaration", {}, places, found, (path + "declaration", at)),
+            ("textDocument/implementation", {}, {"places": []}, [], (path + "implementation", at)),
+            (
+                "textDocument/references",
+                {"context": {"includeDeclaration": True}},
+                places,
+                found,
+                (path + "references", {**at, "declaration": "yes"}),
+            ),
+            (
+                "textDocument/references",
+                {"context": {"includeDeclaration": False}},
+                places,
+                found,
+                (path + "references", {**at, "declaration": "no"}),
+            ),
+            (
+                "textDocument/hover",
+                {},
+                {"contents": contents},
+                {"contents": contents},
+                (path + "hover", at),
+            ),
+            ("textDocument/hover", {}, {"contents": None}, None, (path + "hover", at)),
+        ):
             with self.subTest(method, more=more):
                 self.answer(reply)
                 Replies.asked = []
@@ -151,36 +202,102 @@ class Lsp(unittest.TestCase):
         self.assertEqual(editor.end("shutdown", "exit"), (0, b""))
 
     def test_maps(self) -> None:
-        self.answer({"places": [{**PLACE, "project": "app", "uri": "file:///src/a%20b/src/main.rs"}]})
+        self.answer(
+            {"places": [{**PLACE, "project": "app", "uri": "file:///src/a%20b/src/main.rs"}]}
+        )
         editor = self.editor("--map", f"file:///src/a%20b={self.folder}")
-        self.assertEqual(editor.call("textDocument/definition", self.at), ([{"uri": self.uri, "range": PLACE}], []))
+        self.assertEqual(
+            editor.call("textDocument/definition", self.at),
+            ([{"uri": self.uri, "range": PLACE}], []),
+        )
         self.assertEqual(Replies.asked[0][1]["uri"], "file:///src/a%20b/src/main.rs")
         editor.end("shutdown", "exit")
 
     def test_symbols(self) -> None:
+        """Of a project of which the folder isn't there nothing is shown; where a file changed since, its top is."""
+
         def symbol(project: str, folder: str, line: int, character: int) -> dict[str, Any]:
             at = {"line": line, "character": character}
-            return {"name": "main", "kind": 12, "containerName": project,
-                    "location": {"uri": uri_of(f"{folder}/src/main.rs", []), "range": {"start": at, "end": at}}}
+            return {
+                "name": "main",
+                "kind": 12,
+                "containerName": project,
+                "location": {
+                    "uri": uri_of(f"{folder}/src/main.rs", []),
+                    "range": {"start": at, "end": at},
+                },
+            }
 
         self.answer({"tags": [{**TAG, "project": project} for project in ("app", "lib", "other")]})
-        editor = self.editor("--tags", "lib=/no/lib")
-        self.assertEqual(editor.call("workspace/symbol", {"query": "ma"}), ([symbol("app", self.folder, 0, 3), symbol("lib", "/no/lib", 0, 0)], []))
-        self.assertEqual(Replies.asked, [("/names", {"prefix": "ma"})])
+        changed = os.path.join(self.folder, "lib")
+        os.makedirs(os.path.join(changed, "src"))
+        with open(os.path.join(changed, "src", "main.rs"), "w", encoding="utf-8") as file:
+            file.write("// main was here\n")
+        editor = self.editor("--tags", f"lib={changed}", "--tags", "other=/no/other")
+        self.assertEqual(
+            editor.call("workspace/symbol", {"query": "ma"}),
+            ([symbol("app", self.folder, 0, 3), symbol("lib", changed, 0, 3)], []),
+        )
+        asked = [
+            ("/names", {"prefix": "ma", "project": project}) for project in ("app", "lib", "other")
+        ]
+        self.assertEqual(Replies.asked, asked)
         self.assertEqual(editor.call("workspace/symbol", {"query": ""}), ([], []))
-        self.assertEqual(len(Replies.asked), 1)
+        self.assertEqual(Replies.asked, asked)
+        editor.end("shutdown", "exit")
+
+    def test_many_symbols(self) -> None:
+        self.answer({"tags": [{**TAG, "project": "app"}] * 300})
+        editor = self.editor()
+        symbols, told = editor.call("workspace/symbol", {"query": "ma"})
+        said = "codenav: of the names that begin with 'ma' 256 are shown"
+        self.assertEqual((len(symbols), told), (256, [("window/logMessage", 3, said)]))
+        editor.end("shutdown", "exit")
+
+    def test_a_folder_that_is_a_link(self) -> None:
+        """An editor that opened a folder by a symbolic link has the files by that; the index has them by their real paths."""
+        link = f"{self.folder}-link"
+        os.symlink(self.folder, link)
+        self.addCleanup(os.unlink, link)
+        own = uri_of(os.path.join(link, "src", "main.rs"), [])
+        self.answer({"places": [{**PLACE, "project": "app", "uri": self.uri}]})
+        editor = Editor(self.url, "app")
+        editor.call("initialize", {"rootUri": uri_of(link, []), "capabilities": {}})
+        found = editor.call("textDocument/definition", {**self.at, "textDocument": {"uri": own}})
+        self.assertEqual(found, ([{"uri": own, "range": PLACE}], []))
+        self.assertEqual(Replies.asked[-1][1]["uri"], self.uri)
         editor.end("shutdown", "exit")
 
     def test_what_the_server_refuses(self) -> None:
         editor = self.editor()
         good = {"places": [{**PLACE, "project": "app", "uri": self.uri}]}
-        for status, reply, text in ((404, {"fault": "D01", "text": "project has no dump"}, f"app: D01 project has no dump: {self.uri}"),
-                                    (404, {"fault": "D02", "text": "no such document"}, f"app: D02 no such document: {self.uri}"),
-                                    (400, {"fault": "D03", "text": "bad parameter"}, f"app: D03 bad parameter: {self.uri}"),
-                                    (503, {"fault": "S01", "text": "store refused"}, f"app: S01 store refused: {self.uri}"),
-                                    (503, {"fault": "S02", "text": "out of memory"}, f"app: S02 out of memory: {self.uri}"),
-                                    (502, b"<html>", f"app: not a reply of codenav, status 502: {self.uri}"),
-                                    (200, b"{}", f"app: not a reply of codenav, status 200: {self.uri}")):
+        for status, reply, text in (
+            (
+                404,
+                {"fault": "D01", "text": "project has no dump"},
+                f"app: D01 project has no dump: {self.uri}",
+            ),
+            (
+                404,
+                {"fault": "D02", "text": "no such document"},
+                f"app: D02 no such document: {self.uri}: the project has no such document, or its dump was made in another "
+                "folder, which --map URI=FOLDER says",
+            ),
+            (400, {"fault": "D03", "text": "bad parameter"}, f"app: D03 bad parameter: {self.uri}"),
+            (
+                503,
+                {"fault": "S01", "text": "store refused"},
+                "app: S01 store refused, which means that the server can't read its database: the file is damaged, or another "
+                f"program changed it: {self.uri}",
+            ),
+            (503, {"fault": "S02", "text": "out of memory"}, f"app: S02 out of memory: {self.uri}"),
+            (
+                502,
+                b"<html>",
+                f"app: {self.url}: not a reply of codenav, status 502, the proxy has no answer of codenav: {self.uri}",
+            ),
+            (200, b"{}", f"app: {self.url}: not a reply of codenav, status 200: {self.uri}"),
+        ):
             with self.subTest(text):
                 self.answer(reply, status)
                 told = [("window/showMessage", 2, f"codenav: {text}")]
@@ -194,9 +311,11 @@ class Lsp(unittest.TestCase):
 
     def test_a_server_that_is_down(self) -> None:
         editor = self.editor(url="http://127.0.0.1:1")
-        result, told = editor.call("textDocument/references", {**self.at, "context": {"includeDeclaration": True}})
+        result, told = editor.call(
+            "textDocument/references", {**self.at, "context": {"includeDeclaration": True}}
+        )
         self.assertEqual((result, len(told), told[0][:2]), ([], 1, ("window/showMessage", 2)))
-        self.assertIn("Failed to connect to 127.0.0.1", told[0][2])
+        self.assertIn("http://127.0.0.1:1: Connection refused", told[0][2])
         self.assertEqual(editor.call("workspace/symbol", {"query": "a"})[0], [])
         self.assertEqual(editor.end("shutdown", "exit"), (0, b""))
 
@@ -211,30 +330,60 @@ class Lsp(unittest.TestCase):
             return message(id=9, method="textDocument/definition", params=params)
 
         for body, own, code in (
-                (b"{", None, -32700), (b"\xff", None, -32700), (b"", None, -32700), (b"[" * 100_000, None, -32700),
-                (b"[]", None, -32600), (b"7", None, -32600), (message(id=None, method="shutdown"), None, -32600),
-                (message(id=1.5, method="shutdown"), None, -32600), (message(id=True, method="shutdown"), None, -32600), (message(id=9), 9, -32600),
-                (message(id="x", method=7), "x", -32600), (b'{"id":9,"method":"shutdown"}', 9, -32600), (message(id=9, method="shutdown", params=7), 9, -32600),
-                (message(id=9, method="initialize", params={}), 9, -32600), (message(id=9, method="textDocument/rename", params=at), 9, -32601),
-                (message(id=9, method="$/unknown"), 9, -32601), (message(id=9, method="exit"), 9, -32601),
-                (definition(None), 9, -32602), (definition([]), 9, -32602), (definition({**at, "textDocument": {"uri": 7}}), 9, -32602),
-                (definition({**at, "position": {"line": 0}}), 9, -32602), (definition({**at, "position": {"line": -1, "character": 0}}), 9, -32602),
-                (definition({**at, "position": {"line": 0, "character": 2147483648}}), 9, -32602),
-                (definition({**at, "position": {"line": 0, "character": True}}), 9, -32602),
-                (definition({**at, "textDocument": {"uri": "file:///\ud800"}}), 9, -32602),
-                (message(id=9, method="textDocument/references", params=at), 9, -32602), (message(id=9, method="workspace/symbol", params={}), 9, -32602)):
+            (b"{", None, -32700),
+            (b"\xff", None, -32700),
+            (b"", None, -32700),
+            (b"[" * 100_000, None, -32700),
+            (b"[]", None, -32600),
+            (b"7", None, -32600),
+            (message(id=None, method="shutdown"), None, -32600),
+            (message(id=1.5, method="shutdown"), None, -32600),
+            (message(id=True, method="shutdown"), None, -32600),
+            (message(id=9), 9, -32600),
+            (message(id="x", method=7), "x", -32600),
+            (b'{"id":9,"method":"shutdown"}', 9, -32600),
+            (message(id=9, method="shutdown", params=7), 9, -32600),
+            (message(id=9, method="initialize", params={}), 9, -32600),
+            (message(id=9, method="textDocument/rename", params=at), 9, -32601),
+            (message(id=9, method="$/unknown"), 9, -32601),
+            (message(id=9, method="exit"), 9, -32601),
+            (definition(None), 9, -32602),
+            (definition([]), 9, -32602),
+            (definition({**at, "textDocument": {"uri": 7}}), 9, -32602),
+            (definition({**at, "position": {"line": 0}}), 9, -32602),
+            (definition({**at, "position": {"line": -1, "character": 0}}), 9, -32602),
+            (definition({**at, "position": {"line": 0, "character": 2147483648}}), 9, -32602),
+            (definition({**at, "position": {"line": 0, "character": True}}), 9, -32602),
+            (definition({**at, "textDocument": {"uri": "file:///\ud800"}}), 9, -32602),
+            (message(id=9, method="textDocument/references", params=at), 9, -32602),
+            (message(id=9, method="workspace/symbol", params={}), 9, -32602),
+        ):
             with self.subTest(body[:80]):
                 editor.send(body)
                 answer = editor.read()
                 self.assertEqual((answer["id"], answer["error"]["code"]), (own, code))
-        for head in (b"\r\n", b"Content-Length: x\r\n\r\n", b"Content-Type: a\r\n\r\n", b"Content-Length: 99999999999\r\n\r\n"):
+        for head in (
+            b"\r\n",
+            b"Content-Length: x\r\n\r\n",
+            b"Content-Type: a\r\n\r\n",
+            b"Content-Length: 99999999999\r\n\r\n",
+        ):
             editor.write(head)
             self.assertEqual(editor.read()["error"]["code"], -32700)
-        for body in (message(id=4, result=None), message(method="textDocument/didOpen"), message(method="textDocument/didChange", params={"contentChanges": [7]}),
-                     message(method="$/cancelRequest", params=7), message(method="$/cancelRequest", params={"id": 1}), message(method="unknown")):
+        for body in (
+            message(id=4, result=None),
+            message(method="textDocument/didOpen"),
+            message(method="textDocument/didChange", params={"contentChanges": [7]}),
+            message(method="$/cancelRequest", params=7),
+            message(method="$/cancelRequest", params={"id": 1}),
+            message(method="unknown"),
+        ):
             editor.send(body)
         body = message(id="end", method="shutdown")
-        editor.write(b"Content-Type: application/vscode-jsonrpc; charset=utf-8\r\ncontent-length:%d \r\n\r\n%s" % (len(body), body))
+        editor.write(
+            b"Content-Type: application/vscode-jsonrpc; charset=utf-8\r\ncontent-length:%d \r\n\r\n%s"
+            % (len(body), body)
+        )
         self.assertEqual(editor.read(), {"id": "end", "result": None})
         self.assertEqual(editor.end("exit"), (0, b""))
 
@@ -244,8 +393,20 @@ class Lsp(unittest.TestCase):
         self.assertEqual(editor.call("shutdown")[0], -32002)
         self.assertEqual(editor.call("initialize", None)[0], -32602)
         result, _ = editor.call("initialize", {"workspaceFolders": None, "rootUri": None})
-        self.assertEqual({name for name in result["capabilities"] if name.endswith("Provider")},
-                         {f"{name}Provider" for name in ("definition", "declaration", "implementation", "references", "hover", "workspaceSymbol")})
+        self.assertEqual(
+            {name for name in result["capabilities"] if name.endswith("Provider")},
+            {
+                f"{name}Provider"
+                for name in (
+                    "definition",
+                    "declaration",
+                    "implementation",
+                    "references",
+                    "hover",
+                    "workspaceSymbol",
+                )
+            },
+        )
         self.assertEqual(editor.call("shutdown"), (None, []))
         self.assertEqual(editor.call("textDocument/hover", self.at)[0], -32600)
         self.assertEqual(editor.end("exit"), (0, b""))
@@ -254,20 +415,44 @@ class Lsp(unittest.TestCase):
 
     def test_texts_that_differ_from_the_file(self) -> None:
         def document(text: str) -> dict[str, Any]:
-            return {"textDocument": {"uri": self.uri, "languageId": "rust", "version": 1, "text": text}}
+            return {
+                "textDocument": {"uri": self.uri, "languageId": "rust", "version": 1, "text": text}
+            }
 
         self.answer({"contents": None})
         editor = self.editor()
-        told = [("window/logMessage", 3, f"codenav: {self.uri} isn't as in its file: positions are those of the indexed file")]
+        told = [
+            (
+                "window/logMessage",
+                3,
+                f"codenav: {self.uri} isn't as in its file: positions are those of the indexed file",
+            )
+        ]
         for notification, params, expected in (
-                ("didOpen", document(TEXT), []), ("didChange", {**document(""), "contentChanges": [{"text": "x"}, {"text": TEXT + "x"}]}, told),
-                ("didChange", {**document(""), "contentChanges": [{"text": TEXT + "xy"}]}, []), ("didSave", document(""), []),
-                ("didChange", {**document(""), "contentChanges": [{"text": TEXT.replace("\n", "\r\n")}]}, []),
-                ("didChange", {**document(""), "contentChanges": [{"text": ""}]}, told), ("didClose", document(""), [])):
+            ("didOpen", document(TEXT), []),
+            (
+                "didChange",
+                {**document(""), "contentChanges": [{"text": "x"}, {"text": TEXT + "x"}]},
+                told,
+            ),
+            ("didChange", {**document(""), "contentChanges": [{"text": TEXT + "xy"}]}, []),
+            ("didSave", document(""), []),
+            (
+                "didChange",
+                {**document(""), "contentChanges": [{"text": TEXT.replace("\n", "\r\n")}]},
+                [],
+            ),
+            ("didChange", {**document(""), "contentChanges": [{"text": ""}]}, told),
+            ("didClose", document(""), []),
+        ):
             editor.notify(f"textDocument/{notification}", params)
-            self.assertEqual(editor.call("textDocument/hover", self.at), (None, expected), notification)
+            self.assertEqual(
+                editor.call("textDocument/hover", self.at), (None, expected), notification
+            )
         editor.notify("textDocument/didOpen", {"textDocument": {"uri": "untitled:1", "text": "x"}})
-        result, said = editor.call("textDocument/hover", {**self.at, "textDocument": {"uri": "untitled:1"}})
+        result, said = editor.call(
+            "textDocument/hover", {**self.at, "textDocument": {"uri": "untitled:1"}}
+        )
         self.assertEqual((result, len(said), Replies.asked[-1][1]["uri"]), (None, 1, "untitled:1"))
         editor.end("shutdown", "exit")
 
@@ -284,7 +469,9 @@ class Lsp(unittest.TestCase):
         Replies.gate.set()
         answers = [editor.read() for _ in range(3)]
         self.assertEqual([answer["id"] for answer in answers], asked)
-        self.assertEqual([answer.get("error", {}).get("code") for answer in answers], [None, -32800, None])
+        self.assertEqual(
+            [answer.get("error", {}).get("code") for answer in answers], [None, -32800, None]
+        )
         self.assertEqual(len(Replies.asked), 2)
         editor.end("shutdown", "exit")
 
@@ -294,16 +481,31 @@ class Lsp(unittest.TestCase):
         with open(log, "rb") as file:
             lines = [line.split(b" ", 1) for line in file.read().splitlines()]
         self.assertEqual([way for way, _ in lines], [b"<-", b"->", b"<-", b"<-", b"->", b"<-"])
-        self.assertEqual([json.loads(body).get("method") for _, body in lines], ["initialize", None, "initialized", "shutdown", None, "exit"])
+        self.assertEqual(
+            [json.loads(body).get("method") for _, body in lines],
+            ["initialize", None, "initialized", "shutdown", None, "exit"],
+        )
 
     def test_what_is_refused(self) -> None:
-        for words, message in (([self.url, "No"], "a project is 1 to 64 characters of a-z 0-9 _ -, not 'No'"),
-                               (["http://[::1", "app"], "not the address of a server, as http://127.0.0.1:8080: 'http://[::1'"),
-                               (["--map", "foo", self.url, "app"], "--map takes URI=FOLDER, neither of them empty"),
-                               (["--tags", "foo", self.url, "app"], "--tags takes PROJECT=FOLDER, neither of them empty"),
-                               (["--log", "/no/log", self.url, "app"], "/no/log: No such file or directory")):
-            done = subprocess.run([LSP, *words], stdin=subprocess.DEVNULL, capture_output=True, check=False)
-            self.assertEqual((done.returncode, done.stdout, done.stderr.decode()), (2, b"", f"lsp: {message}\n"))
+        for words, message in (
+            ([self.url, "No"], "a project is 1 to 64 characters of a-z 0-9 _ -, not 'No'"),
+            (
+                ["http://[::1", "app"],
+                "not the address of a server, as http://127.0.0.1:8080: 'http://[::1'",
+            ),
+            (["--map", "foo", self.url, "app"], "--map takes URI=FOLDER, neither of them empty"),
+            (
+                ["--tags", "foo", self.url, "app"],
+                "--tags takes PROJECT=FOLDER, neither of them empty",
+            ),
+            (["--log", "/no/log", self.url, "app"], "/no/log: No such file or directory"),
+        ):
+            done = subprocess.run(
+                [LSP, *words], stdin=subprocess.DEVNULL, capture_output=True, check=False
+            )
+            self.assertEqual(
+                (done.returncode, done.stdout, done.stderr.decode()), (2, b"", f"lsp: {message}\n")
+            )
 
 
 if __name__ == "__main__":

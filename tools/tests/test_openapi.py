@@ -7,10 +7,17 @@ import unittest
 from typing import Any, Iterator, NamedTuple
 from urllib.parse import parse_qsl
 
-from navtools.curl import KEY, PROJECT
+from navtools.words import KEY, PROJECT
 
 TOP = os.path.dirname(os.path.dirname(os.path.dirname(os.path.abspath(__file__))))
-TYPES = {"object": dict, "array": list, "string": str, "integer": int, "boolean": bool, "null": type(None)}
+TYPES = {
+    "object": dict,
+    "array": list,
+    "string": str,
+    "integer": int,
+    "boolean": bool,
+    "null": type(None),
+}
 
 
 def text_of(*path: str) -> str:
@@ -37,21 +44,41 @@ def is_valid(value: Any, schema: dict[str, Any]) -> bool:
     """Whether a value is of a schema, by the keywords of JSON Schema that the description uses."""
     schema = resolved(schema)
     types = schema.get("type", list(TYPES))
-    holds = any(type(value) is TYPES[name] for name in ([types] if isinstance(types, str) else types))
-    holds = holds and ("const" not in schema or value == schema["const"]) and ("enum" not in schema or value in schema["enum"])
+    holds = any(
+        type(value) is TYPES[name] for name in ([types] if isinstance(types, str) else types)
+    )
+    holds = (
+        holds
+        and ("const" not in schema or value == schema["const"])
+        and ("enum" not in schema or value in schema["enum"])
+    )
     holds = holds and all(is_valid(value, part) for part in schema.get("allOf", []))
-    holds = holds and ("oneOf" not in schema or sum(is_valid(value, part) for part in schema["oneOf"]) == 1)
+    holds = holds and (
+        "oneOf" not in schema or sum(is_valid(value, part) for part in schema["oneOf"]) == 1
+    )
     if isinstance(value, str):
-        holds = holds and re.search(schema.get("pattern", ""), value) is not None and len(value) >= schema.get("minLength", 0)
+        holds = (
+            holds
+            and re.search(schema.get("pattern", ""), value) is not None
+            and len(value) >= schema.get("minLength", 0)
+        )
     elif type(value) is int:
         holds = holds and schema.get("minimum", value) <= value <= schema.get("maximum", value)
     elif isinstance(value, list):
-        holds = holds and schema.get("minItems", 0) <= len(value) <= schema.get("maxItems", len(value))
+        holds = holds and schema.get("minItems", 0) <= len(value) <= schema.get(
+            "maxItems", len(value)
+        )
         holds = holds and all(is_valid(item, schema.get("items", {})) for item in value)
     elif isinstance(value, dict):
         members = schema.get("properties", {})
-        holds = holds and set(schema.get("required", [])) <= set(value) and (schema.get("additionalProperties", True) or set(value) <= set(members))
-        holds = holds and all(is_valid(member, members.get(name, {})) for name, member in value.items())
+        holds = (
+            holds
+            and set(schema.get("required", [])) <= set(value)
+            and (schema.get("additionalProperties", True) or set(value) <= set(members))
+        )
+        holds = holds and all(
+            is_valid(member, members.get(name, {})) for name, member in value.items()
+        )
     return holds
 
 
@@ -74,11 +101,19 @@ def described() -> dict[tuple[str, str], Operation]:
     operations = {}
     for path, item in OPENAPI["paths"].items():
         for method in set(item) - {"parameters"}:
-            parameters = [resolved(parameter) for parameter in item.get("parameters", []) + item[method]["parameters"]]
+            parameters = [
+                resolved(parameter)
+                for parameter in item.get("parameters", []) + item[method]["parameters"]
+            ]
             responses = dict(item[method]["responses"])
             reply = responses.pop("200")["description"]
-            faults = {status: set(schema_of(response)["allOf"][1]["properties"]["fault"]["enum"]) for status, response in responses.items()}
-            operations[path, method.upper()] = Operation({one["name"]: one["required"] for one in parameters}, reply, faults)
+            faults = {
+                status: set(schema_of(response)["allOf"][1]["properties"]["fault"]["enum"])
+                for status, response in responses.items()
+            }
+            operations[path, method.upper()] = Operation(
+                {one["name"]: one["required"] for one in parameters}, reply, faults
+            )
     return operations
 
 
@@ -100,11 +135,16 @@ def documented() -> dict[tuple[str, str], Operation]:
     of_any = list(faults_in(API.split("### Faults of any request\n\n", 1)[1].split("\n\n")[0]))
     operations = {}
     for path, method, parameters, reply, named in rows("Route"):
-        needed = {name: not optional and " or " not in parameters for optional, name in re.findall(r"(\(?)`(\w+)`", parameters)}
+        needed = {
+            name: not optional and " or " not in parameters
+            for optional, name in re.findall(r"(\(?)`(\w+)`", parameters)
+        }
         faults: dict[str, set[str]] = {}
         for status, code in [*faults_in(named), *of_any]:
             faults.setdefault(status, set()).add(code)
-        operations[path.strip("`"), method] = Operation({**({"p": True} if "{p}" in path else {}), **needed}, reply, faults)
+        operations[path.strip("`"), method] = Operation(
+            {**({"p": True} if "{p}" in path else {}), **needed}, reply, faults
+        )
     return operations
 
 
@@ -133,17 +173,30 @@ def messages(text: str) -> Iterator[tuple[str, dict[str, str], str]]:
 def exchanges() -> list[Exchange]:
     """The requests of demo/each_route.http with their replies."""
     found = []
-    pairs = zip(messages(text_of("demo", "each_route.http")), messages(text_of("demo", "each_route.replies")), strict=True)
+    pairs = zip(
+        messages(text_of("demo", "each_route.http")),
+        messages(text_of("demo", "each_route.replies")),
+        strict=True,
+    )
     for (request, _, _), (reply, fields, body) in pairs:
         method, target, _ = request.split(" ")
         path, _, query = target.partition("?")
-        found.append(Exchange(method, path, parse_qsl(query), reply.split(" ")[1], fields, json.loads(body)))
+        found.append(
+            Exchange(method, path, parse_qsl(query), reply.split(" ")[1], fields, json.loads(body))
+        )
     return found
 
 
 def template_of(path: str) -> str | None:
     """The path of the description that has a path of a request, or None."""
-    return next((one for one in OPENAPI["paths"] if re.fullmatch(re.escape(one).replace(r"\{p\}", "[^/]+"), path)), None)
+    return next(
+        (
+            one
+            for one in OPENAPI["paths"]
+            if re.fullmatch(re.escape(one).replace(r"\{p\}", "[^/]+"), path)
+        ),
+        None,
+    )
 
 
 class OpenApi(unittest.TestCase):
@@ -152,15 +205,32 @@ class OpenApi(unittest.TestCase):
 
     def test_codes_and_statuses(self) -> None:
         listed = {(status, code) for code, _, status in rows("Fault")}
-        used = {(status, code) for one in documented().values() for status, codes in one.faults.items() for code in codes}
+        used = {
+            (status, code)
+            for one in documented().values()
+            for status, codes in one.faults.items()
+            for code in codes
+        }
         self.assertEqual(listed, {pair for pair in used if pair[0] != "422"})
-        definitions = set(re.findall(r"^\| ([LET]\d\d) \|", text_of("docs", "DEFINITIONS.md"), re.MULTILINE))
+        definitions = set(
+            re.findall(r"^\| ([LET]\d\d) \|", text_of("docs", "DEFINITIONS.md"), re.MULTILINE)
+        )
         self.assertEqual(definitions, {code for status, code in used if status == "422"})
 
     def test_forms(self) -> None:
-        forms = {name: resolved(one)["schema"] for name, one in OPENAPI["components"]["parameters"].items()}
-        self.assertEqual([forms[name]["pattern"] for name in ("p", "project", "key")], [f"^{form.pattern}$" for form in (PROJECT, PROJECT, KEY)])
-        texts = {name: cells[1] for cells in rows("Parameter") for name in re.findall(r"`\{?(\w+)\}?`", cells[0])}
+        forms = {
+            name: resolved(one)["schema"]
+            for name, one in OPENAPI["components"]["parameters"].items()
+        }
+        self.assertEqual(
+            [forms[name]["pattern"] for name in ("p", "project", "key")],
+            [f"^{form.pattern}$" for form in (PROJECT, PROJECT, KEY)],
+        )
+        texts = {
+            name: cells[1]
+            for cells in rows("Parameter")
+            for name in re.findall(r"`\{?(\w+)\}?`", cells[0])
+        }
         self.assertEqual(set(texts), set(forms))
         for name in ("profile", "declaration"):
             self.assertEqual(re.findall(r"`(\w+)`", texts[name]), forms[name]["enum"])
@@ -189,19 +259,63 @@ class OpenApi(unittest.TestCase):
                 good = all(is_valid(value, forms[name]["schema"]) for name, value in one.parameters)
                 self.assertEqual(good, one.reply.get("fault") != "D03")
                 answered.add((path, method, one.status))
-        self.assertEqual({(path, method) for path, method, status in answered if status == "200"}, set(documented()))
-        self.assertLessEqual({"D01", "D02", "D03", "H03", "H06", "H07"}, {one.reply.get("fault") for one in exchanges()})
+        self.assertEqual(
+            {(path, method) for path, method, status in answered if status == "200"},
+            set(documented()),
+        )
+        self.assertLessEqual(
+            {"D01", "D02", "D03", "H03", "H06", "H07"},
+            {one.reply.get("fault") for one in exchanges()},
+        )
 
     def test_what_is_of_no_schema(self) -> None:
-        place = {"end": {"character": 1, "line": 0}, "project": "a", "start": {"character": 0, "line": 0}, "uri": "file:///a"}
-        tag = {"address": "1", "fields": [["a", "b"]], "file": "f", "kind": None, "line": 1, "name": "n", "project": "a"}
+        place = {
+            "end": {"character": 1, "line": 0},
+            "project": "a",
+            "start": {"character": 0, "line": 0},
+            "uri": "file:///a",
+        }
+        tag = {
+            "address": "1",
+            "fields": [["a", "b"]],
+            "file": "f",
+            "kind": None,
+            "line": 1,
+            "name": "n",
+            "project": "a",
+        }
         for name, good, bad in (
-                ("Places", {"places": [place]}, [{}, {"places": [{**place, "x": 1}]}, {"places": [{**place, "end": {"character": -1, "line": 0}}]}, {"places": {}}]),
-                ("Tags", {"tags": [tag]}, [{"tags": [{**tag, "kind": 1}]}, {"tags": [{**tag, "line": 0}]}, {"tags": [{**tag, "fields": [["a"]]}]}]),
-                ("Hover", {"contents": ["a", {"language": "c", "value": "f"}]}, [{"contents": 1}, {"contents": {"value": "f"}}, {"contents": [None]}]),
-                ("Profile", {"profile": 2}, [{"profile": 3}, {"profile": "2"}]), ("Removed", {"removed": True}, [{"removed": 1}])):
+            (
+                "Places",
+                {"places": [place]},
+                [
+                    {},
+                    {"places": [{**place, "x": 1}]},
+                    {"places": [{**place, "end": {"character": -1, "line": 0}}]},
+                    {"places": {}},
+                ],
+            ),
+            (
+                "Tags",
+                {"tags": [tag]},
+                [
+                    {"tags": [{**tag, "kind": 1}]},
+                    {"tags": [{**tag, "line": 0}]},
+                    {"tags": [{**tag, "fields": [["a"]]}]},
+                ],
+            ),
+            (
+                "Hover",
+                {"contents": ["a", {"language": "c", "value": "f"}]},
+                [{"contents": 1}, {"contents": {"value": "f"}}, {"contents": [None]}],
+            ),
+            ("Profile", {"profile": 2}, [{"profile": 3}, {"profile": "2"}]),
+            ("Removed", {"removed": True}, [{"removed": 1}]),
+        ):
             schema = OPENAPI["components"]["schemas"][name]
-            self.assertEqual([is_valid(value, schema) for value in [good, *bad]], [True] + [False] * len(bad))
+            self.assertEqual(
+                [is_valid(value, schema) for value in [good, *bad]], [True] + [False] * len(bad)
+            )
 
 
 if __name__ == "__main__":

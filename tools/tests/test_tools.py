@@ -11,7 +11,8 @@ from typing import Any
 from unittest import mock
 from urllib.parse import quote
 
-from navtools import ask, curl, places, prepare, rows, tags, upload
+from navtools import ask, client, places, prepare, questions, rows, tags, upload
+from navtools.client import Answer
 
 TOP = os.path.dirname(os.path.dirname(os.path.dirname(os.path.abspath(__file__))))
 RAW = os.path.join(TOP, "demo", "crate.raw.lsif")
@@ -36,7 +37,11 @@ class Prepare(unittest.TestCase):
             status, body, _ = self.prepared(file.read(), "--strip")
         lines = [json.loads(line) for line in (body or b"").splitlines()]
         self.assertEqual((status, lines[0]["version"]), (0, "0.6.0"))
-        spans = [json.dumps([e["start"], e["end"]]) for e in lines if e["label"] == "range" and e["id"] < 56]
+        spans = [
+            json.dumps([e["start"], e["end"]])
+            for e in lines
+            if e["label"] == "range" and e["id"] < 56
+        ]
         self.assertEqual(len(spans), len(set(spans)))
         vertices: set[int] = set()
         for element in lines:
@@ -45,43 +50,88 @@ class Prepare(unittest.TestCase):
             vertices.add(element["id"])
 
     def test_texts_as_ids_and_carriage_returns(self) -> None:
-        rows = ['{"id":"m","type":"vertex","label":"metaData","version":"0.5.0"}',
-                '{"id":"d","type":"vertex","label":"document","uri":"file:///a"}',
-                '{"id":"1","type":"vertex","label":"range","start":{"line":0,"character":0},"end":{"line":0,"character":1}}',
-                '{"id":1,"type":"vertex","label":"range","start":{"line":0,"character":0},"end":{"line":0,"character":1}}',
-                '{"id":"r","type":"vertex","label":"definitionResult"}',
-                '{"id":"i","type":"edge","label":"item","outV":"r","inVs":[1],"shard":"d"}',
-                '{"id":"c","type":"edge","label":"contains","outV":"d","inVs":["1",1]}']
+        rows = [
+            '{"id":"m","type":"vertex","label":"metaData","version":"0.5.0"}',
+            '{"id":"d","type":"vertex","label":"document","uri":"file:///a"}',
+            '{"id":"1","type":"vertex","label":"range","start":{"line":0,"character":0},"end":{"line":0,"character":1}}',
+            '{"id":1,"type":"vertex","label":"range","start":{"line":0,"character":0},"end":{"line":0,"character":1}}',
+            '{"id":"r","type":"vertex","label":"definitionResult"}',
+            '{"id":"i","type":"edge","label":"item","outV":"r","inVs":[1],"shard":"d"}',
+            '{"id":"c","type":"edge","label":"contains","outV":"d","inVs":["1",1]}',
+        ]
         status, body, _ = self.prepared("\r\n".join(rows).encode())
         rows[0] = rows[0].replace("0.5", "0.6")
         rows[5], rows[6] = rows[5].replace("[1]", '["1"]'), rows[6].replace(",1]", "]")
-        self.assertEqual((status, body), (0, "\r\n".join(rows[:3] + rows[4:]).encode()))
+        self.assertEqual((status, body), (0, "\r\n".join(rows[:3] + rows[4:]).encode() + b"\n"))
 
     def test_equal_ranges(self) -> None:
         """Two meanings of one name, as in `extern crate x` and `S { x }`, each with its own result set: items that name the second range, the first
         and the second, or both in one edge."""
-        form = '{"id":%d,"type":"edge","label":"item","outV":%d,"inVs":%s,"shard":2,"property":"%s"}'
-        for items in (("the second range", [(9, [6], "references"), (10, [6], "references")], [[3], [3]]),
-                      ("the first and the second", [(9, [3], "definitions"), (10, [6], "references"), (10, [6], "definitions")], [[3], [3], [3]]),
-                      ("both in one edge", [(9, [3, 6], "references"), (10, [6, 3], "references")], [[3], [3]])):
+        form = (
+            '{"id":%d,"type":"edge","label":"item","outV":%d,"inVs":%s,"shard":2,"property":"%s"}'
+        )
+        for items in (
+            ("the second range", [(9, [6], "references"), (10, [6], "references")], [[3], [3]]),
+            (
+                "the first and the second",
+                [(9, [3], "definitions"), (10, [6], "references"), (10, [6], "definitions")],
+                [[3], [3], [3]],
+            ),
+            (
+                "both in one edge",
+                [(9, [3, 6], "references"), (10, [6, 3], "references")],
+                [[3], [3]],
+            ),
+        ):
             span = '{"id":%d,"type":"vertex","label":"range","start":{"line":0,"character":4},"end":{"line":0,"character":5}}'
-            rows = ['{"id":1,"type":"vertex","label":"metaData","version":"0.6.0"}', '{"id":2,"type":"vertex","label":"document","uri":"file:///a.rs"}',
-                    span % 3, '{"id":4,"type":"vertex","label":"resultSet"}', '{"id":5,"type":"edge","label":"next","outV":3,"inV":4}',
-                    span % 6, '{"id":7,"type":"vertex","label":"resultSet"}', '{"id":8,"type":"edge","label":"next","outV":6,"inV":7}',
-                    *('{"id":%d,"type":"vertex","label":"referenceResult"}' % own for own in (9, 10))]
-            before = [form % (own, out, json.dumps(into), which) for own, (out, into, which) in enumerate(items[1], 11)]
-            after = [form % (own, out, json.dumps(into), which) for own, ((out, _, which), into) in enumerate(zip(items[1], items[2]), 11)]
+            rows = [
+                '{"id":1,"type":"vertex","label":"metaData","version":"0.6.0"}',
+                '{"id":2,"type":"vertex","label":"document","uri":"file:///a.rs"}',
+                span % 3,
+                '{"id":4,"type":"vertex","label":"resultSet"}',
+                '{"id":5,"type":"edge","label":"next","outV":3,"inV":4}',
+                span % 6,
+                '{"id":7,"type":"vertex","label":"resultSet"}',
+                '{"id":8,"type":"edge","label":"next","outV":6,"inV":7}',
+                *('{"id":%d,"type":"vertex","label":"referenceResult"}' % own for own in (9, 10)),
+            ]
+            before = [
+                form % (own, out, json.dumps(into), which)
+                for own, (out, into, which) in enumerate(items[1], 11)
+            ]
+            after = [
+                form % (own, out, json.dumps(into), which)
+                for own, ((out, _, which), into) in enumerate(zip(items[1], items[2]), 11)
+            ]
             contains = '{"id":20,"type":"edge","label":"contains","outV":2,"inVs":%s}'
-            status, body, said = self.prepared("\n".join([*rows, *before, contains % "[3,6]"]).encode(), "--report")
-            self.assertEqual((status, (body or b"").decode().replace(" ", "").splitlines()),
-                             (0, [line.replace(" ", "") for line in [*rows[:5], rows[6], *rows[8:], *after, contains % "[3]"]]), items[0])
+            status, body, said = self.prepared(
+                "\n".join([*rows, *before, contains % "[3,6]"]).encode(), "--report"
+            )
+            self.assertEqual(
+                (status, (body or b"").decode().replace(" ", "").splitlines()),
+                (
+                    0,
+                    [
+                        line.replace(" ", "")
+                        for line in [*rows[:5], rows[6], *rows[8:], *after, contains % "[3]"]
+                    ],
+                ),
+                items[0],
+            )
             self.assertIn("equal ranges merged 1 of 2; elements", said)
             self.assertIn("merged: file:///a.rs line 0 character 4: range 6 into 3", said)
 
     def test_input_that_is_no_dump(self) -> None:
-        for body in (b"", b"hello\n", b"[]\n", b"{}\n", b'{"id":1,"type":"vertex","label":"document"}\n', b"\xff\n",
-                     b'{"id":1,"type":"vertex","label":"metaData","version":"0.6.0","x":NaN}\n',
-                     b'{"id":1,"type":"vertex","label":"metaData","version":"0.6.0","x":[-Infinity]}\n'):
+        for body in (
+            b"",
+            b"hello\n",
+            b"[]\n",
+            b"{}\n",
+            b'{"id":1,"type":"vertex","label":"document"}\n',
+            b"\xff\n",
+            b'{"id":1,"type":"vertex","label":"metaData","version":"0.6.0","x":NaN}\n',
+            b'{"id":1,"type":"vertex","label":"metaData","version":"0.6.0","x":[-Infinity]}\n',
+        ):
             status, out, said = self.prepared(body)
             self.assertEqual((status, out, said.count("\n")), (2, None, 1))
 
@@ -89,51 +139,143 @@ class Prepare(unittest.TestCase):
         line = b'{"id":%d,"type":"vertex","label":"note","x":"%s"}\n'
         long, short = b"a" * (1_048_577 - len(line % (10, b"")) + 1), b""
         rows = [b'{"id":1,"type":"vertex","label":"metaData","version":"0.6.0"}\n']
-        rows += [line % (number, long if 10 <= number < 42 else short) for number in range(2, 100_002)]
-        for body, over in ((b"".join(rows), ["100001 elements, the server takes 100000 (L20)", f"{sum(map(len, rows))} bytes, the server takes 33554432 (H04)",
-                                             "1048577 bytes in the longest line, the server takes 1048576 (L01)"]),
-                           (b"".join([rows[0], *rows[20:41]]), ["1048577 bytes in the longest line, the server takes 1048576 (L01)"]),
-                           (b"".join(rows[:9] + rows[42:]), [])):
+        rows += [
+            line % (number, long if 10 <= number < 42 else short) for number in range(2, 100_002)
+        ]
+        for body, over in (
+            (
+                b"".join(rows),
+                [
+                    "100001 elements, the server takes 100000 (L20)",
+                    f"{sum(map(len, rows))} bytes, the server takes 33554432 (H04)",
+                    "1048577 bytes in the longest line, the server takes 1048576 (L01)",
+                ],
+            ),
+            (
+                b"".join([rows[0], *rows[20:41]]),
+                ["1048577 bytes in the longest line, the server takes 1048576 (L01)"],
+            ),
+            (b"".join(rows[:9] + rows[42:]), []),
+        ):
             status, out, said = self.prepared(body)
             self.assertEqual((status, out == body), (1 if over else 0, True))
-            self.assertEqual([text.partition("limits: ")[2] for text in said.splitlines()[1:]], over)
+            found = [text.partition("over the limits: ")[2] for text in said.splitlines()]
+            self.assertEqual([text.partition(": ")[0] for text in found if text], over)
+            self.assertEqual("--without GLOB" in said, bool(over))
+            early = "at line 100001 it's over 100000 elements already, and the server takes no more (L20)"
+            self.assertEqual(early in said.splitlines()[0], body.count(b"\n") > 100_000)
 
     def test_labels_of_a_profile(self) -> None:
-        rows = ['{"id":1,"type":"vertex","label":"metaData","version":"0.6.0"}', '{"id":2,"type":"vertex","label":"declarationResult"}',
-                '{"id":3,"type":"vertex","label":"textDocument/declaration"}', '{"id":4,"type":"edge","label":"textDocument/implementation","outV":2,"inV":3}']
+        rows = [
+            '{"id":1,"type":"vertex","label":"metaData","version":"0.6.0"}',
+            '{"id":2,"type":"vertex","label":"declarationResult"}',
+            '{"id":3,"type":"vertex","label":"textDocument/declaration"}',
+            '{"id":4,"type":"vertex","label":"resultSet"}',
+            '{"id":5,"type":"vertex","label":"implementationResult"}',
+            '{"id":6,"type":"edge","label":"textDocument/implementation","outV":4,"inV":5}',
+        ]
         other = "prepare-lsif: no effect: vertex textDocument/declaration, 1"
-        one = ["prepare-lsif: no effect: edge textDocument/implementation, 1", "prepare-lsif: no effect: vertex declarationResult, 1", other]
+        one = [
+            "prepare-lsif: no effect: edge textDocument/implementation, 1",
+            "prepare-lsif: no effect: vertex declarationResult, 1",
+            "prepare-lsif: no effect: vertex implementationResult, 1",
+            other,
+        ]
         for words, labels in ([], one), (["--profile", "1"], one), (["--profile", "2"], [other]):
             said = self.prepared("\n".join(rows).encode(), "--report", *words)[2].splitlines()
-            self.assertEqual(said[1:], ["prepare-lsif: rows: 0 documents, 0 ranges, 0 items, 0 hovers, 0 marks, 0 bearers", *labels])
+            self.assertEqual(
+                said[1:],
+                [
+                    "prepare-lsif: rows: 0 documents, 0 ranges, 0 items, 0 hovers, 0 marks, 0 bearers",
+                    *labels,
+                ],
+            )
 
     def test_rows(self) -> None:
         """Rows of results that lead to each other, of ranges on one result set, and of a moniker to which another is attached twice."""
-        file, span = '{"type":"vertex","label":"document","uri":"file:///%s"}', '{"type":"vertex","label":"range"}'
-        edge, moniker = '{"type":"edge","label":"%s","outV":%d,"inVs":%s}', '{"type":"vertex","label":"moniker","scheme":"s","identifier":"%s"}'
-        item, result = '{"type":"edge","label":"item","property":"%s","outV":%d,"inVs":%s}', '{"type":"vertex","label":"referenceResult"}'
-        ring = [file, span, span, result, result, item % ("referenceResults", 5, [6]), item % ("referenceResults", 6, [5]), item % ("definitions", 5, [3]),
-                item % ("references", 6, [4]), item % ("references", 5, [4]), edge % ("contains", 2, [3, 4])]
-        marked = [file, span, span, '{"type":"vertex","label":"resultSet"}', edge % ("next", 3, [5]), edge % ("next", 4, [5]), moniker, edge % ("moniker", 5, [8]),
-                  edge % ("contains", 2, [3, 4])]
-        attached = ['{"type":"vertex","label":"resultSet"}', moniker % "a", moniker, edge % ("moniker", 2, [3]), edge % ("attach", 4, [3]), edge % ("attach", 4, [3])]
-        for body, number, text, wanted in ((ring, 0, "c", (1, 2, 6, 0, 0, 0)), (marked, 6, "a", (1, 2, 0, 0, 2, 1)), (attached, 2, "b", (0, 0, 0, 0, 0, 2))):
+        file, span = (
+            '{"type":"vertex","label":"document","uri":"file:///%s"}',
+            '{"type":"vertex","label":"range"}',
+        )
+        edge, moniker = (
+            '{"type":"edge","label":"%s","outV":%d,"inVs":%s}',
+            '{"type":"vertex","label":"moniker","scheme":"s","identifier":"%s"}',
+        )
+        item, result = (
+            '{"type":"edge","label":"item","property":"%s","outV":%d,"inVs":%s}',
+            '{"type":"vertex","label":"referenceResult"}',
+        )
+        ring = [
+            file,
+            span,
+            span,
+            result,
+            result,
+            item % ("referenceResults", 5, [6]),
+            item % ("referenceResults", 6, [5]),
+            item % ("definitions", 5, [3]),
+            item % ("references", 6, [4]),
+            item % ("references", 5, [4]),
+            edge % ("contains", 2, [3, 4]),
+        ]
+        marked = [
+            file,
+            span,
+            span,
+            '{"type":"vertex","label":"resultSet"}',
+            edge % ("next", 3, [5]),
+            edge % ("next", 4, [5]),
+            moniker,
+            edge % ("moniker", 5, [8]),
+            edge % ("contains", 2, [3, 4]),
+        ]
+        attached = [
+            '{"type":"vertex","label":"resultSet"}',
+            moniker % "a",
+            moniker,
+            edge % ("moniker", 2, [3]),
+            edge % ("attach", 4, [3]),
+            edge % ("attach", 4, [3]),
+        ]
+        for body, number, text, wanted in (
+            (ring, 0, "c", (1, 2, 6, 0, 0, 0)),
+            (marked, 6, "a", (1, 2, 0, 0, 2, 1)),
+            (attached, 2, "b", (0, 0, 0, 0, 0, 2)),
+        ):
             for long in ("", "u" * 300):
                 counter = rows.RowCounter("1")
                 for own, line in enumerate(body, 2):
-                    counter.take({"id": own, **json.loads(line % (text + long) if own == number + 2 else line % "f" if "%s" in line else line)})
+                    counter.take(
+                        {
+                            "id": own,
+                            **json.loads(
+                                line % (text + long)
+                                if own == number + 2
+                                else line % "f"
+                                if "%s" in line
+                                else line
+                            ),
+                        }
+                    )
                 tallies = counter.tallies()
                 self.assertEqual(tuple(tally.rows for tally in tallies.values())[:6], wanted)
                 more = {"items": 12, "marks": 4, "bearers": 2} if long else {}
                 for kind, tally in list(tallies.items())[2:6]:
-                    self.assertEqual(tally.counted - tally.rows, more.get(kind, 0) if tally.rows else 0, kind)
+                    self.assertEqual(
+                        tally.counted - tally.rows, more.get(kind, 0) if tally.rows else 0, kind
+                    )
             self.assertEqual(tallies["pairs of attach"].counted, 4 if body is attached else 0)
         over = {"marks": rows.Tally(1, rows.MOST_ROWS + 1), "items": rows.Tally(1, rows.MOST_ROWS)}
-        self.assertEqual(rows.excesses(over), ["over the limits: 4000001 rows of marks, the server takes 4000000 (S02)"])
+        self.assertEqual(
+            rows.excesses(over),
+            ["over the limits: 4000001 rows of marks, the server takes 4000000 (S02)"],
+        )
 
     def test_a_broken_pipe(self) -> None:
         tool = os.path.join(TOP, "tools", "prepare-lsif")
-        with subprocess.Popen([tool, RAW, "-"], stdout=subprocess.PIPE, stderr=subprocess.PIPE) as run:
+        with subprocess.Popen(
+            [tool, RAW, "-"], stdout=subprocess.PIPE, stderr=subprocess.PIPE
+        ) as run:
             run.stdout.close()  # type: ignore[union-attr]
             said = run.stderr.read()  # type: ignore[union-attr]
         self.assertNotIn(b"Traceback", said)
@@ -144,22 +286,44 @@ class Places(unittest.TestCase):
 
     def test_columns(self) -> None:
         self.assertEqual([places.units(self.TEXT[:n]) for n in range(6)], [0, 1, 2, 3, 5, 6])
-        self.assertEqual([places.characters(self.TEXT, n) for n in (0, 1, 2, 3, 5, 6, 8)], [0, 1, 2, 3, 4, 5, 7])
+        self.assertEqual(
+            [places.characters(self.TEXT, n) for n in (0, 1, 2, 3, 5, 6, 8)], [0, 1, 2, 3, 4, 5, 7]
+        )
 
     def test_addresses(self) -> None:
         maps = places.maps_of(["file:///src/x=/tmp/x", "http://h/y/=/tmp/x/y=z"])
-        for uri, path in (("file:///a%20b/c+%C3%A9.rs", "/a b/c+\u00e9.rs"), ("file:///src/x/a.rs", "/tmp/x/a.rs"), ("file:///src/x/y%3Dz/a", "/tmp/x/y=z/a")):
+        for uri, path in (
+            ("file:///a%20b/c+%C3%A9.rs", "/a b/c+\u00e9.rs"),
+            ("file:///src/x/a.rs", "/tmp/x/a.rs"),
+            ("file:///src/x/y%3Dz/a", "/tmp/x/y=z/a"),
+        ):
             self.assertEqual(places.path_of(uri, maps), path)
             self.assertEqual(places.path_of(places.uri_of(path, maps), maps), path)
         self.assertEqual(places.uri_of("/tmp/x/a b", maps), "file:///src/x/a%20b")
-        self.assertEqual([places.path_of(uri, maps) for uri in ("http://h/y/b", "http://h/b", "file://host/b")], ["/tmp/x/y=z/b", None, None])
+        self.assertEqual(
+            [places.path_of(uri, maps) for uri in ("http://h/y/b", "http://h/b", "file://host/b")],
+            ["/tmp/x/y=z/b", None, None],
+        )
 
     def test_tags(self) -> None:
         lines = ["int f;", "  /* a/b\\c */ f()", "f() $", "int f;", ""]
-        for address, fields, line in (("3", [], 2), ("/^int f;$/", [], 0), ("?^int f;$?", [], 3), ("4;/^int f;$/", [], 3), ("4;/a\\/b\\\\c/", [], 1),
-                                      ("/^int/", [], 0), ("/ f()$/", [], 1), ("/^f() \\$$/", [], 2), ("/gone/", [], 0), ("/gone/", [["line", "4"]], 3),
-                                      ("2;/gone/", [["line", "4"]], 1), ("/", [["line", "0"]], 0)):
-            self.assertEqual(tags.line_at({"address": address, "fields": fields}, lines), line, address)
+        for address, fields, line in (
+            ("3", [], 2),
+            ("/^int f;$/", [], 0),
+            ("?^int f;$?", [], 3),
+            ("4;/^int f;$/", [], 3),
+            ("4;/a\\/b\\\\c/", [], 1),
+            ("/^int/", [], 0),
+            ("/ f()$/", [], 1),
+            ("/^f() \\$$/", [], 2),
+            ("/gone/", [], None),
+            ("/gone/", [["line", "4"]], 3),
+            ("2;/gone/", [["line", "4"]], 1),
+            ("/", [["line", "0"]], 0),
+        ):
+            self.assertEqual(
+                tags.line_at({"address": address, "fields": fields}, lines), line, address
+            )
 
 
 class Ask(unittest.TestCase):
@@ -167,29 +331,52 @@ class Ask(unittest.TestCase):
 
     def asked(self, words: list[str], reply: dict[str, Any]) -> tuple[int, str, str, str]:
         """The status, the address that was asked, and what was printed of a reply."""
-        answer = curl.Answer(0, 404 if "fault" in reply else 200, json.dumps(reply).encode(), "")
-        with mock.patch.object(ask, "request", return_value=answer) as request, redirect_stdout(io.StringIO()) as said, \
-                redirect_stderr(io.StringIO()) as warned:
+        answer = Answer(self.AT[0], 404 if "fault" in reply else 200, json.dumps(reply).encode())
+        with mock.patch.object(
+            questions, "request", return_value=answer
+        ) as request, redirect_stdout(io.StringIO()) as said, redirect_stderr(
+            io.StringIO()
+        ) as warned:
             status = ask.main(words)
-        return status, request.call_args.args[0], said.getvalue(), warned.getvalue()
+        return status, request.call_args_list[0].args[0], said.getvalue(), warned.getvalue()
 
     def place(self, file: str, start: tuple[int, int], end: tuple[int, int]) -> dict[str, Any]:
         """An answer with one place, which two projects have."""
-        place = {"uri": places.uri_of(file, []), **{name: {"line": at[0], "character": at[1]} for name, at in (("start", start), ("end", end))}}
+        place = {
+            "uri": places.uri_of(file, []),
+            **{
+                name: {"line": at[0], "character": at[1]}
+                for name, at in (("start", start), ("end", end))
+            },
+        }
         return {"places": [{**place, "project": project} for project in ("app", "other")]}
 
     def test_columns_of_a_file(self) -> None:
         with tempfile.NamedTemporaryFile("w", encoding="utf-8", newline="") as file:
             file.write(f"first\r\n{Places.TEXT}\r\n")
             file.flush()
-            for words, column, character in ([], 4, 3), ([], 5, 5), ([], 6, 6), (["--utf16"], 6, 5), (["--utf16"], 7, 6):
-                status, asked, said, _ = self.asked([*words, *self.AT, "definition", file.name, "2", str(column)],
-                                                    self.place(file.name, (1, character), (1, character)))
-                self.assertEqual((status, asked.rsplit("&", 2)[1:]), (0, ["line=1", f"character={character}"]))
-                self.assertEqual((said.count("\n"), said.rsplit(":", 2)[1:]), (1, ["2", f"{column}\n"]))
+            for words, column, character in (
+                ([], 4, 3),
+                ([], 5, 5),
+                ([], 6, 6),
+                (["--utf16"], 6, 5),
+                (["--utf16"], 7, 6),
+            ):
+                status, asked, said, _ = self.asked(
+                    [*words, *self.AT, "definition", file.name, "2", str(column)],
+                    self.place(file.name, (1, character), (1, character)),
+                )
+                self.assertEqual(
+                    (status, asked.rsplit("&", 2)[1:]), (0, ["line=1", f"character={character}"])
+                )
+                self.assertEqual(
+                    (said.count("\n"), said.rsplit(":", 2)[1:]), (1, ["2", f"{column}\n"])
+                )
             for words, column in ([], 7), (["--utf16"], 8), ([], 0):
                 with redirect_stderr(io.StringIO()) as warned:
-                    self.assertEqual(ask.main([*words, *self.AT, "hover", file.name, "2", str(column)]), 2)
+                    self.assertEqual(
+                        ask.main([*words, *self.AT, "hover", file.name, "2", str(column)]), 2
+                    )
                 self.assertIn(f"has no line 2 with a column {column}\n", warned.getvalue())
 
     def test_each_request(self) -> None:
@@ -201,99 +388,216 @@ class Ask(unittest.TestCase):
     def each_request(self, name: str) -> None:
         at = [name, "1", "1"]
         uri = "uri=" + quote(places.uri_of(name, []), safe="") + "&line=0&character=0"
-        found, tag = self.place(name, (1, 0), (1, 1)), {"name": "f", "file": "no/file", "address": "3", "fields": [], "project": "app"}
+        found, tag = self.place(name, (1, 0), (1, 1)), {
+            "name": "f",
+            "file": "no/file",
+            "address": "3",
+            "fields": [],
+            "line": 1,
+            "kind": "f",
+            "project": "app",
+        }
         place = f"{name}:2:1\n"
         for words, path, reply, status, said in (
-                (["definition", *at], f"/projects/app/definition?{uri}", found, 0, place),
-                (["declaration", *at], f"/projects/app/declaration?{uri}", found, 0, place),
-                (["implementation", *at], f"/projects/app/implementation?{uri}", {"places": []}, 1, ""),
-                (["references", *at], f"/projects/app/references?{uri}", found, 0, place),
-                (["references", "--no-declaration", *at], f"/projects/app/references?{uri}&declaration=no", found, 0, place),
-                (["hover", *at], f"/projects/app/hover?{uri}", {"contents": [{"language": "c", "value": "f"}, "d"]}, 0, "f\n\nd\n"),
-                (["hover", *at], f"/projects/app/hover?{uri}", {"contents": None}, 1, ""),
-                (["names", "f"], "/names?name=f&project=app", {"tags": [tag]}, 0, "no/file:3:1: f\n"),
-                (["names", "--prefix", "a b"], "/names?prefix=a+b&project=app", {"tags": []}, 1, ""),
-                (["names", "--all-projects", "f"], "/names?name=f", {"tags": [{**tag, "project": "lib"}]}, 0, "/lib/no/file:3:1: f\n")):
+            (["definition", *at], f"/projects/app/definition?{uri}", found, 0, place),
+            (["declaration", *at], f"/projects/app/declaration?{uri}", found, 0, place),
+            (["implementation", *at], f"/projects/app/implementation?{uri}", {"places": []}, 1, ""),
+            (["references", *at], f"/projects/app/references?{uri}", found, 0, place),
+            (
+                ["references", "--no-declaration", *at],
+                f"/projects/app/references?{uri}&declaration=no",
+                found,
+                0,
+                place,
+            ),
+            (
+                ["hover", *at],
+                f"/projects/app/hover?{uri}",
+                {"contents": [{"language": "c", "value": "f"}, "d"]},
+                0,
+                "f\n\nd\n",
+            ),
+            (["hover", *at], f"/projects/app/hover?{uri}", {"contents": None}, 1, ""),
+            (["names", "f"], "/names?name=f&project=app", {"tags": [tag]}, 0, "no/file:3:1: f\n"),
+            (["names", "--prefix", "a b"], "/names?prefix=a+b&project=app", {"tags": []}, 1, ""),
+            (
+                ["names", "--all-projects", "f"],
+                "/names?name=f",
+                {"tags": [{**tag, "project": "lib"}]},
+                0,
+                "/lib/no/file:3:1: f\n",
+            ),
+        ):
             with self.subTest(words):
-                self.assertEqual(self.asked(["--tags", "lib=/lib", *self.AT, *words], reply), (status, self.AT[0] + path, said, ""))
+                self.assertEqual(
+                    self.asked(["--tags", "lib=/lib", *self.AT, *words], reply),
+                    (status, self.AT[0] + path, said, ""),
+                )
 
     def test_a_place_that_is_the_whole_file(self) -> None:
         with tempfile.NamedTemporaryFile("w") as file:
             file.write("mod a;\nab\n\n")
             file.flush()
-            for what, end, warns in (("definition", (3, 0), True), ("definition", (1, 2), True), ("definition", (1, 1), False), ("references", (3, 0), False)):
+            for what, end, warns in (
+                ("definition", (3, 0), True),
+                ("definition", (1, 2), True),
+                ("definition", (1, 1), False),
+                ("references", (3, 0), False),
+            ):
                 reply = self.place(file.name, (0, 0), end)
-                status, _, said, warned = self.asked([*self.AT, what, file.name, "2", "1"], {"places": reply["places"][:1]})
-                self.assertEqual((status, said, warned), (0, f"{file.name}:1:1\n", f"ask: nothing but a range over all of {file.name} covers this place\n" * warns))
+                status, _, said, warned = self.asked(
+                    [*self.AT, what, file.name, "2", "1"], {"places": reply["places"][:1]}
+                )
+                self.assertEqual(
+                    (status, said, warned),
+                    (
+                        0,
+                        f"{file.name}:1:1\n",
+                        f"ask: nothing but a range over all of {file.name} covers this place\n"
+                        * warns,
+                    ),
+                )
 
     def test_what_is_refused(self) -> None:
-        reply = self.asked([*self.AT, "hover", RAW, "1", "1"], {"fault": "D01", "text": "project has no dump"})
-        self.assertEqual((reply[0], reply[3]), (2, f"ask: D01 project has no dump: {places.uri_of(RAW, [])}\n"))
+        reply = self.asked(
+            [*self.AT, "hover", RAW, "1", "1"], {"fault": "D01", "text": "project has no dump"}
+        )
+        self.assertEqual(
+            (reply[0], reply[3]), (2, f"ask: D01 project has no dump: {places.uri_of(RAW, [])}\n")
+        )
         with tempfile.NamedTemporaryFile() as file:
             file.write(b"\xff")
             file.flush()
-            rows = [(words, f"not the address of a server, as http://127.0.0.1:8080: {words[0]!r}") for words in (
-                ["http://[::1", "app", "names", "f"], ["127.0.0.1:8080", "app", "names", "f"], ["http://h:99999", "app", "names", "f"],
-                ["http://h/?a", "app", "names", "f"], ["http://h /", "app", "names", "f"], ["ftp://h", "app", "names", "f"])]
-            rows += [(["http://h", "A b", "names", "f"], "a project is 1 to 64 characters of a-z 0-9 _ -, not 'A b'"),
-                     (["--tags", "a", *self.AT, "names", "f"], "--tags takes PROJECT=FOLDER, neither of them empty"),
-                     (["--tags", "=b", *self.AT, "names", "f"], "a project is 1 to 64 characters of a-z 0-9 _ -, not ''"),
-                     ([*self.AT, "hover", file.name, "1", "1"], f"{file.name}: not UTF-8"),
-                     ([*self.AT, "hover", "no/file", "1", "1"], "no/file: No such file or directory")]
-            rows += [(["--map", text, *self.AT, "hover", RAW, "1", "1"], "--map takes URI=FOLDER, neither of them empty") for text in ("foo", "=foo", "foo=")]
+            rows = [
+                (words, f"not the address of a server, as http://127.0.0.1:8080: {words[0]!r}")
+                for words in (
+                    ["http://[::1", "app", "names", "f"],
+                    ["127.0.0.1:8080", "app", "names", "f"],
+                    ["http://h:99999", "app", "names", "f"],
+                    ["http://h/?a", "app", "names", "f"],
+                    ["http://h /", "app", "names", "f"],
+                    ["ftp://h", "app", "names", "f"],
+                )
+            ]
+            rows += [
+                (
+                    ["http://h", "A b", "names", "f"],
+                    "a project is 1 to 64 characters of a-z 0-9 _ -, not 'A b'",
+                ),
+                (
+                    ["--tags", "a", *self.AT, "names", "f"],
+                    "--tags takes PROJECT=FOLDER, neither of them empty",
+                ),
+                (
+                    ["--tags", "=b", *self.AT, "names", "f"],
+                    "a project is 1 to 64 characters of a-z 0-9 _ -, not ''",
+                ),
+                ([*self.AT, "hover", file.name, "1", "1"], f"{file.name}: not UTF-8"),
+                ([*self.AT, "hover", "no/file", "1", "1"], "no/file: No such file or directory"),
+            ]
+            rows += [
+                (
+                    ["--map", text, *self.AT, "hover", RAW, "1", "1"],
+                    "--map takes URI=FOLDER, neither of them empty",
+                )
+                for text in ("foo", "=foo", "foo=")
+            ]
             for words, message in rows:
                 with self.subTest(words), redirect_stderr(io.StringIO()) as warned:
                     self.assertEqual((ask.main(words), warned.getvalue()), (2, f"ask: {message}\n"))
 
 
 class Upload(unittest.TestCase):
-    def test_the_key(self) -> None:
-        with tempfile.NamedTemporaryFile() as file:
-            self.assertEqual(upload.made_key(file.name, None), "e3b0c44298fc1c149afbf4c8996fb924")
-            file.write(b"abc")
-            file.flush()
-            self.assertEqual([upload.made_key(file.name, profile) for profile in (None, "1", "2")],
-                             ["ba7816bf8f01cfea414140de5dae2223", "ba7816bf8f01cfea414140de5dae2223", "ba7816bf8f01cfea414140de5dae2223-2"])
+    def test_keys(self) -> None:
+        fresh = {upload.fresh_key("lsif") for _ in range(100)}
+        self.assertEqual(len(fresh), 100)
+        for key in fresh:
+            self.assertRegex(key, r"^lsif-[0-9a-f]{32}$")
+        # The SHA-256 of the empty text and of "abc", by FIPS 180-4.
+        empty, abc = "e3b0c44298fc1c149afbf4c8996fb924", "ba7816bf8f01cfea414140de5dae2223"
+        for body, part, profile, key in (
+            (b"", "lsif", "1", f"lsif-1-{empty}"),
+            (b"abc", "lsif", "1", f"lsif-1-{abc}"),
+            (b"abc", "lsif", "2", f"lsif-2-{abc}"),
+            (b"abc", "tags", "1", f"tags-{abc}"),
+        ):
+            self.assertEqual(upload.once_key(part, io.BytesIO(body), profile), key)
 
-    def uploaded(self, words: list[str], *ends: tuple[int, int], part: str = "tags") -> tuple[int, list[list[str]], list[float]]:
-        """The status of an upload of `abc` whose requests end so, by curl's status and the reply's; the calls of curl, and the waits."""
-        done = [subprocess.CompletedProcess([], status, b"{}\n%03d" % code, b"no answer") for status, code in ends]
-        with tempfile.NamedTemporaryFile() as file, mock.patch("subprocess.run", side_effect=done) as run, mock.patch("time.sleep") as sleep, \
-                redirect_stdout(io.StringIO()), redirect_stderr(io.StringIO()):
+    def uploaded(
+        self, words: list[str], *answers: Answer, part: str = "tags"
+    ) -> tuple[int, list[tuple[Any, ...]], list[float]]:
+        """The status of an upload of `abc` whose requests are answered so; the requests, and the waits."""
+        with tempfile.NamedTemporaryFile() as file, mock.patch.object(
+            client, "request", side_effect=answers
+        ) as request, mock.patch("time.sleep") as sleep, redirect_stdout(
+            io.StringIO()
+        ), redirect_stderr(
+            io.StringIO()
+        ):
             file.write(b"abc")
             file.flush()
             status = upload.main(part, [*words, "http://127.0.0.1:1/", "app", file.name])
-            calls = [[word.replace(file.name, "FILE") for word in call.args[0]] for call in run.call_args_list]
-        return status, calls, [call.args[0] for call in sleep.call_args_list]
+        return (
+            status,
+            [call.args[:2] for call in request.call_args_list],
+            [call.args[0] for call in sleep.call_args_list],
+        )
 
     def test_one_request(self) -> None:
-        status, (call,), waits = self.uploaded([], (0, 200))
-        self.assertEqual((status, call[0], waits), (0, "curl", []))
-        self.assertEqual(call[-5:], ["--header", "Expect:", "--upload-file", "FILE",
-                                     "http://127.0.0.1:1/projects/app/tags?key=ba7816bf8f01cfea414140de5dae2223"])
-        self.assertEqual(self.uploaded(["--key", "k1"], (0, 200))[1][0][-1], "http://127.0.0.1:1/projects/app/tags?key=k1")
-        self.assertEqual(self.uploaded(["--profile", "2"], (0, 200), part="lsif")[1][0][-1],
-                         "http://127.0.0.1:1/projects/app/lsif?key=ba7816bf8f01cfea414140de5dae2223-2&profile=2")
+        url, done = "http://127.0.0.1:1/projects/app/", Answer("", 200, b"{}")
+        for words, part, path in (
+            (["--once"], "tags", "tags?key=tags-ba7816bf8f01cfea414140de5dae2223"),
+            (["--key", "k1"], "tags", "tags?key=k1"),
+            (["--key", "k1", "--profile", "2"], "lsif", "lsif?key=k1&profile=2"),
+        ):
+            self.assertEqual(self.uploaded(words, done, part=part), (0, [(url + path, "PUT")], []))
+        (one,), (two,) = (self.uploaded([], done)[1] for _ in range(2))
+        self.assertNotEqual(one, two)
 
     def test_sending_again(self) -> None:
-        for end in (7, 0), (52, 0), (56, 0), (28, 0), (0, 503):
-            self.assertEqual([len(part) for part in self.uploaded([], end)[1:]], [1, 0])
-            status, calls, waits = self.uploaded(["--retry"], end, end, (0, 200))
+        done, refused = Answer("", 200, b"{}"), Answer("", 0, fault="refused", may_come=True)
+        full = Answer("", 503, b'{"fault":"S01","text":"store refused"}')
+        proxies = [Answer("", status, b"<html>") for status in (429, 502, 503, 504)]
+        for end in refused, full, *proxies:
+            self.assertEqual([len(part) for part in self.uploaded([], end)[1:]], [1, 0], end)
+            status, calls, waits = self.uploaded(["--retry"], end, end, done)
             self.assertEqual((status, len(calls), waits), (0, 3, [0.2, 0.4]))
             self.assertEqual(calls[0], calls[2])
-        self.assertEqual(self.uploaded(["--retry"], *[(7, 0)] * 6)[0], 2)
-        self.assertEqual(self.uploaded(["--retry"], *[(0, 503)] * 6)[0], 1)
-        for end, status in ((0, 422), 1), ((6, 0), 2), ((0, 413), 1):
-            self.assertEqual((self.uploaded(["--retry"], end)[0], len(self.uploaded(["--retry"], end)[1])), (status, 1))
+        self.assertEqual(self.uploaded(["--retry"], *[refused] * 6)[0], 2)
+        self.assertEqual(self.uploaded(["--retry"], *[full] * 6)[0], 1)
+        for end, status in (
+            (Answer("", 422, b'{"fault":"T01","line":1,"text":"x"}'), 1),
+            (Answer("", 0, fault="Name or service not known"), 2),
+            (Answer("", 413, b'{"fault":"H04","text":"body too large"}'), 1),
+            (Answer("", 413, b"<html>"), 2),
+        ):
+            answer = self.uploaded(["--retry"], end)
+            self.assertEqual((answer[0], len(answer[1])), (status, 1))
 
     def test_what_is_refused(self) -> None:
-        for words, message in ((["http://h", "No Project", RAW], "a project is 1 to 64 characters of a-z 0-9 _ -, not 'No Project'"),
-                               (["http://h", "app", "no/file"], "no/file: No such file or directory"),
-                               (["http://[::1", "app", RAW], "not the address of a server, as http://127.0.0.1:8080: 'http://[::1'"),
-                               (["--key", "a b", "http://h", "app", RAW], "a key is 1 to 64 characters of A-Z a-z 0-9 _ -, not 'a b'"),
-                               (["--key", "", "http://h", "app", RAW], "a key is 1 to 64 characters of A-Z a-z 0-9 _ -, not ''")):
+        for words, message in (
+            (
+                ["http://h", "No Project", RAW],
+                "a project is 1 to 64 characters of a-z 0-9 _ -, not 'No Project'",
+            ),
+            (["http://h", "app", "no/file"], "no/file: No such file or directory"),
+            (
+                ["http://[::1", "app", RAW],
+                "not the address of a server, as http://127.0.0.1:8080: 'http://[::1'",
+            ),
+            (
+                ["--key", "a b", "http://h", "app", RAW],
+                "a key is 1 to 64 characters of A-Z a-z 0-9 _ -, not 'a b'",
+            ),
+            (
+                ["--key", "", "http://h", "app", RAW],
+                "a key is 1 to 64 characters of A-Z a-z 0-9 _ -, not ''",
+            ),
+        ):
             with redirect_stderr(io.StringIO()) as said:
-                self.assertEqual((upload.main("lsif", words), said.getvalue()), (2, f"upload-lsif: {message}\n"))
+                self.assertEqual(
+                    (upload.main("lsif", words), said.getvalue()), (2, f"upload-lsif: {message}\n")
+                )
 
 
 if __name__ == "__main__":

@@ -1,0 +1,81 @@
+"""Measures calls of the tools: see bench/tools.sh."""
+
+import os
+import pathlib
+import statistics
+import subprocess
+import sys
+import tempfile
+import time
+from typing import Callable
+
+TOP = pathlib.Path(__file__).resolve().parent.parent
+sys.path.insert(0, str(TOP / "tools"))
+
+from navtools.client import address, found_in, request
+from navtools.serving import Failed, serving
+
+CALLS = 40
+ROOT = "file:///src/tr/crate"
+FILE = TOP / "demo" / "crate" / "src" / "lib.rs"
+
+
+def made(*words: str) -> Callable[[], object]:
+    """A call of a program that has to succeed."""
+    return lambda: subprocess.run(words, check=True, stdout=subprocess.DEVNULL)
+
+
+def calls_at(url: str, others: list[str]) -> dict[str, Callable[[], object]]:
+    """What is measured, by its name: the same definition in each."""
+    query = {"uri": f"{ROOT}/src/lib.rs", "line": 17, "character": 11}
+    asked = address(url, "/projects/temperature/definition", query)
+    words = ["--map", f"{ROOT}={FILE.parent.parent}", url, "temperature", "definition"]
+    place = [str(FILE), "18", "12"]
+    calls: dict[str, Callable[[], object]] = {
+        "python3 that does nothing": made(sys.executable, "-c", "")
+    }
+    for name, tools in [
+        ("ask", str(TOP / "tools")),
+        *((f"ask of {other}", other) for other in others),
+    ]:
+        calls[name] = made(sys.executable, f"{tools}/ask", *words, *place)
+    calls["a question by a process of curl"] = made("curl", "--silent", "--noproxy", "*", asked)
+    calls["a question of lsp or browse"] = lambda: found_in(request(asked), "places")
+    return calls
+
+
+def processor_seconds() -> float:
+    """What this program and those that it called have used of processors, which a busy machine changes little."""
+    times = os.times()
+    return times.user + times.system + times.children_user + times.children_system
+
+
+def main() -> int:
+    """Prints the median and the least time of each call, in turns."""
+    program, count = sys.argv[1], int(sys.argv[2]) if len(sys.argv) > 2 else CALLS
+    walls: dict[str, list[float]] = {}
+    used: dict[str, list[float]] = {}
+    with tempfile.TemporaryDirectory() as folder, serving(program, quiet=True) as url:
+        dump = f"{folder}/dump"
+        tools = TOP / "tools"
+        made(sys.executable, f"{tools}/prepare-lsif", str(TOP / "demo/crate.raw.lsif"), dump)()
+        made(sys.executable, f"{tools}/upload-lsif", url, "temperature", dump)()
+        calls = calls_at(url, sys.argv[3:])
+        for _ in range(count):
+            for name, call in calls.items():
+                start, before = time.perf_counter(), processor_seconds()
+                call()
+                walls.setdefault(name, []).append(time.perf_counter() - start)
+                used.setdefault(name, []).append(processor_seconds() - before)
+    for name, taken in walls.items():
+        middle, least = statistics.median(taken) * 1e3, min(taken) * 1e3
+        own = statistics.median(used[name]) * 1e3
+        print(f"{name:32} p50 {middle:7.2f} ms, least {least:7.2f} ms; processor p50 {own:7.2f} ms")
+    return 0
+
+
+if __name__ == "__main__":
+    try:
+        sys.exit(main())
+    except (Failed, OSError, subprocess.CalledProcessError) as fault:
+        sys.exit(f"tools: {fault}")

@@ -1,0 +1,73 @@
+"""The tools by one command: `codenav-tools TOOL ..`, or `python3 -m navtools TOOL ..`. A tool's module is loaded when it's called."""
+
+import importlib
+import sys
+from typing import Callable, NamedTuple, Optional
+
+from navtools.words import BadCall, status_of
+
+
+class Tool(NamedTuple):
+    """A tool: its module, whose `main` is called, with what stands before the words, and what it does."""
+
+    module: str
+    text: str
+    first: tuple[str, ...] = ()
+
+
+PACKAGES = {"google": "python3-protobuf"}
+TOOLS = {
+    "publish": Tool("publish", "from a checkout to answers: index, prepare, check, upload"),
+    "prepare-lsif": Tool("prepare", "make a dump that the server accepts of an indexer's"),
+    "scip-to-lsif": Tool("scip_to_lsif", "make a dump of a SCIP index"),
+    "split-lsif": Tool("sets.split", "split a dump that is too large into parts"),
+    "publish-set": Tool("sets.publish", "put a split dump on a server"),
+    "upload-lsif": Tool("upload", "upload a dump", ("lsif",)),
+    "upload-tags": Tool("upload", "upload a tags file", ("tags",)),
+    "remove": Tool("remove", "remove a project"),
+    "list": Tool("projects", "list the projects of a server"),
+    "ask": Tool("ask", "ask what stands at a place, or for a name"),
+    "lsp": Tool("lsp", "serve an editor by the Language Server Protocol"),
+    "browse": Tool("browse", "show a folder's files as web pages with answers"),
+    "explain-fault": Tool("explain", "say what is wrong with a dump that is refused"),
+    "why": Tool("why", "say of a dump why an answer is what it is"),
+    "try-it": Tool("try_it", "try the whole way, in a clone"),
+}
+
+
+def usage() -> str:
+    """How the command is called."""
+    width = max(map(len, TOOLS))
+    rows = "\n".join(f"  {name:{width}}  {tool.text}" for name, tool in TOOLS.items())
+    return f"usage: codenav-tools TOOL ..\n\ntools, each of which has --help:\n{rows}"
+
+
+def main_of(name: str) -> Callable[[list[str]], int]:
+    """What a tool is called by. Raises BadCall where it needs a package that isn't installed."""
+    tool = TOOLS[name]
+    try:
+        call = importlib.import_module(f"navtools.{tool.module}").main
+    except ModuleNotFoundError as fault:
+        package = PACKAGES.get((fault.name or "").partition(".")[0])
+        if package is None:
+            raise
+        raise BadCall(f"it needs Debian's {package}, which isn't installed") from None
+    return lambda words: int(call(*tool.first, words))
+
+
+def main(words: Optional[list[str]] = None) -> int:
+    """Calls a tool; answers its status, and 2 where there's no such tool."""
+    words = sys.argv[1:] if words is None else words
+    if words[:1] in (["--help"], ["-h"]):
+        print(usage())
+        return 0
+    if not words or words[0] not in TOOLS:
+        named = f"no tool {words[0]!r}: " if words else ""
+        print(f"codenav-tools: {named}codenav-tools --help lists the tools", file=sys.stderr)
+        return 2
+    name, rest = words[0], words[1:]
+    return status_of(name, lambda: main_of(name)(rest))
+
+
+if __name__ == "__main__":
+    sys.exit(main())

@@ -1,0 +1,346 @@
+"""From a checkout to answers by one call: indexes FOLDER, prepares the dump, has ctags make its tags, checks both, and uploads them.
+
+Each stage is a line on the standard error, and on a terminal a bar where Debian's python3-tqdm is there. Nothing is uploaded before all is
+made and checked. What was uploaded is printed, and then what was left out, and why. A dump that is too large for one project becomes a set of
+parts, which is asked by PROJECT too; `NAME@BRANCH` is one beside that of NAME.
+"""
+
+import argparse
+import os
+import shutil
+import subprocess
+import sys
+import tempfile
+from contextlib import contextmanager, redirect_stderr, suppress
+from io import BufferedReader
+from typing import Callable, Iterator, NamedTuple, Optional
+
+from navtools import explain, prepare
+from navtools.__main__ import main_of
+from navtools.client import address, found_in, refusal_of, reply_in, request_again
+from navtools.indexers import INDEXERS, fitting, indexed, is_scip, named
+from navtools.left_out import Row, rows_of, table
+from navtools.lsif import NotADump
+from navtools.places import uri_of
+from navtools.progress import Heard, Stage, Watched
+from navtools.revisions import git, line_of
+from navtools.sets import split
+from navtools.sets.manifest import set_name, shown_name
+from navtools.sets.publish import Publish, Store, fetch_cuts, remove_set
+from navtools.tagging import LEFT_OUT, tagged
+from navtools.upload import fresh_key, put, upload_url
+from navtools.words import BadCall, add_server, parsed, project_of, server_of, status_of
+
+TOOL = "publish"
+OVER = "over the limits"
+TOP = os.path.dirname(os.path.dirname(os.path.dirname(os.path.abspath(__file__))))
+BUILT = os.path.join(TOP, "crates", "codenav", "out", "codenav")
+
+
+class Refused(Exception):
+    """What was made can't be uploaded, or the server refused it; the text is the lines to print."""
+
+
+class Body(NamedTuple):
+    """What is uploaded: to which project, as which part, from which file, and in which profile where it's a dump."""
+
+    project: str
+    part: str
+    path: str
+    profile: Optional[str]
+
+
+def made_by(tool: Callable[[list[str]], int], words: list[str]) -> tuple[int, list[str]]:
+    """Calls another tool; answers its status and the lines that it says, without its name."""
+    heard = Heard()
+    with redirect_stderr(heard):
+        status = tool(words)
+    return status, [line.partition(": ")[2] for line in heard.getvalue().splitlines()]
+
+
+def program_of(given: Optional[str]) -> Optional[str]:
+    """The program `codenav`, where it's at hand: the one that's named, that of this clone, or the one on the path."""
+    given = given or os.environ.get("CODENAV_PROGRAM")
+    if given:
+        if not shutil.which(given):
+            raise BadCall(f"{given}: no program")
+        return given
+    return BUILT if os.path.isfile(BUILT) else shutil.which("codenav")
+
+
+def raw_dump(call: argparse.Namespace, work: str) -> Optional[str]:
+    """The file with the dump or the index of the checkout, which was given or is written now; None where there's none to be had."""
+    if call.dump is not None or call.no_index:
+        return None if call.no_index else str(call.dump)
+    line = call.index
+    if line is None:
+        indexer = named(call.indexer) if call.indexer else fitting(call.folder)
+        if indexer is None:
+            return None
+        line = indexer.line
+    with Stage(TOOL, f"indexed by {line}") as stage:
+        path = indexed(line, call.folder, call.project, work, stage)
+        stage.detail = f"{os.path.getsize(path)} bytes"
+    return path
+
+
+def prepared(
+    raw: str, out: str, folder: str, profile: str, without: list[str]
+) -> tuple[list[str], bool]:
+    """Writes the dump that the server takes of a dump or an index, without the documents of these patterns; answers what the tool said, and
+    whether the dump is too large for one project."""
+    if is_scip(raw):
+        if without:
+            raise BadCall("--without is for dumps, and this is a SCIP index")
+        name, tool = "scip-to-lsif", main_of("scip-to-lsif")
+        words = ["--source", folder, raw, out]
+    else:
+        name, tool = "prepare-lsif", prepare.main
+        words = ["--strip", "--report", "--profile", profile, raw, out]
+        words[:0] = [word for glob in without for word in ("--without", glob)]
+    with Stage(TOOL, name) as stage:
+        status, lines = made_by(tool, words)
+        if status == 2:
+            raise BadCall(f"{name}: {lines[-1] if lines else 'no dump'}")
+        stage.detail = lines[0]
+    for line in lines:
+        if line.startswith("mended: "):
+            print(f"{TOOL}: {line}", file=sys.stderr)
+    over = [line for line in lines if line.startswith(OVER)]
+    if any("L01" in line for line in over):
+        raise Refused("\n".join(over))
+    return lines, bool(over)
+
+
+def check(program: str, part: str, path: str, profile: str) -> str:
+    """Checks what is uploaded by the server's own rules; answers what the program says of it."""
+    words = [program, f"check-{part}", path]
+    if part == "lsif":
+        words += ["--profile", profile]
+    done = subprocess.run(words, stdin=subprocess.DEVNULL, capture_output=True, check=False)
+    said = done.stdout.decode(errors="replace").strip()
+    if done.returncode == 0:
+        return said
+    if not said:
+        raise BadCall(f"{program}: {done.stderr.decode(errors='replace').strip()}")
+    if part == "lsif":
+        with open(path, "rb") as dump, suppress(explain.NoFault, NotADump):
+            said = "\n".join(explain.explain(path, dump.read(), explain.fault_of(said)))
+    raise Refused(f"the server would refuse this {part}: {said}")
+
+
+def made_tags(call: argparse.Namespace, out: str) -> list[Row]:
+    """Writes the tags file of the checkout; answers what was left out."""
+    with Stage(TOOL, "tags by ctags") as stage:
+        count, left_out = tagged(call.folder, out, call.set)
+        stage.detail = f"{count} tags"
+    return [Row("tags", number, LEFT_OUT[code]) for code, number in sorted(left_out.items())]
+
+
+def send(server: str, body: Body) -> str:
+    """Uploads a body, again where no answer comes; answers what was accepted."""
+    url = upload_url(server, body.project, body.part, fresh_key(body.part), body.profile)
+    size = os.path.getsize(body.path)
+    with Stage(TOOL, f"uploaded {body.part}", size) as stage:
+        with BufferedReader(Watched(body.path, stage), 1 << 16) as file:
+            answer, over = put(url, body.part, file, body.path, body.profile or "1", True)
+        if answer.status != 200 or reply_in(answer) is None:
+            raise Refused("\n".join([refusal_of(answer), *over]))
+        stage.detail = f"{size} bytes"
+    count = found_in(answer, "count")
+    if body.part == "tags":
+        return f"{body.project}: {count} tags"
+    return f"{body.project}: a dump of {count} elements, profile {body.profile}"
+
+
+@contextmanager
+def work_folder(kept: Optional[str]) -> Iterator[str]:
+    """The folder that files are made in: the one that is named, which stays, or one that goes with the context."""
+    if kept is not None:
+        os.makedirs(kept, exist_ok=True)
+        yield kept
+        return
+    with tempfile.TemporaryDirectory(prefix="codenav-publish-") as folder:
+        yield folder
+
+
+def made(call: argparse.Namespace, work: str) -> tuple[list[Body], list[Row]]:
+    """Makes and checks what is uploaded; answers it, and what was left out."""
+    bodies: list[Body] = []
+    left_out: list[Row] = []
+    raw = raw_dump(call, work)
+    if raw is not None:
+        dump = os.path.join(work, "dump.lsif")
+        lines, is_over = prepared(raw, dump, call.folder, call.profile, call.without)
+        left_out += rows_of(lines, call.profile)
+        call.set = call.set or is_over
+        bodies.append(Body(call.project, "lsif", dump, call.profile))
+    if not call.no_tags and shutil.which("ctags"):
+        tags = os.path.join(work, "tags")
+        left_out += made_tags(call, tags)
+        bodies.append(Body(call.project, "tags", tags, None))
+    elif not call.no_tags:
+        left_out.append(Row("tags", None, "ctags isn't installed (Debian's universal-ctags)"))
+    if not bodies:
+        raise BadCall(f"{call.folder}: no indexer is known for what is here, and no tags are made")
+    if call.set and raw is None:
+        raise BadCall("a set is made of a dump: there is none")
+    if call.set:
+        bodies = parts_of(call, bodies, set_folder(work))
+    check_all(call, bodies)
+    return bodies, left_out
+
+
+def check_all(call: argparse.Namespace, bodies: list[Body]) -> None:
+    """Checks what is uploaded, where the program is at hand."""
+    program = program_of(call.program)
+    for body in bodies if program else ():
+        with Stage(TOOL, f"checked {body.part}") as stage:
+            stage.detail = check(str(program), body.part, body.path, call.profile)
+    if program is None:
+        print(
+            f"{TOOL}: not checked before the upload, for `codenav` isn't at hand (--program)",
+            file=sys.stderr,
+        )
+
+
+def set_folder(work: str) -> str:
+    """The folder that the parts of a set are made in."""
+    return os.path.join(work, "set")
+
+
+def parts_of(call: argparse.Namespace, bodies: list[Body], folder: str) -> list[Body]:
+    """Splits a dump and the tags into the parts of a set, which keeps the cuts of the set on the server."""
+    name, where = set_name(call.project), uri_of(call.folder, [])
+    if not call.dry_run:
+        fetch_cuts(Store(server_of(call.url)), name, folder)
+    words = ["--name", name, "--profile", call.profile, "--map", f"{where}={call.folder}"]
+    words += ["--revision", revision_of(call.folder)]
+    for body in bodies:
+        if body.part == "tags":
+            words += ["--tags", body.path, "--tags-folder", call.folder]
+    with Stage(TOOL, "split-lsif") as stage:
+        status, lines = made_by(split.main, [*words, bodies[0].path, folder])
+        if status != 0:
+            raise Refused("\n".join(lines))
+        stage.detail = lines[-1]
+    return [
+        Body(project, part, path, call.profile if part == "lsif" else None)
+        for project, files in Publish(Store(""), folder).files.items()
+        for part, path in files.items()
+    ]
+
+
+def revision_of(folder: str) -> str:
+    """The revision of git that a checkout has without changes, or nothing."""
+    changes = git(folder, "status", "--porcelain", "--untracked-files=no")
+    return "" if changes is None or changes else line_of(git(folder, "rev-parse", "HEAD"))
+
+
+def send_set(server: str, folder: str) -> str:
+    """Publishes the parts of a set, in the place of a project of its name; answers what was done."""
+    publish = Publish(Store(server), folder, in_place_of_project=True)
+    with Stage(TOOL, "published parts") as stage:
+        stage.detail = publish.run().line()
+    return f"{shown_name(publish.head.name)}: a set, {publish.report.line()}"
+
+
+def send_all(call: argparse.Namespace, server: str, bodies: list[Body], work: str) -> list[str]:
+    """Uploads what was made, and removes a set that was there of a project that has become small enough; answers what was uploaded."""
+    if call.set:
+        return [send_set(server, set_folder(work))]
+    sent = [send(server, body) for body in bodies]
+    count = remove_set(Store(server), call.project)
+    return [*sent, f"{call.project}: and removed its set of {count} parts"] if count else sent
+
+
+def published(call: argparse.Namespace) -> int:
+    """Goes from the checkout to the server; answers the status."""
+    server, call.set = server_of(call.url), call.set or "@" in call.project
+    set_name(call.project) if call.set else project_of(call.project)
+    call.folder = os.path.realpath(call.folder)
+    if not os.path.isdir(call.folder):
+        raise BadCall(f"{call.folder}: not a folder")
+    if not call.dry_run:
+        found_in(request_again(address(server, "/projects", {}), "GET"), "projects")
+    try:
+        with work_folder(call.keep) as work:
+            bodies, left_out = made(call, work)
+            sent = [] if call.dry_run else send_all(call, server, bodies, work)
+    except Refused as fault:
+        for line in str(fault).splitlines():
+            print(f"{TOOL}: {line}", file=sys.stderr)
+        return 1
+    for line in sent:
+        print(f"uploaded {line}")
+    if sent and bodies[0].part == "lsif":
+        where = uri_of(call.folder, [])
+        print(f"documents are below {where}: elsewhere ask with --map {where}=FOLDER")
+    for line in table(left_out):
+        print(line)
+    return 0
+
+
+def words_parser() -> argparse.ArgumentParser:
+    """What the command line may be."""
+    known = "\n".join(
+        f"  {one.name:20} {one.line}"
+        + (f"   where there is {' or '.join(one.marks)}" if one.marks else "")
+        for one in INDEXERS
+    )
+    parser = argparse.ArgumentParser(
+        prog=TOOL,
+        description=__doc__,
+        formatter_class=argparse.RawDescriptionHelpFormatter,
+        epilog=f"known indexers, and how each is called in FOLDER:\n{known}\n\n"
+        "status: 0 where all was uploaded; 1 where the server refuses it or would; 2 where something can't be carried out",
+    )
+    how = parser.add_mutually_exclusive_group()
+    how.add_argument(
+        "--index",
+        metavar="LINE",
+        help="the line of a shell that indexes FOLDER and is called there: it prints LSIF or SCIP, or writes it to the file that $OUT names",
+    )
+    how.add_argument("--indexer", metavar="NAME", help="one of the known indexers, by its name")
+    how.add_argument("--dump", metavar="FILE", help="a dump or a SCIP index that is there already")
+    how.add_argument("--no-index", action="store_true", help="upload tags alone")
+    parser.add_argument(
+        "--without",
+        action="append",
+        default=[],
+        metavar="GLOB",
+        help="leave out the documents whose path from the project's root on is like GLOB, as of prepare-lsif",
+    )
+    parser.add_argument("--no-tags", action="store_true", help="upload the dump alone")
+    parser.add_argument(
+        "--profile",
+        choices=["1", "2"],
+        default="1",
+        help="how the dump is read, 1 without it; 2 has declarations and implementations too",
+    )
+    parser.add_argument(
+        "--program",
+        metavar="PATH",
+        help="the program `codenav`, which checks before the upload; without it CODENAV_PROGRAM, that of this clone, or the one on the path",
+    )
+    parser.add_argument(
+        "--set",
+        action="store_true",
+        help="make a set of parts, as is done by itself of a dump that is too large for one project",
+    )
+    parser.add_argument("--keep", metavar="FOLDER", help="keep the files that are made, in FOLDER")
+    parser.add_argument(
+        "--dry-run", action="store_true", help="make and check all, and upload nothing"
+    )
+    add_server(parser)
+    parser.add_argument("project", metavar="PROJECT")
+    parser.add_argument(
+        "folder", metavar="FOLDER", nargs="?", default=os.curdir, help="the checkout; . without it"
+    )
+    return parser
+
+
+def main(words: Optional[list[str]] = None) -> int:
+    """Reads the command line and publishes; answers 0, 1 where it's refused, and 2 where it can't be carried out."""
+    call = parsed(words_parser(), words)
+    return status_of(TOOL, lambda: published(call))

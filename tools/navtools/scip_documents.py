@@ -1,0 +1,116 @@
+"""Where the documents of a SCIP index are, and their texts. A document that can't be placed or read is left out, and noted."""
+
+import fnmatch
+import os
+import posixpath
+from typing import Optional
+from urllib.parse import quote
+
+from navtools.addresses import KEPT, is_address, spelled
+from navtools.columns import COUNTED, ENCODINGS, UTF_16, Columns, lines_in
+from navtools.words import BadCall
+from navtools.notes import Notes
+from navtools.places import lines_of
+from navtools.scip import IndexFile, NotAnIndex
+from navtools.scip_pb2 import Document
+
+COUNTS_UTF_16 = ("scip-typescript", "scip-java", "scip-dotnet", "scip-python", "scip-kotlin")
+DRIVE_END = 2
+
+
+def is_absolute(path: str) -> bool:
+    """Whether a path stands for itself, on this system or on Windows."""
+    return path.startswith("/") or path[1:DRIVE_END] == ":" and path[:1].isalpha()
+
+
+class Documents:
+    """The addresses of documents, and their paths."""
+
+    def __init__(
+        self, index: IndexFile, root: Optional[str], without: list[str], notes: Notes
+    ) -> None:
+        """Finds the root; raises NotAnIndex where the index has none and none is given."""
+        self.name, self.without, self.notes = index.name, without, notes
+        self.paths: dict[str, str] = {}
+        self.left: set[str] = set()
+        tool = index.metadata.tool_info
+        self.tool_info = {"name": tool.name, "version": tool.version}
+        given = index.metadata.project_root if root is None else os.path.abspath(root)
+        if root is not None and is_address(root) and not is_absolute(root):
+            given = root
+        given = given.replace("\\", "/")
+        if is_absolute(given):
+            given = f"file://{'' if given.startswith('/') else '/'}{quote(given, safe=KEPT)}"
+        elif not is_address(given):
+            raise NotAnIndex(
+                f"{index.name}: the index has no address of its root, but {given!r}: give --root, the folder that was indexed"
+            )
+        self.root = spelled(given.rstrip("/"))
+
+    def uri_of(self, path: str, byte: int) -> str:
+        """The address of a document by its path; the empty text where it's left out."""
+        path = path.replace("\\", "/")
+        path = posixpath.normpath(path) if path else ""
+        if path in ("", ".", "..") or path.endswith("/..") or "\0" in path:
+            self.notes.leave_out("document without a path", f"byte {byte}")
+            return ""
+        if any(fnmatch.fnmatchcase(path, glob) for glob in self.without):
+            self.left.add(path)
+            return ""
+        if is_absolute(path):
+            uri = spelled(f"file:///{quote(path.lstrip('/'), safe=KEPT)}")
+        else:
+            uri = spelled(f"{self.root}/{quote(path, safe=KEPT)}")
+        self.paths.setdefault(uri, path)
+        return uri
+
+
+class Texts:
+    """The texts of documents, for those that don't count UTF-16 code units."""
+
+    def __init__(
+        self, documents: Documents, source: Optional[str], encoding: Optional[str], notes: Notes
+    ) -> None:
+        self.documents, self.source, self.encoding, self.notes = documents, source, encoding, notes
+        self.read = self.unread = 0
+
+    def columns(self, uri: str, document: Document) -> Optional[Columns]:
+        """The columns of a document; None where its text can't be read. Raises BadCall where the call has to say more."""
+        path = self.documents.paths[uri]
+        encoding: int = document.position_encoding or ENCODINGS.get(self.encoding or "", 0)
+        if encoding not in ENCODINGS.values():
+            tool = self.documents.tool_info["name"]
+            known = (
+                f" utf-16, as {tool} counts"
+                if tool in COUNTS_UTF_16
+                else ", which is the indexer's"
+            )
+            raise BadCall(f"{path} doesn't say what its characters count: give --encoding{known}")
+        if encoding == UTF_16:
+            return Columns(encoding, [])
+        if document.text:
+            return Columns(encoding, lines_in(document.text))
+        if self.source is None:
+            raise BadCall(
+                f"{path} counts {COUNTED[encoding]}, and its text isn't in the index: give --source, the folder that has it"
+            )
+        return self.of_file(path, encoding)
+
+    def of_file(self, path: str, encoding: int) -> Optional[Columns]:
+        """The columns of a document whose text is in a file below the folder of sources."""
+        try:
+            lines = lines_of(os.path.join(self.source or "", path))
+        except (OSError, BadCall) as fault:
+            reason = fault.strerror if isinstance(fault, OSError) else "not UTF-8"
+            self.notes.leave_out(f"document whose file can't be read ({reason})", path)
+            self.unread += 1
+            return None
+        self.read += 1
+        return Columns(encoding, lines)
+
+    def finish(self) -> None:
+        """Raises BadCall where no file could be read of those that were to be."""
+        if self.unread and not self.read:
+            raise BadCall(
+                f"none of {self.unread} documents can be read below {self.source}: is it the folder that was indexed?"
+            )

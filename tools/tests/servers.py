@@ -1,0 +1,93 @@
+"""Real servers for tests, over the built program, and a relay that loses answers on their way."""
+
+import os
+import socket
+import threading
+import unittest
+from typing import Callable, Optional
+
+from navtools.serving import serving
+
+TOP = os.path.dirname(os.path.dirname(os.path.dirname(os.path.abspath(__file__))))
+SECONDS = 10
+BUILT = os.path.join(TOP, "crates", "codenav", "out", "codenav")
+
+
+def program() -> Optional[str]:
+    """The program that CODENAV_PROGRAM names, or the one that this clone has built; None where it hasn't."""
+    named = os.environ.get("CODENAV_PROGRAM")
+    if named:
+        return os.path.abspath(named)
+    return BUILT if os.path.isfile(BUILT) else None
+
+
+class OnServer(unittest.TestCase):
+    """Tests that ask a server of the built program, which each test has for itself, empty and in memory."""
+
+    program: str
+    url: str
+
+    def setUp(self) -> None:
+        found = program()
+        if found is None:
+            self.skipTest("the program isn't built, and CODENAV_PROGRAM names none")
+        self.program = found
+        self.url = self.enterContext(serving(self.program, quiet=True))
+
+
+class Relay:
+    """Hands requests on to a server, and its replies back but for the first ones: these are lost, and the connection is cut, when the
+    server has acted and `meanwhile` has been called."""
+
+    def __init__(self, url: str, lost: int, meanwhile: Callable[[], object] = lambda: None) -> None:
+        self.port = int(url.rpartition(":")[2])
+        self.lost, self.meanwhile = lost, meanwhile
+        self.listener = socket.create_server(("127.0.0.1", 0))
+        self.url = f"http://127.0.0.1:{self.listener.getsockname()[1]}"
+        self.taken = 0
+
+    def __enter__(self) -> "Relay":
+        self.thread = threading.Thread(target=self.serve, daemon=True)
+        self.thread.start()
+        return self
+
+    def __exit__(self, *_: object) -> None:
+        self.listener.shutdown(socket.SHUT_RDWR)
+        self.listener.close()
+        self.thread.join(10)
+
+    def serve(self) -> None:
+        """Takes connections, one after the other, until the listener is closed."""
+        while True:
+            try:
+                client = self.listener.accept()[0]
+            except OSError:
+                return
+            client.settimeout(SECONDS)
+            with client:
+                self.taken += 1
+                reply = self.reply_to(client)
+                if self.taken > self.lost:
+                    client.sendall(reply)
+                else:
+                    self.meanwhile()
+
+    def reply_to(self, client: socket.socket) -> bytes:
+        """What the server answers to what a client sends; the client's side isn't read any more then."""
+        with socket.create_connection(("127.0.0.1", self.port), SECONDS) as server:
+            onward = threading.Thread(target=self.hand_on, args=(client, server), daemon=True)
+            onward.start()
+            reply = b""
+            while piece := server.recv(65536):
+                reply += piece
+        client.shutdown(socket.SHUT_RD)
+        onward.join(SECONDS)
+        return reply
+
+    def hand_on(self, client: socket.socket, server: socket.socket) -> None:
+        """Hands on what a client sends, until one of both ends."""
+        try:
+            while piece := client.recv(65536):
+                server.sendall(piece)
+        except OSError:
+            pass

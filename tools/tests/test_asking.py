@@ -1,0 +1,104 @@
+"""Tests of what `ask` says over a real server: of documents that aren't there, of symbolic links, of tags elsewhere, and of a pipe that is closed."""
+
+import io
+import os
+import subprocess
+import tempfile
+from contextlib import redirect_stderr, redirect_stdout
+
+from navtools import ask, places, prepare, upload
+from tests.servers import TOP, OnServer
+
+CRATE = os.path.join(TOP, "demo", "crate")
+RAW = os.path.join(TOP, "demo", "crate.raw.lsif")
+TAGS = os.path.join(TOP, "demo", "crate.tags")
+ROOT = "file:///src/tr/crate"
+AT = ["18", "12"]
+
+
+class Asking(OnServer):
+    def setUp(self) -> None:
+        super().setUp()
+        self.folder = os.path.realpath(self.enterContext(tempfile.TemporaryDirectory()))
+        dump = os.path.join(self.folder, "dump")
+        with redirect_stdout(io.StringIO()), redirect_stderr(io.StringIO()):
+            self.assertEqual(prepare.main([RAW, dump]), 0)
+            self.assertEqual(upload.main("lsif", [self.url, "app", dump]), 0)
+            self.assertEqual(upload.main("tags", [self.url, "app", TAGS]), 0)
+
+    def asked(self, *words: str) -> tuple[int, str, str]:
+        """The status, what was printed, and what was said as an error."""
+        with redirect_stdout(io.StringIO()) as said, redirect_stderr(io.StringIO()) as warned:
+            status = ask.main(list(words))
+        return status, said.getvalue(), warned.getvalue()
+
+    def definition(self, file: str, *words: str) -> tuple[int, str, str]:
+        """Asks for the definition of `scale::fahrenheit` at its use."""
+        return self.asked(*words, self.url, "app", "definition", file, *AT)
+
+    def test_documents_that_are_not_there(self) -> None:
+        file = os.path.join(CRATE, "src", "lib.rs")
+        uri = places.uri_of(file, [])
+        self.assertEqual(
+            self.definition(file),
+            (
+                2,
+                "",
+                f"ask: D02 no such document: {uri}: the project has no such document, or its dump was made in another folder, "
+                "which --map URI=FOLDER says\n",
+            ),
+        )
+        self.assertEqual(
+            self.definition(file, "--map", f"file:///elsewhere={CRATE}"),
+            (
+                2,
+                "",
+                f"ask: D02 no such document: file:///elsewhere/src/lib.rs, which --map makes of {file}: the project has no such "
+                "document\n",
+            ),
+        )
+
+    def test_links(self) -> None:
+        """The crate, a folder of it and a file of it are named by symbolic links."""
+        names = {
+            "crate": CRATE,
+            "src": os.path.join(CRATE, "src"),
+            "file.rs": os.path.join(CRATE, "src", "lib.rs"),
+        }
+        links = {name: os.path.join(self.folder, name) for name in names}
+        for name, path in names.items():
+            os.symlink(path, links[name])
+        scale = os.path.join(CRATE, "src", "scale.rs")
+        for file, folder, place in (
+            (os.path.join(links["crate"], "src", "lib.rs"), CRATE, scale),
+            (os.path.join(links["src"], "lib.rs"), CRATE, scale),
+            (links["file.rs"], CRATE, scale),
+            (names["file.rs"], links["crate"], os.path.join(links["crate"], "src", "scale.rs")),
+        ):
+            status, said, _ = self.definition(file, "--map", f"{ROOT}={folder}")
+            self.assertEqual(status, 0, file)
+            self.assertEqual(os.path.abspath(said.rstrip("\n")), f"{place}:4:8")
+
+    def test_tags_elsewhere(self) -> None:
+        """A tag whose file isn't in the folder has no line, and isn't shown as if it were on the first."""
+        words = [self.url, "app", "names", "is_warm"]
+        here = self.asked("--tags", f"app={CRATE}", *words)
+        self.assertEqual(
+            (here[0], here[1].rsplit("/", 1)[1], here[2]), (0, "lib.rs:17:8: is_warm\n", "")
+        )
+        status, said, warned = self.asked("--tags", f"app={self.folder}", *words)
+        self.assertEqual((status, said), (1, ""))
+        self.assertEqual(
+            warned,
+            "ask: 1 of 1 tags aren't shown, for their files aren't here: --tags PROJECT=FOLDER says where a project's tags "
+            "file was made\n",
+        )
+
+    def test_a_pipe_that_is_closed(self) -> None:
+        tool = os.path.join(TOP, "tools", "ask")
+        words = [tool, "--tags", f"app={CRATE}", self.url, "app", "names", "--prefix", "r"]
+        with subprocess.Popen(words, stdout=subprocess.PIPE, stderr=subprocess.PIPE) as run:
+            assert run.stdout is not None and run.stderr is not None
+            run.stdout.close()
+            said = run.stderr.read()
+        self.assertEqual((run.returncode, said), (141, b""))

@@ -1,0 +1,183 @@
+"""Tests of input that is none: each tool says in one line what is wrong and where, ends with status 2, and leaves no half of a file."""
+
+import io
+import os
+import tempfile
+import unittest
+from contextlib import redirect_stderr, redirect_stdout
+from typing import Callable, Optional
+
+from navtools import ask, explain, prepare, projects, publish, remove, scip_to_lsif, upload, why
+from navtools.sets import split
+from tests.servers import TOP
+from tests.test_client import FOUND, Peer, environment, head_of, sends, status
+
+RAW = os.path.join(TOP, "demo", "crate.raw.lsif")
+SCIP = os.path.join(TOP, "demo", "crate.scip")
+CRATE = os.path.join(TOP, "demo", "crate")
+HTML = "<html><h1>It works!</h1></html>"
+Main = Callable[[list[str]], int]
+
+
+def called(main: Main, *words: str) -> tuple[int, str, str]:
+    """The status of a call, and what it printed as output and as an error."""
+    with redirect_stdout(io.StringIO()) as said, redirect_stderr(io.StringIO()) as warned:
+        try:
+            status = main(list(words))
+        except SystemExit as end:
+            status = int(end.code or 0)
+    return status, said.getvalue(), warned.getvalue()
+
+
+class Files(unittest.TestCase):
+    def setUp(self) -> None:
+        self.folder = self.enterContext(tempfile.TemporaryDirectory())
+
+    def written(self, name: str, body: Optional[bytes]) -> str:
+        """The path of a file; of a folder where there's no body."""
+        path = os.path.join(self.folder, name)
+        if body is None:
+            os.mkdir(path)
+        else:
+            with open(path, "wb") as file:
+                file.write(body)
+        return path
+
+    def refused(self, main: Main, words: list[str], line: str) -> None:
+        """A call that ends with status 2 and this line alone, which a pattern has, and writes nothing."""
+        before = sorted(os.listdir(self.folder))
+        status, said, warned = called(main, *words)
+        self.assertEqual((status, said, warned.count("\n")), (2, "", 1), warned)
+        self.assertRegex(warned, line)
+        self.assertEqual(sorted(os.listdir(self.folder)), before)
+
+    def test_dumps(self) -> None:
+        with open(RAW, "rb") as file:
+            raw = file.read()
+        first = raw.splitlines()[0]
+        ring = [
+            first,
+            *(b'{"id":%d,"type":"vertex","label":"resultSet"}' % own for own in (2, 3)),
+            b'{"id":4,"type":"edge","label":"next","outV":2,"inV":3}',
+            b'{"id":5,"type":"edge","label":"next","outV":3,"inV":2}',
+        ]
+        lost = b'{"id":5,"type":"edge","label":"next","outV":6,"inV":7}'
+        number = raw.count(b"\n")
+        for name, body, line in (
+            ("empty", b"", "empty"),
+            ("truncated", raw[:3000], "line [0-9]+: not JSON"),
+            ("binary", bytes(range(128, 256)) * 20, "line 1: not UTF-8"),
+            ("folder", None, "Is a directory"),
+            ("nothing", raw + lost, f"line {number + 1}: no vertex has the id 6"),
+            ("cycle", b"\n".join(ring), "line 5: a `next` edge that closes a cycle"),
+            ("utf8", raw.replace(b"temperature", b"\xff"), "line [0-9]+: not UTF-8"),
+            ("page", HTML.encode(), "line 1: not JSON"),
+        ):
+            path, out = self.written(name, body), os.path.join(self.folder, "out")
+            for tool, main, words in (
+                ("prepare-lsif", prepare.main, [path, out]),
+                (
+                    "publish",
+                    publish.main,
+                    ["--dry-run", "--no-tags", "--dump", path, "http://h", "app", CRATE],
+                ),
+            ):
+                with self.subTest(tool, name=name):
+                    self.refused(main, words, f"^{tool}: .*{path}.*{line}")
+            for tool, main, words in (
+                ("split-lsif", split.main, [path, out]),
+                ("why", why.main, [path, "src/lib.rs", "18", "12"]),
+                ("explain-fault", explain.main, [path, "line 1000: L07 bad member"]),
+            ):
+                # `why` takes a dump that the server refuses, as long as it can be read.
+                if tool != "why" or name not in ("nothing", "cycle"):
+                    with self.subTest(tool, name=name):
+                        self.refused(main, words, f"^{tool}: .*{path}")
+        self.refused(
+            prepare.main, ["/no/dump", "out"], "^prepare-lsif: /no/dump: No such file or directory$"
+        )
+
+    def test_indexes(self) -> None:
+        with open(SCIP, "rb") as file:
+            scip = file.read()
+        for name, body in (
+            ("empty", b""),
+            ("truncated", scip[:500]),
+            ("binary", bytes(range(128, 256)) * 20),
+            ("folder", None),
+            ("dump", HTML.encode()),
+        ):
+            path = self.written(name, body)
+            with self.subTest(name):
+                self.refused(
+                    scip_to_lsif.main,
+                    [path, os.path.join(self.folder, "out")],
+                    f"^scip-to-lsif: .*{path}",
+                )
+
+    def test_files_of_calls(self) -> None:
+        path = self.written("binary", b"\xff\xfe")
+        for tool, main, words, line in (
+            ("ask", ask.main, ["http://h", "app", "hover", path, "1", "1"], "binary: not UTF-8"),
+            (
+                "ask",
+                ask.main,
+                ["http://h", "app", "hover", self.folder, "1", "1"],
+                "Is a directory",
+            ),
+            (
+                "ask",
+                ask.main,
+                ["--map", "x", "http://h", "app", "names", "f"],
+                "--map takes URI=FOLDER",
+            ),
+            (
+                "upload-lsif",
+                lambda words: upload.main("lsif", words),
+                ["http://h", "app", self.folder],
+                "Is a directory",
+            ),
+            (
+                "upload-tags",
+                lambda words: upload.main("tags", words),
+                ["http://h", "app", "/no"],
+                "/no: No such file",
+            ),
+        ):
+            with self.subTest(tool, words=words):
+                self.refused(main, words, f"^{tool}: .*{line}")
+
+
+class Servers(unittest.TestCase):
+    def test_what_is_no_server(self) -> None:
+        """What comes in place of codenav's reply, to each tool that asks: one line with the address."""
+        answers = {
+            "not a reply of codenav, status 200$": status("200 OK", body=HTML),
+            "status 401, a login is asked for: CODENAV_TOKEN": status(
+                "401 Unauthorized", body=HTML
+            ),
+            "status 413, the proxy takes no body of this size": status("413 Too Large", body=HTML),
+            "status 502, the proxy has no answer of codenav$": status("502 Bad Gateway", body=HTML),
+            "status 503, the proxy has no answer of codenav$": status("503 Unavailable", body=HTML),
+            "it doesn't speak HTTP/1.1": sends(b"SSH-2.0-OpenSSH_9.2\r\n"),
+            "the connection was cut before all of the answer came$": head_of,
+            "the connection was cut before all of the answer came$ ": sends(FOUND[:-3]),
+        }
+        file = os.path.join(CRATE, "src", "lib.rs")
+        for said, act in answers.items():
+            for tool, main, words in (
+                ("ask", ask.main, ["app", "names", "f"]),
+                ("ask", ask.main, ["app", "definition", file, "18", "12"]),
+                ("list", projects.main, []),
+                ("remove", remove.main, ["app"]),
+                ("upload-lsif", lambda words: upload.main("lsif", words), ["app", RAW]),
+            ):
+                with self.subTest(tool, said=said), environment(), Peer(act) as peer:
+                    server = f"http://127.0.0.1:{peer.port}"
+                    found = called(main, server, *words)
+                self.assertEqual((found[0], found[1], found[2].count("\n")), (2, "", 1), found)
+                self.assertRegex(found[2], f"^{tool}: {server}: .*{said.rstrip(' ').rstrip('$')}")
+
+
+if __name__ == "__main__":
+    unittest.main()

@@ -1,0 +1,395 @@
+"""Tests of `publish` and of the examples in docs/CI.md, over a real server. The indexer stands in for rust-analyzer: it prints what that wrote."""
+
+import io
+import os
+import re
+import shutil
+import subprocess
+import sys
+import tempfile
+import textwrap
+import unittest
+from contextlib import redirect_stderr, redirect_stdout
+from typing import Optional
+from unittest import mock
+
+from navtools import ask, publish
+from navtools.indexers import INDEXERS, is_scip
+from navtools.left_out import Row, rows_of, table
+from navtools.projects import listed
+from tests.servers import TOP, OnServer
+from tests.test_set_service import asked_at
+
+CRATE, RAW = os.path.join(TOP, "demo", "crate"), os.path.join(TOP, "demo", "crate.raw.lsif")
+SCIP = os.path.join(TOP, "demo", "crate.scip")
+MAP = ["--map", f"file:///src/tr/crate={CRATE}"]
+PLACE = ["definition", os.path.join(CRATE, "src", "lib.rs"), "18", "12"]
+DEFINITION = os.path.join(CRATE, "src", "scale.rs") + ":4:8\n"
+
+
+def script(path: str, *lines: str) -> str:
+    """Writes a program for the shell; answers its path."""
+    with open(path, "w", encoding="utf-8") as file:
+        file.write("\n".join(["#!/bin/sh", *lines, ""]))
+    os.chmod(path, 0o755)
+    return path
+
+
+class OnCheckout(OnServer):
+    """Tests in a checkout of the demo crate, with a path on which the tools and the stand-in of an indexer are."""
+
+    def setUp(self) -> None:
+        super().setUp()
+        self.home = self.enterContext(tempfile.TemporaryDirectory())
+        self.bin, self.checkout = (os.path.join(self.home, name) for name in ("bin", "crate"))
+        os.mkdir(self.bin)
+        shutil.copytree(CRATE, self.checkout)
+        script(os.path.join(self.bin, "rust-analyzer"), f'[ "$*" = "lsif ." ] && cat {RAW}')
+        tools = os.path.join(TOP, "tools")
+        script(
+            os.path.join(self.bin, "codenav-tools"),
+            f'PYTHONPATH={tools} exec {sys.executable} -B -m navtools "$@"',
+        )
+        self.enterContext(
+            mock.patch.dict(
+                os.environ,
+                {"PATH": f"{self.bin}:{os.environ['PATH']}", "CODENAV_PROGRAM": self.program},
+            )
+        )
+
+    def published(self, *words: str, url: Optional[str] = None) -> tuple[int, list[str], str]:
+        """The status, what was printed, and the stages, without the seconds that they took."""
+        with redirect_stdout(io.StringIO()) as said, redirect_stderr(io.StringIO()) as warned:
+            status = publish.main([url or self.url, *words])
+        stages = re.sub(r" \([0-9.]+ s\)$", "", warned.getvalue(), flags=re.MULTILINE)
+        return status, said.getvalue().splitlines(), stages
+
+    def answer(self, project: str = "app") -> str:
+        """What the server answers for the definition of a function in the crate."""
+        with redirect_stdout(io.StringIO()) as said, redirect_stderr(io.StringIO()) as warned:
+            ask.main([*MAP, self.url, project, *PLACE])
+        return os.path.abspath(said.getvalue()) if said.getvalue() else warned.getvalue()
+
+
+class Publish(OnCheckout):
+    def test_a_checkout(self) -> None:
+        """From a checkout to an answer: the indexer is chosen by the file Cargo.toml."""
+        kept = os.path.join(self.home, "kept")
+        status, said, stages = self.published("--keep", kept, "app", self.checkout)
+        with open(os.path.join(kept, "dump.lsif"), "rb") as dump:
+            count = sum(1 for _ in dump)
+        self.assertEqual(
+            (status, said[0]), (0, f"uploaded app: a dump of {count} elements, profile 1")
+        )
+        self.assertRegex(said[1], r"^uploaded app: [0-9]+ tags$")
+        where = f"file://{self.checkout}"
+        self.assertEqual(
+            said[2], f"documents are below {where}: elsewhere ask with --map {where}=FOLDER"
+        )
+        self.assertEqual(said[3].split(), ["left", "out", "count", "why"])
+        self.assertEqual(self.answer(), DEFINITION)
+        self.assertEqual(listed(self.url), [{"dump": True, "name": "app", "tags": True}])
+        names = [line.split(": ")[1] for line in stages.splitlines()]
+        self.assertEqual(
+            [stage for stage in names if stage != "mended"],
+            [
+                "indexed by rust-analyzer lsif .",
+                "prepare-lsif",
+                "tags by ctags",
+                "checked lsif",
+                "checked tags",
+                "uploaded lsif",
+                "uploaded tags",
+            ],
+        )
+
+    def test_ways_to_a_dump(self) -> None:
+        for words in (
+            ["--index", f"cat {RAW}"],
+            ["--index", f'cp {RAW} "$OUT"'],
+            ["--index", f"cat {SCIP}"],
+            ["--dump", RAW],
+            ["--dump", SCIP],
+            ["--indexer", "rust-analyzer"],
+        ):
+            with self.subTest(words):
+                status, said, _ = self.published(
+                    "--no-tags", "--profile", "2", *words, "app", self.checkout
+                )
+                self.assertEqual((status, said[0].rsplit(", ", 1)[1]), (0, "profile 2"))
+                self.assertEqual(self.answer(), DEFINITION)
+
+    def test_tags_alone(self) -> None:
+        """Lines that the server would refuse are left out, and told."""
+        with open(os.path.join(self.checkout, "src", "latin.rs"), "wb") as file:
+            file.write(b"fn plain() {}\nfn other() { /* \xe9 */ }\n")
+        status, said, _ = self.published("--no-index", "app", self.checkout)
+        self.assertEqual(status, 0)
+        self.assertRegex(said[0], "^uploaded app: [0-9]+ tags$")
+        self.assertEqual(
+            [line.split() for line in said[1:]],
+            [["left", "out", "count", "why"], ["tags", "1", "not", "UTF-8"]],
+        )
+        self.assertEqual(listed(self.url), [{"dump": False, "name": "app", "tags": True}])
+
+    def test_a_dry_run(self) -> None:
+        kept = os.path.join(self.home, "kept")
+        status, said, _ = self.published(
+            "--dry-run", "--keep", kept, "app", self.checkout, url="http://127.0.0.1:1"
+        )
+        self.assertEqual((status, said[0].split()[:2], listed(self.url)), (0, ["left", "out"], []))
+        self.assertLessEqual({"dump.lsif", "tags"}, set(os.listdir(kept)))
+
+    def test_what_is_refused(self) -> None:
+        """Nothing is uploaded, and one line, or the server's own lines of a faulty dump, say why."""
+        raw = os.path.join(self.home, "raw")
+        with open(RAW, "rb") as file:
+            lines = file.read().splitlines()
+        hover = b'{"id":"x","type":"vertex","label":"hoverResult","result":{"contents":"%s"}}'
+        for name, body in (
+            ("long", [*lines, hover % (b"x" * 1_048_576)]),
+            ("twice", [*lines, lines[1]]),
+            ("text", [b"hello"]),
+        ):
+            with open(f"{raw}.{name}", "wb") as file:
+                file.write(b"\n".join(body) + b"\n")
+        for words, status, said in (
+            (["--dump", f"{raw}.long"], 1, "over the limits: .* bytes in the longest line"),
+            (["--dump", f"{raw}.twice"], 2, "raw.twice, line [0-9]+: the id 1 again"),
+            (
+                ["--program", self.refusing()],
+                1,
+                "would refuse this lsif: .*:3: L07 bad member of a vertex",
+            ),
+            (
+                ["--dump", SCIP, "--without", "x"],
+                2,
+                "--without is for dumps, and this is a SCIP index",
+            ),
+            (["--dump", f"{raw}.text"], 2, "raw.text, line 1: not JSON"),
+            (["--dump", f"{raw}.none"], 2, "raw.none: No such file or directory"),
+            (
+                ["--index", "echo a >&2; echo b >&2; exit 3"],
+                2,
+                r"the indexer ended with status 3: .*: a \| b",
+            ),
+            (["--index", "true"], 2, "the indexer wrote nothing: true"),
+            (["--indexer", "none"], 2, "no indexer 'none' is known"),
+            (["--program", "/no/codenav"], 2, "/no/codenav: no program"),
+            (["--no-index", "--no-tags"], 2, "no indexer is known for what is here"),
+        ):
+            with self.subTest(words):
+                found, printed, stages = self.published(*words, "app", self.checkout)
+                self.assertEqual((found, printed, listed(self.url)), (status, [], []), stages)
+                self.assertRegex(
+                    stages.splitlines()[-1 if status == 2 else 0] if status == 2 else stages, said
+                )
+
+    def refusing(self) -> str:
+        """A program that finds a fault in each dump."""
+        return script(
+            os.path.join(self.bin, "refusing"), "echo 'line 3: L07 bad member of a vertex'; exit 1"
+        )
+
+    def places(self, uri: str, line: int, character: int) -> list[str]:
+        """Where the server says that something is defined, of the project or the set `app`."""
+        at = {"uri": uri, "line": line, "character": character}
+        found = asked_at(self.url, "app").query("definition", at, "places")
+        return [f"{place['project']} {place['uri']} {place['start']['line']}" for place in found]
+
+    def test_a_set(self) -> None:
+        """A dump that is too large for one project, or any with --set, becomes a set in the project's place, and back."""
+        raw = os.path.join(self.home, "many")
+        with open(RAW, "rb") as file:
+            body = file.read()
+        with open(raw, "wb") as out:
+            out.write(body)
+            for own in range(100_000):
+                out.write(b'{"id":"%d","type":"vertex","label":"resultSet"}\n' % own)
+        expected = ["app file:///src/tr/crate/src/scale.rs 3"]
+        for words, said, is_set in (
+            (["app"], "app: a dump of .* elements, profile 1", False),
+            (["--set", "app"], "app: a set, parts 1, kept 0, new 1, removed 0", True),
+            (
+                ["--dump", raw, "--no-tags", "app"],
+                "app: a set, parts 1, kept 0, new 1, removed 1",
+                True,
+            ),
+            (["--set", "app"], "app: a set, parts 1, kept 0, new 1, removed 1", True),
+            (["app"], "app: a dump of .* elements, profile 1", False),
+        ):
+            status, printed, stages = self.published(*words, self.checkout)
+            self.assertEqual(status, 0, stages)
+            self.assertRegex(printed[0], f"^uploaded {said}$")
+            found = self.places("file:///src/tr/crate/src/lib.rs", 17, 11)
+            self.assertEqual((words, found), (words, expected))
+            names = {project["name"] for project in listed(self.url)}
+            self.assertEqual(("app" in names, len(names)), (not is_set, 3 if is_set else 1))
+
+    def test_what_cannot_be_carried_out(self) -> None:
+        os.remove(os.path.join(self.bin, "rust-analyzer"))
+        with mock.patch.dict(os.environ, {"PATH": self.bin}):
+            missing = self.published("app", self.checkout)
+        self.assertEqual(
+            missing[::2],
+            (
+                2,
+                f"publish: {self.checkout}: rust-analyzer would index this, and isn't on the path\n",
+            ),
+        )
+        for words, url, said in (
+            (
+                ["app", self.checkout],
+                "http://127.0.0.1:1",
+                "publish: http://127.0.0.1:1: Connection refused\n",
+            ),
+            (["app", "/no/folder"], self.url, "publish: /no/folder: not a folder\n"),
+            (
+                ["A b"],
+                self.url,
+                "publish: a project is 1 to 64 characters of a-z 0-9 _ -, not 'A b'\n",
+            ),
+        ):
+            with mock.patch("time.sleep"):
+                self.assertEqual(self.published(*words, url=url), (2, [], said))
+
+
+class Parts(unittest.TestCase):
+    def test_what_was_left_out(self) -> None:
+        lines = [
+            "version 0.5.0 -> 0.6.0; equal ranges merged 39 of 3922; elements 17996 -> 17907",
+            "left out: crossing range: 2, the first at line 7",
+            "no effect: vertex foldingRangeResult, 15",
+            "documents 2; symbols 10; occurrences 21, of which 1 at a place that has a range already, 3 left out for they overlap another; elements 164",
+            "rows: 1 documents",
+        ]
+        rows = list(rows_of(lines, "1"))
+        self.assertEqual(
+            rows,
+            [
+                Row("ranges", 39, "equal to another of their document"),
+                Row("crossing range", 2, "a flaw, the first at line 7"),
+                Row("vertex foldingRangeResult", 15, "no effect in profile 1"),
+                Row("occurrences", 3, "overlap another"),
+            ],
+        )
+        self.assertEqual(
+            table(rows[:2]),
+            [
+                "left out        count  why",
+                "ranges             39  equal to another of their document",
+                "crossing range      2  a flaw, the first at line 7",
+            ],
+        )
+        self.assertEqual(table([]), [])
+
+    def test_forms(self) -> None:
+        self.assertEqual([is_scip(path) for path in (RAW, SCIP)], [False, True])
+        for body, wanted in (
+            (b'\n{"id":1', False),
+            (b"\n[\n{", False),
+            (b"\n{\x12\x05", True),
+            (b"", False),
+        ):
+            with tempfile.NamedTemporaryFile() as file:
+                file.write(body)
+                file.flush()
+                self.assertEqual(is_scip(file.name), wanted, body)
+
+    def test_names_of_indexers(self) -> None:
+        self.assertEqual(len({one.name for one in INDEXERS}), len(INDEXERS))
+
+
+def blocks(language: str) -> list[str]:
+    """The examples of docs/CI.md in a language."""
+    with open(os.path.join(TOP, "docs", "CI.md"), encoding="utf-8") as page:
+        return re.findall(rf"^```{language}\n(.*?)^```$", page.read(), re.MULTILINE | re.DOTALL)
+
+
+def mapping(text: str, name: str) -> dict[str, str]:
+    """What stands below a name in YAML, as names and values."""
+    found = re.search(
+        rf"^( *)(?:- )?{name}:\n((?:\1 +.*\n)+?)(?=\1? *\S+:\n|\1 *run|\Z)", text, re.MULTILINE
+    )
+    assert found is not None, name
+    return dict(re.findall(r"^ *([A-Z_]+): (.*)$", found[2], re.MULTILINE))
+
+
+class Examples(OnCheckout):
+    """Each example of docs/CI.md, by a shell as its job has it, with the address of the server in the place of the page's."""
+
+    def setUp(self) -> None:
+        super().setUp()
+        self.git("init", "--quiet", "--initial-branch=main")
+        self.git("add", "--all")
+        self.git("commit", "--quiet", "--message=first")
+
+    def git(self, *words: str) -> None:
+        """Calls git in the checkout."""
+        own = ["-c", "user.name=a", "-c", "user.email=a@b"]
+        subprocess.run(["git", *own, *words], cwd=self.checkout, check=True, capture_output=True)
+
+    def run_job(self, shell: list[str], lines: str, **variables: str) -> str:
+        """Runs the lines of a job in a fresh clone of the checkout; answers what was printed."""
+        job = os.path.join(self.home, "job")
+        shutil.rmtree(job, ignore_errors=True)
+        subprocess.run(["git", "clone", "--quiet", self.checkout, job], check=True)
+        done = subprocess.run(
+            [*shell, "-c", lines],
+            cwd=job,
+            env={**os.environ, **variables, "CODENAV_URL": self.url},
+            stdin=subprocess.DEVNULL,
+            stdout=subprocess.PIPE,
+            stderr=subprocess.STDOUT,
+            text=True,
+            check=False,
+        )
+        self.assertEqual(done.returncode, 0, done.stdout)
+        return done.stdout
+
+    def test_github(self) -> None:
+        (text,) = [block for block in blocks("yaml") if "actions/checkout" in block]
+        lines = textwrap.dedent(text.partition("run: |\n")[2])
+        shell = ["bash", "--noprofile", "--norc", "-e", "-o", "pipefail"]
+        self.assertEqual(
+            mapping(text, "env"),
+            {
+                "CODENAV_URL": "https://codenav.example.org",
+                "CODENAV_TOKEN": "${{ secrets.CODENAV_TOKEN }}",
+            },
+        )
+        self.run_job(shell, lines, GITHUB_REPOSITORY="Team/My.Crate", CODENAV_TOKEN="t")
+        self.assertEqual([one["name"] for one in listed(self.url)], ["my_crate"])
+        self.assertEqual(self.answer("my_crate"), DEFINITION)
+
+    def test_gitlab(self) -> None:
+        (text,) = [block for block in blocks("yaml") if "resource_group" in block]
+        lines = "\n".join(re.findall(r"^ {4}- (.*)$", text.partition("script:\n")[2], re.MULTILINE))
+        self.assertEqual(mapping(text, "variables"), {"CODENAV_URL": "https://codenav.example.org"})
+        self.run_job(["sh", "-e"], lines, CI_PROJECT_PATH_SLUG="team-my-crate", CODENAV_TOKEN="t")
+        self.assertEqual([one["name"] for one in listed(self.url)], ["team-my-crate"])
+
+    def test_a_hook(self) -> None:
+        """Two pushes to a bare repository, the second of which takes away a file: what is there is what was pushed last."""
+        (text,) = blocks("sh")
+        bare = os.path.join(self.home, "bare.git")
+        subprocess.run(["git", "clone", "--quiet", "--bare", self.checkout, bare], check=True)
+        text = text.replace("http://127.0.0.1:8080", self.url)
+        script(os.path.join(bare, "hooks", "post-receive"), *text.splitlines()[1:])
+        kept = os.path.join(self.home, "kept")
+        with mock.patch.dict(os.environ, {"CODENAV_CHECKOUT": kept}):
+            for name in ("a.rs", "b.rs"):
+                with open(os.path.join(self.checkout, "src", name), "w", encoding="utf-8") as file:
+                    file.write("fn pushed() {}\n")
+                self.git("add", "--all")
+                self.git("commit", "--quiet", f"--message={name}")
+                self.git("push", "--quiet", bare, "main")
+                self.git("rm", "--quiet", f"src/{name}")
+        self.assertEqual(
+            sorted(os.listdir(os.path.join(kept, "src"))), ["b.rs", "lib.rs", "scale.rs"]
+        )
+        self.assertEqual(listed(self.url), [{"dump": True, "name": "app", "tags": True}])
+
+
+if __name__ == "__main__":
+    unittest.main()
