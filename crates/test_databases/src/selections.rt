@@ -184,7 +184,7 @@ const ROWS: &[Row] = &[
     Row {
         change: "DROP TABLE bearer;CREATE TABLE bearer (slot INTEGER, line INTEGER, keytext TEXT, kind INTEGER, def INTEGER, refs INTEGER, hover INTEGER) STRICT;INSERT INTO bearer (slot, line, keytext, kind) VALUES (9, 11, 'f', 1)",
         ask: Ask::Bearers("f"),
-        found: None,
+        found: Some("[]"),
     },
     Row {
         change: "DELETE FROM slot WHERE project = 'app'",
