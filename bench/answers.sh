@@ -1,15 +1,18 @@
 #!/usr/bin/env bash
-# Measures what an answer of 40,000 places holds in memory beside the index: the greatest resident size of a program that asks a desk over the tables of a
-# file for them, less that of the same program where it asks for one place, against the reply's bytes.
+# Measures what an answer of 40,000 places holds in memory beside the index: the greatest resident
+# size of a program that asks a desk over the tables of a file for them, less that of the same
+# program where it asks for one place, against the reply's bytes.
 # usage: bench/answers.sh [PLACES]      (default 40000)
-# It builds and proves a small program over the crates of this repository, in a copy beside /tmp, which takes some minutes.
+# It builds and proves a small program over the crates of this repository, in a copy beside /tmp,
+# which takes some minutes.
 set -eu
 places=${1:-40000}
 . "$(dirname "${BASH_SOURCE[0]}")/shared.sh"
 
 build_program answers "positions lsif desk tables sqlite" <<'EOP'
-//! Puts the dump `made` into the database `index.db`, where that file is there; else asks it for the references at the position of the file `asked`, and
-//! prints the status and the length of the body.
+//! Puts the dump `made` into the database `index.db`, where that file is there; else asks it for
+//! the references at the position of the file `asked`, and prints the status and the length of the
+//! body.
 #![tactic(auto)]
 use desk::{Command, Desk, DocUri, Key, ProjectName, Query, TableDesk};
 use lsif::Profile;
@@ -44,7 +47,8 @@ fn run(rt: &HostRuntime) -> io::Result<()> {
 }
 EOP
 
-# A dump whose ranges each have a line of their own: all but the last are items of one result, which the first has; the last has a result of its own.
+# A dump whose ranges each have a line of their own: all but the last are items of one result, which
+# the first has; the last has a result of its own.
 awk -v places="$places" 'BEGIN {
     print "{\"id\":1,\"type\":\"vertex\",\"label\":\"metaData\",\"version\":\"0.6.0\",\"positionEncoding\":\"utf-16\"}"
     print "{\"id\":2,\"type\":\"vertex\",\"label\":\"document\",\"uri\":\"file:///w.ts\"}"

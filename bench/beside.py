@@ -1,10 +1,14 @@
-"""Runs what the proofs can't show: the tests of the tools, and the scripts that ask, kill, fill and refuse the built program, or try it in an editor or a browser.
+"""Runs what the proofs can't show: the tests of the tools, and the scripts over the built program.
+
+The scripts ask, kill, fill and refuse the program, or try it in an editor or a browser.
 
 usage: bench/beside.py [--only NAME[,NAME..]] [--and 'N passed, M failed'] PROGRAM
 
-The gate calls it behind `rt ci`, with that command's last line, which is added to its own. Parts run side by side, one processor less than there are, and beside them
-the one that mostly waits; one that measures a time runs at the end, alone. What needs a program that isn't here is left out, and said, with the command that installs it. The last line is
-`N passed, M failed`, and the status is 1 where something failed.
+The gate calls it behind `rt ci`, with that command's last line, which is added to its own. Parts
+run side by side, one processor less than there are, and beside them the one that mostly waits; one
+that measures a time runs at the end, alone. What needs a program that isn't here is left out, and
+said, with the command that installs it. The last line is `N passed, M failed`, and the status is 1
+where something failed.
 """
 
 import argparse
@@ -22,7 +26,8 @@ from pathlib import Path
 from typing import Optional
 
 TOP = Path(__file__).resolve().parent.parent
-# the longest that a part may take, also on a slow machine: on four quiet processors all take ten minutes at most
+# the longest that a part may take, also on a slow machine: on four quiet processors all take ten
+# minutes at most
 SECONDS = 1500
 COUNTED = re.compile(r"(\d+) passed, (\d+) failed")
 RAN = re.compile(r"^Ran (\d+) tests? in ", re.M)

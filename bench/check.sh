@@ -1,10 +1,11 @@
 #!/usr/bin/env bash
-# Measures the program's checks against programs that read the same files, in turn and in one run, by the least time of
-# each. It prints two tables:
-# `codenav check-lsif FILE` against `jq -c . FILE`, with the most memory that the check held, in multiples of the file;
-# `codenav check-tags FILE` against `readtags -t FILE -l` (Universal Ctags) on sorted tags files of four sizes, with how
-# each grew from the size before.
-# usage: bench/check.sh [RUNS [DUMP..]]      (default 9; a DUMP is one without fault, measured before those made here)
+# Measures the program's checks against programs that read the same files, in turn and in one run,
+# by the least time of each. It prints two tables: `codenav check-lsif FILE` against `jq -c . FILE`,
+# with the most memory that the check held, in multiples of the file; `codenav check-tags FILE`
+# against `readtags -t FILE -l` (Universal Ctags) on sorted tags files of four sizes, with how each
+# grew from the size before.
+# usage: bench/check.sh [RUNS [DUMP..]]  (default 9; a DUMP is one without fault, measured before
+#        those made here)
 set -eu
 runs=${1:-9}
 [ $# = 0 ] || shift

@@ -28,8 +28,9 @@ print_elements='
     }
 '
 
-# A dump of so many elements: documents of some 450 elements, each with a range over the whole document and functions
-# that are named four times; result sets that nothing names make up the number.
+# A dump of so many elements: documents of some 450 elements, each with a range over the whole
+# document and functions that are named four times; result sets that nothing names make up the
+# number.
 make_dump() {
     awk -v count="$1" "$print_elements"'
     function bound_range(line, first, set) {
@@ -71,8 +72,8 @@ make_dump() {
     }'
 }
 
-# A dump of one document with so many ranges, four a line, three of them in the fourth, from the first on or from the
-# last. So many edges contain them, each of them one range in so many.
+# A dump of one document with so many ranges, four a line, three of them in the fourth, from the
+# first on or from the last. So many edges contain them, each of them one range in so many.
 make_ranges() {
     awk -v count="$1" -v edges="$2" -v order="$3" "$print_elements"'BEGIN {
         meta_data()
@@ -90,8 +91,10 @@ make_ranges() {
     }'
 }
 
-# A dump of one document with so many ranges, of which the first half lie in each other and the others beside them, behind; or of which all lie in each other, where a
-# fourth word says `all`. So many edges contain them, each of them one range in so many; in rising order, in falling order, or in turn from both ends (mixed).
+# A dump of one document with so many ranges, of which the first half lie in each other and the
+# others beside them, behind; or of which all lie in each other, where a fourth word says `all`. So
+# many edges contain them, each of them one range in so many; in rising order, in falling order, or
+# in turn from both ends (mixed).
 make_nested() {
     awk -v count="$1" -v edges="$2" -v order="$3" -v all="${4-half}" "$print_elements"'BEGIN {
         meta_data()
@@ -117,7 +120,8 @@ make_texts() {
     }'
 }
 
-# A dump of one range with this id, a number or a text in quotes, and of so many `item` edges of half a megabyte each, which name the range over and over.
+# A dump of one range with this id, a number or a text in quotes, and of so many `item` edges of
+# half a megabyte each, which name the range over and over.
 make_items() {
     awk -v edges="$1" -v id="$2" 'BEGIN {
         print "{\"id\":1,\"type\":\"vertex\",\"label\":\"metaData\",\"version\":\"0.6.0\",\"positionEncoding\":\"utf-16\"}"
@@ -133,7 +137,8 @@ make_items() {
     }'
 }
 
-# A dump of so many result sets in one chain of `next` edges, which begins to be joined at its end where the order falls.
+# A dump of so many result sets in one chain of `next` edges, which begins to be joined at its end
+# where the order falls.
 make_chain() {
     awk -v count="$1" -v order="$2" "$print_elements"'BEGIN {
         meta_data()

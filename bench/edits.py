@@ -1,9 +1,10 @@
 """Tries edits that the check must refuse, many in one check: see bench/edits.sh.
 
-An edit is a file of lines `file: PATH`, `old: TEXT` and `new: TEXT`, as in crates/NAME/must-fail. A batch has edits
-of different functions. It is applied to a copy of the crate, over what earlier checks kept in out/, and each function
-that an edit changed must be among those that aren't proved. An edit outside functions, of a constant or of a member
-that only proofs have, has a batch of its own, and something must not be proved.
+An edit is a file of lines `file: PATH`, `old: TEXT` and `new: TEXT`, as in crates/NAME/must-fail. A
+batch has edits of different functions. It is applied to a copy of the crate, over what earlier
+checks kept in out/, and each function that an edit changed must be among those that aren't proved.
+An edit outside functions, of a constant or of a member that only proofs have, has a batch of its
+own, and something must not be proved.
 """
 
 import argparse
@@ -20,7 +21,8 @@ TOP = pathlib.Path(__file__).resolve().parent.parent
 FUNCTION = re.compile(r"\s*(?:pub(?:\([a-z]+\))?\s+)?(?:const\s+|unsafe\s+)*fn\s+(\w+)")
 VERDICT = re.compile(r"^fn (\S+): (.*)$", re.M)
 NOT_PROVED = re.compile(r"not proved|no proof")
-# With this alone the check hasn't tried the function's own goals: a function that it calls isn't proved.
+# With this alone the check hasn't tried the function's own goals: a function that it calls isn't
+# proved.
 WAITS = re.compile(r"(not proved; |no proof: )(it calls|it passes|a call of)")
 
 
@@ -62,15 +64,15 @@ def edits_of(crate, with_must_fail):
 
 
 def applied(edit, texts):
-    """The texts of a crate's files with an edit, and the functions that it changes: a set of (file, name), where the
-    name is none outside functions."""
+    """The texts of a crate's files with an edit, and the functions that it changes: a set of (file,
+    name), where the name is none outside functions."""
     texts, functions = dict(texts), set()
     for file, old, new in edit.pairs:
         if file not in texts:
             texts[file] = (TOP / "crates" / edit.crate / file).read_text(encoding="utf-8")
         count = texts[file].count(old)
         if count != 1:
-            raise BadEdit(f"{edit}: an 'old:' text stands in {file} {count} times, and not once")
+            raise BadEdit(f"{edit}: an 'old:' text is in {file} {count} times, and not once")
         at = texts[file].index(old)
         functions.add((file, function_at(texts[file], at)))
         texts[file] = texts[file][:at] + new + texts[file][at + len(old) :]
@@ -78,7 +80,8 @@ def applied(edit, texts):
 
 
 def function_at(text, at):
-    """The name of the function that a place of a text lies in, by the layout of `rt fmt`, or none."""
+    """The name of the function that a place of a text lies in, by the layout of `rt fmt`, or
+    none."""
     lines = text[: text.find("\n", at)].split("\n")
     found = FUNCTION.match(lines[-1])
     if found:
@@ -91,13 +94,14 @@ def function_at(text, at):
         found = FUNCTION.match(line)
         if found:
             return found[1]
-        # The brace below a contract, and the end of a head of several lines, stand as deep as the `fn` above them.
+        # The brace below a contract, and the end of a head of several lines, are as deep as the
+        # `fn` above them.
         within = indent + 1 if line.strip() == "{" or line.lstrip().startswith(")") else indent
     return None
 
 
 def batches_of(edits):
-    """Lists of edits that can stand together, each with the functions that it changes."""
+    """Lists of edits that can be made together, each with the functions that it changes."""
     left = list(edits)
     while left:
         texts, taken, batch, later = {}, set(), [], []
@@ -119,7 +123,8 @@ def batches_of(edits):
 
 
 def words_of(said, crate, file, name):
-    """What the check says of the functions of a name in a file. A method's name there is that of its type's file, which may be another."""
+    """What the check says of the functions of a name in a file. A method's name there is that of
+    its type's file, which may be another."""
     module = pathlib.PurePath(file).with_suffix("").parts[1:]
     module = [] if module in (("lib",), ("main",)) else [it for it in module if it != "mod"]
     here = re.compile("::".join([crate, *module]) + r"(?:::[A-Z]\w*)?::" + name + "$")
@@ -138,7 +143,8 @@ class Copy:
         shutil.copytree(TOP / "crates", self.folder / "crates")
 
     def check(self, crate, texts):
-        """What a check of the crate with these texts says of each function, or nothing where it didn't get there."""
+        """What a check of the crate with these texts says of each function, or nothing where it
+        didn't get there."""
         folder = self.folder / "crates" / crate
         own = {file: (folder / file).read_text(encoding="utf-8") for file in texts}
         for file, text in texts.items():
@@ -162,7 +168,8 @@ class Copy:
 
 
 def verdict_of(edit, functions, said):
-    """Whether an edit was refused, or none where its own goals wait for the proof of a function that it calls."""
+    """Whether an edit was refused, or none where its own goals wait for the proof of a function
+    that it calls."""
     if any(name is None for _, name in functions):
         return any(NOT_PROVED.search(words) for words in said.values())
     is_open = False
@@ -175,8 +182,8 @@ def verdict_of(edit, functions, said):
 
 
 def tried(copy, crate, batch):
-    """Tries a batch of edits with their functions, and where that stops before the prover or leaves something open, parts
-    of it: each edit and what came of it."""
+    """Tries a batch of edits with their functions, and where that stops before the prover or leaves
+    something open, parts of it: each edit and what came of it."""
     texts = {}
     for edit, _ in batch:
         texts, _ = applied(edit, texts)
@@ -234,7 +241,7 @@ def main():
     parser.add_argument(
         "--fits",
         action="store_true",
-        help="tell which texts don't stand exactly once, and try nothing",
+        help="say which texts aren't there exactly once, and try nothing",
     )
     parser.add_argument("--all", action="store_true", help="try the edits of must-fail/ too")
     parser.add_argument(

@@ -1,19 +1,21 @@
 #!/usr/bin/env bash
-# Measures what it costs to make a dump flat, beside what it costs to read and check the same dump, in one run: the least of some
-# times for dumps of many documents of four sizes, which are taken in turn, with the exponents by which they grew, and for dumps whose
-# ranges or chains are in rising or falling order. A dump is made flat twice: right after it was checked, when the processor's caches
-# still have a small dump whole and of a great one a part; and once more when something else was read, so that dumps of all sizes come
-# from memory.
+# Measures what it costs to flatten a dump, beside what it costs to read and check the same dump,
+# in one run: the least of some times for dumps of many documents of four sizes, which are taken in
+# turn, with the exponents by which they grew, and for dumps whose ranges or chains are in rising or
+# falling order. A dump is flattened twice: right after it was checked, when the processor's caches
+# still have a small dump whole and of a great one a part; and once more when something else was
+# read, so that dumps of all sizes come from memory.
 # usage: bench/flatten.sh [RUNS]      (default 9)
-# It builds and proves a small program over the crates of this repository, in a copy beside /tmp, which takes some minutes.
+# It builds and proves a small program over the crates of this repository, in a copy beside /tmp,
+# which takes some minutes.
 set -eu
 runs=${1:-9}
 . "$(dirname "${BASH_SOURCE[0]}")/shared.sh"
 . "$top/bench/dumps.sh"
 
 build_program flats "lsif dump flatten" "$program_check" <<'EOP'
-//! Checks each dump that the file `commands` names, makes it flat, and once more when the caches hold something else, and prints the
-//! microseconds of the three and the number of ranges.
+//! Checks each dump that the file `commands` names, flattens it, and once more when the caches
+//! hold something else, and prints the microseconds of the three and the number of ranges.
 #![tactic(auto)]
 use dump::{CheckedDump, Checker};
 use flatten::flatten;
@@ -70,8 +72,8 @@ fn run<R: Alloc<A = Global> + Files + Print + Clock>(rt: &R) -> io::Result<()> {
 }
 EOP
 
-# Takes each of these dumps in turn, so many times, and prints a row for each: the least of the times, and how they grew with the
-# elements since the row before.
+# Takes each of these dumps in turn, so many times, and prints a row for each: the least of the
+# times, and how they grew with the elements since the row before.
 measure_dumps() {
     for _ in $(seq "$runs"); do printf '%s\n' "$@"; done >"$folder/commands"
     (cd "$folder" && "$built") | paste -d' ' "$folder/commands" - >"$folder/times"
@@ -96,7 +98,7 @@ print_row() {
         { print "" }'
 }
 
-# The exponent by which what stands in this column of the times grew from 10,000 to 80,000 elements.
+# The exponent by which this column of the times grew from 10,000 to 80,000 elements.
 growth() {
     awk -v first="$(least "$1" documents-10000)" -v last="$(least "$1" documents-80000)" 'BEGIN { printf "%.2f", log(last / first) / log(8) }'
 }

@@ -1,4 +1,5 @@
-"""Runs the program over a file system that fills up, and over paths that are no database: see bench/full_disk.sh."""
+"""Runs the program over a file system that fills up, and over paths that are no database: see
+bench/full_disk.sh."""
 
 import os
 import pathlib
@@ -31,7 +32,8 @@ from watched import (
 )
 
 SIZE = 8 * 1024 * 1024
-# What is given back first has to hold what the file lacks of its log, up to some 4 MB: before the log can be copied into the file, nothing is accepted.
+# What is given back first has to hold what the file lacks of its log, up to some 4 MB: before the
+# log can be copied into the file, nothing is accepted.
 FILLERS = [2_500_000, 1_000_000, 1_000_000]
 REMOVALS = 2
 FUNCTIONS, TAGS = 100, 1000
@@ -126,7 +128,8 @@ class Disk:
         return reply
 
     def check_refused(self) -> None:
-        """Checks that the upload that was refused last is there in no part: a kept key would be answered by its reply."""
+        """Checks that the upload that was refused last is there in no part: a kept key would be
+        answered by its reply."""
         if self.last not in self.accepted:
             project = f"project_{self.last}"
             key, names = self.asked("PUT", f"/projects/{project}/lsif?key=k", b"x\n"), self.asked(
@@ -162,7 +165,8 @@ class Disk:
         self.last += 1
 
     def check(self, may_refuse: bool) -> str:
-        """Asks for what was accepted, and for the kept replies; each has to be there, or to be refused by S01 where that may be."""
+        """Asks for what was accepted, and for the kept replies; each has to be there, or to be
+        refused by S01 where that may be."""
         self.check_refused()
         found: Counter[str] = Counter()
         for number, kept in self.accepted.items():
@@ -232,7 +236,8 @@ def line_of(fault: NotStarted) -> str:
 
 
 def fills_up(program: str, place: pathlib.Path, told: Callable[[str, str], None]) -> int:
-    """A disk that fills up, is given room and fills up again; answers how many uploads were accepted."""
+    """A disk that fills up, is given room and fills up again; answers how many uploads were
+    accepted."""
     fillers = [place / f"filler_{number}" for number in range(len(FILLERS))]
     for filler, size in zip(fillers, FILLERS):
         fill(filler, size)
@@ -291,7 +296,8 @@ def sound(database: pathlib.Path) -> None:
 
 
 def outcome(program: str, path: str, before: tuple[str, ...] = ()) -> tuple[str, int]:
-    """What `serve` prints over a path, and its status; where it listens, the statuses of a query and of an upload."""
+    """What `serve` prints over a path, and its status; where it listens, the statuses of a query
+    and of an upload."""
     try:
         server = started(program, path, before, requests=2, seconds=20)
     except NotStarted as fault:
@@ -312,7 +318,7 @@ def outcome(program: str, path: str, before: tuple[str, ...] = ()) -> tuple[str,
 
 
 class Case:
-    """What stands at a path, made in a folder of its own."""
+    """What is at a path, made in a folder of its own."""
 
     def __init__(self, program: str, folder: pathlib.Path) -> None:
         self.program, self.folder, self.path = program, folder, folder / "index.db"
@@ -408,7 +414,7 @@ def a_link_to_nothing(case: Case) -> tuple[str, int]:
 
 
 def a_link(case: Case) -> tuple[str, int]:
-    """A link to a database, whose log stands beside the database."""
+    """A link to a database, whose log is beside the database."""
     case.made()
     link = case.folder / "link.db"
     link.symlink_to(case.path)
@@ -416,7 +422,7 @@ def a_link(case: Case) -> tuple[str, int]:
 
 
 def a_second_name(case: Case) -> tuple[str, int]:
-    """A file that has a second name, beside which no log stands."""
+    """A file that has a second name, beside which there's no log."""
     case.made()
     other = case.folder / "other.db"
     other.hardlink_to(case.path)
@@ -453,7 +459,8 @@ def held_by_sqlite(case: Case) -> tuple[str, int]:
 def of_a_user(
     mode: int, owner: int, folder_mode: int, has_log: bool = True, is_new: bool = False
 ) -> Callable[[Case], tuple[str, int]]:
-    """A file of this mode and owner, with its log or without, in a folder of that mode, by a user who isn't root."""
+    """A file of this mode and owner, with its log or without, in a folder of that mode, by a user
+    who isn't root."""
 
     def found(case: Case) -> tuple[str, int]:
         if (
@@ -508,7 +515,8 @@ def no_more_room(case: Case) -> tuple[str, int]:
         run("umount", str(case.folder))
 
 
-# what stands at the path, and what should come of it; without that, each of one line with status 2 and of serving is right
+# what is at the path, and what should come of it; without that, each of one line with status 2
+# and of serving is right
 CASES: list[tuple[str, Callable[[Case], tuple[str, int]], Optional[str]]] = [
     ("a folder", a_folder, STORE),
     ("/dev/null", plain("/dev/null"), None),
@@ -576,7 +584,7 @@ def main() -> int:
                 row(f"no {kind} here", fault)
             except (Wrong, OSError, sqlite3.Error) as fault:
                 faults.append(f"{kind}: {fault}")
-        print("\n| What stands at the path | What comes | Status |\n|-|-|-|")
+        print("\n| What is at the path | What comes | Status |\n|-|-|-|")
         for number, (what, act, wanted) in enumerate(CASES):
             place = folder / f"case_{number}"
             place.mkdir()

@@ -1,16 +1,22 @@
-"""Runs the gate and says what each part of it costs in processor time, user and system together; or reads that from a gate's log.
+"""Runs the gate and says what each part of it costs in processor time, user and system together; or
+reads that from a gate's log.
 
-usage: bench/gate.py measure COMMAND..    runs it; before its last line stand `cost:` lines: a crate, its proof, its tests and its edits, in seconds; and
-                                          `alone:` lines: for how many seconds nothing ran beside a part
-       bench/gate.py ratio LOG            the cost of the whole over that of the proofs and tests of the crates that measure it; what stood alone; and the
+usage: bench/gate.py measure COMMAND..    runs it; before its last line it prints `cost:` lines: a
+                                          crate, its proof, its tests and its edits, in
+                                          seconds; and `alone:` lines: for how many seconds
+                                          nothing ran beside a part
+       bench/gate.py ratio LOG            the cost of the whole over that of the proofs and tests
+                                          of the crates that measure it; what ran alone; and the
                                           time by the clock on 2, 4 and 8 processors
        bench/gate.py table LOG            the costs as a table of docs/DEVELOPING.md, in minutes
 
-The whole is what the system counted for the command and all that it started. A part is the time of the processes of one crate, as it was seen
-last before each ended, looked at a few times a second; what no part has is the rest. The time by the clock is of a plan: each part takes one processor for as
-long as it cost, once the proofs of the crates below have ended; of those that can begin, the one with the longest way to the end does. Edits come behind the
-proof and the tests of their crate, one after the other or side by side. `rt ci` gives a part that has nothing beside it several processors, which the plan
-leaves out, and waits for memory, which it leaves out too.
+The whole is what the system counted for the command and all that it started. A part is the time of
+the processes of one crate, as it was seen last before each ended, looked at a few times a second;
+what no part has is the rest. The time by the clock is of a plan: each part takes one processor for
+as long as it cost, once the proofs of the crates below have ended; of those that can begin, the one
+with the longest way to the end does. Edits come behind the proof and the tests of their crate, one
+after the other or side by side. `rt ci` gives a part that has nothing beside it several processors,
+which the plan leaves out, and waits for memory, which it leaves out too.
 """
 
 import os
@@ -36,7 +42,8 @@ WHOLE = re.compile(r"^cost: whole (\d+) rest (\d+) minutes (\d+)$", re.M)
 
 
 def part_of(words, folder):
-    """The crate and the part that a process works at, by its words and its folder; none where it is of no crate."""
+    """The crate and the part that a process works at, by its words and its folder; none where it is
+    of no crate."""
     if "--crate-name" in words:
         crate = words[words.index("--crate-name") + 1]
         if EDIT_FOLDER in folder:
@@ -56,7 +63,7 @@ def read(path):
 
 
 class Watcher(threading.Thread):
-    """Looks at the processes below this one until it's told to stop."""
+    """Looks at the processes below this one until it's asked to stop."""
 
     def __init__(self):
         super().__init__(daemon=True)
@@ -143,7 +150,7 @@ def costs_in(log):
 
 
 def below(crate, lines):
-    """The crates that one stands on, by the lines of crates.txt, and those that they stand on."""
+    """The crates that one calls, by the lines of crates.txt, and those that they call."""
     found = set()
     for name in lines.get(crate, ()):
         if name in lines:

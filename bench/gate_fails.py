@@ -1,9 +1,13 @@
-"""Shows that the gate fails where it should: breaks one thing that each part of bench/beside.py checks, and asks that this part fails; unbroken, each must pass.
+"""Shows that the gate fails where it should, for each part of bench/beside.py.
 
-usage: bench/gate_fails.py [--only CASE[,CASE..]] PROGRAM      (the built program, as crates/codenav/out/codenav; run by hand)
+Breaks one thing that the part checks, and asks that this part fails; unbroken, each must pass.
 
-What is broken stands in a clone of the repository as it's committed, or in a program that stands before the built one. Last, the whole `.ci/run` is run in a clone
-with a tool broken, over a command `rt` that says that all is proved: its status and its last line must say that something failed.
+usage: bench/gate_fails.py [--only CASE[,CASE..]] PROGRAM
+       (PROGRAM is the built one, as crates/codenav/out/codenav; run by hand)
+
+What is broken is in a clone of the repository as it's committed, or in a program that is called
+before the built one. Last, the whole `.ci/run` is run in a clone with a tool broken, over a command
+`rt` that says that all is proved: its status and its last line must say that something failed.
 """
 
 import argparse
@@ -19,7 +23,7 @@ from pathlib import Path
 TOP = Path(__file__).resolve().parent.parent
 LAST = re.compile(r"^(\d+) passed, (\d+) failed$")
 
-# programs that stand before the built one, which is REAL: each does one thing wrong
+# programs that are called before the built one, which is REAL: each does one thing wrong
 WRONG_VERSION = """#!/usr/bin/env bash
 [ "$*" != --version ] || { echo "codenav 0.0.0"; exit; }
 exec REAL "$@"
@@ -119,7 +123,8 @@ def broken(case: Case, folder: Path, real: str) -> tuple[Path, str]:
 
 
 def counts_of(words: list[str], top: Path, path: str = "") -> tuple[int, int, int, str]:
-    """The status of a command, how many it says passed and failed in its last line, and all that it printed."""
+    """The status of a command, how many it says passed and failed in its last line, and all that it
+    printed."""
     env = {**os.environ, "PATH": path + os.environ["PATH"]}
     ran = subprocess.run(
         words,
@@ -158,7 +163,8 @@ def ask(top: Path, part: str, program: str, may_pass: bool) -> bool:
 
 
 def ask_gate(folder: Path, real: str) -> bool:
-    """Whether `.ci/run` fails where a tool is broken, though all is proved; and where the text of an edit that must be refused doesn't stand in its file."""
+    """Whether `.ci/run` fails where a tool is broken, though all is proved; and where the text of
+    an edit that must be refused isn't in its file."""
     tools = next(case for case in CASES if case.name == "tools")
     top, program = broken(tools, folder, real)
     to = top / "crates/codenav/out"

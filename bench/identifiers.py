@@ -1,8 +1,9 @@
 #!/usr/bin/env python3
-"""Asks a server for the definition at each identifier of crates, of dumps in two forms: how many are answered, how many by nothing but ranges over whole
-files, and how many not at all.
+"""Asks a server for the definition at each identifier of crates, of dumps in two forms: how many
+are answered, how many by nothing but ranges over whole files, and how many not at all.
 
-usage: bench/identifiers.py PROGRAM CRATE=DUMP[,DUMP] ..      (CRATE is the crate's folder, at which the dumps' addresses are; each DUMP is a prepared one)
+usage: bench/identifiers.py PROGRAM CRATE=DUMP[,DUMP] ..
+       (CRATE is the crate's folder, at which the dumps' addresses are; each DUMP is a prepared one)
 """
 import os
 import sys

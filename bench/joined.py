@@ -1,5 +1,6 @@
 #!/usr/bin/env python3
-"""Times references over 2,000 projects whose dumps are joined by one moniker, for each given program.
+"""Times references over 2,000 projects whose dumps are joined by one moniker, for each given
+program.
 
 Each project's dump exports the moniker, and has it as a definition and a reference of its own; one
 more imports it. The replies of all programs have to be the same. The programs answer in turn, so
@@ -37,7 +38,8 @@ def edge(label: str, out: int, to: int, **members: object) -> dict[str, object]:
 
 
 def dump(uri: str, kind: str) -> bytes:
-    """A dump with one range, which has a moniker of this kind; an export is defined at itself and refers to itself."""
+    """A dump with one range, which has a moniker of this kind; an export is defined at itself and
+    refers to itself."""
     at = {"line": 1, "character": 0}, {"line": 1, "character": 3}
     elements = [
         vertex("metaData", version="0.6.0", positionEncoding="utf-16"),
@@ -64,7 +66,8 @@ def dump(uri: str, kind: str) -> bytes:
 
 
 def fill(program: str, port: int) -> subprocess.Popen[bytes]:
-    """A server over a database in memory with all projects, which serves the queries and then ends."""
+    """A server over a database in memory with all projects, which serves the queries and then
+    ends."""
     count = PROJECTS + 1 + TURNS
     words = [program, "serve", ":memory:", "--port", str(port), "--requests", str(count)]
     server = subprocess.Popen(words, stdout=subprocess.PIPE)

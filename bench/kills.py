@@ -1,4 +1,5 @@
-"""Kills a server at random moments, starts it again over the same file, and compares with a run without kills: see bench/kills.sh."""
+"""Kills a server at random moments, starts it again over the same file, and compares with a run
+without kills: see bench/kills.sh."""
 
 import json
 import os
@@ -42,8 +43,9 @@ NO_PART = b'{"tags":[]}'
 NO_DUMP = b'{"fault":"D01","text":"project has no dump"}'
 LINE_FAULT = b"x\n"
 NOTHING = {b'{"places":[]}', b'{"contents":null}', NO_PART}
-# the moments of kills, as parts of what such a request took before: up to the first, and with the second about when the reply is due; and the seconds
-# that go by in the mean from when the log is written
+# the moments of kills, as parts of what such a request took before: up to the first, and with the
+# second about when the reply is due; and the seconds that go by in the mean from when the log is
+# written
 LATE, ABOUT, WRITING = 1.25, 0.08, 0.002
 
 
@@ -79,13 +81,15 @@ class Command:
         return "PUT", f"/projects/{self.project}/{part}?key={self.key}{profile}", self.body()
 
     def probe(self) -> tuple[str, str, bytes]:
-        """A request that a kept key answers by its reply, and that is refused and changes nothing where the key isn't kept."""
+        """A request that a kept key answers by its reply, and that is refused and changes nothing
+        where the key isn't kept."""
         return "PUT", f"/projects/{self.project}/lsif?key={self.key}", LINE_FAULT
 
 
 @dataclass
 class Index:
-    """What should be in the index: by project the dump and the tags that are in effect, and the replies that are kept, by command."""
+    """What should be in the index: by project the dump and the tags that are in effect, and the
+    replies that are kept, by command."""
 
     dumps: dict[str, Command] = field(default_factory=dict)
     tags: dict[str, Command] = field(default_factory=dict)
@@ -154,7 +158,8 @@ def holds(server: Server, index: Index) -> None:
 
 
 def kill_at_write(server: Server, log: str, delay: float, most: float) -> None:
-    """Kills a server so many seconds after its log is written, which is waited for some time at most."""
+    """Kills a server so many seconds after its log is written, which is waited for some time at
+    most."""
     try:
         end, before = time.monotonic() + most, stamp(log)
         while time.monotonic() < end and stamp(log) == before:
@@ -213,7 +218,8 @@ class Run:
     def send(
         self, server: Server, command: Optional[Command], killer: Optional[threading.Thread]
     ) -> None:
-        """Sends a command, or a query, whose reply has to be as it should; what is to kill the server meanwhile is started just before."""
+        """Sends a command, or a query, whose reply has to be as it should; what is to kill the
+        server meanwhile is started just before."""
         if command is None:
             kind, size = "query", 0
             method, path, body = (
@@ -305,7 +311,8 @@ class Run:
             self.counts["kills"] += 1
 
     def check(self, server: Server) -> None:
-        """Finds whether the command without a reply was done, and checks that each that was answered is still there, with its reply, and nothing else."""
+        """Finds whether the command without a reply was done, and checks that each that was
+        answered is still there, with its reply, and nothing else."""
         if self.unknown:
             reply = server.ask(*self.unknown.probe())
             if status_of(reply) == 200:
@@ -325,8 +332,8 @@ class Run:
         holds(server, self.index)
 
     def killer(self, server: Server, typical: float) -> threading.Thread:
-        """What kills a server at a random moment of a request that typically takes so long, or behind it: at any, about when its reply is due, or when
-        its log was just written."""
+        """What kills a server at a random moment of a request that typically takes so long, or
+        behind it: at any, about when its reply is due, or when its log was just written."""
         moment = self.chosen.choice(
             [self.chosen.uniform(0, LATE), max(0, self.chosen.gauss(1, ABOUT)), None]
         )
@@ -410,7 +417,8 @@ def paths(index: Index) -> list[tuple[str, str, bytes]]:
 
 
 def compare(run: Run, server: Server) -> int:
-    """Compares a server's answers with those of a run without kills, of the same commands, each once; answers how many there are."""
+    """Compares a server's answers with those of a run without kills, of the same commands, each
+    once; answers how many there are."""
     plain = started(run.program, ":memory:")
     try:
         for command in run.order:

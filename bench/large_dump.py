@@ -1,6 +1,7 @@
 #!/usr/bin/env python3
-"""Makes a large dump of smaller ones: each of them several times, with addresses, keys and ids of its own, and a share of the references of later
-ones led to symbols of earlier ones, half of them to few symbols that many use. What it makes is prepared, where the smaller ones are.
+"""Makes a large dump of smaller ones: each of them several times, with addresses, keys and ids of
+its own, and a share of the references of later ones led to symbols of earlier ones, half of them to
+few symbols that many use. What it makes is prepared, where the smaller ones are.
 
 usage: bench/large_dump.py OUT COPIES SHARE DUMP..
 """
@@ -17,7 +18,8 @@ WITHOUT = ("foldingRange", "documentSymbol", "documentLink", "diagnostic")
 
 
 class Copy:
-    """One dump within the large one: its elements, with ids that begin at a number, and which of its ranges lead elsewhere."""
+    """One dump within the large one: its elements, with ids that begin at a number, and which of
+    its ranges lead elsewhere."""
 
     def __init__(self, path: str, number: int, base: int) -> None:
         self.base = base
@@ -57,7 +59,8 @@ class Copy:
         return self.base + max(int(one["id"]) for one in self.elements)
 
     def symbols(self) -> list[Symbol]:
-        """Result sets that have a moniker, each with its references, by their ids in the large dump."""
+        """Result sets that have a moniker, each with its references, by their ids in the large
+        dump."""
         return [
             (own + self.base, self.references[own] + self.base)
             for own in sorted(self.with_moniker)
@@ -74,7 +77,7 @@ class Copy:
         return found
 
     def moved(self, one: Element) -> Element:
-        """An element as it stands in the large dump."""
+        """An element as it is in the large dump."""
         one = dict(one)
         for member in ("id", "outV", "inV", "shard", "document"):
             if member in one:
@@ -90,7 +93,8 @@ class Copy:
         return one
 
     def written(self, away: dict[int, Symbol], later: list[Element]) -> Iterator[Element]:
-        """The elements as they stand in the large dump, but for edges to earlier copies, which go to `later`."""
+        """The elements as they are in the large dump, but for edges to earlier copies, which go
+        to `later`."""
         for one in self.elements:
             if one["label"] == "metaData":
                 continue

@@ -1,7 +1,9 @@
 #!/usr/bin/env python3
-"""Writes a large dump or a large SCIP index, for measurements: copies of a real one, each with documents, ids and symbols of its own.
+"""Writes a large dump or a large SCIP index, for measurements: copies of a real one, each with
+documents, ids and symbols of its own.
 
-usage: bench/large_inputs.py IN OUT BYTES      (IN is a dump with numbers as ids, or a SCIP index, whose name ends with .scip)
+usage: bench/large_inputs.py IN OUT BYTES
+       (IN is a dump with numbers as ids, or a SCIP index, whose name ends with .scip)
 """
 import json
 import os
@@ -60,7 +62,8 @@ def varint(number: int) -> bytes:
 
 
 def copies(index: Any, copy: int) -> Iterator[bytes]:
-    """The documents of a copy of an index, as fields of it; the symbols of its own package are those of the copy."""
+    """The documents of a copy of an index, as fields of it; the symbols of its own package are
+    those of the copy."""
     defined = {
         information.symbol for document in index.documents for information in document.symbols
     }

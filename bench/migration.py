@@ -1,10 +1,10 @@
 #!/usr/bin/env python3
 """Migrates files that Debian's `sqlite3` made tables of format 1 of, and compares the answers.
 
-The program makes a file of format 2. Each case makes tables of format 1 of a copy, as a file made by
-an older version has them, by dropping what format 2 adds; some or all of format 2's indexes stay, or
-others stand there. The migration has to succeed, the queries have to be answered as before, and the
-indexes have to be those of format 2. Some seconds.
+The program makes a file of format 2. Each case makes tables of format 1 of a copy, as a file made
+by an older version has them, by dropping what format 2 adds; some or all of format 2's indexes
+stay, or there are others. The migration has to succeed, the queries have to be answered as
+before, and the indexes have to be those of format 2. Some seconds.
 """
 
 import argparse
@@ -103,7 +103,7 @@ def sql(database: pathlib.Path, text: str) -> bytes:
 
 
 def indexes(database: pathlib.Path) -> bytes:
-    """The indexes of format 2, as the file tells them."""
+    """The indexes of format 2, as the file lists them."""
     names = "('range_by_start', 'bearer_by_key', 'tag_by_name')"
     return sql(database, f"SELECT sql FROM sqlite_schema WHERE name IN {names} ORDER BY name;")
 
@@ -114,7 +114,8 @@ def expect(what: str, found: bytes, wanted: bytes) -> None:
 
 
 def try_case(program: str, made: pathlib.Path, queries: bytes, name: str, text: str) -> None:
-    """Makes tables of format 1 of a copy, migrates it, and compares it with what the program made."""
+    """Makes tables of format 1 of a copy, migrates it, and compares it with what the program
+    made."""
     old = made.with_name("old.db")
     shutil.copy(made, old)
     sql(old, OLD + text)
@@ -128,7 +129,8 @@ def try_case(program: str, made: pathlib.Path, queries: bytes, name: str, text: 
 
 
 def make(program: str, made: pathlib.Path) -> bytes:
-    """Makes a file with two dumps that are joined by their monikers, and tags; and the requests for its answers."""
+    """Makes a file with two dumps that are joined by their monikers, and tags; and the requests for
+    its answers."""
     paths = ["/projects", "/names?name=a", "/names?prefix=b", "/projects/user/profile"]
     for project in ("user", "crate"):
         dump = prepared(f"demo/{project}.raw.lsif", made.parent)

@@ -1,13 +1,16 @@
 """Measures the map between an old text and a new one (tools/navtools/moved), each part by itself:
 
-  made [SEEDS]     made edits with known truth: 26 kinds over files of Debian's packages; words that lead to a wrong place, in a million
-  real OLD NEW ..  files of two folders, as two versions of a library: words that lead into another function or type, though their own is there in both
-  times            what a map costs for files of 200, 2,000 and 20,000 lines, and for texts that are hard; beside `git diff --histogram` of the same files
+  made [SEEDS]     made edits with known truth: 26 kinds over files of Debian's packages; words that
+                   lead to a wrong place, in a million
+  real OLD NEW ..  files of two folders, as two versions of a library: words that lead into another
+                   function or type, though their own is there in both
+  times            what a map costs for files of 200, 2,000 and 20,000 lines, and for texts that are
+                   hard; beside `git diff --histogram` of the same files
   inverse OLD NEW  whether each mapped word of two folders leads back to where it began
 
 usage: /usr/bin/python3 bench/moved.py PART ..
-`made` reads files of Debian's librust-regex-dev, librust-url-dev, librust-serde-json-dev and librust-itoa-dev, of Python's library, of npm, and what of them
-is there.
+`made` reads files of Debian's librust-regex-dev, librust-url-dev, librust-serde-json-dev and
+librust-itoa-dev, of Python's library, of npm, and what of them is there.
 """
 
 import ast
@@ -119,7 +122,8 @@ def row(name: str, found: Counter[str]) -> None:
 
 
 def rust_paths(text: str) -> list[Path]:
-    """Of each line the heads of the items that it's in, by layout: an item ends at a line of its indentation that begins with a brace."""
+    """Of each line the heads of the items that it's in, by layout: an item ends at a line of its
+    indentation that begins with a brace."""
     found: list[Path] = []
     stack: list[tuple[int, str]] = []
     for line in lines_of_text(text):
@@ -158,7 +162,8 @@ PATHS: dict[str, Callable[[str], list[Path]]] = {".rs": rust_paths, ".py": pytho
 
 
 def pairs(folders: list[str]) -> Iterator[tuple[str, str, str]]:
-    """The names and texts of files that two folders have and that differ; the folders stand in pairs."""
+    """The names and texts of files that two folders have and that differ; the folders are in
+    pairs."""
     for old, new in zip(folders[::2], folders[1::2]):
         for path in sorted(glob.glob(f"{old}/**/*", recursive=True)):
             other = new + path[len(old) :]
@@ -284,7 +289,8 @@ def texts() -> Iterator[tuple[str, str, str]]:
 
 
 def times() -> None:
-    """Prints processor times: of making a map, of the first question, and of questions in each hunk, the hardest and all."""
+    """Prints processor times: of making a map, of the first question, and of questions in each
+    hunk, the hardest and all."""
     print("| Texts | map, ms | first question, ms | hardest hunk, ms | all hunks, ms | git, ms |")
     print("|-|-|-|-|-|-|")
     for name, old, new in texts():

@@ -38,12 +38,13 @@ class Taken:
 
 
 def files_of(database: pathlib.Path) -> list[pathlib.Path]:
-    """The file of a database and what stands beside it, as far as they're there."""
+    """The file of a database and what is beside it, as far as they're there."""
     return sorted(database.parent.glob(f"{database.name}*"))
 
 
 def copied(database: Optional[pathlib.Path], copy: pathlib.Path) -> None:
-    """Puts a copy of a database with its log in the place of another; without a database there is none then."""
+    """Puts a copy of a database with its log in the place of another; without a database there is
+    none then."""
     for path in files_of(copy):
         path.unlink()
     for path in files_of(database) if database else []:
@@ -70,7 +71,8 @@ def replayed(program: str, database: pathlib.Path, requests: pathlib.Path, repli
 
 
 def asked(database: pathlib.Path, statement: str) -> Taken:
-    """What SQLite takes to open a database and to answer a statement, by Python, whose own start isn't counted."""
+    """What SQLite takes to open a database and to answer a statement, by Python, whose own start
+    isn't counted."""
     done = subprocess.run(
         [sys.executable, "-c", SQLITE, str(database), statement],
         capture_output=True,

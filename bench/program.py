@@ -1,4 +1,5 @@
-"""Runs the built program and compares what it prints, its status and the time that it takes: see bench/program.sh."""
+"""Runs the built program and compares what it prints, its status and the time that it takes: see
+bench/program.sh."""
 
 import os
 import pathlib
@@ -43,7 +44,8 @@ FIRST = (
     + reply("404 Not Found", '{"fault":"H06","text":"no such route"}')
 )
 
-# ---- calls that end by themselves: the words, and what is printed on the standard output and the standard error, with the status
+# ---- calls that end by themselves: the words, and what is printed on the standard output and the
+# standard error, with the status
 CALLS = [
     (["check-lsif", BASE], "ok 11 elements\n", "", 0),
     (["check-lsif", "/dev/stdin"], "ok 11 elements\n", "", 0),
@@ -135,7 +137,8 @@ class Program:
     def start(
         self, requests: int, before: tuple = (), database: str = ":memory:", **more
     ) -> "Server":
-        """A server of so many requests, which has said that it listens; it's started by the words before it."""
+        """A server of so many requests, which has said that it listens; it's started by the words
+        before it."""
         port = free_port()
         words = [
             *before,
@@ -171,7 +174,8 @@ class Server:
         return peer
 
     def ask(self, request: bytes, seconds: float = 60) -> str:
-        """What a connection is sent for a request, up to its end; each part of it within so many seconds."""
+        """What a connection is sent for a request, up to its end; each part of it within so many
+        seconds."""
         with self.connect() as peer:
             peer.settimeout(seconds)
             peer.sendall(request)
@@ -279,7 +283,8 @@ def taken_port(program: Program) -> None:
 
 
 def no_more_files(program: Program) -> None:
-    """A process that may not open a file for a connection, which ends without waiting for one; and one that may open one, but not a second handle of it."""
+    """A process that may not open a file for a connection, which ends without waiting for one; and
+    one that may open one, but not a second handle of it."""
     server = program.start(1, before=("prlimit", "--nofile=4"))
     expect("no file for a connection", server.end(5), ("", "codenav: cannot accept\n", 2))
     server = program.start(1, before=("prlimit", "--nofile=5"))
@@ -288,7 +293,8 @@ def no_more_files(program: Program) -> None:
 
 
 def refused_memory(program: Program) -> None:
-    """The last request for memory is refused: that of the report of a check, and of the buffers of a stream."""
+    """The last request for memory is refused: that of the report of a check, and of the buffers of
+    a stream."""
 
     for words in (
         ["check-lsif", BASE],
@@ -310,7 +316,8 @@ def refused_memory(program: Program) -> None:
 
 
 def connections(program: Program) -> None:
-    """So many connections, one request each: also one that sends nothing, and one that is reset, count."""
+    """So many connections, one request each: also one that sends nothing, and one that is reset,
+    count."""
     server = program.start(4)
     expect("two requests", server.ask(PROJECTS + PROJECTS), NO_PROJECTS)
     server.connect().close()
@@ -325,7 +332,8 @@ def connections(program: Program) -> None:
 
 
 def own_addresses() -> list[str]:
-    """Addresses of this machine beside 127.0.0.1: another one of its loopback, and that of its own network, where it has one."""
+    """Addresses of this machine beside 127.0.0.1: another one of its loopback, and that of its own
+    network, where it has one."""
     found = ["127.0.0.2"]
     with socket.socket(socket.AF_INET, socket.SOCK_DGRAM) as probe:
         try:
@@ -380,13 +388,15 @@ def make_old(path: pathlib.Path) -> None:
 
 
 def has_pages_in_log(path: pathlib.Path) -> bool:
-    """Whether the log beside a database has pages, which it hasn't any more when its user closed it: it's gone then, or its head is left."""
+    """Whether the log beside a database has pages, which it hasn't any more when its user closed
+    it: it's gone then, or its head is left."""
     log = path.with_name(path.name + "-wal")
     return log.exists() and log.stat().st_size >= 512
 
 
 def migrations(program: Program) -> None:
-    """What `migrate` prints of each kind of database, and what the other calls print of one that it is needed for, or that isn't the product's."""
+    """What `migrate` prints of each kind of database, and what the other calls print of one that it
+    is needed for, or that isn't the product's."""
     with tempfile.TemporaryDirectory() as room:
         path = pathlib.Path(room) / "index.db"
         expect("a replay", program.run(["replay", path, "demo/first.http"]), (FIRST, "", 0))
@@ -417,7 +427,8 @@ def migrations(program: Program) -> None:
 
 
 def closed_logs(program: Program) -> None:
-    """A run and a server close their database: what its log had is in the file. A new file keeps no sums of its pages."""
+    """A run and a server close their database: what its log had is in the file. A new file keeps no
+    sums of its pages."""
     with tempfile.TemporaryDirectory() as room:
         path = pathlib.Path(room) / "index.db"
         expect("a replay", program.run(["replay", path, "demo/first.http"]), (FIRST, "", 0))
@@ -433,7 +444,8 @@ def closed_logs(program: Program) -> None:
 
 
 def refused_memory_of_files(program: Program) -> None:
-    """Each of the first requests for memory of a run over a file is refused: that is what's printed, whichever it was."""
+    """Each of the first requests for memory of a run over a file is refused: that is what's
+    printed, whichever it was."""
     with tempfile.TemporaryDirectory() as room:
         path = pathlib.Path(room) / "index.db"
         expect("a replay", program.run(["replay", path, EMPTY]), ("", "", 0))
@@ -501,7 +513,8 @@ def many_places(program: Program) -> None:
 
 
 def many_tags(program: Program) -> None:
-    """A prefix of 100,000 tags finds them all, in a reply of over 10 MB; and a field of 60,000 bytes comes back whole."""
+    """A prefix of 100,000 tags finds them all, in a reply of over 10 MB; and a field of 60,000
+    bytes comes back whole."""
     names = [f"name{number:05d}" for number in range(100_000)]
     file = b"".join(f"{name}\tsource.c\t1\n".encode() for name in names)
     long = "v" * 60_000
@@ -547,7 +560,8 @@ def parameters(program: Program) -> None:
 
 
 def held_body(program: Program) -> None:
-    """Of a body of 33 MB a server holds no more than a line or two: its greatest use of memory is told by the system."""
+    """Of a body of 33 MB a server holds no more than a line or two: the system says how
+    much at most."""
     line = '{{"id":{},"type":"vertex","label":"other","text":"{}"}}\n'
     first = (TOP / BASE).read_text().splitlines(keepends=True)[0]
     dump = (first + "".join(line.format(n, "a" * 1_000_000) for n in range(2, 35))).encode()
@@ -612,8 +626,9 @@ def sends_on_after_the_reply(peer: socket.socket, over: threading.Event) -> None
         peer.sendall(b"a")
 
 
-# the clients, and how many seconds another one waits for its reply meanwhile, at least and at most: where nothing is taken, a write may end
-# after 10 seconds with what the system keeps, and the next one after further 10
+# the clients, and how many seconds another one waits for its reply meanwhile, at least and at most:
+# where nothing is taken, a write may end after 10 seconds with what the system keeps, and the next
+# one after further 10
 CLIENTS = [
     (sends_nothing, 10, 10),
     (stops_in_its_head, 10, 10),
@@ -627,12 +642,14 @@ CLIENTS = [
 
 
 def late(most: int) -> float:
-    """How many seconds later it may be: the system ends a wait, of 10 seconds at most, up to an eighth late."""
+    """How many seconds later it may be: the system ends a wait, of 10 seconds at most, up to an
+    eighth late."""
     return min(most, 10) / 8 + 0.5
 
 
 def put_tags(server: Server) -> str:
-    """An upload of tags that are more than the system keeps for a client that doesn't read, 8 MB; answers the reply to a query of projects then."""
+    """An upload of tags that are more than the system keeps for a client that doesn't read, 8 MB;
+    answers the reply to a query of projects then."""
     body = b"".join(b"n%03d\t%s\t1\n" % (number, b"f" * 20000) for number in range(400))
     head = b"PUT /projects/app/tags?key=k1 HTTP/1.1\r\nContent-Length: %d\r\n\r\n" % len(body)
     expect(

@@ -1,11 +1,15 @@
-"""Says what takes long in a proof: runs a command, watches which process closes which proof file, and prints the seconds before each.
+"""Says what takes long in a proof: runs a command, watches which process closes which proof file,
+and prints the seconds before each.
 
-usage: bench/proof_times.py [COUNT] COMMAND..     (default the 40 that took longest), as root, on Linux
+usage: bench/proof_times.py [COUNT] COMMAND..
+       (default the 40 that took longest; as root, on Linux)
 
-A check writes a file of each step of each function (`NAME.Lts`, `NAME.Proof`, `NAME.Tie`) when the step is done, so the time since the file before, of the
-same process, is what the step took; with several jobs each process is looked at by itself. What a check has kept it doesn't write again. Processes
-that start late read what others wrote, which is counted for the first file that they write. All processes of the machine are looked at, so let nothing else
-prove meanwhile; and a crate's second `rt` waits for the first one.
+A check writes a file of each step of each function (`NAME.Lts`, `NAME.Proof`, `NAME.Tie`) when the
+step is done, so the time since the file before, of the same process, is what the step took; with
+several jobs each process is looked at by itself. What a check has kept it doesn't write again.
+Processes that start late read what others wrote, which is counted for the first file that they
+write. All processes of the machine are looked at, so let nothing else prove meanwhile; and a
+crate's second `rt` waits for the first one.
 """
 
 import ctypes
@@ -26,7 +30,8 @@ FILE = re.compile(r"([^/]+?)(?:\.decls)?\.oantt[^/]*$")
 
 
 def watch():
-    """A descriptor that tells of each file that is closed after it was written, on the file system of this folder and on that of /tmp."""
+    """A descriptor that reports each file that is closed after it was written, on the file system
+    of this folder and on that of /tmp."""
     libc = ctypes.CDLL(None, use_errno=True)
     libc.fanotify_mark.argtypes = [
         ctypes.c_int,

@@ -1,4 +1,5 @@
-"""Compares projects over three servers behind nginx with the same projects on one server: see bench/proxy.sh."""
+"""Compares projects over three servers behind nginx with the same projects on one server: see
+bench/proxy.sh."""
 
 import json
 import sys
@@ -31,7 +32,8 @@ LOCATIONS = """
 
 
 def dump(number: int) -> str:
-    """The dump of a project: it exports a function of its own name, and imports those of two others. Ids are numbers of lines."""
+    """The dump of a project: it exports a function of its own name, and imports those of two
+    others. Ids are numbers of lines."""
     lines: list[str] = []
 
     def element(kind: str, label: str, /, **members: object) -> int:
@@ -102,7 +104,8 @@ def queries() -> list[tuple[str, str, str]]:
 
 
 def compare(one: int, proxy: int, home: dict[str, int]) -> None:
-    """Asks both for each query, and prints how many answers are equal and how many joins are missed."""
+    """Asks both for each query, and prints how many answers are equal and how many joins are
+    missed."""
     equal = missing = places = missed = hovers = 0
     for project, kind, path in queries():
         whole, part = ask(one, "GET", path), ask(proxy, "GET", path)

@@ -1,18 +1,24 @@
 #!/usr/bin/env bash
-# Measures what requests cost a desk over the tables of a database. Over a file: the median time of definition, references and hover over two dumps of
-# some 80,000 elements each, of which one imports what the other exports, against C SQLite by Python's `sqlite3`, which asks the same database the same
-# statements and makes the same replies, in one run; and the median time of a query for the projects. In memory: a put of the greater dump into an empty
-# database, against its check and the replacement of its rows. Then a definition at the innermost of 10, and of 10,000, ranges that lie in one another, of which
-# the outermost alone has one; and the time where one result has 40,000 `item` edges to one range.
+# Measures what requests cost a desk over the tables of a database. Over a file: the median time of
+# definition, references and hover over two dumps of some 80,000 elements each, of which one imports
+# what the other exports, against C SQLite by Python's `sqlite3`, which asks the same database the
+# same statements and makes the same replies, in one run; and the median time of a query for the
+# projects. In memory: a put of the greater dump into an empty database, against its check and the
+# replacement of its rows. Then a definition at the innermost of 10, and of 10,000, ranges that lie
+# in one another, of which the outermost alone has one; and the time where one result has 40,000
+# `item` edges to one range.
 # usage: bench/queries.sh [QUERIES]      (default 200 of each kind)
-# It builds and proves a small program over the crates of this repository, in a copy beside /tmp, which takes some minutes.
+# It builds and proves a small program over the crates of this repository, in a copy beside /tmp,
+# which takes some minutes.
 set -eu
 queries=${1:-200}
 . "$(dirname "${BASH_SOURCE[0]}")/shared.sh"
 
 build_program queries "positions lsif dump flatten tables desk sqlite" "$program_check" <<'EOP'
-//! Serves the puts and the queries of the file `commands`, a line each, over the database `index.db`, and prints the kind, the microseconds, the status
-//! and the body of each. Of `memory FILE` it prints how long a put into an empty database in memory takes, the check of the dump, and the replacement.
+//! Serves the puts and the queries of the file `commands`, a line each, over the database
+//! `index.db`, and prints the kind, the microseconds, the status and the body of each. Of `memory
+//! FILE` it prints how long a put into an empty database in memory takes, the check of the dump,
+//! and the replacement.
 #![tactic(auto)]
 use desk::{Command, Desk, DocUri, Key, ProjectName, Query, Reply, TableDesk};
 use dump::{CheckedDump, Checker, RequestKind};
@@ -212,8 +218,9 @@ for text in open("commands"):
     print(words[0], (time.perf_counter_ns() - start) // 1000, body)
 PY
 
-# A dump of documents with result sets, each named four times, each with a definition, references, a hover and a moniker with a
-# package; or, where it imports, without definitions and hovers. So many result sets.
+# A dump of documents with result sets, each named four times, each with a definition, references, a
+# hover and a moniker with a package; or, where it imports, without definitions and hovers. So many
+# result sets.
 make_dump() {
     awk -v name="$1" -v sets="$2" -v kind="$3" '
     function vertex(label, members) {
@@ -295,7 +302,8 @@ make_nested() {
     }'
 }
 
-# So many queries of each kind at positions of a project with so many result sets, and as many for the projects.
+# So many queries of each kind at positions of a project with so many result sets, and as many for
+# the projects.
 make_queries() {
     awk -v name="$1" -v sets="$2" -v count="$3" 'BEGIN {
         for (k = 0; k < count; k++) {

@@ -1,7 +1,8 @@
 # What the scripts that refuse requests for memory share.
 
-# Sets `program` to the built program that is named, or, where the name is empty, to the one of the clone `top`, which is built first where it isn't yet: to
-# the file itself, since the requests of the script beside it would count too.
+# Sets `program` to the built program that is named, or, where the name is empty, to the one of the
+# clone `top`, which is built first where it isn't yet: to the file itself, since the requests of
+# the script beside it would count too.
 find_program() {
     program=$1
     if [ -z "$program" ]; then
@@ -11,8 +12,9 @@ find_program() {
     program=$(realpath "$program")
 }
 
-# Builds the library `refuse.so` in this folder, by a C compiler. A program that is started with it has one of its requests for memory refused, that of
-# the number in REFUSED, counted from 1; with 0 none is, and at its end the program tells on the standard error how many there were.
+# Builds the library `refuse.so` in this folder, by a C compiler. A program that is started with it
+# has one of its requests for memory refused, that of the number in REFUSED, counted from 1; with 0
+# none is, and at its end the program prints on the standard error how many there were.
 build_refusal() {
     cat >"$1/refuse.c" <<'C'
 #define _GNU_SOURCE

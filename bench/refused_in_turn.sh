@@ -1,8 +1,9 @@
 #!/usr/bin/env bash
-# Runs `codenav check-lsif FILE` with each of its requests for memory refused in turn, and prints what came of it. Each run
-# but the last must print `codenav: out of memory` with status 2; in the last nothing is refused.
-# usage: bench/refused_in_turn.sh [PROGRAM [FILE]]      (the built program, without it the one of this clone, which is built first where it isn't yet;
-#                                                       default demo/base.lsif; needs a C compiler)
+# Runs `codenav check-lsif FILE` with each of its requests for memory refused in turn, and prints
+# what came of it. Each run but the last must print `codenav: out of memory` with status 2; in the
+# last nothing is refused.
+# usage: bench/refused_in_turn.sh [PROGRAM [FILE]]  (the built program, without it the one of this
+#        clone, which is built first where it isn't yet; default demo/base.lsif; needs a C compiler)
 set -eu
 top=$(cd "$(dirname "${BASH_SOURCE[0]}")/.." && pwd)
 . "$top/bench/refusal.sh"

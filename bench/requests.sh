@@ -1,12 +1,14 @@
 #!/usr/bin/env bash
-# Measures what a request costs the program beside what it costs the desk alone, in one run: the processor time of each of
-# so many `GET /projects` and definition requests over the demo's dump, by `replay` from a file and by `serve` over loopback,
-# beside that of the same query asked of a desk in a loop, and beside the system's time for a bare connection; and the time that a client
-# on loopback sees, at the median. Then the most
-# memory that `replay` holds for 10,000 and for 1,000,000 requests; and that of an upload of some 30 MB, beside that of
-# `check-lsif` of the same dump.
+# Measures what a request costs the program beside what it costs the desk alone, in one run: the
+# processor time of each of so many `GET /projects` and definition requests over the demo's dump, by
+# `replay` from a file and by `serve` over loopback, beside that of the same query asked of a desk
+# in a loop, and beside the system's time for a bare connection; and the time that a client on
+# loopback sees, at the median. Then the most memory that `replay` holds for 10,000 and for
+# 1,000,000 requests; and that of an upload of some 30 MB, beside that of `check-lsif` of the same
+# dump.
 # usage: bench/requests.sh [REQUESTS [CONNECTIONS]]      (default 100000 and 10000)
-# It builds and proves a small program over the crates of this repository, in a copy beside /tmp, which takes some minutes.
+# It builds and proves a small program over the crates of this repository, in a copy beside /tmp,
+# which takes some minutes.
 set -eu
 requests=${1:-100000}
 connections=${2:-10000}
@@ -15,8 +17,8 @@ connections=${2:-10000}
 program=$top/crates/codenav/out/codenav
 
 build_program asks "positions lsif dump desk" <<'EOP'
-//! Asks a desk that has the dump of the file `dump` for the projects and for a definition, as often as the file `count` says, and
-//! prints the nanoseconds of one query of each kind.
+//! Asks a desk that has the dump of the file `dump` for the projects and for a definition, as often
+//! as the file `count` says, and prints the nanoseconds of one query of each kind.
 #![tactic(auto)]
 use dump::RequestKind;
 use desk::{Command, Desk, DocUri, Key, ProjectName, Query, TableDesk};
@@ -88,7 +90,8 @@ cp "$top/demo/base.lsif" "$folder/dump"
 echo "$requests" >"$folder/count"
 (cd "$folder" && "$built") >"$folder/alone"
 
-# The nanoseconds of one request beyond what a desk alone takes for it, and the system for a bare connection.
+# The nanoseconds of one request beyond what a desk alone takes for it, and the system for a bare
+# connection.
 report() {
     awk -v way="$1" -v kind="$2" -v count="$3" -v time="$4" -v bare="$5" '$1 == kind {
         printf "%-7s %-11s %8.1f microseconds each, a desk alone %6.1f, the system for a bare connection %6.1f, beyond both %6.1f\n",

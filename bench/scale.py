@@ -88,7 +88,8 @@ def measure_growth(
 
 
 def measure_queries(where: str, port: int, plain: int) -> None:
-    """Prints what queries take over a small project and over a great one, where others are as great."""
+    """Prints what queries take over a small project and over a great one, where others are as
+    great."""
     small = {"uri": "file:///a.ts", "line": 2, "character": 1}
     great = {"uri": "file:///src/part_2.rs", "line": 9, "character": 9}
     calls = {
@@ -118,8 +119,9 @@ def measure_queries(where: str, port: int, plain: int) -> None:
 
 
 def measure_puts(program: str, where: str, port: int, dumps: list[pathlib.Path]) -> None:
-    """Prints what puts take that make a project, and those in the place of a dump, beside a check of the same dump by the program: the least of five turns, or
-    of one that takes ten seconds. Where a put in the place of a dump takes thirty times the check, none is made of greater dumps.
+    """Prints what puts take that make a project, and those in the place of a dump, beside a check
+    of the same dump by the program: the least of five turns, or of one that takes ten seconds.
+    Where a put in the place of a dump takes thirty times the check, none is made of greater dumps.
     """
     has_replacing = True
     for path in dumps:
@@ -162,7 +164,8 @@ def start_seconds(program: str, databases: list[str]) -> float:
 
 
 def check_seconds(database: pathlib.Path) -> float:
-    """The least time that SQLite takes for its own checks of all of a database, which is copied before."""
+    """The least time that SQLite takes for its own checks of all of a database, which is copied
+    before."""
     found = []
     with tempfile.TemporaryDirectory() as folder:
         copy = copied(database, pathlib.Path(folder, "copy.db"))
@@ -180,7 +183,8 @@ def check_seconds(database: pathlib.Path) -> float:
 
 
 def measure_starts(program: str, database: pathlib.Path) -> None:
-    """Prints how long a program takes from its start until it listens: over memory, a new file, an empty one, and the full one, beside SQLite's checks of it."""
+    """Prints how long a program takes from its start until it listens: over memory, a new file, an
+    empty one, and the full one, beside SQLite's checks of it."""
     new = [str(database.with_name(f"new_{number}.db")) for number in range(STARTS)]
     for what, databases in (
         ("memory", [":memory:"] * STARTS),
@@ -202,7 +206,8 @@ def measure_starts(program: str, database: pathlib.Path) -> None:
 
 
 def measure(program: str, folder: pathlib.Path) -> None:
-    """Measures a server over memory and one over a file, which get the same, and then starts over that file."""
+    """Measures a server over memory and one over a file, which get the same, and then starts over
+    that file."""
     small, great, tags = TOP / "demo" / "base.lsif", folder / "great.lsif", folder / "great.tags"
     database, plain = folder / "index.db", free_port()
     with tempfile.TemporaryDirectory() as held, nginx(held, plain), serving(

@@ -1,4 +1,5 @@
-"""What the scripts that measure servers share: requests over loopback, an nginx, and what is said of processes."""
+"""What the scripts that measure servers share: requests over loopback, an nginx, and what is said
+of processes."""
 
 import http.client
 import json
@@ -84,7 +85,8 @@ def wait_for(is_there: Callable[[], bool]) -> None:
 
 
 def least_times(calls: dict[str, Callable[[], object]], count: int) -> dict[str, float]:
-    """The seconds that each call takes when it's made so often, one after the other: the least of five turns, which all calls take together."""
+    """The seconds that each call takes when it's made so often, one after the other: the least of
+    five turns, which all calls take together."""
     least: dict[str, float] = {}
     for _ in range(5):
         for name, call in calls.items():

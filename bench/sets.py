@@ -1,8 +1,10 @@
 #!/usr/bin/env python3
-"""Measures a set: splits a large dump, publishes it, asks it, then changes one document, splits and publishes again; beside it a small set is asked in
-the same run. Prints what each stage took: wall clock, processor time of the tools and of the server, and memory of the tools.
+"""Measures a set: splits a large dump, publishes it, asks it, then changes one document, splits and
+publishes again; beside it a small set is asked in the same run. Prints what each stage took: wall
+clock, processor time of the tools and of the server, and memory of the tools.
 
-usage: bench/sets.py PROGRAM LARGE SMALL [ASKED]      (both dumps are prepared; bench/large_dump.py makes a large one)
+usage: bench/sets.py PROGRAM LARGE SMALL [ASKED]
+       (both dumps are prepared; bench/large_dump.py makes a large one)
 """
 
 import json

@@ -1,10 +1,12 @@
-# What the measurements share. It sets `top`, the repository, and `folder`, which goes when the script ends.
+# What the measurements share. It sets `top`, the repository, and `folder`, which goes when the
+# script ends.
 export LC_ALL=C
 top=$(cd "$(dirname "${BASH_SOURCE[0]}")/.." && pwd)
 folder=$(mktemp -d)
 trap 'rm -rf "$folder"' EXIT
 
-# What ends the main.rt of each program: `main`, which calls its `run`, and the error for what it can't do.
+# What ends the main.rt of each program: `main`, which calls its `run`, and the error for what it
+# can't do.
 program_end='
 fn main(rt: HostRuntime) -> ExitCode {
     match run(&rt) {
@@ -37,8 +39,9 @@ fn check(alloc: Global, body: &[u8]) -> io::Result<CheckedDump> {
 EOP
 )
 
-# Builds and proves a program of this name, whose main.rt is on the standard input but for its end, over these crates of the
-# repository, in a copy; the texts that are given stand before the end. Sets `built` to the program.
+# Builds and proves a program of this name, whose main.rt is on the standard input but for its end,
+# over these crates of the repository, in a copy; the texts that are given come before the end.
+# Sets `built` to the program.
 build_program() {
     local name=$1 crates=$2 home=$folder/crates/$1 crate
     mkdir -p "$home/src" "$home/data"

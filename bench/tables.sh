@@ -1,18 +1,22 @@
 #!/usr/bin/env bash
-# Measures the tables against C SQLite, by Python's `sqlite3`, in one run and with the same rows and statements: putting a dump in the place of
-# another on a file, and what single selections take, at the median, where the project has 80,000 tags too. It prints for dumps of four sizes the
-# time of each, the ratio, and how the replacement grew; and the time of a replacement in memory. The two run in turn, so that both see the machine's good
-# and bad minutes.
-# usage: bench/tables.sh [ROUNDS]      (default 5 rounds, each of two replacements of each size and of 200 of each selection)
-# It builds and proves a small program over the crates of this repository, in a copy beside /tmp, which takes some minutes.
+# Measures the tables against C SQLite, by Python's `sqlite3`, in one run and with the same rows and
+# statements: putting a dump in the place of another on a file, and what single selections take, at
+# the median, where the project has 80,000 tags too. It prints for dumps of four sizes the time of
+# each, the ratio, and how the replacement grew; and the time of a replacement in memory. The two
+# run in turn, so that both see the machine's good and bad minutes.
+# usage: bench/tables.sh [ROUNDS]  (default 5 rounds, each of two replacements of each size and of
+#        200 of each selection)
+# It builds and proves a small program over the crates of this repository, in a copy beside /tmp,
+# which takes some minutes.
 set -eu
 rounds=${1:-5}
 . "$(dirname "${BASH_SOURCE[0]}")/shared.sh"
 . "$top/bench/dumps.sh"
 
 build_program rows "positions lsif dump flatten tags tables sqlite" "$program_check" <<'EOP'
-//! Puts the dump in the file `made` into the database `index.db` so many times, and one in memory, and prints the microseconds of each; then asks
-//! the database what the file `asked` says, a line each, and prints the kind and the nanoseconds.
+//! Puts the dump in the file `made` into the database `index.db` so many times, and one in memory,
+//! and prints the microseconds of each; then asks the database what the file `asked` says, a line
+//! each, and prints the kind and the nanoseconds.
 #![tactic(auto)]
 use dump::{CheckedDump, Checker, RequestKind, Role};
 use flatten::{Rows, flatten};
@@ -232,7 +236,8 @@ for line in open("asked"):
     print(kind, time.perf_counter_ns() - start, len(found))
 PY
 
-# A dump of so many elements in which each result set that a hover leaves bears an exported moniker of its own.
+# A dump of so many elements in which each result set that a hover leaves has an exported moniker
+# of its own.
 make_marked() {
     make_dump "$((($1 * 10) / 11))" | awk -v count="$1" '
         { print; last = NR }
@@ -253,7 +258,8 @@ make_tags() {
     awk 'BEGIN { for (n = 0; n < 80000; n++) printf "n%06d\tsrc/part.c\t%d;\"\tf\n", n, n + 1 }'
 }
 
-# What is asked: of results, ranges, positions, keys and names all over the dump in the file `made` and the tags.
+# What is asked: of results, ranges, positions, keys and names all over the dump in the file `made`
+# and the tags.
 ask_for() {
     awk -v count="$1" '
         /"label":"document"/ { match($0, /file:[^"]*/); uris[documents++] = substr($0, RSTART, RLENGTH) }

@@ -1,9 +1,11 @@
 #!/usr/bin/env bash
-# Puts a dump and tags into tables in memory, selects from them and removes them, with each request for memory refused in turn, and
-# prints what came of it. A call that is refused must answer S02, and the same call of the same tables, asked again, what it answers
-# without a refusal, as must each call behind it. Where the opening of the database is refused, no call is made.
-# usage: bench/tables_refused_in_turn.sh [ELEMENTS]      (default 60, of the dump; needs a C compiler)
-# It builds and proves a small program over the crates of this repository, in a copy beside /tmp, which takes some minutes.
+# Puts a dump and tags into tables in memory, selects from them and removes them, with each request
+# for memory refused in turn, and prints what came of it. A call that is refused must answer S02,
+# and the same call of the same tables, asked again, what it answers without a refusal, as must each
+# call behind it. Where the opening of the database is refused, no call is made.
+# usage: bench/tables_refused_in_turn.sh [ELEMENTS]  (default 60, of the dump; needs a C compiler)
+# It builds and proves a small program over the crates of this repository, in a copy beside /tmp,
+# which takes some minutes.
 set -eu
 elements=${1:-60}
 . "$(dirname "${BASH_SOURCE[0]}")/shared.sh"
@@ -11,7 +13,8 @@ elements=${1:-60}
 . "$top/bench/refusal.sh"
 
 build_program refusals "lsif dump flatten tags tables sqlite" "$program_check" <<'EOP'
-//! Calls tables in memory in turn, and prints what each call answers. A call that is refused is made once more.
+//! Calls tables in memory in turn, and prints what each call answers. A call that is refused is
+//! made once more.
 #![tactic(auto)]
 use dump::{CheckedDump, Checker};
 use flatten::{Rows, flatten};

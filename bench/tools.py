@@ -45,7 +45,8 @@ def calls_at(url: str, others: list[str]) -> dict[str, Callable[[], object]]:
 
 
 def processor_seconds() -> float:
-    """What this program and those that it called have used of processors, which a busy machine changes little."""
+    """What this program and those that it called have used of processors, which a busy machine
+    changes little."""
     times = os.times()
     return times.user + times.system + times.children_user + times.children_system
 

@@ -1,20 +1,24 @@
 #!/usr/bin/env bash
-# Measures what an upload in pieces costs a desk in memory: the least time of pieces of 8,192 bytes beside that of the same body
-# as one piece, in one run and in turn; and the most memory that the program holds while it reads the body from a file
-# piece by piece, beside that with the whole body in memory, in multiples of the body. For a dump and for a tags file.
-# With the built program, it also measures a whole put of that dump into a new file by `replay`, which reads, checks, flattens and writes it, beside
-# Python's `json` and `sqlite3`, which read the same lines, ask of each that its id is new and its ends are known, and write the same rows (taken from
-# the program's database, so that Python's flattening isn't in its time): the least time of each, in turn.
+# Measures what an upload in pieces costs a desk in memory: the least time of pieces of 8,192 bytes
+# beside that of the same body as one piece, in one run and in turn; and the most memory that the
+# program holds while it reads the body from a file piece by piece, beside that with the whole body
+# in memory, in multiples of the body. For a dump and for a tags file. With the built program, it
+# also measures a whole put of that dump into a new file by `replay`, which reads, checks, flattens
+# and writes it, beside Python's `json` and `sqlite3`, which read the same lines, ask of each that
+# its id is new and its ends are known, and write the same rows (taken from the program's database,
+# so that Python's flattening isn't in its time): the least time of each, in turn.
 # usage: bench/uploads.sh [RUNS [PROGRAM]]      (default 9 runs, and no whole put)
-# It builds and proves a small program over the crates of this repository, in a copy beside /tmp, which takes some minutes.
+# It builds and proves a small program over the crates of this repository, in a copy beside /tmp,
+# which takes some minutes.
 set -eu
 runs=${1:-9}
 whole_program=${2:+$(realpath "$2")}
 . "$(dirname "${BASH_SOURCE[0]}")/shared.sh"
 
 build_program uploads "lsif desk" <<'EOP'
-//! Uploads a body as each line of a file says: `time KIND FILE` prints the microseconds of one piece and of pieces of 8,192
-//! bytes, of a body in memory; `pieces KIND FILE` uploads a file as it's read; `whole KIND FILE` reads it first.
+//! Uploads a body as each line of a file says: `time KIND FILE` prints the microseconds of one
+//! piece and of pieces of 8,192 bytes, of a body in memory; `pieces KIND FILE` uploads a file as
+//! it's read; `whole KIND FILE` reads it first.
 #![tactic(auto)]
 use desk::{Desk, Key, PlainDesk, ProjectName, Reply, Upload};
 use lsif::Profile;

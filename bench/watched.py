@@ -1,4 +1,5 @@
-"""What bench/kills.py and bench/full_disk.py share: a server whose every step has a time limit, and uploads that say which they are."""
+"""What bench/kills.py and bench/full_disk.py share: a server whose every step has a time limit, and
+uploads that say which they are."""
 
 import json
 import select
@@ -18,7 +19,8 @@ class Wrong(Exception):
 
 
 class NoReply(Exception):
-    """A request without a whole reply: whether there was a connection, and whether all of the request was sent."""
+    """A request without a whole reply: whether there was a connection, and whether all of the
+    request was sent."""
 
     def __init__(self, connected: bool, sent: bool) -> None:
         super().__init__("no reply")
@@ -94,7 +96,8 @@ class Server:
 def launched(
     program: str, database: str, before: tuple[str, ...] = (), requests: int = 1_000_000
 ) -> Server:
-    """A server over a database, of so many requests, which may not listen yet; it's started by the words before it."""
+    """A server over a database, of so many requests, which may not listen yet; it's started by the
+    words before it."""
     port = free_port()
     words = [*before, program, "serve", database, "--port", str(port), "--requests", str(requests)]
     return Server(
@@ -176,8 +179,9 @@ def said(project: str, number: int, function: int) -> str:
 def dump(
     project: str, number: int, functions: int, profile: int = 1, joined: Optional[str] = None
 ) -> bytes:
-    """The dump of a project: functions that are each defined in one line and called in the next. Every eighth one is exported, and below its call
-    another project's function of the same number is called. In profile 2 each call is a declaration too. Ids are numbers of lines.
+    """The dump of a project: functions that are each defined in one line and called in the next.
+    Every eighth one is exported, and below its call another project's function of the same number
+    is called. In profile 2 each call is a declaration too. Ids are numbers of lines.
     """
     lines: list[str] = []
     ranges: list[int] = []

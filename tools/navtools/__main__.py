@@ -26,7 +26,7 @@ TOOLS = {
     "upload-tags": Tool("upload", "upload a tags file", ("tags",)),
     "remove": Tool("remove", "remove a project"),
     "list": Tool("projects", "list the projects of a server"),
-    "ask": Tool("ask", "ask what stands at a place, or for a name"),
+    "ask": Tool("ask", "ask what is at a place, or for a name"),
     "lsp": Tool("lsp", "serve an editor by the Language Server Protocol"),
     "browse": Tool("browse", "show a folder's files as web pages with answers"),
     "explain-fault": Tool("explain", "say what is wrong with a dump that is refused"),

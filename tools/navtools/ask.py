@@ -1,4 +1,6 @@
-"""Asks the server, and prints places as compilers do: what stands at a place, from 1 and in characters, or the tags of a name."""
+"""Asks the server, and prints places as compilers do: what is at a place, from 1 and in characters,
+or the tags of a name.
+"""
 
 import argparse
 import os

@@ -40,7 +40,7 @@ def words_parser() -> argparse.ArgumentParser:
         "--search",
         default="",
         metavar="ADDRESS",
-        help="a search engine for texts, to which the key s leads with the word: {} in ADDRESS stands for it",
+        help="a search engine for texts, to which the key s leads with the word: it replaces {} in ADDRESS",
     )
     parser.add_argument("--port", type=int, default=8081, help="8081 without it; 0 for a free one")
     add_indexed(parser)

@@ -64,7 +64,8 @@ def message_of(body: bytes) -> Message:
 
 
 def member(value: Any, path: str, kind: type) -> Any:
-    """What a path of names, parted by dots, leads to in parameters; raises Fault where that isn't there or isn't of the kind."""
+    """What a path of names, separated by dots, leads to in parameters; raises Fault where that
+    isn't there or isn't of the kind."""
     for name in path.split("."):
         value = value.get(name) if isinstance(value, dict) else None
     if type(value) is not kind:

@@ -171,7 +171,8 @@ def gunzipped(chunks: Chunks) -> Chunks:
 
 
 def unzstd(chunks: Chunks) -> Chunks:
-    """What chunks in zstd unpack to, in small pieces, since a few bytes may stand for many; raises ValueError, and EOFError where they end early."""
+    """What chunks in zstd unpack to, in small pieces, since a few bytes may unpack to many; raises
+    ValueError, and EOFError where they end early."""
     try:
         import zstandard
     except ImportError:

@@ -204,7 +204,7 @@ class Bridge:
         (self.edited.add if is_edited else self.edited.discard)(uri)
 
     def ask(self, what: str, params: Any, **more: str) -> Any:
-        """What a query at a position found, or None; a refusal is told once, up to the next answer."""
+        """What a query at a position found, or None; a refusal is shown once, up to the next answer."""
         uri = member(params, "textDocument.uri", str)
         line = member(params, "position.line", int)
         character = member(params, "position.character", int)

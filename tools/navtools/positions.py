@@ -42,7 +42,7 @@ def convert(plan: Plan, source: Optional[str]) -> None:
 
 
 def path_of(plan: Plan, uri: str, source: str) -> str:
-    """The file of a document, below the folder that stands for the root."""
+    """The file of a document, below the folder that the root is mapped to."""
     inside = below(spelled(plan.survey.mender.root), uri)
     if inside is None:
         inside = uri.removeprefix("file://")

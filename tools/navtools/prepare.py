@@ -1,9 +1,11 @@
-"""Prepares a dump of an indexer for the server: what indexers write and the server refuses is mended where no fact has to be invented, and what would
-be answered wrongly is written so that it isn't. Lines that needn't change are written as they stand.
+"""Prepares a dump of an indexer for the server: what indexers write and the server refuses is
+mended where no fact has to be invented, and what would be answered wrongly is written so that it
+isn't. Lines that needn't change are written as they are.
 
-The dump is read twice, so memory grows with the ids alone; what can't be read twice, as a pipe, is copied to a temporary file first. It may be
-packed by gzip or zstd, in UTF-16, with a byte order mark, or one JSON array. What was mended and what was left out is told, each kind
-with its count and its first line; docs/TOOLS.md has the list.
+The dump is read twice, so memory grows with the ids alone; what can't be read twice, as a pipe, is
+copied to a temporary file first. It may be packed by gzip or zstd, in UTF-16, with a byte order
+mark, or one JSON array. What was mended and what was left out is reported, each kind with its count
+and its first line; docs/TOOLS.md has the list.
 """
 
 import argparse
@@ -196,7 +198,7 @@ def parser_of_words() -> argparse.ArgumentParser:
         action="append",
         default=[],
         metavar="GLOB",
-        help="leave out the documents whose path from the project's root on, or address, is like GLOB, where `*` stands for `/` too",
+        help="leave out the documents whose path from the project's root on, or address, is like GLOB, where `*` matches `/` too",
     )
     parser.add_argument(
         "--source",

@@ -54,7 +54,8 @@ class Watched(io.FileIO):
 
 
 class Heard(io.StringIO):
-    """Stands for the standard error while a tool runs: keeps its lines, and hands on the progress that it draws on a terminal."""
+    """Replaces the standard error while a tool runs: keeps its lines, and passes on the progress
+    that it draws on a terminal."""
 
     def __init__(self) -> None:
         super().__init__()

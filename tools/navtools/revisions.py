@@ -188,7 +188,8 @@ class Revision:
         return os.path.lexists(os.path.join(self.top, name))
 
     def list_renames(self) -> None:
-        """Lists which files have other names today, those that git wasn't told of yet among them; not more often than every few seconds."""
+        """Lists which files have other names today, those that git doesn't know yet among
+        them; not more often than every few seconds."""
         if time.monotonic() - self.listed < FRESH:
             return
         self.old_names, self.new_names = {}, {}

@@ -130,7 +130,7 @@ class RowCounter:
         return self.documents.get(self.containers.get(range_id, ""), "")
 
     def marks_of_vertices(self) -> tuple[dict[Id, Tally], int]:
-        """The marks that each vertex bears itself, and how many pairs the walks to them go over."""
+        """The marks that each vertex has itself, and how many pairs the walks to them follow."""
         marks: dict[Id, Tally] = {}
         keys = {moniker: tally_of(self.key_of(moniker)) for moniker in self.monikers}
         pairs = 0
@@ -144,7 +144,7 @@ class RowCounter:
         return marks, pairs
 
     def marks_of_ranges(self, marks: Mapping[Id, Tally]) -> Tally:
-        """The marks of all ranges: those that the members of each one's chain bear."""
+        """The marks of all ranges: those that the members of each one's chain have."""
         along: dict[Id, Tally] = {}
         total = Tally()
         for own in self.ranges:

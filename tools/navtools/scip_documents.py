@@ -19,7 +19,7 @@ DRIVE_END = 2
 
 
 def is_absolute(path: str) -> bool:
-    """Whether a path stands for itself, on this system or on Windows."""
+    """Whether a path needs no root, on this system or on Windows."""
     return path.startswith("/") or path[1:DRIVE_END] == ":" and path[:1].isalpha()
 
 

@@ -41,7 +41,7 @@ class Known:
 
 
 def key_of(symbol: str, uri: str) -> str:
-    """What tells a symbol from others: a local one with its document."""
+    """What distinguishes a symbol from others: a local one with its document."""
     return f"{symbol}\0{uri}" if is_local(symbol) else symbol
 
 

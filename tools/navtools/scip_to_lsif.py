@@ -41,7 +41,7 @@ def parser_of_words() -> argparse.ArgumentParser:
         action="append",
         default=[],
         metavar="GLOB",
-        help="leave out the documents whose path is like GLOB, where `*` stands for `/` too",
+        help="leave out the documents whose path is like GLOB, where `*` matches `/` too",
     )
     parser.add_argument(
         "--keep-file-ranges",

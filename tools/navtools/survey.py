@@ -318,6 +318,6 @@ def text(own: Any) -> str:
 
 
 def digest(*parts: str) -> bytes:
-    """What tells lists of texts from each other, in few bytes."""
+    """What distinguishes lists of texts from each other, in few bytes."""
     whole = "".join(f"{len(part)}:{part}" for part in parts)
     return blake2b(whole.encode("utf-8", "surrogatepass"), digest_size=12).digest()

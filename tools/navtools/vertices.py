@@ -169,7 +169,7 @@ def resolved(path: str, root: str) -> Optional[str]:
 
 
 def escaped(path: str) -> str:
-    """A path whose `%` stands for itself."""
+    """A path with each `%` escaped."""
     return path.replace("%", "%25")
 
 
@@ -209,7 +209,8 @@ def part_of(part: Any) -> Any:
 
 
 def inline(vertex: Element) -> list[tuple[Optional[str], list[Any]]]:
-    """The places that early versions write within a result: the property of the `item` edge that each list stands for, with its members."""
+    """The places that early versions write within a result: the property of the `item` edge that
+    each list represents, with its members."""
     found: list[tuple[Optional[str], Any]] = []
     for member in ("result", *RESULT_MEMBERS):
         value = vertex.get(member)

@@ -137,7 +137,7 @@ class Walk:
 
     @functools.cache
     def bearers(self, kind: str, key: Any) -> list[Any]:
-        """What bears a moniker of a kind and a key."""
+        """What has a moniker of a kind and a key."""
         return [at for at, moniker in self.borne if (kind, key) in self.marks_of(moniker)]
 
     @functools.cache
@@ -198,7 +198,8 @@ def answered(projects: dict[str, Walk], project: str, question: Question) -> Any
 def joins(
     projects: dict[str, Walk], project: str, at: Any, request: str
 ) -> list[tuple[str, int, Any]]:
-    """The first results of what other projects have that bears a mark of a range, with the project and the line."""
+    """The first results of what other projects have with a mark of a range, each with its
+    project and its line."""
     found = []
     for kind, key in projects[project].marks(at):
         if kind == "local" or kind == "export" and request != "references":

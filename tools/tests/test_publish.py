@@ -120,7 +120,7 @@ class Publish(OnCheckout):
                 self.assertEqual(self.answer(), DEFINITION)
 
     def test_tags_alone(self) -> None:
-        """Lines that the server would refuse are left out, and told."""
+        """Lines that the server would refuse are left out, and reported."""
         with open(os.path.join(self.checkout, "src", "latin.rs"), "wb") as file:
             file.write(b"fn plain() {}\nfn other() { /* \xe9 */ }\n")
         status, said, _ = self.published("--no-index", "app", self.checkout)

@@ -138,7 +138,8 @@ class Uploads(OnServer):
                 self.assertEqual((self.there(url), relay.taken), (("A", ""), 2))
 
     def test_a_dump_that_is_never_accepted(self) -> None:
-        """A ring of results that lead to each other makes more pairs than the server takes: that's told, and it isn't sent again."""
+        """A ring of results that lead to each other makes more pairs than the server takes: that's
+        reported, and it isn't sent again."""
         lines = [META, DOCUMENT]
         lines += [vertex(3 + own, "referenceResult") for own in range(RING)]
         for own in range(RING):

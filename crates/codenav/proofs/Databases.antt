@@ -22,7 +22,7 @@ finds_index_one image s m opened found h = record {
   stands = subst (λ db. StandsForOne db m) (sym (ap (λ (d : Database). d.trees) opened.0.clean ∙ found.holds h.db h.holds)) h.stands;
 }
 
--- what two things that are said of an answer lead to
+-- what two facts about an answer lead to
 pub implied : {A B : Type 0} {P Q R : A → Type 0} (r : Result A B) → IfOk r P → IfOk r Q → ((a : A) → P a → Q a → R a) → IfOk r R
 implied (Ok a) p q f = f a p q
 implied (Err _) p q f = tt

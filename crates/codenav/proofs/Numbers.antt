@@ -40,7 +40,8 @@ read G k most text (Some n) only fits reads =
     numeral most (without_leading_plus text) parsed.0.0 ∙ ap (λ (m : ℕ). up_to most (Some m)) (sym parsed.1)
 read G k most text None only fits reads = no_numeral most (2 ^ k) (without_leading_plus text) fits (only text (Err reads.0) reads.1)
 
--- what clap's getter reads of an option's text, within the bounds, is the number that the text names
+-- what clap's getter reads of an option's text, within the bounds, is the number that the text
+-- names
 pub named : {E : Type 0} (G : List ℕ → Result ℕ E → Type 0) (k most : ℕ) (o : Option Text) (r : Option ℕ)
     → ((u : List ℕ) (x : Result ℕ E) → G u x → ParsesUnsigned k 10 u x) → most < 2 ^ k
     → (o ≡ None → r ≡ None) → ((text : Text) → o ≡ Some text → ReadsOne G text r)

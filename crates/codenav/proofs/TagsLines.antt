@@ -1,4 +1,4 @@
--- The lines that are lent, and what they say of a tags file.
+-- The lines that are borrowed, and what they say of a tags file.
 use Rattle.std.proofs.Common.{◌≡◌, ◌≢◌, ◌∙◌, ℕ, ◌<◌, ◌==◌, List, [], ◌∷◌, ◌++◌, Bool, true, false, length, map, Option, Some, None, Ok, Err, refl, ap, sym, arith}
 use Rattle.std.proofs.lemmas.Bool.{lt-ltb}
 use Rattle.std.proofs.lemmas.Bool.Decides.{nat_tests}
@@ -53,7 +53,7 @@ long_line (Some text) h =
     let first = first_line (lines_of text) h.0 h.1 (same_lines text ∙ h.2) in
     (map reading_of first.1, ap (map reading_of) first.2 ∙ ap (λ r. r ∷ map reading_of first.1) (long_reading first.0 h.0 first.3 h.3))
 
--- ---- a line that is lent
+-- ---- a line that is borrowed
 
 ended_first : (line rest : List ℕ) → IsLine line → lines_of (line ++ line_feed ∷ rest) ≡ ended_line line ∷ lines_of rest
 unfolding lines_of

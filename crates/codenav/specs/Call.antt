@@ -128,7 +128,7 @@ is_number_up_to most digits =
 abbrev pub number_up_to : ℕ → Text → Option ℕ
 number_up_to most digits = if is_number_up_to most digits then Some (digits_value 10 digits) else None
 
--- the number of an option with this value, where there is one; a plus may stand before its digits
+-- the number of an option with this value, where there is one; a plus may come before its digits
 abbrev pub number_named : ℕ → Option Text → Option ℕ
 number_named most None = None
 number_named most (Some text) = number_up_to most (without_leading_plus text)

@@ -13,15 +13,16 @@ use Rattle.http_edge.specs.declared.serve.ServeFault.{ServeFault}
 abbrev pub most_requests : ℕ
 most_requests = 1000000
 
--- the bytes that were written are the replies of the abstract machine, from its empty state, to the requests of the bytes
--- that were read
+-- the bytes that were written are the replies of the abstract machine, from its empty state, to the
+-- requests of the bytes that were read
 abbrev pub Replays : Option (List ℕ) → Option (List ℕ) → Output → Output → Result ℕ ServeFault → Type 0
 Replays unread unread' output output' result =
     (messages : List MessageValue) × (answers : List AnswerValue) × (n : State)
     × Serves true most_requests (session unread unread' output output' messages answers) nothing n result
 
--- the same from the state that the tables of a database stand for: what the connection shows stands for the state after, and what a
--- stop may leave of it, and so of the file, is what it may leave of the index that served these requests
+-- the same from the state that the tables of a database represent: what the connection shows
+-- represents the state after, and what a crash may leave of it, and so of the file, is what it may
+-- leave of the index that served these requests
 abbrev pub ReplaysFrom : State → sqlite.State → Option (List ℕ) → Option (List ℕ) → Output → Output → Result ℕ ServeFault → Type 0
 ReplaysFrom m conn unread unread' output output' result =
     (messages : List MessageValue) × (answers : List AnswerValue) × (n : State)

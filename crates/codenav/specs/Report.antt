@@ -45,8 +45,8 @@ ReportsDump profile (Some text) report = IsDumpReport (dump_of profile text) rep
 abbrev pub ShowsTagsCode : tags_code.Code → FaultyLine → Type 0
 ShowsTagsCode c l = (l.name.now ≡ tags_codes.name_of c) × (l.text.now ≡ tags_codes.text_of c)
 
--- of lines that read so: how many ordinary tags there are where no line has a fault, and else the first faulty line,
--- counted from 1, with its code
+-- of lines that read so: how many ordinary tags there are where no line has a fault, and else the
+-- first faulty line, counted from 1, with its code
 abbrev pub IsTagsReport : List tags_faults.Reading → Report → Type 0
 IsTagsReport lines (Elements n) = ⊥
 IsTagsReport lines (Tags n) = IsFaultless lines × (n ≡ length (tags_of (contents lines)))
@@ -75,8 +75,8 @@ abbrev pub exit_code_of : Status → ℕ
 exit_code_of statuses.Sound = 0
 exit_code_of statuses.Faulty = 1
 
--- what a check answers and writes whose report is one of these: all of the report's line, or by a writer that fails a
--- beginning of it; nothing where memory was refused or the reader failed
+-- what a check answers and writes whose report is one of these: all of the report's line, or by a
+-- writer that fails a beginning of it; nothing where memory was refused or the reader failed
 abbrev pub Checks : (Report → Type 0) → Output → Result Status CheckFault → Output → Type 0
 Checks Reports old (Ok status) new =
     (report : Report) × Reports report × (status ≡ status_of report) × Writes old (report_text report) new

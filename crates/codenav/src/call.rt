@@ -34,7 +34,7 @@ pub enum Call<'a> {
         port: u16,
         requests: u32,
     },
-    /// Bring the tables of this database from format 1 to format 2.
+    /// Upgrade the tables of this database from format 1 to format 2.
     Migrate {
         database: &'a str,
     },
@@ -281,8 +281,8 @@ fn read_words<'a, S: AsStr>(
     }
 }
 
-/// Reads the program's words, its name first: the subcommand and the values that `clap` finds in them. A port is from 1 to
-/// 65535, and a number of requests from 1 to 1,000,000.
+/// Reads the program's words, its name first: the subcommand and the values that `clap` finds in
+/// them. A port is from 1 to 65535, and a number of requests from 1 to 1,000,000.
 pub fn read_call<'a, S: AsStr>(alloc: Global, words: &'a [S]) -> Result<Call<'a>, CallFault>
     ensures call { IfOk result (λ call. IsCall (map S.text words.entry.now) (call_value call)) }
     ensures bounds { IfOk result (λ call. IsWithinBounds (call_value call)) }

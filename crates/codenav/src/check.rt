@@ -27,9 +27,10 @@ fn judge<R: Source>(alloc: Global, profile: Profile, r: &mut R) -> Result<Report
     }
 }
 
-/// Reads a dump by a profile from a reader to its end, or up to its first faulty line, and writes the line of its report:
-/// `ok N elements`, or `line N: CODE text`. Keeps the dump's elements, and of its bytes one line. Refuses where memory
-/// was refused, the reader failed, or the writer failed or took no byte.
+/// Reads a dump by a profile from a reader to its end, or up to its first faulty line, and writes
+/// the line of its report: `ok N elements`, or `line N: CODE text`. Keeps the dump's elements, and
+/// of its bytes one line. Refuses where memory was refused, the reader failed, or the writer failed
+/// or took no byte.
 pub fn check_lsif<R: Source, W: Sink>(
     alloc: Global,
     profile: Profile,

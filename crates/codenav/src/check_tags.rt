@@ -1,4 +1,5 @@
-//! `codenav check-tags`: reads a tags file and writes its report. The text of reports is in `report.rt`.
+//! `codenav check-tags`: reads a tags file and writes its report. The text of reports is in
+//! `report.rt`.
 ghost use Rattle.std.specs.Prelude.{◌-◌, ◌^◌, ◌<◌, IfOk};
 ghost use Rattle.lsif.specs.Buffered.{unread};
 ghost use Rattle.lsif.specs.Streams.{CanCount};
@@ -37,7 +38,7 @@ fn faulty(fault: LineFault) -> Report
     })
 }
 
-/// Feeds the checker a line, or the code of one that was too long to be lent.
+/// Feeds the checker a line, or the code of one that was too long.
 fn feed(
     checker: &mut TagChecker,
     line: Result<&[u8], Code>,
@@ -107,9 +108,10 @@ fn judge<R: Source>(alloc: Global, r: &mut R) -> Result<Report, CheckFault>
     }
 }
 
-/// Reads a tags file from a reader to its end, or up to its first faulty line, and writes the line of its report:
-/// `ok N tags`, the ordinary ones, or `line N: CODE text`. Keeps of its bytes one line, and the last tag's name. Refuses
-/// where memory was refused, the reader failed, or the writer failed or took no byte.
+/// Reads a tags file from a reader to its end, or up to its first faulty line, and writes the line
+/// of its report: `ok N tags`, the ordinary ones, or `line N: CODE text`. Keeps of its bytes one
+/// line, and the last tag's name. Refuses where memory was refused, the reader failed, or the
+/// writer failed or took no byte.
 pub fn check_tags<R: Source, W: Sink>(
     alloc: Global,
     r: &mut R,

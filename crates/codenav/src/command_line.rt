@@ -1,4 +1,4 @@
-//! The command line, as `clap` is told of it: the subcommands with their words and options.
+//! The command line, as `clap` needs it: the subcommands with their words and options.
 ghost use Rattle.std.specs.Prelude.{◌≡◌, IfOk, false, true, codes, pos};
 ghost use Rattle.clap.specs.Words.{App, app_of, rule_of, with_subcommand};
 ghost use Rattle.codenav.specs.Call.{app, check_lsif_app, check_tags_app, migrate_app, most_connections, most_port};
@@ -14,7 +14,7 @@ const VERSION: &str = "0.1.0";
 /// The greatest port.
 pub const MOST_PORT: u32 = 65535;
 
-/// How many connections are served at most.
+/// The most connections that are served.
 pub const MOST_CONNECTIONS: u32 = 1000000;
 
 /// A word that has to be there, with its name in texts of help and what it is.
@@ -167,7 +167,7 @@ fn top<'a>(alloc: Global) -> Command<'a>
         .subcommand_required(true)
 }
 
-/// A program with one subcommand more, where memory was had for both.
+/// The program with one more subcommand.
 fn add<'a>(
     program: Result<Command<'a>, AllocError>,
     subcommand: Result<Command<'a>, AllocError>,
@@ -179,7 +179,7 @@ fn add<'a>(
     program?.subcommand(added)
 }
 
-/// The command line.
+/// The command line, as `clap` reads it, with the texts of help.
 pub fn command<'a>(alloc: Global) -> Result<Command<'a>, AllocError>
     ensures { IfOk result (λ c. app_of c ≡ app) }
 {

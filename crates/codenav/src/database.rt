@@ -1,4 +1,5 @@
-//! The databases that the program runs over: in a file, or in memory.
+//! The databases that the program runs over: in a file, or in memory; how they are opened, closed
+//! and migrated.
 ghost use Rattle.std.specs.Prelude.{◌≡◌, ◌↔◌, ◌∷◌, [], false, IfOk, List};
 ghost use Rattle.sqlite_wal.specs.Files.{image_at};
 ghost use Rattle.sqlite.specs.Files.{file_state};
@@ -19,7 +20,7 @@ use tables::{Tables, TablesFault, migrate};
 /// The name of a database in memory.
 pub const MEMORY: &str = ":memory:";
 
-/// A connection to a database in a file of which this is supposed at the start.
+/// A connection to a database in a file. `S` says what the file is supposed to hold at the start.
 pub type FileConnection<S> = Connection<FileStore<FileFrom<S>>>;
 
 /// Why the file can't be opened as a database.
@@ -30,8 +31,9 @@ fn fault_of(error: Error) -> TablesFault {
     }
 }
 
-/// A connection to the database in this file, which is made where there is none. Where the file and its log hold tables that stand for a state of the
-/// index, as `S` says what they hold, the connection shows them.
+/// A connection to the database in this file, which is made where there is none. Where the file and
+/// its log hold tables that represent a state of the index, as `S` says what they hold, the
+/// connection shows them.
 pub fn connect_file<S: Start>(
     rt: &HostRuntime,
     path: &str,
@@ -48,8 +50,8 @@ pub fn connect_file<S: Start>(
     }
 }
 
-/// A desk over the tables of a database. Where a new connection shows one that stands for a state of the index, the desk stands for that state, and a stop
-/// leaves it alone.
+/// A desk over the tables of a database. Where a new connection shows one that represents a state
+/// of the index, the desk represents that state, and a crash leaves it alone.
 pub fn open_desk<S: Alter + Drop>(
     alloc: Global,
     conn: Connection<S>,
@@ -67,7 +69,8 @@ pub fn open_desk<S: Alter + Drop>(
     }
 }
 
-/// The connection of a desk's tables. It stands for what the desk stood for, and a stop leaves of it what it would have left of the desk.
+/// The connection of a desk's tables. It represents what the desk represented, and a crash leaves
+/// of it what it would have left of the desk.
 pub fn connection_of<S: Alter + Drop>(desk: TableDesk<S>) -> Connection<S>
     ensures stands { (m : State) → ServesFor (state S.Store result) m ↔ ⟦<IndexDesk<Tables<S>> as Desk>⟧.stands desk m }
     ensures may_leave { (states : List State) → LeavesOneOf (state S.Store result) states ↔ ⟦<IndexDesk<Tables<S>> as Desk>⟧.may_leave desk states }
@@ -76,7 +79,8 @@ pub fn connection_of<S: Alter + Drop>(desk: TableDesk<S>) -> Connection<S>
     desk.into_tables().into_connection()
 }
 
-/// Ends the use of the file: what its log has goes into it. Where that fails, the log has all, and the next start reads it.
+/// Ends the use of the file: what its log has is written into it. Where that fails, the log has
+/// all, and the next start reads it.
 pub fn close_connection<S: Start>(conn: FileConnection<S>) {
     let _ = conn.close();
 }
@@ -86,8 +90,8 @@ fn is_missing<R: Files>(rt: &R, path: &str) -> bool {
     matches!(fs::exists(rt, path), Ok(false))
 }
 
-/// Brings the tables of a database from format 1 to format 2, and answers how many projects they have; or none, where they are of format 2 already. The
-/// connection comes back.
+/// Upgrades the tables of a database from format 1 to format 2, and returns how many projects they
+/// have; or none, where they are of format 2 already. The connection comes back.
 fn migrate_database<S: Alter + Drop>(
     alloc: Global,
     conn: Connection<S>,
@@ -108,9 +112,10 @@ fn migrate_database<S: Alter + Drop>(
     }
 }
 
-/// The same for the database in this file. Where the file and its log hold tables of format 1 that stand for a state of the index, as `S` says what they
-/// hold, the connection shows tables of format 2 that stand for it, and the number is that of its projects. It's `Foreign` where there is no such file, and
-/// none is made.
+/// The same for the database in this file. Where the file and its log hold tables of format 1 that
+/// represent a state of the index, as `S` says what they hold, the connection shows tables of
+/// format 2 that represent it, and the number is that of its projects. It's `Foreign` where there
+/// is no such file, and none is made.
 pub fn migrate_file<S: Start>(
     rt: &HostRuntime,
     path: &str,

@@ -1,4 +1,5 @@
-//! `codenav`, a code navigation index server: calls what the words of the command line ask for, and ends with its status. `specs/Call`.
+//! `codenav`, a code navigation index server: calls what the words of the command line ask for, and
+//! ends with its status. `specs/Call`.
 #![tactic(auto)]
 
 ghost use Rattle.std.specs.Prelude.{◌≡◌, false};
@@ -51,7 +52,7 @@ fn main(rt: HostRuntime) -> ExitCode {
     ExitCode::from(run(&rt))
 }
 
-/// Carries out what the program's words say, and answers the exit status.
+/// Carries out what the program's words say, and returns the exit status.
 fn run(rt: &HostRuntime) -> u8 {
     match carry_out(rt) {
         Ok(status) => status,
@@ -59,7 +60,8 @@ fn run(rt: &HostRuntime) -> u8 {
     }
 }
 
-/// Carries out what the program's words say. The exit status is 0, or 1 where a checked file is faulty.
+/// Carries out what the program's words say. The exit status is 0, or 1 where a checked file is
+/// faulty.
 fn carry_out(rt: &HostRuntime) -> Result<u8, ProgramFault> {
     let words = read_words(rt)?;
     match read_call(rt.alloc(), words.as_slice()) {
@@ -111,8 +113,8 @@ fn check_tags_file<R: Alloc<A = Global> + Files + Print>(
     Ok(status.exit_code())
 }
 
-/// `codenav replay DB FILE`: prints the replies to the requests in that file, over the database in the file DB, or over one in memory that is empty at
-/// first where DB is `:memory:`.
+/// `codenav replay DB FILE`: prints the replies to the requests in that file, over the database in
+/// the file DB, or over one in memory that is empty at first where DB is `:memory:`.
 fn replay_stream(rt: &HostRuntime, database: &str, name: &str) -> Result<u8, ProgramFault> {
     let mut r = Counted::new(fs::open(rt, name)?);
     let mut w = Counted::new(io::writer(rt));
@@ -126,8 +128,9 @@ fn replay_stream(rt: &HostRuntime, database: &str, name: &str) -> Result<u8, Pro
     Ok(0)
 }
 
-/// `codenav serve DB --port N --requests N`: serves so many connections on that port of 127.0.0.1, and says so when it listens; over the database in the
-/// file DB, or over one in memory that is empty at first where DB is `:memory:`.
+/// `codenav serve DB --port N --requests N`: serves so many connections on that port of 127.0.0.1,
+/// and says so when it listens; over the database in the file DB, or over one in memory that is
+/// empty at first where DB is `:memory:`.
 fn serve_port(
     rt: &HostRuntime,
     database: &str,
@@ -154,7 +157,8 @@ fn serve_file(rt: &HostRuntime, path: &str, port: u16, requests: u32) -> Result<
 /// What serving over a database gives back: how it ended, and the connection.
 type DatabaseService<S> = (Result<(), ProgramFault>, Connection<S>);
 
-/// Serves over the database of this connection, which comes back. Refuses where it can't be opened as one of this product.
+/// Serves over the database of this connection, which comes back. Refuses where it can't be opened
+/// as one of this product.
 fn serve_database<S: Alter + Drop>(
     rt: &HostRuntime,
     conn: Connection<S>,
@@ -214,8 +218,8 @@ fn listen<R: Net + Print>(rt: &R, port: u16) -> Result<R::Listener, ProgramFault
     Ok(listener)
 }
 
-/// `codenav migrate DB`: brings the database in that file from format 1 to format 2, and prints how many projects it has; or that there is nothing to do,
-/// where it's of format 2.
+/// `codenav migrate DB`: brings the database in that file from format 1 to format 2, and prints how
+/// many projects it has; or that there is nothing to do, where it's of format 2.
 fn migrate_tables(rt: &HostRuntime, database: &str) -> Result<u8, ProgramFault> {
     if database == MEMORY {
         return Err(ProgramFault::from(TablesFault::Foreign));
@@ -232,8 +236,8 @@ fn migrate_tables(rt: &HostRuntime, database: &str) -> Result<u8, ProgramFault> 
     }
 }
 
-/// Prints `clap`'s text: a refusal to the standard error, with status 2, and help that was asked for to the standard
-/// output, with status 0.
+/// Prints `clap`'s text: a refusal to the standard error, with status 2, and help that was asked
+/// for to the standard output, with status 0.
 fn show<R: Print + Eprint>(rt: &R, error: &clap::Error) -> Result<u8, ProgramFault> {
     match error.print(rt) {
         Ok(()) if error.use_stderr() => Ok(FAILED),
@@ -242,7 +246,7 @@ fn show<R: Print + Eprint>(rt: &R, error: &clap::Error) -> Result<u8, ProgramFau
     }
 }
 
-/// Prints why the program fails, one line on the standard error, and answers the status.
+/// Prints why the program fails, one line on the standard error, and returns the status.
 fn fail(rt: &impl Eprint, fault: &ProgramFault) -> u8 {
     let _ = eprintln!(rt; "codenav: {fault}");
     FAILED

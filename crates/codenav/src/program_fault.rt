@@ -1,4 +1,5 @@
-//! Why the program can't carry out what its words ask for. The line that it prints on the standard error is the fault's message.
+//! Why the program can't carry out what its words ask for. The line that it prints on the standard
+//! error is the fault's message.
 use crate::call::CallFault;
 use crate::report::CheckFault;
 use crate::serve::ServerFault;
@@ -42,7 +43,7 @@ pub enum ProgramFault {
     Tables(#[from] TablesFault),
 }
 
-/// A failure to open or to read: want of memory, or any other.
+/// A failure to open or to read: lack of memory, or any other.
 impl From<io::Error> for ProgramFault {
     fn from(error: io::Error) -> ProgramFault {
         match error.kind() {

@@ -1,4 +1,5 @@
-//! `codenav replay`: the replies to the requests of a stream, over a database in memory or in a file. `specs/Replay`.
+//! `codenav replay`: the replies to the requests of a stream, over a database in memory or in a
+//! file. `specs/Replay`.
 ghost use Rattle.std.specs.Prelude.{◌≡◌, ◌-◌, ◌^◌, ◌<◌, false, true, List, Err, IfOk, IfErr};
 ghost use Rattle.sqlite_wal.specs.Files.{image_at};
 ghost use Rattle.sqlite.specs.Files.{file_state};
@@ -22,12 +23,13 @@ use sqlite::{Alter, Connection, FileFrom, FileStore, Start};
 use std::alloc::Global;
 use tables::{Tables, TablesFault};
 
-/// How many requests of a stream are answered at most.
+/// The most requests of a stream that are answered.
 const MOST_REQUESTS: u32 = 1000000;
 
-/// Answers the requests (HTTP/1.1, RFC 9112) of a stream, one after the other and at most 1,000,000 of them, by this desk, from the state that it stands
-/// for, and says how many replies were written. Refuses where memory for its buffers was refused, and then nothing was read or written and the desk is as
-/// before; where the reader failed; and where the writer failed or took no byte.
+/// Answers the requests (HTTP/1.1, RFC 9112) of a stream, one after the other and at most 1,000,000
+/// of them, by this desk, from the state that it represents, and returns how many replies were
+/// written. Fails where memory for its buffers was refused, and then nothing was read or written
+/// and the desk is as before; where the reader failed; and where the writer failed or took no byte.
 pub fn replay<S: Alter, R: Source, W: Sink>(
     alloc: Global,
     desk: &mut TableDesk<S>,
@@ -50,7 +52,8 @@ pub fn replay<S: Alter, R: Source, W: Sink>(
     serve_stream(alloc, desk, r, w, MOST_REQUESTS)
 }
 
-/// The same over a database in memory that is empty at first. Where memory for that was refused, nothing was read or written either.
+/// The same over a database in memory that is empty at first. Where memory for that was refused,
+/// nothing was read or written either.
 pub fn replay_in_memory<R: Source, W: Sink>(
     alloc: Global,
     r: &mut R,
@@ -74,9 +77,10 @@ pub fn replay_in_memory<R: Source, W: Sink>(
 /// What a replay over a database gives back: its answer, as `replay` has it, and the connection.
 pub type DatabaseReplay<S> = (Result<u32, ServeFault>, Connection<S>);
 
-/// The same over the tables of a database. Where its connection shows tables that stand for a state of the index, the replies are given from that state,
-/// and the connection then shows tables that stand for the state after them; and a stop leaves of them what it leaves of such an index. Refuses where the
-/// database isn't one of this product, and then nothing was read or written.
+/// The same over the tables of a database. Where its connection shows tables that represent a state
+/// of the index, the replies are given from that state, and the connection then shows tables that
+/// represent the state after them; and a crash leaves of them what it leaves of such an index.
+/// Refuses where the database isn't one of this product, and then nothing was read or written.
 fn replay_database<S: Alter + Drop, R: Source, W: Sink>(
     alloc: Global,
     conn: Connection<S>,
@@ -98,12 +102,14 @@ fn replay_database<S: Alter + Drop, R: Source, W: Sink>(
     Ok((answer, connection_of(desk)))
 }
 
-/// What a replay over a database in a file gives back: its answer, and the connection, which has the file still.
+/// What a replay over a database in a file gives back: its answer, and the connection, which has
+/// the file still.
 pub type FileReplay<S> = DatabaseReplay<FileStore<FileFrom<S>>>;
 
-/// The same over the database in this file, which is made where there is none. Where the file and its log hold tables that stand for a state of the index,
-/// as `S` says what they hold, the replies are given from that state. Refuses where the file can't be opened as a database of this product, and then
-/// nothing was read or written.
+/// The same over the database in this file, which is made where there is none. Where the file and
+/// its log hold tables that represent a state of the index, as `S` says what they hold, the replies
+/// are given from that state. Refuses where the file can't be opened as a database of this product,
+/// and then nothing was read or written.
 pub fn replay_file<S: Start, R: Source, W: Sink>(
     rt: &HostRuntime,
     path: &str,

@@ -1,4 +1,4 @@
-//! What a check reports: the count of a sound file, or the fault of a line.
+//! The reports of the checks: the count of a sound file, or the fault of a line.
 ghost use Rattle.std.specs.Prelude.{◌≡◌, IfOk, string_bytes};
 ghost use Rattle.lsif.specs.Streams.{CanCount};
 ghost use Rattle.codenav.specs.Report.{exit_code_of, report_text, status_of};
@@ -95,8 +95,8 @@ fn report_text(alloc: Global, report: Report) -> Result<String, AllocError>
     }
 }
 
-/// Writes the line of a report, and answers its status. Refuses where memory was refused, or the writer failed or took
-/// no byte.
+/// Writes the line of a report, and answers its status. Refuses where memory was refused, or the
+/// writer failed or took no byte.
 pub(crate) fn send<W: Sink>(alloc: Global, report: Report, w: &mut W) -> Result<Status, CheckFault>
     requires { CanCount (W.output w.old) }
     ensures { Sends report (W.output w.old) result (W.output w.new) }

@@ -1,4 +1,5 @@
-//! `codenav serve`: the replies to the requests of connections, one request each. A stream is served in the crate `http_edge`. `specs/Serve`.
+//! `codenav serve`: the replies to the requests of connections, one request each, one connection
+//! after the other. A stream is served in the crate `http_edge`. `specs/Serve`.
 ghost use Rattle.std.specs.Prelude.{◌≡◌, ◌+◌, ◌-◌, ◌^◌, ◌<◌, true, List, Err, IfErr, length};
 ghost use Rattle.machine.specs.State.{State};
 ghost use Rattle.lsif.specs.Streams.{CanCount};
@@ -18,7 +19,7 @@ use std::time::{Clock, Instant};
 use tables::{MemoryDisk, Tables};
 use thiserror::Error;
 
-/// How many requests of a connection are answered at most.
+/// The most requests of a connection that are answered.
 const MOST_REQUESTS: u32 = 1;
 
 /// Why no more connections are served.
@@ -40,7 +41,7 @@ pub struct CountedListener<'a, L> {
 }
 
 impl<'a, L: OpenListener> CountedListener<'a, L> {
-    /// Counts from none.
+    /// The listener, with no connection accepted so far.
     pub fn new(listener: &'a L) -> CountedListener<'a, L>
         ensures { result.accepted ≡ 0 }
     {
@@ -65,9 +66,10 @@ impl<'a, L: OpenListener> CountedListener<'a, L> {
     }
 }
 
-/// Answers the one request (HTTP/1.1, RFC 9112) of a connection, and says how many replies were written: none where its
-/// client sends nothing. Refuses where memory for its buffers was refused, and then nothing was read or written and the
-/// desk is as before; where the reader failed; and where the writer failed or took no byte.
+/// Answers the one request (HTTP/1.1, RFC 9112) of a connection, and says how many replies were
+/// written: none where its client sends nothing. Refuses where memory for its buffers was refused,
+/// and then nothing was read or written and the desk is as before; where the reader failed; and
+/// where the writer failed or took no byte.
 pub fn serve_request<D: Desk, R: Source, W: Sink>(
     alloc: Global,
     desk: &mut D,
@@ -92,7 +94,8 @@ pub fn serve_request<D: Desk, R: Source, W: Sink>(
     serve_stream(alloc, desk, r, w, MOST_REQUESTS)
 }
 
-/// Both ends of a connection that was just accepted, where they are to be had and the time can be read.
+/// Both ends of a connection that was just accepted. None where one isn't given or the time can't
+/// be read.
 fn ends<'a, S: OpenStream + Drop, C: Clock>(
     stream: S,
     clock: &'a C,
@@ -130,9 +133,9 @@ fn serve_ends<D: Desk, S: OpenStream + Read + Write + Drop, C: Clock>(
     }
 }
 
-/// Serves a connection that was accepted: its one request, within the limits. It counts as served also where a read or
-/// a write of it fails, or its time is over. Refuses where memory was refused before anything was read or written; then
-/// the desk is as before.
+/// Serves a connection that was accepted: its one request, within the limits. It counts as served
+/// also where a read or a write of it fails, or its time is over. Refuses where memory was refused
+/// before anything was read or written; then the desk is as before.
 pub fn serve_connection<D: Desk, S: OpenStream + Read + Write + Drop, C: Clock>(
     alloc: Global,
     desk: &mut D,
@@ -153,8 +156,8 @@ pub fn serve_connection<D: Desk, S: OpenStream + Read + Write + Drop, C: Clock>(
     }
 }
 
-/// Serves so many connections, one after the other. Stops where none can be accepted, and where memory was refused
-/// before anything of one was read or written.
+/// Serves so many connections, one after the other. Stops where none can be accepted, and where
+/// memory was refused before anything of one was read or written.
 pub fn serve_connections<D: Desk, L: OpenListener, C: Clock>(
     alloc: Global,
     desk: &mut D,

@@ -1,5 +1,5 @@
-//! The program's calls over readers, writers and connections of tests: what they print, reply and answer. The tests of the crates below stand in crates of their
-//! own, `test_dumps` and others.
+//! The program's calls over readers, writers and connections of tests: what they print, reply and
+//! return. The tests of the crates below are in crates of their own, `test_dumps` and others.
 mod asserts;
 mod call;
 mod check;

@@ -1,4 +1,5 @@
-//! Connections that may take so much time, in all and for each read and write. The limits stand in `main.rt`. `next_wait` in `specs/Serve`.
+//! Connections with limits of time, in all and for each read and write, so that a slow client can't
+//! hold the server. The limits are in `main.rt`. `next_wait` in `specs/Serve`.
 ghost use Rattle.std.specs.Prelude.{◌≡◌, option_map};
 ghost use Rattle.std.specs.Duration.{as_nanos};
 ghost use Rattle.codenav.specs.Serve.{next_wait};
@@ -19,8 +20,8 @@ pub struct Limits {
     pub rest: Duration,
 }
 
-/// How long a read or a write may wait when so much time of a connection is over: no longer than one may, and than is
-/// left for all of it. None where nothing is left.
+/// How long a read or a write may wait when so much time of a connection is over: no longer than
+/// one may, and than is left for all of it. None where nothing is left.
 pub fn next_wait(wait: Duration, whole: Duration, elapsed: Duration) -> Option<Duration>
     ensures { option_map as_nanos result ≡ next_wait (as_nanos wait) (as_nanos whole) (as_nanos elapsed) }
 {
@@ -35,8 +36,8 @@ pub fn next_wait(wait: Duration, whole: Duration, elapsed: Duration) -> Option<D
     }
 }
 
-/// A stream of a connection. A read or a write that would wait for longer than it may fails, and so does each when the
-/// time for all of the connection is over.
+/// A stream of a connection. A read or a write that would wait for longer than it may fails, and so
+/// does each when the time for all of the connection is over.
 #[derive(Drop)]
 pub struct Timed<'a, S, C> {
     stream: S,
@@ -69,9 +70,9 @@ impl<'a, S: OpenStream, C: Clock> Timed<'a, S, C> {
 }
 
 impl<S: OpenStream + Read + Drop, C: Clock> Timed<'_, S, C> {
-    /// Ends a connection whose reply was written, in stages (RFC 9112, section 9.6): nothing more is sent, and what its
-    /// client still sends is read and dropped until it ends, since a connection that is closed before may be reset, and
-    /// the reply lost.
+    /// Ends a connection whose reply was written, in stages (RFC 9112, section 9.6): nothing more
+    /// is sent, and what its client still sends is read and dropped until it ends, since a
+    /// connection that is closed before may be reset, and the reply lost.
     pub fn finish(self) {
         let Timed {
             stream,

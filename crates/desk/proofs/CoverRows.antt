@@ -1,4 +1,5 @@
--- The rows of the ranges that cover a position, in order, give what is found of these ranges, the smallest first.
+-- The rows of the ranges that cover a position, in order, give what is found of these ranges, the
+-- smallest first.
 use Rattle.std.proofs.Common.{◌≡◌, inl, inr, ◌∙◌, ◌&&◌, ℕ, Bool, true, List, [], ◌∷◌, map, refl, sym, ap, subst}
 use Rattle.std.specs.Prelude.{Ok, Contains, Option, Some}
 use Rattle.std.specs.List.{AllByRecursion, dedup}

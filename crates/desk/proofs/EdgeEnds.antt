@@ -1,4 +1,5 @@
--- The ends of the edges of a dump are vertices, which have lines: those of monikers, of bearers and of first results.
+-- The ends of the edges of a dump are vertices, which have lines: those of monikers, of bearers and
+-- of first results.
 use Rattle.std.proofs.Common.{◌≡◌, ◌∙◌, List, [], ◌∷◌, sym, ap, subst, arith, ℕ, ◌≤◌, Bool, true, false, refl, ◌<◌, get_or, nat_le, slice_get}
 use Rattle.std.specs.Prelude.{ℕ, Contains, Option, Some, None, if◌then◌else◌, slice_get}
 use Rattle.lsif.specs.Element.{IdValue, VertexValue, contains, next, definition, references, declaration, implementation, hover, moniker_edge, package_edge, attach, item, other_edge, ElementValue, vertex, edge, same_id, element_id}

@@ -1,4 +1,5 @@
--- The orders of results, of joined vertices and of places that are made of rows, and when they are one.
+-- The orders of results, of joined vertices and of places that are made of rows, and when they are
+-- one.
 use Rattle.std.proofs.Common.{◌≡◌, ◌&&◌, Bool, true, List, map, string_bytes}
 use Rattle.std.specs.Prelude.{◌==◌, nat_eq, Contains}
 use Rattle.std.specs.List.{dedup}

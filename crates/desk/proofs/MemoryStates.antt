@@ -1,4 +1,4 @@
--- What is said of one dump in memory, said of a state in which a project has it.
+-- What holds of one dump in memory, for a state in which a project has it.
 use Rattle.std.proofs.Common.{◌≡◌, ◌⊎◌, inl, inr, ◌∙◌, Bool, true, false, List, [], map, ℕ, Option, Some, None, sym, subst}
 use Rattle.std.specs.Prelude.{Result, Ok, Err, OnOk, OnErr, bytes_eq, if◌then◌else◌}
 use Rattle.std.specs.List.Sorted.{IsStrictlySortedBy}
@@ -77,7 +77,7 @@ pub dump_faultless : (m : State) (project key : List ℕ) (dump : DumpValue) →
 dump_faultless m project key dump here free = faultless_after m project key (set_dump dump)
     (λ old d e. inl (subst (λ (x : DumpValue). IsFaultless (map Ok x.elements)) (same_dump dump d e) here)) free
 
--- what is said of an answer that is a fault
+-- what is known of an answer that is a fault
 pub said_of_fault : {A E : Type 0} (F : E → Type 0) (r : Result A E) (P Q : Type 0) → IsErrAnd r F → Q → OnOk r P × OnErr r Q
 said_of_fault F (Ok a) P Q never q = absurd never
 said_of_fault F (Err e) P Q is q = (tt, q)

@@ -77,7 +77,7 @@ below_of x y e = subst (λ o. MatchOrdering o (x < y) (x ≡ y) (y < x)) e (rank
 -- ---- what is joined
 
 module _ (m : State) (free : AreFaultless m) (own_name : List ℕ) (dump : DumpValue) (there : m.dump own_name ≡ Some dump) (r : RangeValue) (row : RangeFound) (has : HasRow Hover dump.elements r row) where
-  -- a vertex that bears a mark is one
+  -- a vertex that has a mark is one
   bearer_vertex : (elements : List ElementValue) → IsFaultless (map Ok elements) → (y : IdValue) (mark : MarkValue) → Bears elements y mark → (v : VertexValue) × (vertex_at elements y ≡ Some v)
   bearer_vertex elements sure y mark (bound, near, at, path, is) =
       let f = flat_of moniker_pairs_of elements (y, bound) at in

@@ -254,7 +254,7 @@ module _ (m : State) (free : AreFaultless m) where
   -- ---- the range that is picked
 
   module _ (request : RequestKind) (own : List ℕ) (dump : DumpValue) (there : m.dump own ≡ Some dump) where
-    -- the first row that speaks is that of the first range that does
+    -- the first row that has an answer is that of the first range that does
     abbrev IsSame : Option RangeValue → Option RangeFound → Type 0
     IsSame (Some r) (Some row) = HasRow request dump.elements r row
     IsSame None None = Unit {0}

@@ -1,4 +1,5 @@
--- What calls of tables leave of the states for which they serve, and of those of which a stop leaves one.
+-- What calls of tables leave of the states for which they serve, and of those of which a crash
+-- leaves one.
 use Rattle.std.proofs.Common.{◌≡◌, ◌∙◌, ◌++◌, [], ◌∷◌, List, IsTrue, inl, inr, sym, ap, subst}
 use Rattle.std.proofs.lemmas.List.Elements.{Contains-append_left, Contains-push}
 use Rattle.sqlite_trees.specs.declared.store.Store.{Ghosts}
@@ -62,7 +63,7 @@ module _ {S : Type 0} (g : Ghosts S) where
     left = λ states leaves. leaves_both (state g mid) (state g new) states n survives clean (leaves_still (state g old) (state g mid) states asked mid_clean leaves);
   }
 
-  -- what is said of each open store: that a stop leaves what is committed
+  -- what is known of each open store: that a crash leaves what is committed
   abbrev pub IsSettled : Type 0
   IsSettled = (s : S) (db : Trees) → IsTrue (g.view s).is_open → g.recovers s db → db ≡ (g.view s).committed
 

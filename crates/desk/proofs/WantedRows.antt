@@ -93,7 +93,7 @@ wanted_of seen f wanted Q found items all k step same le q =
     let whole : map seen found ≡ filter_map wanted (map f all) = sym (and_none (map seen found)) ∙ ap (λ xs. map seen found ++ filter_map wanted (map f xs)) (sym none) ∙ step ∙ ap (λ xs. filter_map wanted (map f xs)) same in
     subst Q (sym whole) q
 
--- what is told of all rows, when all were looked at
+-- what is known of all rows, once all were looked at
 pub told_of : {A B V : Type 0} (seen : B → V) (f : A → V) (found : List B) (items all : List A) (k : ℕ) → map seen found ++ map f (drop k items) ≡ map f items → items ≡ all → length items ≤ k → map seen found ≡ map f all
 told_of seen f found items all k step same le = sym (and_none (map seen found)) ∙ ap (λ xs. map seen found ++ map f xs) (sym (drop_past k items le)) ∙ step ∙ ap (map f) same
 

@@ -1,4 +1,5 @@
--- What a call of an index finds of a state, and what it leaves: the states that the index stands for, and those of which a stop leaves one.
+-- What a call of an index finds of a state, and what it leaves: the states that the index
+-- represents, and those of which a crash leaves one.
 use Rattle.std.specs.Prelude.{◌≡◌, ◌++◌, [], ◌∷◌, ℕ, List, map, Option, Some, Result, Ok, OnOk, OnErr, option_map}
 use Rattle.dump.specs.Fault.{IsFaultless}
 use Rattle.dump.specs.Progress.{DumpValue}
@@ -16,23 +17,25 @@ kept_text m project key = option_map accepted_text (m.kept project key)
 abbrev pub AreFaultless : State → Type 0
 AreFaultless m = (project : List ℕ) (dump : DumpValue) → m.dump project ≡ Some dump → IsFaultless (map Ok dump.elements)
 
--- the tags of this name, or those whose names begin with this text: of the project that is asked for, where one is, and else of all
+-- the tags of this name, or those whose names begin with this text: of the project that is asked
+-- for, where one is, and else of all
 abbrev pub FindsTags : State → Option (List ℕ) → Wanted → List FoundTag → Type 0
 FindsTags m asked (Name name) = FindsNamed m asked name.now
 FindsTags m asked (Prefix prefix) = FindsPrefixed m asked prefix.now
 
 module _ {I : Type 0} (stands : I → State → Type 0) (may_leave : I → List State → Type 0) where
-  -- a call that changes nothing: the index stands for what it stood for, and a stop leaves what it would have left
+  -- a call that changes nothing: the index represents what it represented, and a crash leaves what
+  -- it would have left
   pub record ReadsOnly (old new : I) : Type 0 where
     pub state : (m : State) → stands old m → stands new m
     pub left : (m : State) (states : List State) → stands old m → may_leave old states → may_leave new states
 
-  -- a change was made: the index stands for this state, and a stop leaves it alone
+  -- a change was made: the index represents this state, and a crash leaves it alone
   pub record Commits (new : I) (n : State) : Type 0 where
     pub state : stands new n
     pub left : may_leave new (n ∷ [])
 
-  -- a change was refused: nothing changed, but a stop may leave the state to which it leads
+  -- a change was refused: nothing changed, but a crash may leave the state to which it leads
   pub record Refuses (old new : I) (m n : State) : Type 0 where
     pub state : stands new m
     pub left : (states : List State) → may_leave old states → may_leave new (states ++ n ∷ [])

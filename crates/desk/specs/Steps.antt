@@ -1,4 +1,5 @@
--- What only private contracts and proofs name: steps of loops, and values of the program's own types.
+-- What only private contracts and proofs name: steps of loops, and values of the program's own
+-- types.
 pub mod Indexes
 pub mod Listed
 pub mod Plain

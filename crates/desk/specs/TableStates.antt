@@ -1,4 +1,4 @@
--- Which states the tables of an open connection serve for, and of which states a stop leaves one.
+-- Which states the tables of an open connection serve for, and of which states a crash leaves one.
 use Rattle.std.specs.Prelude.{◌++◌, [], ◌∷◌, List, IsTrue, Contains}
 use Rattle.std.proofs.lemmas.List.Elements.{Contains-append_left}
 use Rattle.sqlite_trees.specs.Tree.{Trees}
@@ -6,11 +6,12 @@ use Rattle.sqlite.specs.State as sqlite
 use Rattle.tables.specs.Stands.{Rests, StandsFor}
 use Rattle.machine.specs.State.{State}
 
--- The tables are those of the state. A store that a fault has shut serves for every state: it answers nothing any more.
+-- The tables are those of the state. A store that a fault has shut serves for every state: it
+-- answers nothing any more.
 abbrev pub ServesFor : sqlite.State → State → Type 0
 ServesFor s m = IsTrue s.is_open → Rests s m
 
--- each database that a stop now may leave stands for one of these states
+-- each database that a crash now may leave represents one of these states
 abbrev pub AreOf : (Trees → Type 0) → List State → Type 0
 AreOf may_leave states = (db : Trees) → may_leave db → (n : State) × Contains states n × StandsFor db n
 

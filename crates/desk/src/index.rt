@@ -1,5 +1,7 @@
-//! What a desk asks of an index: the selections of which its answers are made, and the changes that commands make. What they find is said by the words of
-//! `tables/specs/Selections` and `Names`; what they leave, by `specs/Indexes`. `Tables` are an index (`table_index`).
+//! What a desk needs of an index: the selections of which its answers are made, and the changes
+//! that commands make. A desk over a database and one in memory differ in nothing else.
+//! `tables/specs/Selections` and `Names` say what selections find, `specs/Indexes` what calls
+//! leave. `Tables` are an index (`table_index`).
 ghost use Rattle.std.specs.Prelude.{◌≡◌};
 ghost use Rattle.desk.specs.Steps.Indexes.{fault_of};
 ghost use Rattle.desk.specs.declared.index.IndexFault.TheVariants.{Memory};
@@ -16,7 +18,8 @@ use thiserror::Error;
 /// Why an index refuses: S01 and S02 of a reply.
 #[derive(Clone, Copy, Debug, PartialEq, Eq, Error)]
 pub enum IndexFault {
-    /// The store refused for another cause than memory, or a row isn't one that this product writes.
+    /// The store refused for another cause than memory, or a row isn't one that this product
+    /// writes.
     #[error("{}", TablesFault::Refused)]
     Refused,
     /// Memory was refused, also to a database in memory.
@@ -60,8 +63,9 @@ pub enum Wanted<'a> {
     Prefix(&'a str),
 }
 
-/// Keeps of each project its dump and its tags, where it has them, and the replies of accepted commands under their keys. It stands for states of
-/// the abstract machine; what is said of a call holds where the index is reliable after it. A call that refuses changes nothing.
+/// Keeps the dump and the tags of each project, where it has them, and the replies of accepted
+/// commands under their keys. It represents states of the abstract machine. What a call promises
+/// holds where the index is reliable after it. A call that refuses changes nothing.
 pub trait Index {
     ghost use Rattle.std.specs.Prelude.{◌≡◌, Bool, true, ◌||◌, ◌∷◌, [], ◌++◌, List, None, IfOk, IfErr, OnOk, is_some, map, option_map, string_bytes};
     ghost use Rattle.machine.specs.Found.{project_found, tag_found};
@@ -71,13 +75,14 @@ pub trait Index {
     ghost use Rattle.desk.specs.Indexes.{AreFaultless, Changes, FindsTags, ReadsOnly, kept_text};
     ghost use Rattle.desk.specs.declared.index.IndexFault.TheVariants.{Refused};
 
-    /// The states that it stands for: every state where it serves no more.
+    /// The states that it represents: every state where it serves no more.
     ghost stands: { Self → State → Type 0 };
 
-    /// So far its store returned what was written to it. Of an index of which this isn't true nothing is said.
+    /// So far its store returned what was written to it. Nothing is promised of an index of which
+    /// this isn't true.
     ghost is_reliable: { Self → Type 0 };
 
-    /// The lists of states of which a stop now leaves one.
+    /// The lists of states of which a crash now leaves one.
     ghost may_leave: { Self → List State → Type 0 };
 
     /// Whether it keeps its state in a store, which may refuse.
@@ -91,8 +96,8 @@ pub trait Index {
         ensures reads_only { is_reliable self.new → ReadsOnly stands may_leave self.old self.new }
         ensures refused { IfErr result (λ fault. fault ≡ Refused → may_refuse ≡ true) };
 
-    /// The ranges of the document of this URL that cover the position, the smallest first, with their results for the request. A dump that answers
-    /// has no fault.
+    /// The ranges of the document of this URL that cover the position, the smallest first, with
+    /// their results for the request. A dump that answers has no fault.
     fn covering(
         &mut self,
         alloc: Global,
@@ -134,7 +139,7 @@ pub trait Index {
         ensures reads_only { is_reliable self.new → ReadsOnly stands may_leave self.old self.new }
         ensures refused { IfErr result (λ fault. fault ≡ Refused → may_refuse ≡ true) };
 
-    /// The vertices of all projects that bear a mark with the key of this text.
+    /// The vertices of all projects that have a mark with the key of this text.
     fn bearers(&mut self, alloc: Global, key: &str) -> Result<Vec<FoundBearer>, IndexFault>
         ensures reliable { is_reliable self.new → is_reliable self.old }
         ensures found { is_reliable self.new → (m : State) → stands self.old m → IfOk result (λ found. FindsBearers m key.now (map bearer_found found.items)) }
@@ -177,7 +182,8 @@ pub trait Index {
         ensures reads_only { is_reliable self.new → ReadsOnly stands may_leave self.old self.new }
         ensures refused { IfErr result (λ fault. fault ≡ Refused → may_refuse ≡ true) };
 
-    /// Puts a dump in the place of the one that the project has, and keeps the text of the reply under the key, which must not be kept yet.
+    /// Replaces the dump of the project, where it has one, and keeps the text of the reply under
+    /// the key, which must not be kept yet.
     fn replace_dump(
         &mut self,
         alloc: Global,
@@ -191,7 +197,8 @@ pub trait Index {
             → Changes stands may_leave self.old self.new m (changed m project.now key.now (set_dump dump)) result }
         ensures refused { IfErr result (λ fault. fault ≡ Refused → may_refuse ≡ true) };
 
-    /// Puts tags in the place of those that the project has, and keeps the text of the reply under the key, which must not be kept yet.
+    /// Replaces the tags of the project, where it has some, and keeps the text of the reply under
+    /// the key, which must not be kept yet.
     fn replace_tags(
         &mut self,
         alloc: Global,
@@ -205,8 +212,8 @@ pub trait Index {
             → Changes stands may_leave self.old self.new m (changed m project.now key.now (set_tags part)) result }
         ensures refused { IfErr result (λ fault. fault ≡ Refused → may_refuse ≡ true) };
 
-    /// Takes out the dump and the tags of the project, and keeps under the key, which must not be kept yet, the text of the reply: whether either was
-    /// there.
+    /// Removes the dump and the tags of the project, and keeps the text of the reply under the key,
+    /// which must not be kept yet. Returns whether either was there.
     fn remove(&mut self, project: &str, key: &str) -> Result<bool, IndexFault>
         ensures reliable { is_reliable self.new → is_reliable self.old }
         ensures found { is_reliable self.new → (m : State) → stands self.old m → m.kept project.now key.now ≡ None
@@ -215,6 +222,6 @@ pub trait Index {
             → Changes stands may_leave self.old self.new m (changed m project.now key.now clear) result }
         ensures refused { IfErr result (λ fault. fault ≡ Refused → may_refuse ≡ true) };
 
-    /// A stop leaves one of these states, so it leaves one of these and another.
+    /// A crash leaves one of these states, so it leaves one of these and another.
     ghost weaker: { (index : Self) (states : List State) (n : State) → may_leave index states → may_leave index (states ++ n ∷ []) };
 }

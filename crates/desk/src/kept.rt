@@ -1,4 +1,4 @@
-//! What is kept of all projects by an index in memory, looked up by the name of one.
+//! What an index in memory keeps of all projects, looked up by the name of one in an ordered map.
 ghost use Rattle.std.specs.Prelude.{◌≡◌, ◌||◌, is_some, option_map};
 ghost use Rattle.desk.specs.Steps.Plain.{dump_in, tags_in, kept_in};
 

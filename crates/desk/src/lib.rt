@@ -1,6 +1,7 @@
-//! Desks, which serve the requests of `machine`: one over any index (`IndexDesk`), over the tables of a database (`TableDesk`), and over an index in memory,
-//! for tests and for reading (`PlainDesk`). What a desk serves is said in `machine`, whose names are to be had here too. Its tests call public functions
-//! alone, and stand in `codenav` (`tests/desks`).
+//! Desks, which serve the requests of `machine`: one over any index (`IndexDesk`), over the tables
+//! of a database (`TableDesk`), and over an index in memory, for tests and for reading
+//! (`PlainDesk`). `machine` says what a desk serves; its names are exported here too. The tests
+//! call public functions alone, and are in the crate `test_desks`.
 #![tactic(auto)]
 
 mod index;

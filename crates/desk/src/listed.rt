@@ -1,4 +1,5 @@
-//! The projects and the tags that an index in memory lists, over its map of projects. What is selected of dumps is in `selected.rt`.
+//! The projects and the tags that an index in memory lists: a scan of its ordered map of projects.
+//! What is selected of dumps is in `selected.rt`.
 ghost use Rattle.std.specs.Prelude.{◌≡◌, ◌++◌, IfOk, OnOk, map, option_map, string_bytes};
 ghost use Rattle.std.specs.BTreeMap.{IsOrdered};
 ghost use Rattle.std.specs.String.{string_cmp};
@@ -71,7 +72,8 @@ fn add_project(
     }
 }
 
-/// The tags with the names that are asked for, of all projects or of one, in the order of projects and lines.
+/// The tags with the names that are asked for, of all projects or of one, in the order of projects
+/// and lines.
 pub(crate) fn list_tags(
     alloc: Global,
     projects: &BTreeMap<String, Project>,
@@ -100,7 +102,8 @@ fn by_name(a: &FoundTag, b: &FoundTag) -> Ordering
     names.then(projects.then(lines))
 }
 
-/// Puts tags that stand in the order of projects and lines in that in which they are asked for: those of a prefix by their names before.
+/// Puts tags that are in the order of projects and lines into the order that is asked for. Those of
+/// a prefix are sorted by their names first.
 pub(crate) fn order_tags(found: &mut Vec<FoundTag>, wanted: Wanted<'_>)
     ensures { AreOrdered wanted.entry found.old.items found.new.items }
 {

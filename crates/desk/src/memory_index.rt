@@ -1,5 +1,7 @@
-//! An index in memory, for tests and for reading: the plainest body of each selection. It keeps no row of a dump: a selection makes the dump flat and
-//! looks at each row (`selected`, `listed`). A dump with more rows than `flatten` makes is kept here, and each query of it answers that memory ran out.
+//! An index in memory, for tests and for reading: the plainest body of each selection. It keeps no
+//! row of a dump: a selection flattens the dump and looks at each row (`selected.rt`, `listed.rt`).
+//! A dump with more rows than `flatten` makes is kept here, and each query of it answers that
+//! memory ran out.
 ghost use Rattle.std.specs.Prelude.{◌≡◌, OnOk, OnErr};
 ghost use Rattle.machine.specs.State.{State, changed, nothing, text_after};
 ghost use Rattle.machine.specs.Steps.Changes.{change_value};
@@ -18,8 +20,8 @@ use std::alloc::{AllocError, Global};
 use std::collections::BTreeMap;
 use tables::{Covering, FoundBearer, FoundItem, FoundMark};
 
-/// Keeps in memory the dump and the tags that each project has, and the replies of accepted commands under their keys. What another dump or other
-/// tags are put in the place of is given up.
+/// Keeps in memory the dump and the tags that each project has, and the replies of accepted
+/// commands under their keys. A dump or tags that are replaced are dropped.
 #[derive(Drop)]
 pub struct MemoryIndex {
     alloc: Global,
@@ -27,7 +29,7 @@ pub struct MemoryIndex {
 }
 
 impl MemoryIndex {
-    /// An index that stands for the state of an empty database. It takes no memory.
+    /// An index that represents the state of an empty database. It takes no memory.
     pub fn new(alloc: Global) -> MemoryIndex
         ensures { ⟦<MemoryIndex as Index>⟧.stands result nothing }
     {
@@ -37,7 +39,8 @@ impl MemoryIndex {
         }
     }
 
-    /// Makes a change of the project of this name, and keeps the text of its reply under the key. Nothing changes where memory is refused.
+    /// Makes a change of the project of this name, and keeps the text of its reply under the key.
+    /// Nothing changes where memory is refused.
     fn make(
         &mut self,
         project: &str,

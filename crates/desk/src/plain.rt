@@ -1,4 +1,5 @@
-//! A desk in memory, for tests and for reading: it keeps what it accepted, and makes of a dump what a query asks for when it is asked.
+//! A desk in memory, for tests and for reading. It keeps what it accepted, and walks a dump when a
+//! query asks.
 ghost use Rattle.machine.specs.State.{nothing};
 
 use crate::index_desk::IndexDesk;
@@ -10,7 +11,7 @@ use std::alloc::Global;
 pub type PlainDesk = IndexDesk<MemoryIndex>;
 
 impl PlainDesk {
-    /// A desk that stands for the state of an empty database. It takes no memory.
+    /// A desk that represents the state of an empty database. It takes no memory.
     pub fn new(alloc: Global) -> PlainDesk
         ensures { ⟦<IndexDesk<MemoryIndex> as Desk>⟧.stands result nothing }
     {

@@ -1,4 +1,5 @@
-//! What the index in memory keeps of a project: its dump, its tags and the replies under their keys, and how a change alters them.
+//! What the index in memory keeps of a project: its dump, its tags and the replies under their
+//! keys, and how a change alters them.
 ghost use Rattle.std.specs.Prelude.{◌≡◌, ℕ, List, OnOk, OnErr, Some, None, bytes_eq, string_bytes, if◌then◌else◌};
 ghost use Rattle.std.specs.BTreeMap.{get_by_text};
 ghost use Rattle.machine.specs.State.{dump_after, tags_after};
@@ -9,8 +10,8 @@ use machine::{Change, TagsPart};
 use std::alloc::{AllocError, Global};
 use std::collections::BTreeMap;
 
-/// What is kept of a project: its dump and its tags, where it has them, and under the keys of its accepted commands the texts of their
-/// replies.
+/// What is kept of a project: its dump and its tags, where it has them, and under the keys of its
+/// accepted commands the texts of their replies.
 #[derive(Drop)]
 pub(crate) struct Project {
     pub(crate) dump: Option<CheckedDump>,
@@ -32,8 +33,8 @@ impl Project {
         }
     }
 
-    /// Makes a change, and keeps the text of its reply under a key. Nothing changes where memory is refused. What another dump or other tags
-    /// are put in the place of is given up.
+    /// Makes a change, and keeps the text of its reply under a key. Nothing changes where memory is
+    /// refused. The dump or the tags that it replaces are dropped.
     pub(crate) fn change(
         &mut self,
         key: String,

@@ -1,6 +1,7 @@
-//! Queries, answered by the rows that the selections of an index find: the range that a request at a position is asked of, the vertices of other
-//! projects that are joined to it, the results of both, and their places or contents. What the answers are is said by `specs/Answers`; which rows are
-//! meant in between, by `specs/Steps/Rows`.
+//! Queries, answered by the rows that the selections of an index find: the range that answers a
+//! request at a position, the vertices of other projects that are joined to it, the results of
+//! both, and their places or contents. `specs/Answers` of the crate `machine` says what the answers
+//! are; `specs/Steps/Rows` says which rows are meant in between.
 pub(crate) mod bearers;
 pub(crate) mod hovers;
 pub(crate) mod places;

@@ -1,4 +1,5 @@
-//! What is selected of dumps in memory: the rows of a dump are made, and what is wanted of them is copied.
+//! What is selected of dumps in memory. Each selection flattens the dump and looks at every row:
+//! plain to read, and slow for large dumps.
 ghost use Rattle.std.specs.Prelude.{◌≡◌, Contains, map, IfOk, option_map, string_bytes};
 ghost use Rattle.std.specs.BTreeMap.{IsOrdered};
 ghost use Rattle.std.specs.String.{string_cmp};
@@ -111,7 +112,7 @@ pub(crate) fn bearers_of(
     Ok(found)
 }
 
-/// Of rows of ranges those of the document of this serialized URL that cover the position.
+/// The rows of ranges in the document of this serialized URL that cover the position.
 fn covering_rows<'a>(
     alloc: Global,
     rows: &[RangeRow<'a>],
@@ -137,7 +138,8 @@ fn order(a: &Span, b: &Span) -> Ordering
     b.start().cmp(&a.start()).then(ends)
 }
 
-/// Puts the rows in order, of each span one: the later start first, and of one start the lesser end.
+/// Puts the rows in order, of each span one: the later start first, and of one start the lesser
+/// end.
 fn list_rows(rows: &mut Vec<RangeRow<'_>>)
     ensures rises { IsStrictlySortedBy by_span rows.new.items }
     ensures from { (r : RangeRow) → Contains rows.new.items r → Contains rows.old.items r }
@@ -165,7 +167,8 @@ fn found_range(row: &RangeRow<'_>, request: RequestKind) -> FoundRange
     }
 }
 
-/// The ranges of the document of this serialized URL that cover the position, the smallest first, with their results for the request.
+/// The ranges of the document of this serialized URL that cover the position, the smallest first,
+/// with their results for the request.
 pub(crate) fn covering_of(
     alloc: Global,
     dump: &CheckedDump,

@@ -1,5 +1,6 @@
-//! Tables are an index: each call asks first whether their store is open, since of a store that a fault has shut nothing is known, and then makes one
-//! selection or one change. Which states they stand for then is said by `specs/TableStates`.
+//! Tables are an index. Each call first asks whether their store is open, since nothing is known of
+//! a store that a fault has shut, and then makes one selection or one change. `specs/TableStates`
+//! says which states the tables then represent.
 ghost use Rattle.std.specs.Prelude.{IfOk};
 ghost use Rattle.flatten.specs.Rows.{rows_value};
 ghost use Rattle.tables.specs.Columns.{dump_rows};

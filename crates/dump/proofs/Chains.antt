@@ -76,7 +76,7 @@ short (z ∷ zs) pairs x c = ⊎_elim
     (λ (h : (y : IdValue) × (first_to pairs x ≡ Some y) × IsChain pairs y zs). omega (arith, short zs (others x pairs) h.0 (without pairs x h.0 zs (no_return pairs x h.0 zs h.1 h.2) h.2), fewer pairs x h.0 h.1))
     (chain_cases pairs x z zs c).1
 
--- what is asked of a chain that is followed, from `at` on, after some steps
+-- what is required of a chain that is followed, from `at` on, after some steps
 pub record Following (next binds : List Pair) (from at : IdValue) (steps : ℕ) : Type 0 where
   pub rest : List IdValue
   pub chain : IsChain next at rest

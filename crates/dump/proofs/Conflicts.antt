@@ -1,4 +1,5 @@
--- Whether two spans of a list conflict is the same in every order, and that of two lists in one comes from the parts.
+-- Whether two spans of a list conflict is the same in every order, and that of two lists in one
+-- comes from the parts.
 use Rattle.std.proofs.Common.{◌≡◌, ◌∙◌, ◌||◌, ◌++◌, ◌∷◌, [], ◌+◌, ℕ, Bool, true, false, cond, nat_lt, List, Result, Ok, Err, IfOk, length, IsPermutation, refl, sym, ap, ap₂, arith}
 use Rattle.std.specs.Prelude.{sum_by}
 use Rattle.std.specs.List.{list_any}

@@ -1,5 +1,5 @@
--- A pair more, from a vertex that has none, to one from which no path leads back: each chain still ends. So it is in a
--- sound dump, where no `next` edge leaves a vertex twice or closes a cycle.
+-- A pair more, from a vertex that has none, to one from which no path leads back: each chain still
+-- ends. So it is in a sound dump, where no `next` edge leaves a vertex twice or closes a cycle.
 use Rattle.std.proofs.Common.{◌≡◌, ⊎_elim, Bool, true, false, cond, List, [], ◌∷◌, ◌++◌, map, append_assoc, append-nil, refl, sym, ap, ◌∙◌, subst, Ok, find, fold}
 use Rattle.std.specs.Prelude.{Option, Some, None, is_some, Contains, if◌then◌else◌}
 use Rattle.std.specs.List.{flat_map}

@@ -97,15 +97,15 @@ key_of version = record { scheme = codes "npm"; identifier = codes "lib::f"; «p
 abbrev mark_of_kind : MonikerKind → List ℕ → MarkValue
 mark_of_kind kind version = record { kind = kind; key = key_of version }
 
--- it bears the mark of this kind, whose key has the package
+-- it has the mark of this kind, whose key has the package
 pub borne_mark : (kind : MonikerKind) (version : List ℕ) → Bears (named kind version) (number 3) (mark_of_kind kind version)
 unfolding element_at
 borne_mark kind version = (number 4, number 4, (0, omega arith, refl), stays, refl)
 
--- where that is an import, the range speaks for a definition, though it has no result
+-- where that is an import, the range answers a definition, though it has no result
 pub import_speaks : (version : List ℕ) → Speaks requests.Definition (named Import version) (number 3)
 import_speaks version = inr (mark_of_kind Import version, (number 3 ∷ [], number 3, ends refl, (0, omega arith, refl), borne_mark Import version), refl)
 
--- where it's an export, it speaks for references
+-- where it's an export, it answers references
 pub export_speaks : (version : List ℕ) → Speaks requests.References (named Export version) (number 3)
 export_speaks version = inr (mark_of_kind Export version, (number 3 ∷ [], number 3, ends refl, (0, omega arith, refl), borne_mark Export version), refl)

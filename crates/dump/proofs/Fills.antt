@@ -48,7 +48,7 @@ ranges_test d (vertex j v) i = refl
 pub kept_nothing : (o : Option (Vec (List SpanValue) Global)) → o ≡ None → IsPermutation [] (kept o) × (has_conflict (kept o) ≡ false)
 kept_nothing o e = subst (λ p. IsPermutation [] (kept p) × (has_conflict (kept p) ≡ false)) (sym e) (IsPermutation-refl [], refl)
 
--- ---- what is asked of spans doesn't ask for their order
+-- ---- what is required of spans doesn't depend on their order
 
 any_same : {X : Type 0} (p q : X → Bool) (xs : List X) → ((x : X) → p x ≡ q x) → list_any p xs ≡ list_any q xs
 any_same p q [] same = refl

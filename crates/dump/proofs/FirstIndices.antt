@@ -1,4 +1,5 @@
--- Tables that lead from an id to the index of the first element that passes its test, and what a push makes of them.
+-- Tables that lead from an id to the index of the first element that passes its test, and what a
+-- push makes of them.
 use Rattle.std.proofs.Common.{◌≡◌, ◌∙◌, ◌&&◌, ◌||◌, ℕ, ◌+◌, ◌≤◌, ◌<◌, suc, nat_lt, not, Bool, true, false, cond, List, [], ◌∷◌, ◌++◌, length, Option, Some, None, if◌then◌else◌, find, refl, ap, sym, arith}
 use Rattle.std.specs.Prelude.{is_some, IfSome, option_map, option_and_then, slice_get}
 use Rattle.std.specs.List.{list_any, position, position_or_len}

@@ -1,5 +1,5 @@
--- What is known of the elements of a sound dump: the ends of each are vertices, one `contains` edge out of a document at most
--- names a range, and what has ended is a document.
+-- What is known of the elements of a sound dump: the ends of each are vertices, one `contains` edge
+-- out of a document at most names a range, and what has ended is a document.
 use Rattle.std.proofs.Common.{◌≡◌, ⊎_elim, inl, inr, ◌∙◌, ◌&&◌, ◌||◌, ◌++◌, ◌∷◌, [], Bool, true, false, not, cond, List, refl, sym, ap, subst, find, Option, Some, None, option_and_then, is_some}
 use Rattle.std.specs.Prelude.{Contains, ◌↔◌}
 use Rattle.std.specs.List.{list_any}

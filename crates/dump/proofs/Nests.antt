@@ -116,7 +116,7 @@ in_fails d p v (x ∷ xs) r e none at has =
     let both = or_none (list_any p (spans_named d v x)) (list_any p (flat_map (spans_named d v) xs)) (sym (list_any-append p (spans_named d v x) (flat_map (spans_named d v) xs)) ∙ none) in
     elim (or_some (places_range v r x) (list_any (places_range v r) xs) at) [ inl here ↦ named_fails d p v x r e both.0 here has | inr later ↦ in_fails d p v xs r e both.1 later has ]
 
--- ranges that stand beside each other in a list without conflict
+-- ranges that are next to each other in a list without conflict
 beside_by : (d : List ElementValue) (o : Option SpanValue) (is : List IdValue) → has_conflict (cons_option o (spans_of d is)) ≡ false → ((e : SpanValue) → o ≡ Some e → list_any (conflicts e) (spans_of d is) ≡ false) × (has_conflict (spans_of d is) ≡ false)
 beside_by d None is none = (λ e h. cc, none)
 beside_by d (Some s) is none =

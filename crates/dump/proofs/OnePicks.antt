@@ -1,4 +1,4 @@
--- A set has one list in order, and so a request at a position is asked of one range at most.
+-- A set has one list in order, and so at most one range answers a request at a position.
 use Rattle.std.proofs.Common.{◌≡◌, ⊎_elim, ◌∙◌, ℕ, suc, List, [], ◌∷◌, refl, sym, ap, subst, arith}
 use Rattle.std.specs.Prelude.{◌↔◌, ⊤, Contains, Option}
 use Rattle.std.specs.List.{AllPairs}
@@ -20,7 +20,7 @@ use Rattle.dump.proofs.Members.{contains_head, contains_tail, contains_cases, no
 
 -- ---- one list of a set
 
--- each member stands before those after it
+-- each member comes before those after it
 abbrev pub Rises : {X : Type 0} → (X → X → Type 0) → List X → Type 0
 Rises R [] = ⊤
 Rises {X} R (x ∷ xs) = ((y : X) → Contains xs y → R x y) × Rises R xs
@@ -32,7 +32,7 @@ module _ {X : Type 0} (R : X → X → Type 0) (asym : (x y : X) → R x y → R
       (λ (t : Contains ys x). ⊎_elim (λ (e : x ≡ y). e) (λ (u : Contains xs y). absurd (asym x y (h y u) (k x t))) (contains_cases x xs y there))
       (contains_cases y ys x at)
 
-  -- what stands behind the head of the one stands behind that of the other
+  -- what comes after the head of the one comes after that of the other
   behind : (x y z : X) (xs ys : List X) → x ≡ y → ((w : X) → Contains xs w → R x w) → Contains (y ∷ ys) z → Contains xs z → Contains ys z
   behind x y z xs ys same h at t = ⊎_elim
       (λ (e : y ≡ z). let this : R x x = subst (R x) (sym (same ∙ e)) (h z t) in absurd (asym x x this this))

@@ -1,4 +1,5 @@
--- In a sound dump a request's first result is of its kind, and one of another request than references leads to no other result.
+-- In a sound dump a request's first result is of its kind, and one of another request than
+-- references leads to no other result.
 use Rattle.std.proofs.Common.{◌≡◌, ⊎_elim, ◌∙◌, ◌||◌, ◌++◌, ◌∷◌, [], ℕ, nat_eq, Bool, true, false, List, map, refl, sym, ap, subst, arith, Option, Some, None, is_some}
 use Rattle.std.specs.Prelude.{Contains, ◌↔◌, if◌then◌else◌}
 use Rattle.std.specs.List.{flat_map, list_any}

@@ -10,7 +10,7 @@ use Rattle.dump.specs.Progress.{Progress, running, stopped, next, advance, progr
 
 -- ---- the lines
 
--- line k of the rest has this code, where these elements stand before the rest
+-- line k of the rest has this code, where these elements come before the rest
 abbrev pub CodeFrom : List ElementValue → List Reading → ℕ → Code → Type 0
 CodeFrom elements rest k c =
     (line : Reading) × (slice_get rest k ≡ Some line) × (line_code (elements ++ before rest k) line ≡ Some c)

@@ -22,7 +22,7 @@ use Rattle.dump.proofs.Passes.{not_true, at_most, less_at_most, one_way, NotAfte
 
 -- ---- links
 
--- what is said of links, of one that was read
+-- what is known of links, for one that was read
 module _ (spans : List SpanValue) (links : List Link) (h : HasLinks spans links) (i : ℕ) (link : Link) (less : i < length links) (is : link ≡ get_or links i link) where
   pub is_below : (link.next ≤ i) × (link.jump ≤ i)
   is_below = subst (λ (l : Link). (l.next ≤ i) × (l.jump ≤ i)) (sym is) (h.below i link less)
@@ -33,7 +33,8 @@ module _ (spans : List SpanValue) (links : List Link) (h : HasLinks spans links)
   far_at : (k : ℕ) (d : SpanValue) → 0 < link.jump → link.jump ≤ k → k ≤ i → is_before (get_or spans (link.jump - 1) d).«end» (get_or spans k d).«end» ≡ false
   far_at k d = subst (λ (l : Link). 0 < l.jump → l.jump ≤ k → k ≤ i → is_before (get_or spans (l.jump - 1) d).«end» (get_or spans k d).«end» ≡ false) (sym is) (h.far i k link d less)
 
--- the span at the end of so many ends no later than the position: neither do those from where a climb goes on
+-- the span at the end of so many ends no later than the position: neither do those from where a
+-- climb goes on
 pub over_more : (spans : List SpanValue) (links : List Link) (count at further : ℕ) (p : PositionValue) (s : SpanValue) (link : Link) → HasLinks spans links → count ≤ length links → count ≤ length spans
     → 0 < at → at ≤ count → s ≡ get_or spans (at - 1) s → is_before p s.«end» ≡ false → link ≡ get_or links (at - 1) link → GoesOn spans link p further
     → ((k : ℕ) (d : SpanValue) → at ≤ k → k < count → is_before p (get_or spans k d).«end» ≡ false)
@@ -216,7 +217,7 @@ later_reaches s u t su ut clear ends h =
         let apart = true_is (is_before s.start u.start) (λ f. sym far ∙ su.within f) in
         absurd (absurd_true (sym (reaching_conflicts s u (record { apart = apart; over = begins; short = far })) ∙ clear))
 
--- u stands between two that are equal
+-- u is between two that are equal
 between_conflicts : (s u t : SpanValue) → NotAfter s u → NotAfter u t → Equal s t → conflicts u t ≡ true
 unfolding Equal
 between_conflicts s u t su ut h =
@@ -269,7 +270,8 @@ module _ (xs : List SpanValue) (t : SpanValue) (up : IsOrdered xs) (k p : ℕ) (
   turned : (i : ℕ) → conflicts (get_or xs i t) t ≡ true → conflicts t (get_or xs i t) ≡ true
   turned i e = either_conflict t (get_or xs i t) ∙ e
 
-  -- one that t conflicts with and that doesn't come after it: t conflicts with the last such, or with the last that ends after its start
+  -- one that t conflicts with and that doesn't come after it: t conflicts with the last such, or
+  -- with the last that ends after its start
   pub hit_before : (i : ℕ) → i < k → conflicts t (get_or xs i t) ≡ true → (conflicts_before xs k t ≡ true) ⊎ (conflicts_before xs p t ≡ true)
   hit_before i lt hit =
       let s = get_or xs i t in
@@ -305,7 +307,8 @@ module _ (xs : List SpanValue) (t : SpanValue) (up : IsOrdered xs) (k p : ℕ) (
       (q_le : q ≤ l)
       (q_over : (i : ℕ) (d : SpanValue) → q ≤ i → i < l → is_before t.«end» (get_or xs i d).«end» ≡ false)
       (q_reaches : (i : ℕ) (d : SpanValue) → i + 1 ≡ q → is_before t.«end» (get_or xs i d).«end» ≡ true) where
-    -- one that t conflicts with and that comes after it: t conflicts with the last of those that start in it which ends after it
+    -- one that t conflicts with and that comes after it: t conflicts with the last of those that
+    -- start in it which ends after it
     hit_after : (i : ℕ) → k ≤ i → i < length xs → conflicts t (get_or xs i t) ≡ true → conflicts_before xs q t ≡ true
     unfolding Equal
     hit_after i le lt hit =
@@ -363,7 +366,7 @@ module _ (xs : List SpanValue) (t : SpanValue) (up : IsOrdered xs) (k p : ℕ) (
         by_each false false true e f g = sym (found_one q (omega (arith, q_le, l_le)) g)
         by_each false false false e f g = sym (none_found e f g)
 
--- ---- where the spans are parted
+-- ---- where the spans are split
 
 pub up_to_parted : (xs : List SpanValue) → IsOrdered xs → (t : SpanValue) → IsPartitionedBy (λ s. goes_by s t) xs
 up_to_parted xs up t i j d le lt h =

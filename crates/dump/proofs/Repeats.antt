@@ -23,7 +23,7 @@ among_push is j i = list_any-append (λ k. same_id k i) is (j ∷ [])
 among_middle : (is js : List IdValue) (j i : IdValue) → same_id j i ≡ true → is_among i (is ++ j ∷ js) ≡ true
 among_middle is js j i e = list_any-append (λ k. same_id k i) is (j ∷ js) ∙ rw e (or_true (is_among i is))
 
--- an id that stands before itself
+-- an id that comes before itself
 pub repeated_again : (is js : List IdValue) (i : IdValue) → is_among i is ≡ true → has_repeated (is ++ i ∷ js) ≡ true
 repeated_again [] js i e = cc
 repeated_again (x ∷ is) js i e = by (same_id x i) refl (repeated_again is js i)
@@ -40,7 +40,7 @@ repeated_push (x ∷ is) i none new =
     let news = or_parts (same_id x i) (is_among i is) new in
     or_false _ _ (among_push is i x ∙ rw (nones.0, same_id_swap i x, news.0) refl) (repeated_push is i nones.1 news.1)
 
--- ---- the same of a list that is gone over, of which these were passed and this is the next
+-- ---- the same of a list that is walked, of which these were passed and this is the next
 
 -- one id was passed more
 pub one_passed : (front rest all whole : List IdValue) (x : IdValue) → whole ≡ x ∷ rest → front ++ whole ≡ all → (front ++ x ∷ []) ++ rest ≡ all

@@ -83,7 +83,7 @@ module _ (ps : List Pair) (one : Single ps) where
 
 -- ---- a walk along shortcuts
 
--- what is asked of a walk that has come from one index to another, in some steps
+-- what is required of a walk that has come from one index to another, in some steps
 pub record Nearing (ps : List Pair) (d : List ElementValue) (from at steps : ℕ) : Type 0 where
   pub start : IdValue
   pub here : IdValue

@@ -117,7 +117,8 @@ none_if : (o : Option ℕ) → is_some o ≡ false → o ≡ None
 none_if None e = refl
 none_if (Some k) e = cc
 
--- the index of the document of a serialized URL, after one element more whose serialized URL isn't another's
+-- the index of the document of a serialized URL, after one element more whose serialized URL isn't
+-- another's
 pub document_more : (uri : List ℕ) (d : List ElementValue) (x : ElementValue) (n : ℕ) (had has : Option ℕ) → n ≡ length d → has_used_uri d x ≡ false → had ≡ position (is_document_of uri) d
     → has ≡ (if is_document_of uri x then Some n else had) → has ≡ position (is_document_of uri) (d ++ x ∷ [])
 document_more uri d x n had has long free e f = f ∙ by (is_document_of uri x) refl

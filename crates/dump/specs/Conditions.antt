@@ -1,5 +1,5 @@
--- What an element may not be after the elements before it, code by code, and what a whole dump may not have
--- (LSIF 0.6.0, "Emitting constraints", "metaData", "contains").
+-- What an element may not be after the elements before it, code by code, and what a whole dump may
+-- not have (LSIF 0.6.0, "Emitting constraints", "metaData", "contains").
 use Rattle.std.specs.Prelude.{ℕ, ◌==◌, ◌&&◌, ◌||◌, Bool, true, false, nat_le, not, List, [], ◌∷◌, length, bytes_eq, Option, Some, None, is_some, find, if◌then◌else◌}
 use Rattle.std.specs.List.{list_any, list_all}
 use Rattle.lsif.specs.Element.{IdValue, meta_data, document, range, EdgeValue, ends_of, contains, next, item, ElementValue, vertex, edge, element_id}
@@ -56,7 +56,8 @@ is_contained_again before (edge i (contains from to)) =
 is_contained_again before (edge i e) = false
 is_contained_again before (vertex i v) = false
 
--- L12: a target's span conflicts with one that the document contains already, or with another target's
+-- L12: a target's span conflicts with one that the document contains already, or with another
+-- target's
 abbrev pub is_conflicting : List ElementValue → ElementValue → Bool
 is_conflicting before (edge i (contains from to)) =
     is_document (vertex_at before from)
@@ -74,7 +75,8 @@ closes_cycle before (edge i (next from to)) = reaches (next_pairs before) to fro
 closes_cycle before (edge i e) = false
 closes_cycle before (vertex i v) = false
 
--- L16: the shard isn't an earlier document or project. An `item` edge out of a vertex of another label has no effect
+-- L16: the shard isn't an earlier document or project. An `item` edge out of a vertex of another
+-- label has no effect
 abbrev pub has_no_shard : List ElementValue → ElementValue → Bool
 has_no_shard before (edge i (item e)) = not (is_of_kind Other (vertex_at before e.source)) && not (is_of_kind Shard (vertex_at before e.shard))
 has_no_shard before (edge i e) = false
@@ -153,7 +155,7 @@ end_condition elements x E01 = is_uncontained elements x
 end_condition elements x E02 = is_misplaced_item elements x
 end_condition elements x c = false
 
--- the codes that are asked of a whole dump, least first
+-- the codes that a whole dump may have, least first
 abbrev pub end_codes : List Code
 end_codes = E01 ∷ E02 ∷ []
 

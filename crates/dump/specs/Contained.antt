@@ -32,7 +32,8 @@ is_in elements d r = is_document (vertex_at elements d) && list_any (places_rang
 abbrev pub contains_source : ElementValue → Option IdValue
 contains_source x = option_map (λ e. e.0) (contains_of x)
 
--- the document that contains the range: the source of the first `contains` edge out of a document that names it
+-- the document that contains the range: the source of the first `contains` edge out of a document
+-- that names it
 abbrev pub container : List ElementValue → IdValue → Option IdValue
 container elements r = option_and_then contains_source (find (contains_range elements r) elements)
 
@@ -40,7 +41,8 @@ container elements r = option_and_then contains_source (find (contains_range ele
 abbrev pub spans_of : List ElementValue → List IdValue → List SpanValue
 spans_of elements is = filter_map (λ i. span_of (vertex_at elements i)) is
 
--- the spans of the ranges that the element, where it's a `contains` edge out of this document, names
+-- the spans of the ranges that the element, where it's a `contains` edge out of this document,
+-- names
 abbrev pub spans_named : List ElementValue → IdValue → ElementValue → List SpanValue
 spans_named elements d x =
     elim (contains_of x) as (λ _. List SpanValue) [ Some e ↦ if same_id e.0 d then spans_of elements e.1 else [] | None ↦ [] ]

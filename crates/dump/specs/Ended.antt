@@ -48,6 +48,7 @@ is_closed elements r = list_any (closes_range elements r) elements
 abbrev pub leaves_ended : List ElementValue → ElementValue → Bool
 leaves_ended before x = elim (contains_of x) as (λ _. Bool) [ Some e ↦ has_ended before e.0 | None ↦ false ]
 
--- L18: a `contains` edge leaves a document that has ended, or an end of any edge is a range that one contains
+-- L18: a `contains` edge leaves a document that has ended, or an end of any edge is a range that
+-- one contains
 abbrev pub is_late : List ElementValue → ElementValue → Bool
 is_late before x = leaves_ended before x || list_any (is_closed before) (ends x)

@@ -1,5 +1,5 @@
--- The fault of a dump: its first faulty line, and only where there is none the first fault at its end.
--- A dump is the list of the readings of its lines.
+-- The fault of a dump: its first faulty line, and only where there is none the first fault at its
+-- end. A dump is the list of the readings of its lines.
 use Rattle.std.specs.Prelude.{◌≡◌, ◌≢◌, ℕ, ◌+◌, ◌<◌, ◌⊎◌, List, [], take, Option, Some, None, Ok, Err, slice_get}
 use Rattle.std.specs.List.{filter_map}
 use Rattle.lsif.specs.Element.{ElementValue, Reading}
@@ -20,7 +20,8 @@ elements_of dump = filter_map read_as dump
 abbrev pub before : List Reading → ℕ → List ElementValue
 before dump k = elements_of (take k dump)
 
--- the code of a line: that of its shape, or else the least order code against the elements before it
+-- the code of a line: that of its shape, or else the least order code against the elements before
+-- it
 abbrev pub line_code : List ElementValue → Reading → Option Code
 line_code before (Err c) = Some c
 line_code before (Ok x) = order_code before x

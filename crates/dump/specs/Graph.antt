@@ -33,7 +33,7 @@ ends (edge i e) = (ends_of e).0 ∷ (ends_of e).1
 abbrev pub is_among : IdValue → List IdValue → Bool
 is_among i is = list_any (λ j. same_id j i) is
 
--- an id stands in the list twice
+-- an id is in the list twice
 abbrev pub has_repeated : List IdValue → Bool
 has_repeated [] = false
 has_repeated (i ∷ is) = is_among i is || has_repeated is

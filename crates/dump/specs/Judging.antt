@@ -10,12 +10,13 @@ use Rattle.dump.specs.Fault.{IsFault}
 use Rattle.dump.specs.Lines.{dump_of}
 use Rattle.dump.specs.Progress.{DumpValue}
 
--- a line that is handed in: these bytes, or one that is longer than the longest
+-- a line that is passed in: these bytes, or one that is longer than the longest
 abbrev pub IsHanded : ℕ → Option (Bor (List ℕ)) → List ℕ → Type 0
 IsHanded longest (Some line) bytes = bytes ≡ line.now
 IsHanded longest None bytes = longest < length bytes
 
--- what the reading of known bytes by a profile answers: the elements of a dump without fault, or the dump's fault
+-- what the reading of known bytes by a profile answers: the elements of a dump without fault, or
+-- the dump's fault
 abbrev pub ReadsDump : Profile → Option (List ℕ) → Result DumpValue DumpFault → Type 0
 ReadsDump profile None result = ⊤
 ReadsDump profile (Some text) (Ok dump) = IsFault (dump_of profile text) None × (dump_of profile text ≡ map Ok dump.elements)

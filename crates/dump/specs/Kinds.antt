@@ -6,7 +6,8 @@ use Rattle.lsif.specs.Element.{VertexValue, project, document, range, result_set
 use Rattle.dump.specs.declared.vertices.Kind.{Kind}
 use Rattle.dump.specs.declared.vertices.Kind.TheVariants.{Any, Project, Document, Range, ResultSet, DefinitionResult, ReferenceResult, DeclarationResult, ImplementationResult, HoverResult, Moniker, Package, Other, Asked, Shard}
 
--- there is a vertex, and it is of this kind. Requests are asked of ranges and result sets; a shard is a project or a document
+-- there is a vertex, and it is of this kind. Ranges and result sets have results of requests; a
+-- shard is a project or a document
 abbrev pub is_of_kind : Kind → Option VertexValue → Bool
 is_of_kind Any v = is_some v
 is_of_kind Project (Some project) = true

@@ -1,4 +1,5 @@
--- What a vertex is known by across projects (LSIF 0.6.0, "Multiple Projects": "moniker", "attach", "packageInformation").
+-- What a vertex is known by across projects (LSIF 0.6.0, "Multiple Projects": "moniker", "attach",
+-- "packageInformation").
 use Rattle.std.specs.Prelude.{◌≡◌, ℕ, List, [], ◌∷◌, Option, Some, None, Contains, option_and_then}
 use Rattle.std.specs.List.{flat_map}
 use Rattle.lsif.specs.declared.element.MonikerKind.{MonikerKind}
@@ -7,7 +8,8 @@ use Rattle.dump.specs.Graph.{vertex_at}
 use Rattle.dump.specs.Walks.{Pair, Path, IsChain, first_to, single_pairs, next_pairs}
 use Rattle.dump.specs.declared.single.SingleLabel.TheVariants.{PackageInformation}
 
--- what monikers are compared by: the scheme, the identifier and the package, where there is one. The kind isn't part of it
+-- what monikers are compared by: the scheme, the identifier and the package, where there is one.
+-- The kind isn't part of it
 pub record MonikerKey : Type 0 where
   pub scheme : List ℕ
   pub identifier : List ℕ
@@ -66,6 +68,6 @@ Near elements m n = Path (attach_pairs elements) m n
 abbrev pub Bears : List ElementValue → IdValue → MarkValue → Type 0
 Bears elements x mark = (m : IdValue) × (n : IdValue) × Contains (moniker_pairs elements) (x, m) × Near elements m n × (mark_of elements n ≡ Some mark)
 
--- the vertex, or another member of its chain, bears the mark
+-- the vertex, or another member of its chain, has the mark
 abbrev pub Marks : List ElementValue → IdValue → MarkValue → Type 0
 Marks elements x mark = (xs : List IdValue) × (y : IdValue) × IsChain (next_pairs elements) x xs × Contains xs y × Bears elements y mark

@@ -37,8 +37,8 @@ pub record IsAt (elements : List ElementValue) (r : IdValue) (place : PlaceValue
 abbrev pub IsCovering : List ElementValue → List ℕ → PositionValue → IdValue → SpanValue → Type 0
 IsCovering elements uri position r span = IsAt elements r (record { uri = uri; span = span }) × Covers span position
 
--- what the ranges that an `item` edge has as its targets are to its source: an absent property counts as "definitions"; with
--- "referenceResults" the targets are no ranges
+-- what the ranges that an `item` edge has as its targets are to its source: an absent property
+-- counts as "definitions"; with "referenceResults" the targets are no ranges
 abbrev pub role_of : Option Property → Option Role
 role_of None = Some roles.Definitions
 role_of (Some properties.Definitions) = Some roles.Definitions

@@ -43,7 +43,7 @@ next (stopped f) line = stopped f
 abbrev pub progress : List Reading → Progress
 progress dump = fold next (running []) dump
 
--- each element stands where the elements before it allow it
+-- each element is allowed by the elements before it
 abbrev pub IsSound : List ElementValue → Type 0
 IsSound elements = progress (map Ok elements) ≡ running elements
 
@@ -51,7 +51,8 @@ abbrev pub fault_or : ℕ → Option Code → Option LineFault → Option LineFa
 fault_or k (Some c) later = Some (record { line = k + 1; code = c })
 fault_or k None later = later
 
--- the fault of the first of these elements that has a code at the end of the dump, where they begin at index k
+-- the fault of the first of these elements that has a code at the end of the dump, where they begin
+-- at index k
 unfoldable pub end_fault_from : List ElementValue → ℕ → List ElementValue → Option LineFault
 end_fault_from elements k [] = None
 end_fault_from elements k (x ∷ xs) = fault_or k (end_code elements x) (end_fault_from elements (k + 1) xs)
@@ -70,14 +71,15 @@ abbrev pub IsRunning : Progress → Type 0
 IsRunning (running elements) = ⊤
 IsRunning (stopped f) = ⊥
 
--- what `feed` answers, where the step leads from old to due: a line without fault goes on, a faulty one stops for
--- good, and where memory runs out everything stays as it was
+-- what `feed` answers, where the step leads from old to due: a line without fault goes on, a faulty
+-- one stops for good, and where memory runs out everything stays as it was
 abbrev pub Feeds : Result (Unit {0}) FeedFault → Progress → Progress → Progress → Type 0
 Feeds (Ok u) old due new = (new ≡ due) × IsRunning due
 Feeds (Err faults.Memory) old due new = (new ≡ old) × IsRunning old
 Feeds (Err (faults.Line f)) old due new = (new ≡ due) × (due ≡ stopped f)
 
--- what `finish` answers: where there is no fault the dump of the checker's profile and elements, and else the fault
+-- what `finish` answers: where there is no fault the dump of the checker's profile and elements,
+-- and else the fault
 abbrev pub Finishes : Result DumpValue FeedFault → CheckerValue → Type 0
 Finishes (Ok dump) checker = (checker ≡ record { profile = dump.profile; progress = running dump.elements }) × (end_fault dump.elements ≡ None)
 Finishes (Err faults.Memory) checker = ⊥

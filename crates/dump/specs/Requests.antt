@@ -1,5 +1,6 @@
--- What a request at a vertex or at a position is answered by (LSIF 0.6.0, "Request": a range or result set names a result by
--- an edge of the request's label, or forwards the request along `next`; "Multiple Projects": import and export monikers).
+-- What a request at a vertex or at a position is answered by (LSIF 0.6.0, "Request": a range or
+-- result set names a result by an edge of the request's label, or forwards the request along
+-- `next`; "Multiple Projects": import and export monikers).
 use Rattle.std.specs.Prelude.{◌≡◌, ◌≢◌, ◌↔◌, ◌⊎◌, ◌||◌, ℕ, Bool, true, false, List, [], ◌∷◌, Option, Some, None, Contains}
 use Rattle.std.specs.List.{AllPairs}
 use Rattle.positions.specs.Position.{PositionValue}
@@ -85,7 +86,7 @@ pub data IsFirst {X : Type 0} (P : X → Type 0) : List X → Option X → Type 
   here : {x : X} {xs : List X} → P x → IsFirst P (x ∷ xs) (Some x)
   later : {x : X} {xs : List X} {found : Option X} → (P x → ⊥) → IsFirst P xs found → IsFirst P (x ∷ xs) found
 
--- the range that the request is asked of: the smallest of those that cover the position that speaks
+-- the range that answers the request: the smallest that covers the position and has an answer
 abbrev pub Pick : RequestKind → List ElementValue → List ℕ → PositionValue → Option RangeValue → Type 0
 Pick request elements uri position picked =
     (ranges : List RangeValue) × Cover elements uri position ranges × IsFirst (λ (r : RangeValue). Speaks request elements r.id) ranges picked

@@ -1,5 +1,5 @@
--- Paths and chains over the pairs of vertices that edges of one label join (LSIF 0.6.0, "next": a request that a
--- range or a result set doesn't answer is forwarded along the `next` edge).
+-- Paths and chains over the pairs of vertices that edges of one label join (LSIF 0.6.0, "next": a
+-- request that a range or a result set doesn't answer is forwarded along the `next` edge).
 use Rattle.std.specs.Prelude.{◌≡◌, ℕ, nat_eq, Bool, List, [], ◌∷◌, if◌then◌else◌, ◌||◌, ◌&&◌, Option, Some, None, Contains}
 use Rattle.std.specs.List.{flat_map}
 use Rattle.lsif.specs.Element.{IdValue, same_id, next, definition, references, declaration, implementation, hover, package_edge, ElementValue, vertex, edge}

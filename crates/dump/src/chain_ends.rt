@@ -1,4 +1,6 @@
-//! Where chains of `next` edges end, by shortcuts that are shortened as they are used. `specs/Steps/Chains`.
+//! Where chains of `next` edges end: union-find with path compression. So the test whether a `next`
+//! edge closes a cycle takes O(log n) amortised, in whatever order the edges come.
+//! `specs/Steps/Chains`.
 ghost use Rattle.std.specs.Prelude.{◌≡◌, ◌<◌, ◌++◌, ◌∷◌, [], None, Some, map, vec_len, vec_capacity};
 ghost use Rattle.lsif.specs.Element.{IdValue, element_value};
 ghost use Rattle.dump.specs.Steps.Chains.{index_in, HasShortcuts, IsIndexIn, IsEnd, CanJoin, JoinsIndices};
@@ -8,8 +10,8 @@ ghost use Rattle.dump.specs.Walks.{next_pairs};
 
 use lsif::Element;
 
-/// The index of the last vertex of the chain from the vertex at this index. Of each vertex that a `next` edge leaves,
-/// `shortcuts` has the index of one further on.
+/// The index of the last vertex of the chain from the vertex at this index. Of each vertex that a
+/// `next` edge leaves, `shortcuts` has the index of one further on.
 pub(crate) fn end_of(shortcuts: &[Option<usize>], elements: &[Element], index: usize) -> usize
     requires shortcuts { HasShortcuts (next_pairs (map element_value elements.now)) (map element_value elements.now) shortcuts.now }
     requires sound { IsSound (map element_value elements.now) }
@@ -26,7 +28,8 @@ pub(crate) fn end_of(shortcuts: &[Option<usize>], elements: &[Element], index: u
     at
 }
 
-/// Lets the shortcuts from this index on lead to the end of the chain, so that the next walk along them is short.
+/// Makes the shortcuts from this index on lead to the end of the chain, so that the next walk along
+/// them is short (path compression).
 fn shorten(shortcuts: &mut Vec<Option<usize>>, elements: &[Element], index: usize, end: usize)
     requires shortcuts { HasShortcuts (next_pairs (map element_value elements.now)) (map element_value elements.now) shortcuts.old.items }
     requires sound { IsSound (map element_value elements.now) }
@@ -62,7 +65,8 @@ fn join(shortcuts: &mut Vec<Option<usize>>, elements: &[Element], from: usize, t
     shortcuts[from] = Some(end);
 }
 
-/// Enters the element that follows these; it joins the vertices at these indices, where it's a `next` edge.
+/// Enters the element that follows these; it joins the vertices at these indices, where it's a
+/// `next` edge.
 pub(crate) fn follow(
     shortcuts: &mut Vec<Option<usize>>,
     elements: &[Element],

@@ -1,5 +1,5 @@
-//! The checker of a dump, to which elements are fed line by line, and a checked dump with its look-ups. What forbids an element is in `order.rt`.
-//! `specs/Progress`.
+//! The checker of a dump, which takes its elements line by line, and a checked dump with its
+//! look-ups. What forbids an element is in `order.rt`. `specs/Progress`.
 ghost use Rattle.std.specs.Prelude.{◌≡◌, true, map, []};
 ghost use Rattle.lsif.specs.Code.{is_shape_code};
 ghost use Rattle.lsif.specs.Element.{element_value, reading_value};
@@ -17,7 +17,8 @@ use lsif::{Code, Element, Id, IdRef, Profile, Vertex};
 use std::alloc::Global;
 use std::marker::Model;
 
-/// Takes the readings of a dump's lines one after the other. At the first faulty line it stops for good.
+/// Takes the readings of a dump's lines one after the other. At the first faulty line it stops for
+/// good.
 #[derive(Drop)]
 pub struct Checker {
     profile: Profile,
@@ -60,8 +61,9 @@ impl Checker {
         self.profile
     }
 
-    /// Takes the next line: its element, or the fault of its shape. Answers the fault of the line, if it has one, and
-    /// from then on that fault for good. Where memory is refused the line doesn't count as taken.
+    /// Takes the next line: its element, or the fault of its shape. Returns the fault of the line,
+    /// if it has one, and from then on that fault for good. Where memory is refused the line
+    /// doesn't count as taken.
     pub fn feed(&mut self, reading: Result<Element, Code>) -> Result<(), FeedFault>
         requires { ForErr reading (λ code. is_shape_code code ≡ true) }
         ensures line { Feeds result self.old.progress (next self.old.progress (reading_value reading)) self.new.progress }
@@ -82,7 +84,7 @@ impl Checker {
         }
     }
 
-    /// Keeps the fault, and answers it.
+    /// Keeps the fault, and returns it.
     fn stop(&mut self, fault: LineFault) -> FeedFault
         ensures fault { result ≡ Line fault }
         ensures stopped { self.new ≡ record { profile = self.old.profile; progress = stopped fault } }
@@ -116,7 +118,8 @@ impl Checker {
     }
 }
 
-/// The elements of a dump that has no fault, in the order of their lines, and the profile that it was read by.
+/// The elements of a dump that has no fault, in the order of their lines, and the profile that it
+/// was read by.
 #[derive(Drop)]
 pub struct CheckedDump {
     profile: Profile,
@@ -156,7 +159,7 @@ impl CheckedDump {
         self.profile
     }
 
-    /// The elements: that of line 1 first.
+    /// The elements, in the order of their lines.
     pub fn elements(&self) -> &[Element]
         ensures value { map element_value result.now ≡ self.now.elements }
         ensures few { length result.now ≤ most_elements }
@@ -165,8 +168,8 @@ impl CheckedDump {
         self.graph.elements()
     }
 
-    /// The result that a request at this vertex is answered by: that of the first vertex along the chain of `next` edges from
-    /// it that has one.
+    /// The result that a request at this vertex is answered by: that of the first vertex along the
+    /// chain of `next` edges from it that has one.
     pub fn first<'a>(&'a self, request: RequestKind, vertex: &'a Id) -> Option<&'a Id>
         ensures value { First request self.now.elements (id_value vertex.now) (option_map (λ i. id_value i.now) result) }
         ensures only { (other : Option IdValue) → First request self.now.elements (id_value vertex.now) other
@@ -177,14 +180,14 @@ impl CheckedDump {
         first_result(&self.graph, request.label(), vertex)
     }
 
-    /// What the `next` edge out of this vertex leads to.
+    /// The vertex that the `next` edge out of this one leads to (LSIF 0.6.0, "next").
     pub fn next(&self, vertex: &Id) -> Option<&Id>
         ensures { option_map (λ i. id_value i.now) result ≡ first_to (next_pairs self.now.elements) (id_value vertex.now) }
     {
         self.graph.target_of(SingleLabel::Next, vertex.lent())
     }
 
-    /// The result that the vertex itself has for a request.
+    /// The result that the vertex itself has for a request, whatever its chain has.
     pub fn result(&self, request: RequestKind, vertex: &Id) -> Option<&Id>
         ensures { option_map (λ i. id_value i.now) result ≡ first_to (single_pairs (label_of request) self.now.elements) (id_value vertex.now) }
     {
@@ -199,7 +202,7 @@ impl CheckedDump {
             .target_of(SingleLabel::PackageInformation, moniker.lent())
     }
 
-    /// What the vertex of this id says. None where the id is an edge's, or nobody's.
+    /// What the vertex of this id says. None where the id is that of an edge, or of no element.
     pub fn vertex_at(&self, id: IdRef<'_>) -> Option<&Vertex>
         ensures { option_map (λ v. vertex_value v.now) result ≡ vertex_at self.now.elements (lent_value id.entry) }
     {
@@ -216,7 +219,7 @@ impl CheckedDump {
         }
     }
 
-    /// The one document of this serialized URL.
+    /// The document of this serialized URL.
     pub fn document_of(&self, uri: &str) -> Option<&Id>
         ensures some { IfSome result (λ d. vertex_at self.now.elements (id_value d.now) ≡ Some (document uri.now)) }
         ensures only { IfSome result (λ d. (other : IdValue) → vertex_at self.now.elements other ≡ Some (document uri.now) → other ≡ id_value d.now) }

@@ -1,4 +1,5 @@
-//! Which ranges the documents of a dump contain, asked of lists of ids. One range is asked of the graph (`graph.rt`). `specs/Contained`.
+//! Which of some ranges the documents of a dump contain. The look-up of one range is in `graph.rt`.
+//! `specs/Contained`.
 ghost use Rattle.std.specs.Prelude.{◌≡◌};
 ghost use Rattle.std.specs.List.{list_any};
 ghost use Rattle.lsif.specs.Lent.{lent_value};

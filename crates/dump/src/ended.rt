@@ -1,4 +1,4 @@
-//! Which documents may begin and end, and whose ranges aren't named any more.
+//! Which documents may begin and end, and whose ranges may not be named any more.
 ghost use Rattle.std.specs.Prelude.{◌≡◌};
 ghost use Rattle.std.specs.List.{list_any};
 ghost use Rattle.lsif.specs.Element.{element_value};

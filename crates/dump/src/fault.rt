@@ -1,4 +1,5 @@
-//! Where a dump is faulty: a line and its code; and why an element or a dump is refused. The codes are the crate `lsif`'s.
+//! Where a dump is faulty: a line and its code; and why an element or a dump is refused. The codes
+//! are those of the crate `lsif`.
 ghost use Rattle.std.specs.Prelude.{◌≡◌};
 ghost use Rattle.dump.specs.declared.fault.FeedFault.TheVariants.{Memory};
 
@@ -14,7 +15,7 @@ pub struct LineFault {
     pub code: Code,
 }
 
-/// Why the checker doesn't go on.
+/// Why the checker takes no further line.
 #[derive(Clone, Copy, Debug, PartialEq, Eq, Error)]
 pub enum FeedFault {
     /// Memory was refused.

@@ -1,4 +1,5 @@
-//! The elements of a dump, and what is looked up among them.
+//! The elements of a dump so far, and what is looked up among them: the tables of `tables.rt`, and
+//! the ends of `next` chains (`chain_ends.rt`). Nothing here searches the list of elements.
 ghost use Rattle.std.specs.Prelude.{◌≡◌, ◌++◌, ◌||◌, ◌==◌, ◌<◌, ◌∷◌, [], None, IfSome, IfOk, OnOk, OnErr, length, map, option_map, vec_capacity, vec_len};
 ghost use Rattle.std.specs.List.{list_any};
 ghost use Rattle.lsif.specs.Element.{id_value, element_value};
@@ -46,8 +47,8 @@ impl Model for Graph {
         × HasShortcuts (next_pairs (map element_value g.elements.items)) (map element_value g.elements.items) g.shortcuts.items };
 }
 
-/// Makes room for an element more, and enters it in the tables and the shortcuts of those before it. Where memory is refused these stay
-/// as they are.
+/// Makes room for one more element, and enters it in the tables and the shortcuts of those before
+/// it. Where memory is refused these stay as they are.
 fn enter(
     elements: &mut Vec<Element>,
     tables: &mut Tables,
@@ -76,7 +77,7 @@ fn enter(
 }
 
 impl Graph {
-    /// No element.
+    /// A graph without elements.
     pub(crate) fn new(alloc: Global) -> Graph
         ensures { result ≡ [] }
     {
@@ -187,15 +188,15 @@ impl Graph {
         }
     }
 
-    /// Whether an id stands in the list twice.
+    /// Whether an id is in the list twice.
     pub(crate) fn is_repeating(&self, ids: IdsIter<'_>) -> Result<bool, AllocError>
         ensures { IfOk result (λ b. b ≡ has_repeated ids.entry) }
     {
         is_repeating(*self.elements.allocator(), ids)
     }
 
-    /// Whether the span of one of these ranges conflicts with that of a range that the document contains, or with
-    /// another's of them.
+    /// Whether the span of one of these ranges conflicts with that of a range that the document
+    /// contains, or with another's of them.
     pub(crate) fn conflict(
         &self,
         document: IdRef<'_>,

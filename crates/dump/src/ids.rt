@@ -1,4 +1,6 @@
-//! Tables from ids to values: numbers and texts have an ordered map each, so that no choice of ids makes look-ups slow. `specs/Steps/Ids`.
+//! Tables from ids to values: numbers and texts have an ordered map each. A look-up takes O(log n),
+//! and no choice of ids makes it slower, as colliding keys would make a hash table.
+//! `specs/Steps/Ids`.
 ghost use Rattle.std.specs.Prelude.{◌≡◌, true, Some, None, IfOk, OnOk, OnErr, option_copied, if◌then◌else◌};
 ghost use Rattle.lsif.specs.Element.{IdValue, same_id};
 ghost use Rattle.lsif.specs.Lent.{lent_value};
@@ -41,7 +43,7 @@ impl<V> IdMap<V> {
 }
 
 impl<V: Drop> IdMap<V> {
-    /// Puts the value at the id, and answers the one that was there.
+    /// Puts the value at the id, and returns the one that was there.
     pub(crate) fn insert(&mut self, id: IdRef<'_>, value: V) -> Result<Option<V>, AllocError>
         ensures old { IfOk result (λ old. old ≡ value_at self.old (lent_value id.entry)) }
         ensures ok { OnOk result ((i : IdValue) → value_at self.new i
@@ -89,7 +91,7 @@ impl<V: Drop> IdMap<V> {
     }
 }
 
-/// Whether an id stands in the list twice.
+/// Whether an id is in the list twice.
 pub(crate) fn is_repeating(alloc: Global, ids: IdsIter<'_>) -> Result<bool, AllocError>
     ensures { IfOk result (λ b. b ≡ has_repeated ids.entry) }
 {

@@ -1,4 +1,6 @@
-//! Tables from ids to indices in a list: numbers below a bound have a slot each, all other ids stand in a map (`ids.rt`). `specs/Steps/Ids`.
+//! Tables from ids to indices in a list. Numbers below a bound have a slot each (direct
+//! addressing), so that dumps with ids counted from 1 are looked up in one step; all other ids are
+//! in an ordered map (`ids.rt`). `specs/Steps/Ids`.
 ghost use Rattle.std.specs.Prelude.{◌≡◌, ◌<◌, ◌^◌, ℕ, None, OnOk, OnErr, get_or, nat_eq, if◌then◌else◌};
 ghost use Rattle.lsif.specs.Element.{IdValue, same_id};
 ghost use Rattle.lsif.specs.Lent.{lent_value};
@@ -8,8 +10,8 @@ use crate::ids::IdMap;
 use lsif::IdRef;
 use std::alloc::{AllocError, Global};
 
-/// A table from ids to indices in a list, counted from 0. Numbers below a bound have a slot each, and all other ids are
-/// kept in order: in most dumps the elements are numbered in their order, so that those of one line and the next stand together.
+/// A table from ids to indices in a list, counted from 0. Most dumps number their elements in turn;
+/// so the slots of one line and the next are neighbours in memory.
 #[derive(Drop)]
 pub(crate) struct IndexMap {
     bound: u32,

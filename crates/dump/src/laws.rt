@@ -1,4 +1,5 @@
-//! Laws of the definitions of dumps, which speak of no program: that there is one first fault, one listing, one pick and so on.
+//! Laws of the definitions of dumps, which mention no program: that there is one first fault, one
+//! listing, one range that answers and so on.
 ghost use Rattle.std.specs.Prelude.{◌≡◌, ◌≢◌, ◌++◌, ◌<◌, ◌≤◌, ◌+◌, ℕ, List, Contains, Option, Some, None, Ok, map, length, slice_get, ◌↔◌, IsTrue};
 ghost use Rattle.positions.specs.Position.{PositionValue};
 ghost use Rattle.lsif.specs.Element.{IdValue, VertexValue, document, hover_result, ElementValue, vertex, Reading};
@@ -16,9 +17,9 @@ ghost use Rattle.dump.specs.Progress.{progress, running, stopped, finished};
 ghost use Rattle.dump.specs.Graph.{vertex_at, ends, line_of};
 ghost use Rattle.dump.specs.Walks.{Pair, Path, IsChain, HasChain, reaches, next_pairs};
 
-/// Each dump has one fault or none, and feeding its lines in turn and then finishing answers it. A checker that runs on
-/// keeps the elements of all lines, at most 100,000. It stops at the first line that has a fault, and that fault stays the one of
-/// every dump that begins so.
+/// Each dump has one fault or none, and feeding its lines in turn and then finishing returns it. A
+/// checker that runs on keeps the elements of all lines, at most 100,000. It stops at the first
+/// line that has a fault, and every dump that begins with these lines has that fault.
 pub fn fault_law()
     ensures holds { (dump : List Reading) → IsFault dump (finished (progress dump)) }
     ensures only { (dump : List Reading) (fault : Option LineFault) → IsFault dump fault → fault ≡ finished (progress dump) }
@@ -32,12 +33,13 @@ pub fn fault_law()
         → progress (dump ++ more) ≡ stopped fault }
 {}
 
-/// The test of a path is true exactly where there is one.
+/// The test of a path of `next` edges is true exactly where there is one.
 pub fn path_law()
     ensures { (pairs : List Pair) (from to : IdValue) → IsTrue (reaches pairs from to) ↔ Path pairs from to }
 {}
 
-/// In a dump without fault the chain of `next` edges from each vertex ends. It has one member more at most than there are elements.
+/// In a dump without fault the chain of `next` edges from each vertex ends. It has at most one more
+/// member than the dump has elements.
 pub fn chain_law()
     ensures chain { (elements : List ElementValue) → IsFaultless (map Ok elements) → (x : IdValue) → HasChain (next_pairs elements) x }
     ensures short { (elements : List ElementValue) (x : IdValue) (xs : List IdValue) → IsChain (next_pairs elements) x xs → length xs ≤ length elements + 1 }
@@ -49,14 +51,15 @@ pub fn ends_law()
         → (v : VertexValue) × (vertex_at elements i ≡ Some v) }
 {}
 
-/// The line of an id is that of no other. In a dump without fault a vertex has a line, and it's the element there.
+/// The line of an id is that of no other. In a dump without fault a vertex has a line, and is the
+/// element there.
 pub fn line_law()
     ensures one { (elements : List ElementValue) (i j : IdValue) (k : ℕ) → line_of elements i ≡ Some k → line_of elements j ≡ Some k → i ≡ j }
     ensures there { (elements : List ElementValue) → IsFaultless (map Ok elements) → (i : IdValue) (v : VertexValue) → vertex_at elements i ≡ Some v
         → (k : ℕ) × (line_of elements i ≡ Some k) × (slice_get elements k ≡ Some (vertex i v)) }
 {}
 
-/// In a dump without fault a range is in one document at most, that which contains it.
+/// In a dump without fault a range is in at most one document, the one that contains it.
 pub fn container_law()
     ensures { (elements : List ElementValue) → IsFaultless (map Ok elements) → (d r : IdValue) → IsTrue (is_in elements d r) ↔ (container elements r ≡ Some d) }
 {}
@@ -78,7 +81,8 @@ pub fn uri_law()
         → vertex_at elements e ≡ Some (document uri) → d ≡ e }
 {}
 
-/// In a dump without fault a result of another request than references has the places of its own items alone.
+/// In a dump without fault a result of another request than references has the places of its own
+/// items alone.
 pub fn own_law()
     ensures { (elements : List ElementValue) → IsFaultless (map Ok elements) → (request : RequestKind) → (request ≢ References) → (x result : IdValue)
         → First request elements x (Some result) → (in_roles : List Role) (place : PlaceValue) → Places in_roles elements result place
@@ -97,8 +101,8 @@ pub fn listing_law()
         → ((place : PlaceValue) → Contains places place ↔ Contains others place) → places ≡ others }
 {}
 
-/// A request at a vertex is answered by one result at most; the ranges that cover a position have one list; and a request at
-/// the position is asked of one range at most.
+/// A request at a vertex is answered by at most one result. The ranges that cover a position have
+/// one list, and at most one range answers a request at the position.
 pub fn pick_law()
     ensures first { (request : RequestKind) (elements : List ElementValue) (x : IdValue) (found other : Option IdValue) → First request elements x found
         → First request elements x other → found ≡ other }

@@ -1,4 +1,5 @@
-//! The checker of a dump: takes the readings of its lines, and names the first fault or keeps the elements.
+//! The checker of a dump: takes the readings of its lines in turn, and returns the first fault or
+//! the dump with its look-ups.
 #![tactic(auto)]
 
 mod chain_ends;

@@ -1,4 +1,5 @@
-//! The indices of the elements that name a vertex, way by way.
+//! For each vertex the index of the first element that names it, in each way in which elements do.
+//! A look-up is one step, in place of a search through the dump.
 ghost use Rattle.std.specs.Prelude.{◌≡◌, ◌<◌, ◌&&◌, [], ℕ, true, get_or, is_some, length, nat_eq};
 ghost use Rattle.std.specs.List.{list_all};
 ghost use Rattle.lsif.specs.Element.{IdValue, same_id};

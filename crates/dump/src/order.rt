@@ -1,4 +1,5 @@
-//! What an element may not be after the elements before it, and what a whole dump may not have.
+//! What forbids an element after the elements before it, and what forbids a whole dump: code by
+//! code. The least code that holds is named. `specs/Conditions`.
 ghost use Rattle.std.specs.Prelude.{◌≡◌, false, ◌<◌, ◌≤◌, ◌&&◌, ◌++◌, [], ◌∷◌, IfOk, IfNone, IfSome, OnErr, length, not};
 ghost use Rattle.std.specs.List.{list_any};
 ghost use Rattle.lsif.specs.Element.{edge_value, element_value};
@@ -260,8 +261,8 @@ fn order_code(graph: &Graph, element: &Element) -> Result<Option<Code>, AllocErr
     Ok(code)
 }
 
-/// Adds the element where those before it allow it, and answers its code where they don't. Where memory is refused the
-/// elements stay as they are.
+/// Adds the element where those before it allow it, and answers its code where they don't. Where
+/// memory is refused the elements stay as they are.
 pub(crate) fn add(graph: &mut Graph, element: Element) -> Result<Option<Code>, AllocError>
     requires { IsSound graph.old }
     ensures code { IfOk result (λ code. code ≡ order_code graph.old (element_value element)) }

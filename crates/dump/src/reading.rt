@@ -1,5 +1,5 @@
-//! The dump that a reader's bytes are: each line is read and handed to the checker (`checker.rt`). An upload's lines come from the crate `machine`, and are
-//! read by `read_line` too.
+//! The dump that a reader's bytes are: each line is read and passed to the checker (`checker.rt`).
+//! Lines of an upload come from the crate `machine`, which calls `read_line` too.
 ghost use Rattle.std.specs.Prelude.{◌≡◌, ◌-◌, ◌^◌, ◌<◌, [], ℕ, List, Err, IfOk, IfErr, OnOk, option_map, true};
 ghost use Rattle.std.specs.Result.{ForErr};
 ghost use Rattle.lsif.specs.Code.{is_shape_code};
@@ -45,8 +45,8 @@ impl From<FeedFault> for DumpFault {
     }
 }
 
-/// What is read of a line of a dump by a profile: its element, or the code of its shape. Of a line that isn't given, since it's longer than the longest, it's
-/// L01.
+/// What is read of a line of a dump by a profile: its element, or the code of its shape. A line
+/// that isn't given, since it's longer than the longest, has L01.
 pub fn read_line(
     alloc: Global,
     profile: Profile,
@@ -65,7 +65,8 @@ pub fn read_line(
     }
 }
 
-/// The reading of the next line by a profile: its element, or the fault of its shape. None at the end.
+/// The reading of the next line by a profile: its element, or the fault of its shape. None at the
+/// end.
 fn next_reading<R: Source>(
     alloc: Global,
     profile: Profile,
@@ -92,7 +93,8 @@ fn next_reading<R: Source>(
     }
 }
 
-/// Hands the lines of a reader to a new checker, to the reader's end or up to the first faulty line.
+/// Passes the lines of a reader to a new checker, to the reader's end or up to the first faulty
+/// line.
 fn take_lines<R: Source>(alloc: Global, checker: &mut Checker, r: &mut R) -> Result<(), DumpFault>
     requires count { R.failed r.old < 2 ^ 64 - 1 }
     requires fresh { checker.old.progress ≡ running [] }
@@ -115,8 +117,8 @@ fn take_lines<R: Source>(alloc: Global, checker: &mut Checker, r: &mut R) -> Res
     Ok(())
 }
 
-/// Reads a dump by a profile from a reader to its end, or up to its first faulty line: the dump where it has no fault, else
-/// its fault. Keeps the dump's elements, and of its bytes one line.
+/// Reads a dump by a profile from a reader to its end, or up to its first faulty line: the dump
+/// where it has no fault, else its fault. Keeps the dump's elements, and of its bytes one line.
 pub fn read_dump<R: Source>(
     alloc: Global,
     profile: Profile,

@@ -1,5 +1,6 @@
-//! The kinds of requests that results of vertices answer: the label of the edges that name their results, the kinds of monikers by which they join dumps, and
-//! the roles of the places that they ask for. `label_of`, `follows`, `finds` and `roles_of` in `specs/Requests`.
+//! The kinds of requests that results of vertices answer: the label of the edges that name their
+//! results, the kinds of monikers by which they join dumps, and the roles of their places.
+//! `label_of`, `follows`, `finds` and `roles_of` in `specs/Requests`.
 ghost use Rattle.std.specs.Prelude.{◌≡◌};
 ghost use Rattle.dump.specs.Requests.{finds, follows, label_of, roles_of};
 
@@ -31,7 +32,8 @@ impl RequestKind {
         }
     }
 
-    /// Whether the request goes on to other projects by monikers of this kind (LSIF 0.6.0, "Multiple Projects").
+    /// Whether the request goes on to other projects by monikers of this kind (LSIF 0.6.0,
+    /// "Multiple Projects").
     pub fn follows(self, kind: MonikerKind) -> bool
         ensures { result ≡ follows self kind }
     {
@@ -53,7 +55,8 @@ impl RequestKind {
         }
     }
 
-    /// The roles of the places that it asks for. References are asked for with the definitions, where no more is said.
+    /// The roles of the places that it returns. A request for references returns definitions too,
+    /// unless it excludes them.
     pub fn roles(self) -> &'static [Role]
         ensures { result.now ≡ roles_of self }
     {

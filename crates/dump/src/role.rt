@@ -1,4 +1,5 @@
-//! What the ranges that an `item` edge joins to a result are to it: definitions or references. `role_of` in `specs/Places`.
+//! What the ranges that an `item` edge joins to a result are to it: definitions or references.
+//! `role_of` in `specs/Places`.
 ghost use Rattle.std.specs.Prelude.{◌≡◌};
 ghost use Rattle.dump.specs.Places.{role_of};
 

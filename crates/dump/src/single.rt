@@ -1,4 +1,5 @@
-//! The labels whose edges leave a vertex once at most, and which edges have them. `single_of` in `specs/Walks`.
+//! The labels of which at most one edge leaves a vertex, and which edges have them. `single_of` in
+//! `specs/Walks`.
 ghost use Rattle.std.specs.Prelude.{◌≡◌, option_map};
 ghost use Rattle.lsif.specs.Element.{id_value, element_value};
 ghost use Rattle.dump.specs.Steps.Links.{single_target};
@@ -6,7 +7,7 @@ ghost use Rattle.dump.specs.Walks.{single_of};
 
 use lsif::{Edge, Element, Id};
 
-/// A label of which one edge at most leaves a vertex (LSIF 0.6.0, "next", "Requests").
+/// A label of which at most one edge leaves a vertex (LSIF 0.6.0, "next", "Requests").
 #[derive(Clone, Copy)]
 pub enum SingleLabel {
     Next,

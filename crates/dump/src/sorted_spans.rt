@@ -1,4 +1,8 @@
-//! Spans in order, and whether a further span conflicts with one of them.
+//! The spans of a document's ranges, in order, and whether a further span conflicts with one of
+//! them: binary search, then jump pointers from a span to the last before it that ends later
+//! (binary lifting with two links a span). One look-up takes O(log n). The lists grow by the
+//! logarithmic method: short ones are merged into the new one, so that n spans in any order, in any
+//! number of edges, take O(n log² n) in all.
 ghost use Rattle.std.specs.Prelude.{◌≡◌, ◌||◌, ◌++◌, ◌+◌, ◌≤◌, ◌<◌, ℕ, true, false, length, drop, IfOk, OnOk, OnErr, IsPermutation};
 ghost use Rattle.std.specs.List.{list_any, slice_index_or};
 ghost use Rattle.positions.specs.Position.{is_before};
@@ -11,19 +15,20 @@ use positions::{Position, Span};
 use std::alloc::{AllocError, Global};
 use std::marker::Model;
 
-/// Where a climb from a span goes on. Both count the spans of the list up to and with the one that is meant.
+/// Where a climb from a span goes on. Both are counts: the spans of the list up to and with the one
+/// that the link leads to.
 #[derive(Clone, Copy)]
 pub(crate) struct Link {
     /// The last span before it that ends after it.
     next: usize,
-    /// One that links lead to from it, further on or the same.
+    /// A span that several links in a row lead to, or the same as `next`.
     jump: usize,
     /// How many links the jump passes.
     steps: usize,
 }
 
-/// Spans in order, with a link from each to one before it, so that those that enclose a position are found without a
-/// look at each span.
+/// Spans in order, with a link from each to one before it, so that those that enclose a position
+/// are found without a look at each span.
 #[derive(Drop)]
 pub(crate) struct SortedSpans {
     spans: Vec<Span>,
@@ -83,7 +88,8 @@ fn count_started(spans: &[Span], position: Position) -> usize
     spans.partition_point(|span| starts_before(*span, position))
 }
 
-/// Where a climb goes on from a span that doesn't end after the position: by its jump, where that leads to one that doesn't, either.
+/// Where a climb goes on from a span that doesn't end after the position. It goes by the jump,
+/// where that leads to one that doesn't end after it either.
 fn further(spans: &[Span], link: Link, position: Position) -> usize
     requires { link.jump ≤ length spans.now }
     ensures { GoesOn spans.now link position result }
@@ -112,8 +118,9 @@ fn reaching(spans: &[Span], links: &[Link], count: usize, position: Position) ->
     at
 }
 
-/// The link to the last of the first so many spans. Its jump goes as far as two jumps from there, where both pass as many links, and else no further; so jumps
-/// double, and a climb along n links takes some log n of them.
+/// The link to the last of the first so many spans. Its jump goes as far as two jumps from there,
+/// where both pass as many links, and else no further. So jumps double in length, and a climb along
+/// n links takes O(log n) of them.
 fn link_to(links: &[Link], next: usize) -> Link
     requires next { next ≤ length links.now }
     requires below { AreBelow links.now }
@@ -184,8 +191,9 @@ impl SortedSpans {
 
     /// Whether the span conflicts with one of these, of which no two conflict.
     ///
-    /// It's so where it conflicts with the last that doesn't come after it, with the last of those that ends after its
-    /// start, or with the last of those that start before its end which ends after that.
+    /// It does where it conflicts with the last that doesn't come after it, with the last of those
+    /// that ends after its start, or with the last of those that start before its end which ends
+    /// after that.
     fn conflicts_with(&self, span: Span) -> bool
         requires { has_conflict self.now ≡ false }
         ensures { result ≡ list_any (conflicts span) self.now }
@@ -203,7 +211,8 @@ impl SortedSpans {
 
     /// Whether two of these conflict.
     ///
-    /// It's so where one conflicts with the one before it, or with the last before it that ends after its start.
+    /// They do where one conflicts with the one before it, or with the last before it that ends
+    /// after its start.
     fn has_conflict(&self) -> bool
         ensures { result ≡ has_conflict self.now }
     {
@@ -232,7 +241,8 @@ impl SortedSpans {
     }
 }
 
-/// Whether one of the targets conflicts with a span of one of the lists, of whose spans no two conflict.
+/// Whether one of the targets conflicts with a span of one of the lists, of whose spans no two
+/// conflict.
 fn conflict_with(lists: &[SortedSpans], targets: &[Span]) -> bool
     requires { has_conflict (joined lists.now) ≡ false }
     ensures { result ≡ any_conflicts targets.now (joined lists.now) }
@@ -245,8 +255,8 @@ fn conflict_with(lists: &[SortedSpans], targets: &[Span]) -> bool
     false
 }
 
-/// Whether one of the targets conflicts with a span of one of the lists, of whose spans no two conflict, or with another
-/// target.
+/// Whether one of the targets conflicts with a span of one of the lists, of whose spans no two
+/// conflict, or with another target.
 pub(crate) fn conflict_after(
     alloc: Global,
     lists: &[SortedSpans],
@@ -264,8 +274,8 @@ pub(crate) fn conflict_after(
     Ok(targets.has_conflict())
 }
 
-/// How many of the lists stay as they are when so many spans come: each of them is more than twice as long as those
-/// after it and the new spans together.
+/// How many of the lists stay as they are when so many spans come: each of them is more than twice
+/// as long as those after it and the new spans together.
 fn staying(lists: &[SortedSpans], len: usize) -> usize
     ensures { result ≤ length lists.now }
 {
@@ -278,7 +288,8 @@ fn staying(lists: &[SortedSpans], len: usize) -> usize
     count
 }
 
-/// The spans of the lists from the first on and the targets, which are in order, in one list in order.
+/// The spans of the lists from the first on and the targets, which are in order, in one list in
+/// order.
 fn joined(
     alloc: Global,
     lists: &[SortedSpans],
@@ -299,8 +310,9 @@ fn joined(
     Ok(spans)
 }
 
-/// Adds the targets to the lists: they and the short lists at the end become one list. Each list is then more than twice
-/// as long as all after it, so that there are few, and a span is seldom moved. Where memory is refused all stays as it is.
+/// Adds the targets to the lists: they and the short lists at the end become one list. Each list is
+/// then more than twice as long as all after it. So there are at most log n of them, and a span is
+/// merged at most log n times. Where memory is refused all stays as it is.
 pub(crate) fn add(
     alloc: Global,
     lists: &mut Vec<SortedSpans>,

@@ -1,4 +1,5 @@
-//! Spans that conflict, and the order of spans: by the start, the longer first. Lists of them are in `sorted_spans.rt`. `specs/Steps/Spans`.
+//! When spans conflict, and their order: by the start, the longer first. So a span comes after all
+//! that enclose it. The lists are in `sorted_spans.rt`. `specs/Steps/Spans`.
 ghost use Rattle.std.specs.Prelude.{◌≡◌, ◌++◌, ◌+◌, ◌≤◌, ◌<◌, ℕ, true, false, length, IfOk, IsPermutation};
 ghost use Rattle.std.specs.List.{slice_get, slice_index_or};
 ghost use Rattle.positions.specs.Span.{SpanValue};

@@ -1,4 +1,7 @@
-//! Tables that lead from ids to the elements of a dump.
+//! The tables that lead from ids to the elements of a dump, so that each check of a line is a
+//! look-up: ids by `index_map.rt`, the elements that name a vertex by `links.rt`, spans by
+//! `sorted_spans.rt`, URLs by an ordered map. They refer to elements by their indices, and so copy
+//! none.
 ghost use Rattle.std.specs.Prelude.{◌≡◌, ◌++◌, ◌∷◌, ◌||◌, [], ℕ, List, Some, None, bytes_eq, IfOk, OnOk, OnErr, find, map, option_and_then, option_map, slice_get, if◌then◌else◌};
 ghost use Rattle.std.specs.BTreeMap.{get_by_text};
 ghost use Rattle.std.specs.List.{list_any};
@@ -25,12 +28,12 @@ use positions::Span;
 use std::alloc::{AllocError, Global};
 use std::collections::BTreeMap;
 
-/// Ids below it have a slot each: more than a dump has elements, so that dumps whose elements are numbered in turn need
-/// nothing else.
+/// Numbers below it have a slot each. A dump has fewer elements; so a dump whose elements are
+/// numbered in turn needs no other map.
 const SLOTS: u32 = 131072;
 
-/// What is kept beside the elements of a dump, so that they are looked up without a search: the tables have their indices
-/// in the list, counted from 0.
+/// What is kept beside the elements of a dump, so that they are looked up without a search. The
+/// tables have their indices in the list, counted from 0.
 #[derive(Drop)]
 pub(crate) struct Tables {
     alloc: Global,
@@ -54,7 +57,8 @@ fn lists<'a>(table: &'a IdMap<Vec<SortedSpans>>, document: IdRef<'_>) -> &'a [So
     }
 }
 
-/// Adds the spans to those that are kept of a document. Where memory is refused they stay as they are.
+/// Adds the spans to those that are kept of a document. Where memory is refused they stay as they
+/// are.
 fn fill(
     alloc: Global,
     table: &mut IdMap<Vec<SortedSpans>>,
@@ -93,8 +97,8 @@ fn enter_document(
     Ok(())
 }
 
-/// Keeps what an element says beside its own id: of a `contains` edge the spans of its targets, of a document its
-/// serialized URL. Where memory is refused all stays as it is.
+/// Keeps what an element says beside its own id: of a `contains` edge the spans of its targets, of
+/// a document its serialized URL. Where memory is refused all stays as it is.
 fn keep(
     alloc: Global,
     spans: &mut IdMap<Vec<SortedSpans>>,
@@ -264,8 +268,8 @@ impl Tables {
         Ok(found)
     }
 
-    /// Whether the span of one of these ranges conflicts with that of a range that the document contains, or with
-    /// another's of them.
+    /// Whether the span of one of these ranges conflicts with that of a range that the document
+    /// contains, or with another's of them.
     pub(crate) fn conflict(
         &self,
         elements: &[Element],
@@ -320,7 +324,8 @@ impl Tables {
         }
     }
 
-    /// Enters the id of an element and what is kept of it. Where memory is refused all stays as it is.
+    /// Enters the id of an element and what is kept of it. Where memory is refused all stays as it
+    /// is.
     fn enter(&mut self, element: &Element, targets: Vec<Span>, index: u32) -> Result<(), AllocError>
         requires { index_at self.old.indices (element_id (element_value element.now)) ≡ None }
         ensures rows { self.new.rows ≡ self.old.rows }
@@ -349,7 +354,8 @@ impl Tables {
         kept
     }
 
-    /// Enters the element that follows these. Where memory is refused the tables stay those of these.
+    /// Enters the element that follows these. Where memory is refused the tables stay those of
+    /// these.
     pub(crate) fn add(&mut self, elements: &[Element], element: &Element) -> Result<(), AllocError>
         requires tables { AreTables self.old (map element_value elements.now) }
         requires sound { IsSound (map element_value elements.now) }

@@ -1,5 +1,5 @@
-//! What the vertices of ids are, and of which kinds, as edges and events ask. `specs/Kinds` has the kinds and the edge table; the test of its rows
-//! is in `order.rt`.
+//! What the vertices of ids are, and of which kinds, as the checks of edges and events need it.
+//! `specs/Kinds` has the kinds and the edge table; the test of its rows is in `order.rt`.
 ghost use Rattle.std.specs.Prelude.{◌≡◌, option_map};
 ghost use Rattle.lsif.specs.Element.{vertex_value};
 ghost use Rattle.lsif.specs.Lent.{lent_value};
@@ -20,7 +20,7 @@ pub(crate) fn vertex_at<'a>(graph: &'a Graph, id: IdRef<'_>) -> Option<&'a Verte
     }
 }
 
-/// What an edge or an event asks of a vertex.
+/// What an edge or an event requires of a vertex.
 #[derive(Clone, Copy)]
 pub(crate) enum Kind {
     /// A vertex of any label.
@@ -38,7 +38,7 @@ pub(crate) enum Kind {
     Package,
     /// A vertex of a label that isn't read.
     Other,
-    /// A range or a result set: requests are asked of these.
+    /// A range or a result set: these have results of requests.
     Asked,
     /// A document or a project: these may be the shard of an `item` edge.
     Shard,

@@ -1,4 +1,6 @@
-//! Whether a path of `next` edges leads from one vertex to another, and the first result along a chain of them. `specs/Walks`.
+//! Whether a path of `next` edges leads from one vertex to another, and the first result along a
+//! chain of them. The path is tested by the chain's end (`chain_ends.rt`); the result is found by a
+//! walk, one step a vertex. `specs/Walks`.
 ghost use Rattle.std.specs.Prelude.{◌≡◌, List, None, option_map};
 ghost use Rattle.lsif.specs.Element.{IdValue, id_value};
 ghost use Rattle.lsif.specs.Lent.{lent_value};
@@ -9,7 +11,8 @@ use crate::graph::Graph;
 use crate::single::SingleLabel;
 use lsif::{Id, IdRef};
 
-/// Whether a path of `next` edges, of no step or more, goes from the one vertex to the other, which no such edge leaves.
+/// Whether a path of `next` edges, of no step or more, goes from the one vertex to the other, which
+/// no such edge leaves.
 pub(crate) fn leads(graph: &Graph, from: IdRef<'_>, to: IdRef<'_>) -> bool
     requires sound { IsSound graph.now }
     requires last { first_to (next_pairs graph.now) (lent_value to) ≡ None }
@@ -18,8 +21,8 @@ pub(crate) fn leads(graph: &Graph, from: IdRef<'_>, to: IdRef<'_>) -> bool
     graph.end_of(from).is(to)
 }
 
-/// The target of the edge of this label out of the first vertex along the chain of `next` edges, from this one on, that has
-/// one.
+/// The target of the edge of this label out of the first vertex along the chain of `next` edges,
+/// from this one on, that has one.
 pub(crate) fn first_result<'a>(graph: &'a Graph, label: SingleLabel, from: &'a Id) -> Option<&'a Id>
     requires { HasChain (next_pairs graph.now) (id_value from.now) }
     ensures { (xs : List IdValue) → IsChain (next_pairs graph.now) (id_value from.now) xs

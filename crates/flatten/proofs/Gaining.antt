@@ -52,7 +52,7 @@ gains_known old n known = record {
   each = λ y. (λ at. inl at, λ either. ⊎_elim (λ (o : Contains old y). o) (λ (e : Contains (n ∷ []) y). subst (Contains old) (contains_one n y e) (Contains-from_any exact_unsigned_eq n old known)) either);
 }
 
--- those that were found first stand where they stood
+-- those that were found first keep their places
 pub gains_front : (old xs new : List ℕ) → Gains old xs new → (i d : ℕ) → i < length old → get_or new i d ≡ get_or old i d
 gains_front old xs new g i d lt = ap (λ zs. get_or zs i d) g.grown ∙ get_or_append_left old g.more d i lt
 

@@ -168,7 +168,7 @@ pub each_role : (d : List ElementValue) (items : Items) → AreBy d items Defini
 each_role d items a b Definitions = a
 each_role d items a b References = b
 
--- the places that stand by a number are one
+-- the places that a number has are one
 twice_of : (a : Option ℕ) (b : Option PlaceValue) (p : ℕ × (PlaceValue × PlaceValue)) → with_places a (option_map twice b) ≡ Some p → p.1.1 ≡ p.1.0
 twice_of (Some m) (Some q) p e = let same : ◌≡◌ {A = ℕ × (PlaceValue × PlaceValue)} (m, twice q) p = cc in subst (λ (r : ℕ × (PlaceValue × PlaceValue)). r.1.1 ≡ r.1.0) same refl
 twice_of (Some m) None p e = cc

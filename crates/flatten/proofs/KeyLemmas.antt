@@ -33,7 +33,7 @@ at_colon (x ∷ xs) (y ∷ ys) us vs h k e =
     let r = at_colon xs ys us vs h.1 k.1 rest in
     (λ i. same i ∷ r.0 i, r.1)
 
--- ---- the digits tell the number
+-- ---- the digits determine the number
 
 back : (ds : List ℕ) → map (λ glyph. glyph - 48) (map (λ digit. 48 + digit) ds) ≡ ds
 back [] = refl

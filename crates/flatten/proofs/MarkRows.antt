@@ -1,4 +1,4 @@
--- The marks that vertices bear, by numbers and by ids.
+-- The marks that vertices have, by numbers and by ids.
 use Rattle.std.proofs.Common.{◌≡◌, ◌⊎◌, inl, inr, ⊎_elim, ◌∙◌, ℕ, ◌+◌, ◌==◌, ◌≤◌, Bool, true, false, List, [], ◌∷◌, ◌++◌, length, map, filter, get_or, reverse, refl, sym, ap, subst, arith}
 use Rattle.std.specs.Prelude.{◌↔◌, ◌||◌, Contains, Option, Some, None, Ok, option_map, slice_get, if◌then◌else◌, IsPermutation}
 use Rattle.std.specs.List.{All, list_any}
@@ -29,7 +29,7 @@ use Rattle.flatten.proofs.NumberPairs.{AreOnes, HasEnds, HasVertexNumbers, are_n
 use Rattle.flatten.proofs.RangeRows.{AreFirsts, results_one}
 use Rattle.flatten.proofs.Tables.{table_from, table_to}
 
--- ---- the monikers that vertices bear
+-- ---- the monikers that vertices have
 
 some_pair : (from to x y : IdValue) → ◌≡◌ {A = Pair} (from, to) (x, y) → (from ≡ x) × (to ≡ y)
 some_pair from to x y e = (ap (λ (p : Pair). p.0) e, ap (λ (p : Pair). p.1) e)
@@ -173,7 +173,7 @@ says_mark d (vertex i (event v)) m h = cc
 says_mark d (vertex i other_vertex) m h = cc
 says_mark d (edge i e) m h = cc
 
--- a mark that the vertex bears, as the row of a number
+-- a mark that the vertex has, as the row of a number
 abbrev pub IsRowFor : List ElementValue → ℕ → IdValue → MarkRowValue → Type 0
 IsRowFor d number x row = (mark : MarkValue) × Bears d x mark × (row.range ≡ number) × (mark.kind ≡ row.kind) × (key_text mark.key ≡ row.key)
 
@@ -217,7 +217,7 @@ module _ (d : List ElementValue) (free : IsFaultless (map Ok d)) (vertices : (i 
         mark_one number (get_or (marks_in d) k.0 None) row m.0 m.1 is_number (m.2 ∙ kind) (m.3 ∙ key),
       )
 
-  -- what bears a mark has a number
+  -- a vertex that has a mark has a number
   bearer_number : (x : IdValue) (mark : MarkValue) → HasEnds d → Bears d x mark → (n : ℕ) × (number_of d x ≡ Some n)
   bearer_number x mark has (bound, near, is_bound, is_near, is_mark) = (have_numbers moniker_pairs_of d moniker_ends has lined x bound is_bound).0
 
@@ -252,14 +252,14 @@ module _ (d : List ElementValue) (free : IsFaultless (map Ok d)) (vertices : (i 
           let n = bearer_number y h.mark has h.marks.4 in
           (vertex h.range (range h.span), (vertices h.range (range h.span)).0 h.is_range, (row.range, h.at_line, (xs, h.marks.2, (y, h.marks.3, (n.0, n.1, number_from row.range n.0 y row n.1 (h.mark, h.marks.4, refl, h.is_kind, h.is_key))))))
 
-  -- where no vertex bears a moniker no range has a mark
+  -- where no vertex has a moniker no range has a mark
   pub no_marks : HasEnds d → borne ≡ [] → (row : MarkRowValue) → IsMarkRow d row → ⊥
   no_marks has none row h =
       let n = bearer_number h.marks.1 h.mark has h.marks.4 in
       let m = number_from row.range n.0 h.marks.1 row n.1 (h.mark, h.marks.4, refl, h.is_kind, h.is_key) in
       not_in_nil (n.0, m.0) (subst (λ l. Contains l (n.0, m.0)) none m.1)
 
-  -- ---- the marks that vertices bear themselves
+  -- ---- the marks that vertices have themselves
 
   pub borne_rows : HasEnds d → (row : MarkRowValue) → IsBorneMark borne (marks_in d) row ↔ IsBorneRow d row
   borne_rows has row = (to, back)
@@ -297,7 +297,7 @@ map_reverse : {X Y : Type 0} (f : X → Y) (xs : List X) → map f (reverse xs) 
 map_reverse f [] = refl
 map_reverse f (x ∷ xs) = ap (map f) (reverse-append (x ∷ []) xs) ∙ map-append f (reverse xs) (x ∷ []) ∙ ap (λ l. l ++ f x ∷ []) (map_reverse f xs) ∙ sym (reverse-append (f x ∷ []) (map f xs))
 
--- what is left of a listing, of which the last stands first
+-- what is left of a listing, of which the last comes first
 module _ {R : Type 0} (f : R → MarkRowValue) where
   last_first : (left rest : List R) (m : R) → left ≡ rest ++ m ∷ [] → reverse (map f left) ≡ f m ∷ reverse (map f rest)
   last_first left rest m is = ap (λ l. reverse (map f l)) is ∙ ap reverse (map-append f rest (m ∷ [])) ∙ back_push (map f rest) (f m)
@@ -364,7 +364,7 @@ module _ (d : List ElementValue) (borne : List (ℕ × ℕ)) (marks : List (Opti
       by true e = refl
       by false e = e
 
-  -- what isn't the source of a pair bears no mark
+  -- what isn't the source of a pair has no mark
   silent : (x : IdValue) (row : MarkRowValue) → is_bearing d borne x ≡ false → IsOfVertex x row → ⊥
   silent x row off (bearer, at, (n, held, here)) =
       let t : is_bearing d borne x ≡ true = ap (is_source borne) at ∙ any_source borne bearer n held in

@@ -64,7 +64,7 @@ pub flat_from : {X Y : Type 0} (f : X → List Y) (xs : List X) (x : X) (y : Y) 
 flat_from f [] x y at h = absurd (not_in_nil x at)
 flat_from f (z ∷ xs) x y at h = ⊎_elim (λ (s : z ≡ x). Contains-append_left (f z) (flat_map f xs) y (subst (λ w. Contains (f w) y) (sym s) h)) (λ (t : Contains xs x). Contains-append_right (f z) (flat_map f xs) y (flat_from f xs x y t h)) (contains_cases z xs x at)
 
--- what stands in a list that is there where a test holds
+-- what is in a list that is there where a test holds
 pub in_if : {X : Type 0} (b : Bool) (xs : List X) (x : X) → Contains (if b then xs else []) x → (b ≡ true) × Contains xs x
 in_if true xs x at = (refl, at)
 in_if false xs x at = absurd (not_in_nil x at)

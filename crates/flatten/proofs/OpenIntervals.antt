@@ -64,7 +64,7 @@ module _ (intervals : List IntervalValue) (are : AreIntervals intervals) (i : �
   pub above_found : (c : ℕ) → IsAbove intervals i (Some c) → IsInside (interval_at intervals i) (interval_at intervals c) → IsOpenBefore intervals i (Some c)
   above_found c (below, above) inside = (below, inside, above)
 
-  -- what lies around an interval stands before it
+  -- what lies around an interval comes before it
   pub around_before : (j : ℕ) → j < length intervals → IsInside (interval_at intervals i) (interval_at intervals j) → (j < i) ⊎ (j ≡ i)
   around_before j jt inside = elim (cases_lt j i) [
     | inl before ↦ inl before

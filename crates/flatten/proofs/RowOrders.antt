@@ -108,7 +108,7 @@ item_ties x y =
     both_tied (x.result == y.result) (same_role x.role y.role && same_place x.place y.place) (nat_cmp x.result y.result) (ordering_then (nat_cmp (role_index x.role) (role_index y.role)) (place_cmp x.place y.place)) (unsigned_ties x.result y.result)
     (both_tied (same_role x.role y.role) (same_place x.place y.place) (nat_cmp (role_index x.role) (role_index y.role)) (place_cmp x.place y.place) (role_ties x.role y.role) (place_ties x.place y.place))
 
--- rows that no order tells apart are one
+-- rows that tie in the order are equal
 pub item_same : (x y : ItemRowValue) → is_eq (item_cmp x y) ≡ true → x ≡ y
 item_same x y tied =
     let e : same_item x y ≡ true = item_ties x y ∙ tied in

@@ -1,5 +1,5 @@
--- The rows of a dump: what its walks lead to, said for each document, range, result and vertex with monikers by itself
--- (LSIF 0.6.0, "Ranges", "Request", "item", "Multiple Projects").
+-- The rows of a dump: what its walks lead to, said for each document, range, result and vertex with
+-- monikers by itself (LSIF 0.6.0, "Ranges", "Request", "item", "Multiple Projects").
 use Rattle.std.specs.Prelude.{◌≡◌, ◌≢◌, ◌⊎◌, ℕ, ◌+◌, Bool, true, false, List, [], ◌∷◌, Option, Some, None, option_map, option_and_then, Contains}
 use Rattle.std.specs.declared.cmp.Ordering.{Ordering}
 use Rattle.std.specs.Ordering.{nat_cmp, ordering_then}
@@ -41,7 +41,8 @@ result_for requests.Hover r = r.hover
 result_for requests.Declaration r = r.declaration
 result_for requests.Implementation r = r.implementation
 
--- the number of the first result that the request finds along the vertex's chain, or none where it finds none
+-- the number of the first result that the request finds along the vertex's chain, or none where it
+-- finds none
 abbrev pub IsResult : List ElementValue → RequestKind → IdValue → Option ℕ → Type 0
 IsResult elements request x number = (first : Option IdValue) × First request elements x first × (number ≡ option_and_then (number_of elements) first)
 
@@ -51,7 +52,8 @@ AreResults elements x results = (request : RequestKind) → IsResult elements re
 
 -- ---- the parent of a range
 
--- the inner range nests in the outer, another of its document; neither is empty, so that the start of each is before its end
+-- the inner range nests in the outer, another of its document; neither is empty, so that the start
+-- of each is before its end
 pub record LiesIn (elements : List ElementValue) (inner outer : IdValue) : Type 0 where
   pub document : IdValue
   pub span : SpanValue
@@ -151,7 +153,7 @@ pub record MarkRowValue : Type 0 where
   pub kind : MonikerKind
   pub key : List ℕ
 
--- the row of a mark of a range: of one that the range or another member of its chain bears
+-- the row of a mark of a range: of one that the range or another member of its chain has
 pub record IsMarkRow (elements : List ElementValue) (row : MarkRowValue) : Type 0 where
   pub range : IdValue
   pub span : SpanValue
@@ -171,7 +173,7 @@ pub record BearerRowValue : Type 0 where
   pub kind : MonikerKind
   pub results : ResultsValue
 
--- the row of a mark that a vertex bears itself
+-- the row of a mark that a vertex has itself
 pub record IsBearerRow (elements : List ElementValue) (row : BearerRowValue) : Type 0 where
   pub vertex : IdValue
   pub mark : MarkValue
@@ -198,9 +200,10 @@ pub record RowsValue : Type 0 where
 pub record HasEachRange (elements : List ElementValue) (rows : List RangeRowValue) : Type 0 where
   pub row_of : (r : IdValue) (place : PlaceValue) → IsAt elements r place → (row : RangeRowValue) × Contains rows row × (number_of elements r ≡ Some row.line)
 
--- The rows are those of the dump, each once: the serialized URLs of the documents; the ranges that they contain, each of them, with place,
--- parent and first results; the places of each result in each role; the contents of each hover result; the marks of each range; and the
--- marks that each vertex bears itself, with its first results. What refers to a result or a range has its number.
+-- The rows are those of the dump, each once: the serialized URLs of the documents; the ranges that
+-- they contain, each of them, with place, parent and first results; the places of each result in
+-- each role; the contents of each hover result; the marks of each range; and the marks that each
+-- vertex has itself, with its first results. What refers to a result or a range has its number.
 pub record IsFlat (elements : List ElementValue) (rows : RowsValue) : Type 0 where
   pub documents : IsListing (slice_cmp nat_cmp) (HasDocument elements) rows.documents
   pub ranges : IsListing by_line (IsRangeRow elements) rows.ranges

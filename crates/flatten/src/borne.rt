@@ -1,4 +1,6 @@
-//! The monikers that vertices bear themselves, over `attach` edges, and their marks. What a range's chain bears is gathered in `marks.rt`.
+//! The monikers that vertices have themselves, over `attach` edges read both ways, and the marks of
+//! these monikers. The walk over `attach` edges is that of `closure.rt`. What a range's chain has
+//! is gathered in `marks.rt`.
 ghost use Rattle.std.specs.Prelude.{◌≡◌, ◌↔◌, ◌++◌, ℕ, IfOk, OnOk, Contains, None, map, get_or, option_map};
 ghost use Rattle.std.specs.List.Sorted.{IsNonDecreasingBy};
 ghost use Rattle.lsif.specs.Element.{id_value, element_value, moniker_value, package_value};
@@ -21,7 +23,8 @@ use lsif::{Edge, Element, Id, Moniker, MonikerKind, Package, Vertex};
 use std::alloc::{AllocError, Global};
 use std::rc::RcStr;
 
-/// Adds the numbers of the two monikers that the element, where it's an `attach` edge, joins: both ways.
+/// Adds the numbers of the two monikers that the element, where it's an `attach` edge, joins: both
+/// ways.
 fn add_attached(
     pairs: &mut Vec<(u32, u32)>,
     dump: &CheckedDump,
@@ -64,8 +67,8 @@ fn add_monikers(
     Ok(())
 }
 
-/// Adds the numbers of the vertex that the element, where it's a `moniker` edge, leads out of, with those of the monikers near the
-/// one that it leads to.
+/// Where the element is a `moniker` edge, adds the number of its source with each of the monikers
+/// that `attach` edges join to its target.
 fn add_borne(
     alloc: Global,
     pairs: &mut Vec<(u32, u32)>,
@@ -89,7 +92,8 @@ fn add_borne(
     Ok(())
 }
 
-/// The numbers of vertices with those of the monikers that they bear themselves, in the order of the vertices'.
+/// The numbers of vertices with those of the monikers that they have themselves, in the order of
+/// the vertices.
 pub(crate) fn borne(
     alloc: Global,
     kinds: &Kinds<'_>,
@@ -166,7 +170,8 @@ fn mark_in(
     }
 }
 
-/// The marks of a dump's monikers, each at its element's number, and none at the others'. So the text of each key is made once.
+/// The marks of a dump's monikers, each at its element's number, and none at the numbers of other
+/// elements. So the text of each key is made once.
 pub(crate) fn moniker_marks(
     alloc: Global,
     dump: &CheckedDump,

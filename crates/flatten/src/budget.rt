@@ -1,4 +1,5 @@
-//! How many rows or pairs there may still be: each takes one, and so does each 128 bytes of text. The limits stand in `flattening.rt`.
+//! How many rows or pairs there may still be: each takes one, and so does each 128 bytes of text.
+//! The limits are in `flattening.rt`.
 ghost use Rattle.std.specs.Prelude.{◌≡◌, ◌+◌, OnOk};
 
 use crate::fault::FlattenFault;
@@ -6,7 +7,7 @@ use crate::fault::FlattenFault;
 /// How many bytes of the texts of rows count as a row.
 const TEXT_BYTES: usize = 128;
 
-/// How many rows of a kind, or pairs that a walk goes over, there may still be.
+/// How many rows of a kind there may still be, or pairs that a walk follows.
 #[derive(Drop)]
 pub(crate) struct Budget {
     left: usize,
@@ -19,7 +20,7 @@ impl Budget {
         Budget { left: most }
     }
 
-    /// Takes so many. Where there are too few, that counts as want of memory.
+    /// Takes so many. Where there are too few, that counts as lack of memory.
     pub(crate) fn take(&mut self, count: usize) -> Result<(), FlattenFault>
         ensures { OnOk result (self.old.left ≡ self.new.left + count) }
     {
@@ -32,13 +33,14 @@ impl Budget {
         }
     }
 
-    /// Takes a text of a row, of so many bytes, beside the row: it counts as a row for each 128 bytes.
+    /// Takes a text of a row, of so many bytes, beside the row: it counts as a row for each 128
+    /// bytes.
     pub(crate) fn take_text(&mut self, len: usize) -> Result<(), FlattenFault> {
         self.take(len / TEXT_BYTES)
     }
 }
 
-/// How many rows of a kind there may still be, and how many pairs may still be gone over for them.
+/// How many rows of a kind there may still be, and how many pairs walks may still follow for them.
 #[derive(Drop)]
 pub(crate) struct Budgets {
     pub(crate) rows: Budget,

@@ -1,5 +1,6 @@
-//! What vertices have along their chains of `next` edges, found in one walk for all of them: their first results, and what first bears marks.
-//! `AreResults` in `specs/Flat`.
+//! What vertices have along their chains of `next` edges: their first results, and the first member
+//! with marks of its own. What is found of a vertex is kept (memoised walks), so that all chains
+//! together take one step a vertex. `AreResults` in `specs/Flat`.
 ghost use Rattle.std.specs.Prelude.{◌≡◌, IfOk, IfSome, OnOk, get_or, map, option_map};
 ghost use Rattle.std.specs.List.Sorted.{IsNonDecreasingBy};
 ghost use Rattle.lsif.specs.Element.{id_value};
@@ -11,8 +12,8 @@ use dump::{CheckedDump, RequestKind, chain_law, line_law};
 use lsif::Id;
 use std::alloc::{AllocError, Global};
 
-/// What the first members of a vertex's chain that have it have: the number of the result of each request; and the first that
-/// bears marks itself.
+/// What a vertex has from the first member of its chain that has it: the number of the result of
+/// each request, and the first member that has marks itself.
 #[derive(Clone, Copy)]
 pub(crate) struct Along<'a> {
     pub(crate) def: Option<u32>,
@@ -30,14 +31,15 @@ struct VertexAlong<'a> {
     along: Along<'a>,
 }
 
-/// What is found so far of the vertices; and the pairs of vertices and the monikers that they bear, in the order of their sources.
+/// What is found so far of the vertices; and the pairs of vertices and the monikers that they have
+/// themselves, in the order of their sources.
 #[derive(Drop)]
 pub(crate) struct Chains<'a> {
     pub(crate) dump: &'a CheckedDump,
     pub(crate) borne: Vec<(u32, u32)>,
     found: Vec<VertexAlong<'a>>,
-    /// At the number of each vertex of which something is found: where that stands in `found`. Elsewhere any number. There are
-    /// as many as the greatest such number asks for.
+    /// For the number of each vertex of which something is found, its index in `found`; for any
+    /// other, any number. There are as many as the greatest such number needs.
     places: Vec<u32>,
 }
 
@@ -177,7 +179,8 @@ impl<'a> Chains<'a> {
         Ok(())
     }
 
-    /// Goes along the chain of `next` edges from the vertex, up to one of which it's found what it has.
+    /// Goes along the chain of `next` edges from the vertex, up to a vertex for which the answer is
+    /// kept.
     fn walk(&self, alloc: Global, vertex: &'a Id) -> Result<Walk<'a>, AllocError>
         requires { AreChains self.now }
         ensures { IfOk result (λ walk. IsWalk self.now.dump.now.elements self.now.borne.items (id_value vertex.now) (map (λ i. id_value i.now) walk.path.items)
@@ -203,7 +206,8 @@ impl<'a> Chains<'a> {
         Ok(Walk { path, after })
     }
 
-    /// What the vertex has along its chain. Keeps what each vertex that it comes to has, and comes to each once.
+    /// What the vertex has along its chain. Keeps this for each vertex that it comes to, and comes
+    /// to each once.
     fn kept_along(&mut self, alloc: Global, vertex: &'a Id) -> Result<Along<'a>, AllocError>
         requires { AreChains self.old }
         ensures along { IfOk result (λ along. AreAlong self.old.dump.now.elements self.old.borne.items (id_value vertex.now) (along_value along)) }
@@ -221,7 +225,7 @@ impl<'a> Chains<'a> {
         Ok(along)
     }
 
-    /// What the vertex has along its chain. Keeps what those after it have.
+    /// What the vertex has along its chain. Keeps what the vertices after it have.
     pub(crate) fn along(&mut self, alloc: Global, vertex: &'a Id) -> Result<Along<'a>, AllocError>
         requires { AreChains self.old }
         ensures along { IfOk result (λ along. AreAlong self.old.dump.now.elements self.old.borne.items (id_value vertex.now) (along_value along)) }

@@ -1,4 +1,6 @@
-//! What pairs of numbers lead to, from a list of starts, in any number of steps: each number once. `IsReached` in `specs/Reached`.
+//! The numbers that pairs of numbers lead to from a list of starts, in any number of steps:
+//! breadth-first search. Each pair is followed once, after the pairs are sorted by source and the
+//! first of a source found by binary search. `IsReached` in `specs/Reached`.
 ghost use Rattle.std.specs.Prelude.{◌≡◌, ◌==◌, ◌≤◌, ◌↔◌, ℕ, nat_lt, nat_le, true, false, length, map, filter, Contains, IsPermutation, IfOk, OnOk, IfSome, IfNone};
 ghost use Rattle.std.specs.List.Sorted.{IsNonDecreasingBy, IsPartitionPoint};
 ghost use Rattle.std.specs.Ordering.{nat_cmp};
@@ -39,7 +41,8 @@ fn count_below<T>(pairs: &[(u32, T)], source: u32) -> usize
     pairs.partition_point(|pair| pair.0 < source)
 }
 
-/// How many of the pairs, which are in the order of their sources, have this source or one below it, where so many have one below it.
+/// How many of the pairs, which are in the order of their sources, have this source or a lesser
+/// one, where `below` of them have a lesser one.
 fn count_up_to<T>(pairs: &[(u32, T)], source: u32, below: usize) -> usize
     requires sorted { IsNonDecreasingBy (λ p. p.0) pairs.now }
     requires bound { below ≤ length pairs.now }
@@ -95,8 +98,8 @@ fn found_at(alloc: Global, starts: &[u32]) -> Result<Found, AllocError>
     Ok(found)
 }
 
-/// Adds the numbers that a path of the pairs reaches from those that were found; the pairs are in the order of their
-/// sources. Each pair that it goes over is taken from the budget.
+/// Adds the numbers that a path of the pairs reaches from those that were found; the pairs are in
+/// the order of their sources. Each pair that it follows is taken from the budget.
 fn follow(found: &mut Found, pairs: &[(u32, u32)], budget: &mut Budget) -> Result<(), FlattenFault>
     requires { IsNonDecreasingBy (λ p. p.0) pairs.now }
     ensures { OnOk result ((y : ℕ) → Contains found.new y ↔ IsReached found.old pairs.now y) }
@@ -112,7 +115,8 @@ fn follow(found: &mut Found, pairs: &[(u32, u32)], budget: &mut Budget) -> Resul
     Ok(())
 }
 
-/// The numbers that a path of the pairs, of no step or more, reaches from one of the starts: in order, each once.
+/// The numbers that a path of the pairs, of no step or more, reaches from one of the starts: in
+/// order, each once.
 pub fn reach(alloc: Global, starts: &[u32], pairs: &[(u32, u32)]) -> Result<Vec<u32>, FlattenFault>
     ensures { IfOk result (λ found. IsListing nat_cmp (IsReached starts.now pairs.now) found.items) }
 {
@@ -122,8 +126,8 @@ pub fn reach(alloc: Global, starts: &[u32], pairs: &[(u32, u32)]) -> Result<Vec<
     Ok(found.listed())
 }
 
-/// The numbers that a path of the pairs, of no step or more, reaches from this one; the pairs are in the order of their sources.
-/// Each pair that it goes over is taken from the budget.
+/// The numbers that a path of the pairs, of no step or more, reaches from this one; the pairs are
+/// in the order of their sources. Each pair that it follows is taken from the budget.
 pub(crate) fn closed(
     alloc: Global,
     start: u32,

@@ -1,4 +1,5 @@
-//! The rows of documents and of hovers, which need nothing but the element itself. `IsHoverRow` in `specs/Flat`.
+//! The rows of documents and of hovers, which need nothing but the element itself. `IsHoverRow` in
+//! `specs/Flat`.
 ghost use Rattle.std.specs.Prelude.{◌≡◌, ◌++◌, IfOk, OnOk, Contains, map};
 ghost use Rattle.std.specs.Cmp.Lexicographic.{slice_cmp};
 ghost use Rattle.std.specs.Ordering.{nat_cmp};

@@ -1,4 +1,4 @@
-//! Why no rows are made: too many of them, or want of memory.
+//! Why no rows are made: too many of them, or lack of memory.
 ghost use Rattle.std.specs.Prelude.{◌≡◌};
 ghost use Rattle.flatten.specs.declared.fault.FlattenFault.TheVariants.{Memory};
 
@@ -6,7 +6,7 @@ use lsif::OUT_OF_MEMORY;
 use std::alloc::{AllocError, AllocFailed};
 use thiserror::Error;
 
-/// Why a dump isn't made flat.
+/// Why a dump can't be flattened.
 #[derive(Clone, Copy, Debug, PartialEq, Eq, Error)]
 pub enum FlattenFault {
     /// Memory was refused.

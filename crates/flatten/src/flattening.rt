@@ -1,4 +1,5 @@
-//! A checked dump, made flat: the rows of all kinds, made one kind after the other, and the limit of their number. `IsFlat` in `specs/Flat`.
+//! Flattens a checked dump: makes the rows of all kinds, one kind after the other, within a limit
+//! of their number. `IsFlat` in `specs/Flat`.
 ghost use Rattle.std.specs.Prelude.{◌≡◌, IfOk, map};
 ghost use Rattle.dump.specs.Places.{IsListing};
 ghost use Rattle.flatten.specs.Flat.{HasPositions, IsBearerRow, IsFlat, IsMarkRow, bearer_cmp, mark_cmp};
@@ -18,8 +19,9 @@ use crate::rows::{BearerRow, MarkRow, RangeRow, Rows};
 use dump::CheckedDump;
 use std::alloc::Global;
 
-/// How many rows of a kind there may be, and how many pairs the walks for them may go over. Each 128 bytes of the texts of rows, which the tables keep row by
-/// row, count as a row more: so the texts of a kind have some 512 MB at most.
+/// How many rows of a kind there may be, and how many pairs the walks for them may follow. Each 128
+/// bytes of the texts of rows, which the tables keep row by row, count as one more row. So the
+/// texts of a kind have some 512 MB at most.
 const MOST_ROWS: usize = 4000000;
 
 /// Takes the documents' URLs of these rows from a budget of so many.
@@ -48,8 +50,9 @@ fn moniker_rows(
     Ok((marks, bearers))
 }
 
-/// The rows of the dump, where no more than so many of a kind come, and the walks for them go over no more than so many pairs. `flatten` calls it with the
-/// limit of the product; tests call it with small ones.
+/// The rows of the dump, where no more than so many of a kind come, and the walks for them follow
+/// no more than so many pairs. `flatten` calls it with the limit of the product; tests call it with
+/// small ones.
 pub fn flatten_within<'a>(
     alloc: Global,
     dump: &'a CheckedDump,
@@ -81,9 +84,9 @@ pub fn flatten_within<'a>(
     })
 }
 
-/// The rows of the dump: what its walks lead to. Where more than 4,000,000 rows of one kind come, counted before those that are
-/// there twice are left out, and for each 128 bytes of their texts as one more, or the walks over "referenceResults" or `attach` go over more than 4,000,000
-/// pairs, that counts as want of memory.
+/// The rows of the dump: what its walks lead to. There may be 4,000,000 rows of one kind, counted
+/// before repeats are dropped, and each 128 bytes of their texts count as one more. The walks over
+/// "referenceResults" or `attach` may follow 4,000,000 pairs. More counts as lack of memory.
 pub fn flatten<'a>(alloc: Global, dump: &'a CheckedDump) -> Result<Rows<'a>, FlattenFault>
     ensures profile { IfOk result (λ rows. rows.profile ≡ dump.now.profile) }
     ensures rows { IfOk result (λ rows. IsFlat dump.now.elements (rows_value rows)) }

@@ -1,4 +1,5 @@
-//! Numbers in the order in which they were found, each once, as a walk needs them (`closure.rt`).
+//! Numbers in the order in which they were found, each once: the queue of a breadth-first search
+//! (`closure.rt`) and, as a hash set, what it has visited.
 ghost use Rattle.std.specs.Prelude.{◌≡◌, ◌∷◌, [], Contains, IfOk, OnOk};
 ghost use Rattle.std.specs.Ordering.{nat_cmp};
 ghost use Rattle.dump.specs.Places.{IsListing};

@@ -1,4 +1,6 @@
-//! The rows of items: the places of each result in each role, over all results that it leads to (`closure.rt`). `IsItemRow` in `specs/Flat`.
+//! The rows of items: the places of each result in each role, over all results that it leads to
+//! (`closure.rt`). The rows of one result are sorted by themselves and repeats dropped, so no sort
+//! of all rows is needed. `IsItemRow` in `specs/Flat`.
 ghost use Rattle.std.specs.Prelude.{◌≡◌, ◌++◌, Ok, IfOk, OnOk, Contains, map, option_map};
 ghost use Rattle.std.specs.List.{All, flat_map};
 ghost use Rattle.lsif.specs.Element.{element_value, vertex_value};
@@ -80,7 +82,8 @@ fn add_pairs(
     Ok(())
 }
 
-/// Adds the numbers of the results that the element, where it's an `item` edge with "referenceResults", joins.
+/// Adds the numbers of the results that the element, where it's an `item` edge with
+/// "referenceResults", joins.
 pub(crate) fn add_results(
     pairs: &mut Vec<(u32, u32)>,
     dump: &CheckedDump,
@@ -137,7 +140,8 @@ fn add_places<'a>(
     Ok(())
 }
 
-/// Adds the number of the result with the place of each range that the element, where it's an `item` edge of the role, joins to it.
+/// Adds the number of the result with the place of each range that the element, where it's an
+/// `item` edge of the role, joins to it.
 pub(crate) fn add_items<'a>(
     items: &mut Vec<(u32, Place<'a>)>,
     dump: &'a CheckedDump,
@@ -155,7 +159,8 @@ pub(crate) fn add_items<'a>(
     }
 }
 
-/// The results that `item` edges join, and the places of their items, by numbers: in the order of the results.
+/// The results that `item` edges join, and the places of their items, by numbers: in the order of
+/// the results.
 #[derive(Clone, Copy)]
 struct Items<'k, 'a> {
     results: &'k [(u32, u32)],
@@ -201,7 +206,8 @@ fn take_uris(items: &[(u32, Place<'_>)], budget: &mut Budget) -> Result<(), Flat
     Ok(())
 }
 
-/// Adds the rows of the result of this number for the items in this role of the other. Each is taken from the budget, with its text.
+/// Adds the rows of the result of this number for the items in this role of the other. Each is
+/// taken from the budget, with its text.
 fn add_role<'a>(
     rows: &mut Vec<FoundItem<'a>>,
     items: &Items<'_, 'a>,
@@ -226,7 +232,8 @@ fn add_role<'a>(
     Ok(())
 }
 
-/// Adds the rows of the result of this number. It has its own items, and those of the results that it leads to.
+/// Adds the rows of the result of this number. It has its own items, and those of the results that
+/// it leads to.
 fn add_result<'a>(
     alloc: Global,
     rows: &mut Vec<FoundItem<'a>>,
@@ -354,7 +361,8 @@ fn result_rows<'a>(
     Ok(rows)
 }
 
-/// The rows of the places of results: in order, each once. Puts what `item` edges join in the order of the results.
+/// The rows of the places of results: in order, each once. Puts what `item` edges join in the order
+/// of the results.
 pub(crate) fn item_rows<'a>(
     alloc: Global,
     kinds: &mut Kinds<'a>,

@@ -1,4 +1,5 @@
-//! The texts of moniker keys, by which dumps are joined: equal keys have equal texts, and no others do. `specs/KeyTexts`.
+//! The texts of moniker keys, by which dumps are joined. Each part comes after its length, so that
+//! equal keys have equal texts, and no others do. `specs/KeyTexts`.
 ghost use Rattle.std.specs.Prelude.{◌≡◌, ◌++◌, IfOk, OnOk, string_bytes, option_map};
 ghost use Rattle.lsif.specs.Element.{moniker_value, package_value};
 ghost use Rattle.dump.specs.Monikers.{MonikerKey};
@@ -9,7 +10,7 @@ use lsif::{Moniker, Package};
 use std::alloc::{AllocError, Global};
 use std::fmt::Write;
 
-/// Adds a text behind the number of its bytes and a colon.
+/// Adds the number of bytes of a text, a colon and the text.
 fn push_counted(text: &mut String, part: &str) -> Result<(), AllocError>
     ensures { OnOk result (string_bytes text.new ≡ string_bytes text.old ++ counted part.now) }
 {
@@ -31,8 +32,9 @@ fn push_package(text: &mut String, package: Option<&Package>) -> Result<(), Allo
     }
 }
 
-/// The text of the key of a moniker that has this package: its scheme and its identifier, each behind the number of its bytes
-/// and a colon; then `0` where there is no package, and else `1` and the package's manager, name and version in the same way.
+/// The text of the key of a moniker that has this package: its scheme and its identifier, each
+/// after the number of its bytes and a colon. Then `0` where there is no package; else `1` and the
+/// package's manager, name and version in the same way.
 pub fn key_text(
     alloc: Global,
     moniker: &Moniker,
@@ -48,7 +50,7 @@ pub fn key_text(
     Ok(text)
 }
 
-/// Keys of one text are one.
+/// Keys with equal texts are equal, so that texts can be compared in place of keys.
 pub fn key_law()
     ensures { (a b : MonikerKey) → key_text a ≡ key_text b → a ≡ b }
 {}

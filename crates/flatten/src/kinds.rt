@@ -1,4 +1,5 @@
-//! What rows are made of, gathered in one pass over the elements.
+//! What rows are made of, gathered in one pass over the elements, so that each kind of row needn't
+//! read the whole dump again.
 ghost use Rattle.std.specs.Prelude.{◌≡◌, ◌++◌, IfOk, OnOk, map};
 ghost use Rattle.std.specs.List.{All, flat_map};
 ghost use Rattle.lsif.specs.Element.{element_value};
@@ -20,8 +21,8 @@ use dump::{CheckedDump, Role, vertex_law};
 use lsif::{Edge, Element, Vertex};
 use std::alloc::{AllocError, Global};
 
-/// What the rows of a dump are made of, in the order of the elements' lines: elements, kind by kind; and by numbers the results,
-/// and what `item` edges join.
+/// What the rows of a dump are made of, in the order of the elements' lines: elements, kind by
+/// kind; and by numbers the results, and what `item` edges join.
 #[derive(Drop)]
 pub(crate) struct Kinds<'a> {
     pub(crate) dump: &'a CheckedDump,
@@ -89,8 +90,9 @@ fn add<'a>(kinds: &mut Kinds<'a>, element: &'a Element) -> Result<(), AllocError
     add_items(&mut kinds.references, dump, Role::References, element)
 }
 
-/// What the pass over the elements gathers: the elements kind by kind, the rows of hover results, the ranges that documents
-/// contain, as rows without a parent, and those of them that aren't empty, as intervals.
+/// What the pass over the elements gathers: the elements kind by kind, the rows of hover results,
+/// the ranges that documents contain, as rows without a parent, and those of them that aren't
+/// empty, as intervals.
 #[derive(Drop)]
 pub(crate) struct Gathered<'a> {
     pub(crate) kinds: Kinds<'a>,
@@ -111,8 +113,9 @@ fn make_room(gathered: &mut Gathered<'_>, count: usize) -> Result<(), AllocError
     gathered.intervals.reserve(count)
 }
 
-/// Goes over the elements once. What stands together there is read together: the range, the edges that leave it, and what they lead to. There's room for as
-/// many ranges and items as a quarter of the elements, which is more than most dumps have, so that lists of these are seldom moved as they grow.
+/// Reads the elements once, and of each range the edges that leave it and what they lead to, which
+/// are near it in memory. There's room for as many ranges and items as a quarter of the elements,
+/// which is more than most dumps have; so these lists seldom grow.
 fn add_all(alloc: Global, gathered: &mut Gathered<'_>) -> Result<(), AllocError>
     requires { HasNone gathered.old }
     ensures dump { OnOk result (gathered.new.kinds.dump.now ≡ gathered.old.kinds.dump.now) }

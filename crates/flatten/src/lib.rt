@@ -1,5 +1,5 @@
-//! A checked dump, made flat: what its walks lead to, as rows; the numbers that pairs of numbers lead to, and the texts by which
-//! keys are compared.
+//! Flattens a checked dump: what its walks lead to, as rows that a query finds by look-up; the
+//! numbers that pairs of numbers lead to; and the texts by which keys are compared.
 #![tactic(auto)]
 
 mod borne;

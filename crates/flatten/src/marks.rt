@@ -1,5 +1,6 @@
-//! The rows of marks, which ranges have, and of bearers. Which vertex bears which mark is found in `borne.rt`. `IsMarkRow` and `IsBearerRow` in
-//! `specs/Flat`.
+//! The rows of marks, which ranges have, and of bearers, the vertices with marks of their own.
+//! Which vertex has which is found in `borne.rt`. A chain is walked from bearer to bearer, past the
+//! members without marks. `IsMarkRow` and `IsBearerRow` in `specs/Flat`.
 ghost use Rattle.std.specs.Prelude.{◌≡◌, ◌++◌, ◌∷◌, [], IfOk, OnOk, Ok, Contains, map, option_map};
 ghost use Rattle.std.specs.List.{All};
 ghost use Rattle.lsif.specs.Element.{id_value, element_value};
@@ -61,7 +62,8 @@ fn add_targets(
     Ok(())
 }
 
-/// Adds the rows of the number for the marks that the vertex bears itself. Each is taken from the budget, with its text.
+/// Adds the rows of the number for the marks that the vertex has itself. Each is taken from the
+/// budget, with its text.
 fn add_member(
     rows: &mut Vec<MarkRow>,
     marks: &[Option<Mark>],
@@ -83,7 +85,7 @@ fn add_member(
     Ok(())
 }
 
-/// The first vertex, from this one's next on along its chain, that bears marks itself.
+/// The first vertex after this one along its chain that has marks itself.
 fn next_bearer<'a>(
     alloc: Global,
     chains: &mut Chains<'a>,
@@ -102,7 +104,7 @@ fn next_bearer<'a>(
     }
 }
 
-/// Adds the rows of the range of this number for the marks that the members of its chain bear.
+/// Adds the rows of the range of this number for the marks that the members of its chain have.
 fn add_chain<'a>(
     alloc: Global,
     rows: &mut Vec<MarkRow>,
@@ -188,7 +190,8 @@ fn list_rows(rows: &mut Vec<MarkRow>)
     rows.dedup();
 }
 
-/// The rows of the marks of ranges: in order, each once. Where no vertex bears a moniker there are none.
+/// The rows of the marks of ranges: in order, each once. Where no vertex has a moniker there are
+/// none.
 pub(crate) fn mark_rows<'a>(
     alloc: Global,
     marks: &[Option<Mark>],
@@ -221,7 +224,7 @@ pub(crate) fn mark_rows<'a>(
     Ok(rows)
 }
 
-/// The marks that vertices bear themselves, as rows of the vertices' numbers: in order, each once.
+/// The marks that vertices have themselves, as rows of the vertices' numbers: in order, each once.
 fn borne_marks(
     alloc: Global,
     marks: &[Option<Mark>],
@@ -241,7 +244,7 @@ fn borne_marks(
     Ok(rows)
 }
 
-/// Adds the row of a mark that a vertex bears itself.
+/// Adds the row of a mark that a vertex has itself.
 fn add_bearer<'a>(
     alloc: Global,
     rows: &mut Vec<BearerRow>,

@@ -1,4 +1,5 @@
-//! Numbers of vertices: their lines in the dump, counted from 1, by which rows refer to them. `specs/Flat`.
+//! The numbers by which rows refer to vertices: their lines in the dump, counted from 1.
+//! `specs/Flat`.
 ghost use Rattle.std.specs.Prelude.{◌≡◌, Some, option_map};
 ghost use Rattle.lsif.specs.Element.{IdValue, id_value};
 ghost use Rattle.lsif.specs.Lent.{lent_value};

@@ -1,4 +1,6 @@
-//! The smallest range of its document in which each range lies. `IsParent` in `specs/Flat`.
+//! The smallest range of its document in which each range lies: a sweep over the ranges in the
+//! order of their starts. The links to the ranges that are still open are the stack, so that the
+//! sweep is linear and the sort before it O(n log n). `IsParent` in `specs/Flat`.
 ghost use Rattle.std.specs.Prelude.{◌≡◌, ◌↔◌, ◌++◌, ◌<◌, ℕ, Ok, IfOk, OnOk, Contains, length, map, option_map};
 ghost use Rattle.std.specs.List.Sorted.{IsNonDecreasingBy};
 ghost use Rattle.std.specs.List.{All, flat_map};
@@ -17,7 +19,8 @@ use positions::Position;
 use std::alloc::{AllocError, Global};
 use std::cmp::Ordering;
 
-/// A range that isn't empty, by numbers: its document's, its own, and its start's and its end's in the order of positions.
+/// A range that isn't empty, as numbers: its document's, its own, and its start and its end as
+/// packed positions.
 #[derive(Clone, Copy, PartialEq, Eq)]
 pub(crate) struct Interval {
     document: u32,
@@ -96,15 +99,17 @@ fn list_intervals(intervals: &mut Vec<Interval>)
     intervals.dedup();
 }
 
-/// Whether the inner interval lies in the outer one: in the same document, and between its start and its end.
+/// Whether the inner interval lies in the outer one: in the same document, and between its start
+/// and its end.
 fn encloses(outer: &Interval, inner: &Interval) -> bool
     ensures { result ≡ encloses (interval_value outer.now) (interval_value inner.now) }
 {
     outer.document == inner.document && outer.start <= inner.start && inner.end <= outer.end
 }
 
-/// Of the intervals before this one, from the last on outward, the first that it lies in. Each interval's link leads to the one that it
-/// lies in itself: those that are still open, one in the other.
+/// Of the intervals before this one, from the last outward, the first that it lies in. Each
+/// interval's link leads to the one that it lies in itself. So the links are a stack of the open
+/// intervals.
 fn enclosing(intervals: &[Interval], links: &[Option<usize>], index: usize) -> Option<usize>
     requires index { index < length intervals.now }
     requires length { length links.now ≡ index }
@@ -155,8 +160,8 @@ fn link_pairs(
     Ok(pairs)
 }
 
-/// The numbers of ranges and of the smallest other that each lies in, in the order of the first. The intervals are those of the
-/// dump's ranges.
+/// The numbers of ranges and of the smallest other that each lies in, in the order of the first.
+/// The intervals are those of the dump's ranges.
 pub(crate) fn parents(
     alloc: Global,
     dump: &CheckedDump,

@@ -1,4 +1,5 @@
-//! Places as rows are compared by them: by the document's URL, the start and the end. The rows that have them are in `items.rt` and `ranges.rt`.
+//! The places by which rows are compared: the document's URL, the start and the end. The rows are
+//! in `items.rt` and `ranges.rt`.
 ghost use Rattle.std.specs.Prelude.{◌≡◌, option_map};
 ghost use Rattle.lsif.specs.Lent.{lent_value};
 ghost use Rattle.dump.specs.Graph.{vertex_at};
@@ -20,7 +21,8 @@ pub(crate) struct Point {
     character: u32,
 }
 
-/// A place in a document. What it's compared by stands in it: the span is one of the dump, which would have to come from memory.
+/// A place in a document. It has copies of the numbers of its start and end, since a sort that
+/// followed the reference to the span would read all over memory.
 #[derive(Clone, Copy)]
 pub(crate) struct Place<'a> {
     /// The document's serialized URL.

@@ -1,4 +1,5 @@
-//! The rows of ranges: of each its place, its parent and its first results. The parents are found in `parents.rt`. `IsRangeRow` in `specs/Flat`.
+//! The rows of ranges: each with its place, its parent and its first results. The parents are found
+//! in `parents.rt`. `IsRangeRow` in `specs/Flat`.
 ghost use Rattle.std.specs.Prelude.{◌≡◌, ◌++◌, Some, Ok, IfOk, OnOk, Contains, map};
 ghost use Rattle.std.specs.List.{All, flat_map};
 ghost use Rattle.lsif.specs.Element.{id_value, element_value, range};
@@ -23,7 +24,8 @@ use lsif::{Element, Id, Vertex};
 use positions::Span;
 use std::alloc::{AllocError, Global};
 
-/// The row of the range of this number in the document of this uri, with its first results, but without a parent.
+/// The row of the range of this number in the document of this uri, with its first results, but
+/// without a parent.
 fn found_range<'a>(
     alloc: Global,
     chains: &mut Chains<'a>,
@@ -89,7 +91,8 @@ pub(crate) fn add_found<'a>(
     Ok(())
 }
 
-/// The rows of ranges, which were found in the order of the elements, with their parents: in the order of their lines.
+/// The rows of ranges, which were found in the order of the elements, with their parents: in the
+/// order of their lines.
 pub(crate) fn range_rows<'a>(
     alloc: Global,
     dump: &CheckedDump,

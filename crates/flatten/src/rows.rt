@@ -1,4 +1,5 @@
-//! The types of rows, and the rows of a whole dump. What they have to say is in `specs/Flat`, what they say in `specs/Rows`.
+//! The types of rows, and the rows of a whole dump. `specs/Flat` defines which rows a dump has,
+//! `specs/Rows` their values.
 use dump::Role;
 use lsif::{MonikerKind, Profile};
 use positions::Span;
@@ -11,7 +12,7 @@ pub struct DocRow<'a> {
     pub uri: &'a str,
 }
 
-/// A range that a document contains.
+/// A range that a document contains (LSIF 0.6.0, "range").
 #[derive(Clone, Copy, Debug, PartialEq, Eq)]
 pub struct RangeRow<'a> {
     /// Its line in the dump, counted from 1.
@@ -20,10 +21,12 @@ pub struct RangeRow<'a> {
     pub uri: &'a str,
     /// Its start and its end, which is exclusive.
     pub span: &'a Span,
-    /// The line of the smallest other nonempty range of the document in which it nests, where it isn't empty itself.
+    /// The line of the smallest other nonempty range of the document in which it nests, where it
+    /// isn't empty itself.
     pub parent: Option<u32>,
-    /// The numbers of the first results along its chain of `next` edges: of a definition, of references, of a hover, of a
-    /// declaration and of an implementation. A result's number is its line in the dump, counted from 1.
+    /// The numbers of the first results along its chain of `next` edges: of a definition, of
+    /// references, of a hover, of a declaration and of an implementation. A result's number is its
+    /// line in the dump, counted from 1.
     pub def: Option<u32>,
     pub refs: Option<u32>,
     pub hover: Option<u32>,
@@ -43,7 +46,7 @@ pub struct ItemRow<'a> {
     pub span: &'a Span,
 }
 
-/// A hover result.
+/// A hover result that a dump has (LSIF 0.6.0, "hoverResult").
 #[derive(Clone, Copy, Debug, PartialEq, Eq)]
 pub struct HoverRow<'a> {
     /// Its number.
@@ -52,7 +55,8 @@ pub struct HoverRow<'a> {
     pub contents: &'a str,
 }
 
-/// A mark of a range: the kind and the text of the key of a moniker that the range, or another member of its chain, bears.
+/// A mark of a range: the kind and the key's text of a moniker that the range, or another member of
+/// its chain, has.
 #[derive(Debug, PartialEq, Eq, Drop)]
 pub struct MarkRow {
     /// The range's line, counted from 1.
@@ -62,7 +66,8 @@ pub struct MarkRow {
     pub key: RcStr,
 }
 
-/// A mark that a vertex bears itself, with the first results of the vertex.
+/// A mark that a vertex has itself, not along its chain, with the first results of the vertex. Such
+/// a vertex is a bearer of the mark.
 #[derive(Debug, PartialEq, Eq, Drop)]
 pub struct BearerRow {
     /// The vertex's line, counted from 1.

@@ -1,4 +1,4 @@
--- The route that the router finds for a path, and the parameter that it hands out.
+-- The route that the router finds for a path, and the parameter that it returns.
 use Rattle.std.proofs.Common.{◌≡◌, ◌≢◌, ℕ, suc, ◌+◌, ◌-◌, ◌<◌, ◌≤◌, ◌⊎◌, inl, inr, zero, Bool, true, false, List, [], ◌∷◌, ◌++◌, length, length-append, append-nil, drop, drop-cons, add-one, get_or, Result, Ok, Err, Option, Some, None, option_map, unwrap_or, MatchOption, refl, sym, ◌∙◌, ap, subst, arith, codes, nat_eq, is_some, IsAscii}
 use Rattle.std.specs.Prelude.{◌==◌, if◌then◌else◌, option_and_then}
 use lib.Utf8.{encode}
@@ -293,7 +293,7 @@ project_text project suffix s u =
     let between = IsUtf8-between path 10 stop u (omega (arith, k)) one two in
     rw (size, take-append_seam project suffix) at between
 
--- the parameters that the router hands out: the project, where the form has one
+-- the parameters that the router returns: the project, where the form has one
 abbrev named_in : Form → List ℕ → Option (List ℕ)
 named_in (fixed text) project = None
 named_in (of_project suffix) project = Some project

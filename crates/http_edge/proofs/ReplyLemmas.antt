@@ -45,14 +45,14 @@ sends_less a b p q e s = (s.0, s.1 ++ q, ap (λ l. l ++ q) s.2 ∙ append_assoc 
 pub sends_same : (a b : Output) (p q : List ℕ) (result : Result (Unit {0}) Failed) → p ≡ q → Sends a p result b → Sends a q result b
 sends_same a b p q result e s = subst (λ text. Sends a text result b) e s
 
--- all bytes of a text behind the first ones, as a slice to the end has them
+-- all bytes of a text after the first ones, as a slice to the end has them
 whole_rest : (t : List ℕ) (n : ℕ) → take (length t - n) (drop n t) ≡ drop n t
 whole_rest t n = take_all (length t - n) (drop n t) (grind (arith, length-drop n t))
 
--- the first bytes of a text, and behind them the rest of it
+-- the first bytes of a text, and after them the rest of it
 pub then_the_rest : (h t first : List ℕ) (n : ℕ) → first ≡ h ++ take n t → first ++ take (length t - n) (drop n t) ≡ h ++ t
 then_the_rest h t first n e = rw (e, whole_rest t n, append_assoc h (take n t) (drop n t), take-append-drop n t) refl
 
--- nine texts, each put behind the one before
+-- nine texts, each put after the one before
 pub nine_texts : (a b c d e f g h i : List ℕ) → ((((((((a ++ b) ++ c) ++ d) ++ e) ++ f) ++ g) ++ h) ++ i) ≡ a ++ (b ++ (c ++ (d ++ (e ++ (f ++ (g ++ (h ++ i)))))))
 nine_texts a b c d e f g h i = rw (append_assoc, append_assoc, append_assoc, append_assoc, append_assoc, append_assoc, append_assoc) refl

@@ -1,4 +1,5 @@
--- What matchit's router answers for rows of ASCII bytes, which may end in a parameter and its suffix.
+-- What matchit's router answers for rows of ASCII bytes, which may end in a parameter and its
+-- suffix.
 use Rattle.std.proofs.Common.{length-append, append-nil, ◌≡◌, ◌≢◌, ℕ, zero, suc, ◌-◌, ◌<◌, ◌⊎◌, inl, inr, Bool, true, false, List, [], ◌∷◌, ◌++◌, length, drop, Option, Some, None, refl, sym, ◌∙◌, ap, subst, arith, cond, nat_eq, is_some}
 use Rattle.std.proofs.Math.Seq.{drop-append_seam}
 use Rattle.std.proofs.Math.Bool.{and-false}
@@ -26,7 +27,7 @@ abbrev pub IsSimple : List ℕ → Type 0
 IsSimple [] = Unit {0}
 IsSimple (x ∷ t) = ((x < 128) × IsSimple t) ⊎ ((x ≡ param_token) × IsSuffix t)
 
--- a path of these tokens, where a parameter stands for a segment that isn't empty
+-- a path of these tokens, where a parameter matches a segment that isn't empty
 abbrev pub Matches : List ℕ → List ℕ → Type 0
 Matches [] path = path ≡ []
 Matches (x ∷ t) path =

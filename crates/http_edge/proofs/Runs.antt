@@ -32,7 +32,7 @@ pub texts-snoc : (answers : List AnswerValue) (answer : AnswerValue) → texts (
 texts-snoc [] answer = append-nil (answer_text answer)
 texts-snoc (b ∷ answers) answer = ap (λ l. answer_text b ++ l) (texts-snoc answers answer) ∙ sym (append_assoc (answer_text b) (texts answers) (answer_text answer))
 
--- ---- where the request couldn't be read for want of memory
+-- ---- where the request couldn't be read for lack of memory
 
 pub out_of_memory_may : (s : Bool) (m : State) (message : MessageValue) → MayAnswer s m message (replied out_of_memory)
 out_of_memory_may s m (request q) = no_memory

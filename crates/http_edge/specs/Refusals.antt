@@ -5,7 +5,8 @@ use Rattle.http_edge.specs.declared.route.Route.{Route}
 use Rattle.http_edge.specs.declared.refusal.Refusal.{Refusal}
 use Rattle.http_edge.specs.declared.refusal.Refusal.TheVariants.{BadHead, HeadTooLarge, LengthRequired, BodyTooLarge, BodyCut, NoSuchRoute, MethodNotAllowed, TransferCoding, BadParameter}
 
--- the status of the reply (RFC 9110, section 15), the code's name and its text, and whether nothing that follows it in the stream is served
+-- the status of the reply (RFC 9110, section 15), the code's name and its text, and whether nothing
+-- that follows it in the stream is served
 pub record RefusalRow : Type 0 where
   pub status : ℕ
   pub name : List ℕ

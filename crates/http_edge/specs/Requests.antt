@@ -40,7 +40,7 @@ required form absent = None
 required form (single text) = form text
 required form several = None
 
--- a parameter that may be there once, and stands for that where it isn't there
+-- a parameter that may be there once, and has a default where it isn't there
 abbrev pub optional : {A : Type 0} → A → (List ℕ → Option A) → Values → Option A
 optional default form absent = Some default
 optional default form (single text) = form text
@@ -87,7 +87,7 @@ abbrev pub position_in : List (List ℕ × List ℕ) → Option PositionValue
 position_in pairs =
     option_map position_of (both (required number_in (parameter (codes "line") pairs)) (required number_in (parameter (codes "character") pairs)))
 
--- the declaration is asked for where nothing is said of it
+-- the declaration is asked for unless the parameter says otherwise
 abbrev pub declaration_in : List (List ℕ × List ℕ) → Option Bool
 declaration_in pairs = optional true yes_or_no (parameter (codes "declaration") pairs)
 

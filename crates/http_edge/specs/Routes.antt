@@ -43,7 +43,8 @@ abbrev pub NoSlash : List ℕ → Type 0
 NoSlash [] = Unit {0}
 NoSlash (b ∷ bytes) = (b ≢ 47) × NoSlash bytes
 
--- a path of that form, and the project's name in it: a segment that isn't empty (RFC 3986, section 3.3), or no bytes where the form has none
+-- a path of that form, and the project's name in it: a segment that isn't empty (RFC 3986, section
+-- 3.3), or no bytes where the form has none
 abbrev pub HasForm : Form → List ℕ → List ℕ → Type 0
 HasForm (fixed text) project path = (path ≡ text) × (project ≡ [])
 HasForm (of_project suffix) project path = (path ≡ codes "/projects/" ++ (project ++ suffix)) × (project ≢ []) × NoSlash project

@@ -18,7 +18,8 @@ abbrev pub MovesOrHides : Option (List ℕ) → Option (List ℕ) → List ℕ �
 MovesOrHides None new bytes = ⊤
 MovesOrHides (Some old) new bytes = (rest : List ℕ) × ((new ≡ Some rest) ⊎ (new ≡ None)) × (old ≡ bytes ++ rest)
 
--- where serving stops with no fault: at the end of the input, or at the limit or a message that ends the stream
+-- where serving stops with no fault: at the end of the input, or at the limit or a message that
+-- ends the stream
 abbrev pub StopsWell : ℕ → List ℕ → List MessageValue → Option (List ℕ) → Type 0
 StopsWell limit bytes messages left =
     Requests limit bytes messages
@@ -26,7 +27,8 @@ StopsWell limit bytes messages left =
 
 -- ---- answers
 
--- a message may have this answer: a request the machine's reply; a refusal itself, or in its place that memory ran out
+-- a message may have this answer: a request the machine's reply; a refusal itself, or in its place
+-- that memory ran out
 abbrev pub MayAnswer : Bool → State → MessageValue → AnswerValue → Type 0
 MayAnswer store_may_refuse m (request q) (replied r) = MayReply store_may_refuse m q r
 MayAnswer store_may_refuse m (request q) (turned_away refusal) = ⊥
@@ -39,7 +41,7 @@ answered m (request q) (replied r) = moved m q r
 answered m (request q) (turned_away refusal) = m
 answered m (refused refusal) answer = m
 
--- the states of which a stop leaves one after it
+-- the states of which a crash leaves one after it
 abbrev pub after_a_stop_of_answer : State → List State → MessageValue → AnswerValue → List State
 after_a_stop_of_answer m states (request q) (replied r) = after_a_stop m states q r
 after_a_stop_of_answer m states (request q) (turned_away refusal) = states
@@ -53,7 +55,7 @@ MayAnswerAll store_may_refuse m (message ∷ messages) (answer ∷ answers) n =
 MayAnswerAll store_may_refuse m [] (answer ∷ answers) n = ⊥
 MayAnswerAll store_may_refuse m (message ∷ messages) [] n = ⊥
 
--- the states of which a stop leaves one after all of them
+-- the states of which a crash leaves one after all of them
 abbrev pub after_a_stop_of_answers : State → List State → List MessageValue → List AnswerValue → List State
 after_a_stop_of_answers m states (message ∷ messages) (answer ∷ answers) =
     after_a_stop_of_answers (answered m message answer) (after_a_stop_of_answer m states message answer) messages answers
@@ -79,13 +81,14 @@ texts answers = flat_map answer_text answers
 
 -- ---- a whole call
 
--- the messages begin those of each input that begins with the bytes; or the input ended, and they begin its messages
+-- the messages begin those of each input that begins with the bytes; or the input ended, and they
+-- begin its messages
 abbrev pub IsBegun : ℕ → List ℕ → List MessageValue → Option (List ℕ) → Type 0
 IsBegun limit bytes messages left =
     BeginsEach limit bytes messages ⊎ (AtEnd left × ((all : List MessageValue) → Requests limit bytes all → IsPrefix messages all))
 
--- what a call reads and writes: the bytes that its reader had and has, what is known of its writer before and after, and the messages that it
--- read with their answers
+-- what a call reads and writes: the bytes that its reader had and has, what is known of its writer
+-- before and after, and the messages that it read with their answers
 pub record Session : Type 0 where
   pub unread_before : Option (List ℕ)
   pub unread_after : Option (List ℕ)
@@ -98,8 +101,8 @@ abbrev pub session : Option (List ℕ) → Option (List ℕ) → Output → Outp
 session unread unread' output output' messages answers =
     record { unread_before = unread; unread_after = unread'; output_before = output; output_after = output'; messages = messages; answers = answers }
 
--- a call that serves at most so many requests goes so, from one state of the machine to another; where the writer failed, the last answer
--- was cut
+-- a call that serves at most so many requests goes so, from one state of the machine to another;
+-- where the writer failed, the last answer was cut
 abbrev pub Serves : Bool → ℕ → Session → State → State → Result ℕ ServeFault → Type 0
 Serves store_may_refuse limit s m n (Ok count) =
     (bytes : List ℕ) × Moves s.unread_before s.unread_after bytes × StopsWell limit bytes s.messages s.unread_after × (count ≡ length s.messages)
@@ -122,7 +125,8 @@ CountsRead failed failed' (Err Memory) = failed' ≡ failed
 CountsRead failed failed' (Err Read) = failed' ≡ failed + 1
 CountsRead failed failed' (Err Write) = failed' ≡ failed
 
--- a writer's counts of failures and of writes that took no byte stay, but where writing failed: there one goes up by one
+-- a writer's counts of failures and of writes that took no byte stay, but where writing failed:
+-- there one goes up by one
 abbrev pub CountsWrite : {A : Type 0} → Output → Result A ServeFault → Output → Type 0
 CountsWrite old (Ok a) new = SameCounts old new
 CountsWrite old (Err Memory) new = SameCounts old new

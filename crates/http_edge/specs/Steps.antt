@@ -1,4 +1,5 @@
--- What only private contracts and proofs name: steps of loops, and values of the program's own types.
+-- What only private contracts and proofs name: steps of loops, and values of the program's own
+-- types.
 pub mod Fields
 pub mod Heads
 pub mod Messages

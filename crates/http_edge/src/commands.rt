@@ -1,4 +1,4 @@
-//! The commands of routes. None stands for one with a parameter that is missing, there twice, or not of its form.
+//! The commands of routes. None means that a parameter is missing, there twice, or not of its form.
 ghost use Rattle.std.specs.Prelude.{◌≡◌, ℕ, List, [], IfOk, IfSome, option_map};
 ghost use Rattle.machine.specs.Requests.{command, command_value, put_tags, remove};
 ghost use Rattle.machine.specs.Uploads.{HasRead, empty, no_dump_line, no_tags_line};

@@ -1,4 +1,5 @@
-//! What the fields of a head say of the body that follows it.
+//! The fields of a head that say how long the body is (RFC 9112, section 6.3). All other fields are
+//! ignored.
 ghost use Rattle.std.specs.Prelude.{◌≡◌, ℕ, ◌+◌, ◌<◌, List, [], ◌∷◌, Option, Some, None, length, map, All, if◌then◌else◌};
 ghost use Rattle.std.specs.Str.Parse.{digits_value};
 ghost use Rattle.httparse.specs.Spans.{IsHeaderWithin, header_bytes};
@@ -10,7 +11,7 @@ ghost use Rattle.http_edge.specs.Steps.Fields.{field_values_of};
 use crate::refusal::Refusal;
 use httparse::spans::HeaderSpan;
 
-/// How many bytes a body has at most.
+/// The most bytes of a body.
 const BODY_LIMIT: usize = 33_554_432;
 
 /// The values of the fields of one name.
@@ -52,7 +53,7 @@ fn field_values<'a>(head: &'a [u8], headers: &[HeaderSpan], name: &[u8]) -> Fiel
     found
 }
 
-/// The number that a text of 1 to 19 decimal digits gives.
+/// The number that 1 to 19 decimal digits are. So it fits a `u64`.
 fn read_length(text: &[u8]) -> Option<u64>
     ensures { result ≡ (if is_length text.now then Some (digits_value 10 text.now) else None) }
 {
@@ -100,8 +101,8 @@ fn content_length(is_put: bool, found: FieldValues<'_>) -> Result<usize, Refusal
     }
 }
 
-/// The length of the body that follows a head with these fields (RFC 9112, section 6.3). A transfer coding is
-/// refused, and so is a PUT without a length.
+/// The length of the body that follows a head with these fields (RFC 9112, section 6.3). A transfer
+/// coding is refused, and so is a PUT without a length.
 pub(crate) fn body_length(
     head: &[u8],
     headers: &[HeaderSpan],

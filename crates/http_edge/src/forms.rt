@@ -1,4 +1,5 @@
-//! The parameters of requests, each of its form. None stands for one that is missing, there twice, or not of its form.
+//! The parameters of requests, each read by its form. None means that one is missing, there twice,
+//! or not of its form.
 ghost use Rattle.std.specs.Prelude.{◌≡◌, ◌<◌, IfOk, IfSome, option_map, string_bytes};
 ghost use Rattle.positions.specs.Position.{number_limit};
 ghost use Rattle.machine.specs.Names.{is_without_nul, where_so, number_in};
@@ -48,7 +49,7 @@ pub(crate) fn read_uri(
     }
 }
 
-/// A line or a character of a position.
+/// A line or a character of a position, zero-based, the character in UTF-16 code units.
 fn read_coordinate(parameters: &Parameters<'_>, name: &str) -> Option<u32>
     ensures value { result ≡ required number_in (parameter name.now parameters.now) }
     ensures below { IfSome result (λ n. n < number_limit) }
@@ -82,7 +83,7 @@ fn yes_or_no(text: &str) -> Option<bool>
     }
 }
 
-/// Whether references are to have the declaration: they have it where nothing is said of it.
+/// Whether references include the declaration. They do unless the parameter says otherwise.
 pub(crate) fn read_declaration(parameters: &Parameters<'_>) -> Option<bool>
     ensures { result ≡ declaration_in parameters.now }
 {

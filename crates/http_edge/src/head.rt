@@ -1,4 +1,5 @@
-//! The head of a request: where it ends, and what it says.
+//! The head of a request: where it ends, and what it says. A head that hasn't ended is scanned
+//! again once more bytes have come; it has at most 8,192 of them.
 ghost use Rattle.std.specs.Prelude.{◌≡◌, ℕ, ◌+◌, ◌<◌, ◌≤◌, List, [], drop, take, Option, Some, None, IfSome, IfNone, MatchOption, length, option_map, codes};
 ghost use Rattle.http_edge.specs.Heads.{same, is_end, find_head, IsSaidBy, Says, SettlesHead, IsHeadUnended, head_limit, lines_in};
 ghost use Rattle.http_edge.specs.Steps.Heads.{head_value, FitsIn};
@@ -9,10 +10,10 @@ use http::Method;
 use httparse::Status;
 use httparse::spans::{EMPTY_HEADER_SPAN, Span, parse_request};
 
-/// How many bytes a head has at most.
+/// The most bytes of a head.
 pub(crate) const HEAD_LIMIT: usize = 8192;
 
-/// How many lines a head has at most: a request line, 32 fields and the empty line.
+/// The most lines of a head: a request line, 32 fields and the empty line.
 const LINE_LIMIT: usize = 34;
 
 /// Where the parts of a request line are that say what it asks.
@@ -99,7 +100,8 @@ fn judge(head: &[u8]) -> Head
     read_head(head)
 }
 
-/// What the bytes settle of the first head, and how many of them it takes. None where it hasn't ended.
+/// What the bytes settle of the first head, and how many of them it takes. None where it hasn't
+/// ended.
 pub(crate) fn first_head(bytes: &[u8]) -> Option<(Head, usize)>
     ensures settles { MatchOption result (IsHeadUnended bytes.now) (λ found. (found.1 ≤ length bytes.now)
         × SettlesHead bytes.now (head_value bytes.now found.0) (drop found.1 bytes.now)) }

@@ -1,5 +1,6 @@
-//! The first write of a reply: its head and the beginning of its body in one piece. A reply of at most 64 KiB goes out whole by it, so that no crash leaves a
-//! client with a head and no body. What follows is in `reply.rt`.
+//! The first write of a reply: its head and the beginning of its body in one piece. A reply of at
+//! most 64 KiB is written whole by it, so that no crash leaves a client with a head and no body.
+//! What follows is in `reply.rt`.
 ghost use Rattle.std.specs.Prelude.{◌≡◌, ℕ, ◌+◌, ◌≤◌, List, [], ◌++◌, take, IfOk, length, vec_capacity};
 
 use std::alloc::{AllocError, Global};
@@ -40,7 +41,8 @@ impl Joined {
         self.bytes.as_slice()
     }
 
-    /// Joins a head and as many bytes of a body as there is room for, and says how many these are: all, where both have at most 64 KiB.
+    /// Joins a head and as many bytes of a body as there is room for, and returns how many these
+    /// are. They are all, where both have at most 64 KiB.
     pub(crate) fn join(&mut self, head: &[u8], body: &[u8]) -> usize
         requires { length head.now ≤ 256 }
         ensures within { result ≤ length body.now }

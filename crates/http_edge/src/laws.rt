@@ -1,4 +1,5 @@
-//! Laws of the definitions of a stream: it's cut in one way, and what is served of it is a run of the machine.
+//! Laws of the definitions of a stream: it has one list of requests, and what is served of it is a
+//! run of the machine.
 ghost use Rattle.std.specs.Prelude.{◌≡◌, ℕ, Bool, List};
 ghost use Rattle.machine.specs.State.{State};
 ghost use Rattle.machine.specs.Retries.{Event, Life, Moment, states_after_a_stop, with_run};
@@ -10,7 +11,7 @@ ghost use Rattle.http_edge.specs.Serving.{MayAnswerAll, after_a_stop_of_answers,
 
 use machine::retry_law;
 
-/// A stream is cut into one list of requests at most, and one list of them is sure.
+/// A stream has at most one list of requests, and one list of them is sure.
 pub fn requests_law()
     ensures requests { (limit : ℕ) (bytes : List ℕ) (messages others : List MessageValue) → Requests limit bytes messages → Requests limit bytes others
         → messages ≡ others }
@@ -18,8 +19,9 @@ pub fn requests_law()
         → messages ≡ others }
 {}
 
-/// The requests among messages that are served, with the replies to them, are a run of the machine: it begins and ends in the same
-/// states, and a stop leaves the same. So a life of a desk goes on with what is served, and the laws of lives hold of it.
+/// The requests among messages that are served, with the replies to them, are a run of the machine:
+/// it begins and ends in the same states, and a crash leaves the same. So a life of a desk goes on
+/// with what is served, and the laws of lives hold of it.
 pub fn run_law()
     ensures run { (store_may_refuse : Bool) (m n : State) (messages : List MessageValue) (answers : List AnswerValue)
         → MayAnswerAll store_may_refuse m messages answers n

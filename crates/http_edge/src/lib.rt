@@ -1,4 +1,4 @@
-//! Requests of HTTP/1.1 from a stream of bytes to a desk, and the desk's replies to a writer.
+//! Passes the requests of HTTP/1.1 from a stream of bytes to a desk, and writes the desk's replies.
 #![tactic(auto)]
 
 mod commands;

@@ -1,5 +1,5 @@
-//! The parameters of a query string, decoded by `form_urlencoded`: which are absent, single or several. What they have to be is in `forms.rt`.
-//! `specs/Parameters`.
+//! The parameters of a query string, decoded by `form_urlencoded`: which are absent, single or
+//! several. What form each must have is in `forms.rt`. `specs/Parameters`.
 ghost use Rattle.std.specs.Prelude.{◌≡◌, ℕ, List, IfOk, map};
 ghost use Rattle.http_edge.specs.Steps.Parameters.{found_values, pair_of, with_pair};
 ghost use Rattle.http_edge.specs.Parameters.{parameter, parameters};

@@ -1,4 +1,4 @@
-//! The queries of routes. None stands for one with a parameter that is missing, there twice, or not of its form.
+//! The queries of routes. None means that a parameter is missing, there twice, or not of its form.
 ghost use Rattle.std.specs.Prelude.{◌≡◌, ℕ, List, Option, IfOk, codes, option_map};
 ghost use Rattle.machine.specs.Requests.{position_query, profile, query_value};
 ghost use Rattle.http_edge.specs.Parameters.{parameter};
@@ -106,7 +106,7 @@ fn read_names(
     }
 }
 
-/// The tags whose names begin so, in one project or in all.
+/// The tags whose names begin with a text, in one project or in all.
 fn read_prefix(
     alloc: Global,
     prefix: &str,
@@ -122,7 +122,7 @@ fn read_prefix(
     }
 }
 
-/// The tags of a name or of a prefix: exactly one of both has to be there.
+/// The tags of a name or of a prefix: exactly one of the two must be there.
 pub(crate) fn read_tags_query(
     alloc: Global,
     parameters: &Parameters<'_>,

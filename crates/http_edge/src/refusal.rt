@@ -1,13 +1,15 @@
-//! Why requests are refused before the desk: each refusal's status, body and whether the stream ends with it, in one table. `specs/Refusals`.
+//! Why requests are refused before the desk: each refusal's status, body and whether the stream
+//! ends with it, in one table. `specs/Refusals`.
 ghost use Rattle.std.specs.Prelude.{◌≡◌};
 ghost use Rattle.http_edge.specs.Refusals.{row_of, allow_of, body_of};
 
 use crate::route::Route;
 
-/// Why a request isn't handed to the desk. Each has a code, which its reply names.
+/// Why a request isn't passed to the desk. Each has a code, which its reply names.
 #[derive(Clone, Copy, Debug, PartialEq, Eq)]
 pub(crate) enum Refusal {
-    /// H01: the head isn't one of HTTP/1.1, or the input ends in it, or its `Content-Length` isn't one number.
+    /// H01: the head isn't one of HTTP/1.1, or the input ends in it, or its `Content-Length` isn't
+    /// one number.
     BadHead,
     /// H02: more than 8,192 bytes or 34 lines of a head.
     HeadTooLarge,
@@ -27,7 +29,8 @@ pub(crate) enum Refusal {
     BadParameter,
 }
 
-/// What is replied to a request that is refused, and whether nothing that follows it in the stream is served.
+/// What is replied to a request that is refused, and whether nothing that follows it in the stream
+/// is served.
 #[derive(Clone, Copy)]
 struct Row {
     status: u16,

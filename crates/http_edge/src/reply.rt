@@ -1,4 +1,5 @@
-//! The text of replies: status line, fields and body (RFC 9112). What a body says is known to the machine. `specs/Replies`.
+//! The text of replies: status line, fields and body (RFC 9112). What a body says is known to the
+//! crate `machine`. `specs/Replies`.
 ghost use Rattle.std.specs.Prelude.{◌≡◌, ◌+◌, ◌≤◌, ◌++◌, codes, length};
 ghost use Rattle.arrayvec.specs.ArrayString.{array_string_len};
 ghost use Rattle.lsif.specs.Sending.{Sends};
@@ -15,7 +16,7 @@ use itoa::Buffer;
 use lsif::{Failed, Sink, push_all};
 use machine::Reply;
 
-/// What a request is answered.
+/// The answer to a request.
 #[derive(Drop)]
 pub(crate) enum Answer {
     Reply(Reply),
@@ -71,8 +72,8 @@ fn push_allow(head: &mut ArrayString<256>, allow: Option<Route>)
     }
 }
 
-/// The head of a response (RFC 9112, sections 4 and 5), to its empty line: of at most 222 bytes, since a phrase has at most 31 and
-/// a number's digits are at most 40.
+/// The head of a response (RFC 9112, sections 4 and 5), to its empty line. It has at most 222
+/// bytes, since a phrase has at most 31 and the digits of its numbers are at most 40.
 fn head(status: u16, allow: Option<Route>, body_length: usize) -> ArrayString<256>
     ensures { result.bytes ≡ head_text status allow body_length }
 {
@@ -90,7 +91,8 @@ fn head(status: u16, allow: Option<Route>, body_length: usize) -> ArrayString<25
     head
 }
 
-/// Writes a response (RFC 9112, section 2.1): its head joined with the beginning of its body, and then the rest of it. The field `Allow` is there where a method is allowed.
+/// Writes a response (RFC 9112, section 2.1): its head joined with the beginning of its body, and
+/// then the rest of the body. The field `Allow` is there where a method is allowed.
 fn push_response<W: Sink>(
     w: &mut W,
     joined: &mut Joined,

@@ -1,4 +1,5 @@
-//! The routes: their paths, over `matchit`, and the method of each. What a route asks is in `request.rt`. `specs/Routes`.
+//! The routes: their paths, over `matchit`, and the method of each. What a route asks is read in
+//! `request.rt`. `specs/Routes`.
 ghost use Rattle.std.specs.Prelude.{◌≡◌, ◌≤◌, ◌↔◌, ℕ, length, List, IfOk, Some, option_map};
 ghost use Rattle.http_edge.specs.Steps.Routes.{routes, named_route, template_of};
 ghost use Rattle.http_edge.specs.Routes.{method_of, route_of, IsPathOf};
@@ -93,8 +94,8 @@ pub(crate) fn router(alloc: Global) -> Result<Router<Route>, InsertError>
     Ok(router)
 }
 
-/// The route of a path, and the segment of the path that names the project, which is empty where the route has none. None where the path has no
-/// route.
+/// The route of a path, and the segment of the path that names the project, which is empty where
+/// the route has none. None where the path has no route.
 pub(crate) fn find_route<'p>(router: &Router<Route>, path: &'p str) -> Option<(Route, &'p str)>
     requires { router.now ≡ routes }
     ensures { option_map named_route result ≡ route_of path.now }

@@ -94,7 +94,7 @@ cuts_last first left old taken new pending rest filled n m between after same ta
       (rw last.1 refl, rw same_line takes.1, rw (same_line, longest) takes.2, rw none_begun (last_known first left new.line between after filled before then filled_is (fills.5 zero) some)))
 ]
 
--- whether a line is lent
+-- whether a line is borrowed
 pub some_line : (lent : Option (Bor (List ℕ))) (line : Option (List ℕ)) → is_some lent ≡ true → option_map (λ l. l.now) lent ≡ line → line ≢ None
 some_line None line is same none = cc is
 some_line (Some l) line is same none = cc (same, none)

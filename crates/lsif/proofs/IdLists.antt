@@ -8,14 +8,14 @@ use Rattle.std.specs.Iterator.{MakesProgress, item_count}
 use Rattle.lsif.specs.IdValues.{IdValue, number, text, greatest_id}
 use Rattle.lsif.specs.Steps.IdLists.{text_length, ids_by, ids_of, IsCutBy, AreCut}
 
--- a text may be cut at the same place when another stands behind it
+-- a text may be cut at the same place when another comes after it
 cut_before : (texts more : List ℕ) (n : ℕ) → IsUtf8 texts → IsUtf8 more → IsCharBoundary texts n → IsCharBoundary (texts ++ more) n
 cut_before texts more n u v cut =
     let whole : texts ++ more ≡ take n texts ++ (drop n texts ++ more) = ap (λ l. l ++ more) (sym (take-append-drop n texts)) ∙ append_assoc (take n texts) (drop n texts) more in
     subst (IsCharBoundary (texts ++ more)) (length-take-le n texts cut.0)
     (IsCharBoundary-at_seam (texts ++ more) (take n texts) (drop n texts ++ more) whole (IsUtf8-append (drop n texts) more (IsUtf8-drop texts n u cut) v))
 
--- what is added behind a list is read behind it
+-- what is added after a list is read after it
 pub ids_more : (entries texts : List ℕ) (entry : ℕ) (more : List ℕ) → IsUtf8 texts → IsUtf8 more → AreCut entries texts → AreCut (entry ∷ []) more
     → (ids_of (entries ++ entry ∷ []) (texts ++ more) ≡ ids_of entries texts ++ ids_of (entry ∷ []) more) × AreCut (entries ++ entry ∷ []) (texts ++ more)
 unfolding ids_of AreCut
@@ -44,7 +44,7 @@ text_entry n some =
     let beyond : greatest_id + n - greatest_id ≡ n = omega arith in
     rw (lt-ltb greatest_id (greatest_id + n) (omega (arith, some))) (ap (λ k. Some k) beyond)
 
--- a number behind a list
+-- a number after a list
 pub number_more : (entries texts : List ℕ) (n : ℕ) → n ≤ greatest_id → IsUtf8 texts → AreCut entries texts
     → (ids_of (entries ++ n ∷ []) texts ≡ ids_of entries texts ++ number n ∷ []) × AreCut (entries ++ n ∷ []) texts
 unfolding ids_of AreCut
@@ -55,7 +55,7 @@ number_more entries texts n le u are =
     let one : ids_of (n ∷ []) [] ≡ number n ∷ [] = ap (λ o. ids_by o n [] (ids_of [])) entry in
     (subst (λ t. ids_of (entries ++ n ∷ []) t ≡ ids_of entries texts ++ number n ∷ []) (append-nil texts) (more.0 ∙ ap (λ l. ids_of entries texts ++ l) one), subst (AreCut (entries ++ n ∷ [])) (append-nil texts) more.1)
 
--- a text behind a list
+-- a text after a list
 pub text_more : (entries texts more : List ℕ) → 0 < length more → IsUtf8 texts → IsUtf8 more → AreCut entries texts
     → (ids_of (entries ++ (greatest_id + length more) ∷ []) (texts ++ more) ≡ ids_of entries texts ++ text more ∷ []) × AreCut (entries ++ (greatest_id + length more) ∷ []) (texts ++ more)
 unfolding ids_of AreCut

@@ -29,6 +29,6 @@ zero_writes_kept old new n bytes h some = h ∙ rw (ne_eqb n 0 some) refl
 pub one_zero_write : (old new n : ℕ) (bytes : List ℕ) → new ≡ (if n == 0 && nat_lt 0 (length bytes) then old + 1 else old) → n ≡ 0 → 0 < length bytes → new ≡ old + 1
 one_zero_write old new n bytes h none lt = let k = rw none at h in k ∙ rw (lt-ltb 0 (length bytes) lt) refl
 
--- behind a beginning that isn't all there is a rest
+-- after a beginning that isn't all there is a rest
 pub has_rest : (bytes : List ℕ) (sent : ℕ) → sent < length bytes → drop sent bytes ≡ [] → ⊥
 has_rest bytes sent lt none = let e = sym (length-drop sent bytes) ∙ ap length none in omega (arith, lt, e)

@@ -31,7 +31,7 @@ range_fits xs s e n h fits = let short = rw length-take at fits in omega arith
 pub range_kept : (xs ys : List ℕ) (s e : ℕ) → s ≤ e → take e ys ≡ take e xs → slice_range ys s e ≡ slice_range xs s e
 range_kept xs ys s e h same = rw (between_is ys s e, between_is xs s e, same) refl
 
--- what a pull behind a range makes of it
+-- what a pull after a range makes of it
 pub filled : (pending bytes : List ℕ) (start end n : ℕ) (left left' : Option (List ℕ)) → start ≤ end → end < length bytes → end + n ≤ length bytes
     → slice_range bytes start end ≡ pending
     → Moves left left' (take n (drop end bytes)) × (n ≡ 0 → 0 < length (drop end bytes) → AtEnd left')

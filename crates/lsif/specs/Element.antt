@@ -37,8 +37,8 @@ pub data EventValue : Type 0 where
   end_event : IdValue → EventValue
   other_event : EventValue
 
--- what a vertex says: of metaData whether its version and encoding are supported, of a document its serialized URL, of
--- a hover result its contents as compact JSON
+-- what a vertex says: of metaData whether its version and encoding are supported, of a document its
+-- serialized URL, of a hover result its contents as compact JSON
 pub data VertexValue : Type 0 where
   meta_data : Bool → VertexValue
   project : VertexValue

@@ -1,5 +1,6 @@
--- What hovers show, as it's kept: compact JSON of the members that are named, in the order of their names' bytes
--- (LSIF 0.6.0, "hoverResult"; Language Server Protocol 3.17, "Hover", "MarkedString", "MarkupContent").
+-- What hovers show, as it's kept: compact JSON of the members that are named, in the order of their
+-- names' bytes (LSIF 0.6.0, "hoverResult"; Language Server Protocol 3.17, "Hover", "MarkedString",
+-- "MarkupContent").
 use Rattle.std.specs.Prelude.{ℕ, ◌||◌, Bool, List, codes, bytes_eq, Option, Some, None, is_some, option_map, option_and_then, if◌then◌else◌}
 use Rattle.serde_json.specs.Data.{Data, string, array, object, Items, member, no_members}
 use Rattle.serde_json.specs.Find.{get, as_str, as_array}
@@ -43,8 +44,9 @@ abbrev pub contents_by : Option Items → Data → Option Data
 contents_by (Some ds) d = option_map array (marked_strings_in ds)
 contents_by None d = if is_some (get (codes "kind") d) then markup_in d else marked_in d
 
--- what is kept of the contents of a hover: of an array the texts, with their languages where they have some; of an
--- object with a kind that and its text; else a text, with its language where it has one
+-- what is kept of the contents of a hover: of an array the texts, with their languages where they
+-- have some; of an object with a kind that and its text; else a text, with its language where it
+-- has one
 unfoldable pub contents_in : Data → Option Data
 contents_in d = contents_by (as_array d) d
 

@@ -1,4 +1,4 @@
--- Ids that are lent.
+-- Ids that are borrowed.
 use Rattle.std.specs.Prelude.{List, ◌∷◌, Option, Some, None}
 use Rattle.lsif.specs.IdValues.{IdValue, number, text}
 use Rattle.lsif.specs.declared.id.IdRef.{IdRef}
@@ -8,7 +8,7 @@ abbrev pub lent_value : IdRef → IdValue
 lent_value (lent.Number n) = number n
 lent_value (lent.Text s) = text s.now
 
--- an id, where there is one, and those behind it
+-- an id, where there is one, and those after it
 abbrev pub ids_behind : Option IdRef → List IdValue → List IdValue
 ids_behind None ids = ids
 ids_behind (Some id) ids = lent_value id ∷ ids

@@ -1,4 +1,5 @@
--- The lines of a text, and what a call for the next one gives. A line ends by LF (10), or where the text ends; CR is a byte like any other.
+-- The lines of a text, and what a call for the next one gives. A line ends by LF (10), or where the
+-- text ends; CR is a byte like any other.
 use Rattle.std.specs.Prelude.{◌≡◌, ◌≢◌, ℕ, ◌+◌, ◌<◌, ◌≤◌, ◌⊎◌, List, [], ◌∷◌, ◌++◌, length, Option, Some, None, Result, Ok, Err, ⊤, if◌then◌else◌, ◌==◌, Bool, true, false}
 use Rattle.std.specs.List.{AllByRecursion, flat_map}
 use Rattle.std.specs.Borrow.{Bor}
@@ -27,7 +28,8 @@ IsLine line = AllByRecursion (λ b. b ≢ line_feed) line
 abbrev pub ended : List ℕ → List ℕ
 ended line = line ++ line_feed ∷ []
 
--- a text cut into lines: it is each line followed by a line feed, and after a last line that isn't empty the line feed may be missing
+-- a text cut into lines: it is each line followed by a line feed, and after a last line that isn't
+-- empty the line feed may be missing
 abbrev pub Cuts : List ℕ → List (List ℕ) → Type 0
 Cuts text lines =
     AllByRecursion IsLine lines
@@ -35,8 +37,9 @@ Cuts text lines =
     ⊎ ((front : List (List ℕ)) × (last : List ℕ)
     × (lines ≡ front ++ last ∷ []) × (0 < length last) × (text ≡ flat_map ended front ++ last)))
 
--- what lines are read from: the bytes not handed out, where they are known, the longest line, the reader's failures,
--- the fault that is answered for good, the line that came last, and whether a line feed ended it
+-- what lines are read from: the bytes not returned, where they are known, the longest line, the
+-- reader's failures, the fault that is answered for good, the line that came last, and whether a
+-- line feed ended it
 pub record Reader : Type 0 where
   pub left : Option (List ℕ)
   pub longest : ℕ
@@ -45,7 +48,8 @@ pub record Reader : Type 0 where
   pub line : List ℕ
   pub has_feed : Bool
 
--- a line buffer: the bytes that were read and not handed out, and the rest of a `Reader` but for its failures
+-- a line buffer: the bytes that were read and not returned, and the rest of a `Reader` but for
+-- its failures
 pub record LineBufferValue : Type 0 where
   pub pending : List ℕ
   pub longest : ℕ
@@ -58,12 +62,14 @@ abbrev pub over : LineBufferValue → Option (List ℕ) → ℕ → Reader
 over lines left failures =
     record { left = unread lines.pending left; longest = lines.longest; failures = failures; fault = lines.fault; line = lines.line; has_feed = lines.has_feed }
 
--- the text is the line, its line feed and the rest; without a line feed it is the line alone, which isn't empty
+-- the text is the line, its line feed and the rest; without a line feed it is the line alone, which
+-- isn't empty
 abbrev pub BeginsWith : List ℕ → List ℕ → Bool → List ℕ → Type 0
 BeginsWith text line true rest = text ≡ line ++ line_feed ∷ rest
 BeginsWith text line false rest = (0 < length line) × (text ≡ line) × (rest ≡ [])
 
--- of known bytes this is the first line, with or without a line feed, and the others are the lines of what is left after it
+-- of known bytes this is the first line, with or without a line feed, and the others are the lines
+-- of what is left after it
 abbrev pub GivesLine : Option (List ℕ) → List ℕ → Bool → Option (List ℕ) → Type 0
 GivesLine None line has_feed new = ⊤
 GivesLine (Some text) line has_feed new =
@@ -85,8 +91,8 @@ Faults old Memory new = ⊥
 Faults old TooLong new = (new.failures ≡ old.failures) × HasLongLine old.longest old.left
 Faults old Read new = new.failures ≡ old.failures + 1
 
--- what a call for the next line gives. With no fault before: the line, or none where there is none, or its fault.
--- After a fault: the same again, and nothing changes.
+-- what a call for the next line gives. With no fault before: the line, or none where there is none,
+-- or its fault. After a fault: the same again, and nothing changes.
 abbrev pub NextLine : Reader → Result (Option (List ℕ)) LinesFault → Reader → Type 0
 NextLine old (Ok (Some line)) new =
     (old.fault ≡ None) × (new.fault ≡ None) × (new.failures ≡ old.failures) × (new.longest ≡ old.longest)
@@ -104,7 +110,7 @@ shown (Ok true) line = Ok (Some line)
 shown (Ok false) line = Ok None
 shown (Err fault) line = Err fault
 
--- the bytes of a line that is lent
+-- the bytes of a line that is borrowed
 abbrev pub lent : Result (Option (Bor (List ℕ))) LinesFault → Result (Option (List ℕ)) LinesFault
 lent (Ok (Some line)) = Ok (Some line.now)
 lent (Ok None) = Ok None

@@ -1,4 +1,5 @@
--- Names of symbols across projects, and the packages that they're of (LSIF 0.6.0, "moniker", "packageInformation").
+-- Names of symbols across projects, and the packages that they're of (LSIF 0.6.0, "moniker",
+-- "packageInformation").
 use Rattle.std.specs.Prelude.{ℕ, ◌==◌, Bool, List, [], codes, bytes_eq, Option, Some, None, option_map, option_and_then, if◌then◌else◌}
 use Rattle.std.specs.List.{list_any}
 use Rattle.serde_json.specs.Data.{Data}

@@ -57,7 +57,8 @@ abbrev pub IsOver : CutterValue → List ℕ → Type 0
 IsOver old piece =
     (part : List ℕ) × (rest : List ℕ) × (piece ≡ part ++ rest) × IsLine (begun old ++ part) × (old.longest < length (begun old ++ part))
 
--- what is taken of a piece: a line ends or goes on, within the longest; or it is too long, then and for good
+-- what is taken of a piece: a line ends or goes on, within the longest; or it is too long, then and
+-- for good
 abbrev pub Takes : CutterValue → List ℕ → Result ℕ LinesFault → CutterValue → Type 0
 Takes old piece (Ok n) new =
     (old.state ≢ TooLong) × IsLine new.line × (length new.line ≤ new.longest) × (Ends old piece n new ⊎ GoesOn old piece n new)

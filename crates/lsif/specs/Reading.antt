@@ -1,4 +1,5 @@
--- The element that a line of a dump is, or the least fault of its shape (LSIF 0.6.0, "Emitting constraints").
+-- The element that a line of a dump is, or the least fault of its shape (LSIF 0.6.0, "Emitting
+-- constraints").
 use Rattle.std.specs.Prelude.{◌≡◌, ◌⊎◌, ℕ, nat_lt, List, length, codes, bytes_eq, Option, None, option_map, option_and_then, Ok, Err, if◌then◌else◌, IfSome}
 use Rattle.std.specs.Str.{is_utf8}
 use Rattle.serde_json.specs.Data.{Data}
@@ -35,7 +36,7 @@ abbrev pub labels_of : Profile → Labels
 labels_of One = base_labels
 labels_of Two = wider_labels
 
--- ---- the reading of a line; the steps stand in the order of their codes
+-- ---- the reading of a line; the steps are in the order of their codes
 
 abbrev pub element_by : Labels → List ℕ → IdValue → List ℕ → Data → Reading
 element_by labels kind i label d =
@@ -56,7 +57,8 @@ element_in labels d = do
 abbrev pub longest_line : ℕ
 longest_line = 1048576
 
--- the JSON value that a line is, with `serde_json`'s rules for repeated members, nesting and white space
+-- the JSON value that a line is, with `serde_json`'s rules for repeated members, nesting and white
+-- space
 abbrev pub json_of : List ℕ → Option Data
 json_of line = if is_utf8 line then read line else None
 

@@ -2,8 +2,8 @@
 use Rattle.std.specs.Prelude.{◌≡◌, ℕ, ◌+◌, ◌-◌, ◌^◌, ◌<◌, ◌⊎◌, Bool, List, [], ◌++◌, length, take, Option, Some, None, Result, Ok, Err, ⊤, if◌then◌else◌, ◌==◌, ◌&&◌, nat_lt}
 use Rattle.lsif.specs.declared.streams.Counted.{Counted}
 
--- what is known of a writer: the bytes that it took, where they are known, how many writes failed, and how many took no
--- byte of some
+-- what is known of a writer: the bytes that it took, where they are known, how many writes failed,
+-- and how many took no byte of some
 pub record Output : Type 0 where
   pub taken : Option (List ℕ)
   pub failures : ℕ
@@ -33,7 +33,8 @@ abbrev pub AtEnd : Option (List ℕ) → Type 0
 AtEnd None = ⊤
 AtEnd (Some bytes) = bytes ≡ []
 
--- a pull moved the bytes that it gave, none only at the end or with no room, and a failed one moved none
+-- a pull moved the bytes that it gave, none only at the end or with no room, and a failed one moved
+-- none
 abbrev pub Pulls : {E : Type 0} → Option (List ℕ) → Option (List ℕ) → Result ℕ E → List ℕ → Type 0
 Pulls old new (Ok n) buf = Moves old new (take n buf) × (n ≡ 0 → 0 < length buf → AtEnd new)
 Pulls old new (Err e) buf = StaysOrHides old new
@@ -59,7 +60,8 @@ OneZeroWrite old new = (new.failures ≡ old.failures) × (new.zero_writes ≡ o
 abbrev pub is_zero_write : ℕ → List ℕ → Bool
 is_zero_write n bytes = n == 0 && nat_lt 0 (length bytes)
 
--- a push moved the bytes that it took; a failed one moved none, and what was taken may not be known any more
+-- a push moved the bytes that it took; a failed one moved none, and what was taken may not be known
+-- any more
 abbrev pub Pushes : {E : Type 0} → Output → List ℕ → Result ℕ E → Output → Type 0
 Pushes old bytes (Ok n) new =
     Gains old.taken new.taken (take n bytes) × (new.failures ≡ old.failures)

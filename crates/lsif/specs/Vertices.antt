@@ -1,4 +1,5 @@
--- What vertices of each label say (LSIF 0.6.0, "Vertices"; Language Server Protocol 3.17, "Position", "Range").
+-- What vertices of each label say (LSIF 0.6.0, "Vertices"; Language Server Protocol 3.17,
+-- "Position", "Range").
 use Rattle.std.specs.Prelude.{ℕ, ◌&&◌, Bool, true, false, nat_lt, List, codes, bytes_eq, Option, Some, None, option_map, option_and_then, Ok, Err, if◌then◌else◌}
 use Rattle.std.specs.Option.{option_map_or}
 use Rattle.serde_json.specs.Data.{Data}

@@ -1,5 +1,6 @@
-//! A buffer of a fixed length before a reader: what was read and isn't taken yet. It knows no lines (`lines.rt`). `specs/Buffered` says what it
-//! holds.
+//! A buffer of a fixed length before a reader: what was read and isn't used yet. What is left in it
+//! is moved to its front only when the end is reached, and the read that follows fills the room.
+//! Lines are split in `lines.rt`. `specs/Buffered` says what it holds.
 ghost use Rattle.std.specs.Prelude.{◌≡◌, ℕ, ◌+◌, ◌-◌, ◌^◌, ◌<◌, ◌≤◌, List, [], ◌++◌, drop, take, Option, Some, IfOk, length, vec_len, slice_range};
 ghost use Rattle.lsif.specs.Streams.{CountsFailure, Pulls};
 ghost use Rattle.lsif.specs.Buffered.{Fills};
@@ -8,7 +9,7 @@ use crate::streams::{Failed, Source};
 use std::alloc::{AllocError, Global};
 use std::marker::Model;
 
-/// Bytes that were read and not yet used, in room for so many.
+/// Bytes that were read and not yet used: at most as many as the buffer has room for.
 #[derive(Drop)]
 pub struct Buffer {
     bytes: Vec<u8>,
@@ -28,7 +29,7 @@ impl Model for Buffer {
 }
 
 impl Buffer {
-    /// A buffer with no byte.
+    /// An empty buffer with room for `capacity` bytes, which is never made larger.
     pub fn new(alloc: Global, capacity: usize) -> Result<Buffer, AllocError>
         ensures { IfOk result (λ b. (b.pending ≡ []) × (b.capacity ≡ capacity)) }
     {
@@ -48,7 +49,7 @@ impl Buffer {
         &self.bytes[self.start..self.end]
     }
 
-    /// Lets the first bytes go.
+    /// Drops the first bytes.
     pub fn advance(&mut self, count: usize)
         requires { count ≤ length self.old.pending }
         ensures pending { self.new.pending ≡ drop count self.old.pending }
@@ -57,7 +58,7 @@ impl Buffer {
         self.start += count;
     }
 
-    /// Pulls more bytes, and says how many came: none only at the end.
+    /// Reads more bytes, and returns how many came: none only at the end of the input.
     pub fn fill<S: Source>(&mut self, source: &mut S) -> Result<usize, Failed>
         requires room { length self.old.pending < self.old.capacity }
         requires count { S.failed source.old < 2 ^ 64 - 1 }
@@ -75,7 +76,7 @@ impl Buffer {
     }
 }
 
-/// Pulls bytes into the room behind the first `end`.
+/// Pulls bytes into the room after the first `end`.
 fn pull_after<S: Source>(bytes: &mut Vec<u8>, end: usize, source: &mut S) -> Result<usize, Failed>
     requires room { end < vec_len bytes.old }
     requires count { S.failed source.old < 2 ^ 64 - 1 }
@@ -88,7 +89,8 @@ fn pull_after<S: Source>(bytes: &mut Vec<u8>, end: usize, source: &mut S) -> Res
     source.pull(&mut bytes[end..])
 }
 
-/// Moves a range that doesn't fill the buffer down, where no room is behind it. Answers where it is then.
+/// Moves a range that doesn't fill the buffer to its front, where no room is after it. Returns the
+/// range's new start and end.
 fn make_room(bytes: &mut Vec<u8>, start: usize, end: usize) -> (usize, usize)
     requires ordered { start ≤ end }
     requires within { end ≤ vec_len bytes.old }

@@ -1,13 +1,13 @@
-//! The codes of a dump's faults, each with its name and its text, in one table. When each holds is said in `specs/Shape` and `specs/Reading`, and in
-//! the crate `dump`; the table is in `specs/Code`.
+//! The codes of a dump's faults, each with its name and its text, in one table. `specs/Shape`,
+//! `specs/Reading` and the crate `dump` say when each holds; `specs/Code` has the table.
 ghost use Rattle.std.specs.Prelude.{◌≡◌};
 ghost use Rattle.lsif.specs.Code.{name_of, text_of};
 
 use std::error::Error;
 use std::fmt;
 
-/// What is wrong with a line of a dump, or with the dump at its end. Of two codes that hold of one line the lesser
-/// one is named: the codes of the lines, then those of the end.
+/// What is wrong with a line of a dump, or with the dump at its end. Where two codes hold of one
+/// line, the lesser one is named: first the codes of the lines, then those of the end.
 #[derive(Clone, Copy, Debug, PartialEq, Eq, PartialOrd, Ord)]
 pub enum Code {
     L01,
@@ -66,14 +66,14 @@ impl Code {
         }
     }
 
-    /// The code as it is printed.
+    /// The code as it is printed, as `L09`.
     pub fn name(self) -> &'static str
         ensures { result.now ≡ name_of self }
     {
         self.printed().0
     }
 
-    /// What the code says, as it is printed behind its name.
+    /// What the code says, as it is printed after its name.
     pub fn text(self) -> &'static str
         ensures { result.now ≡ text_of self }
     {

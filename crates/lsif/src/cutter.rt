@@ -1,4 +1,6 @@
-//! Lines that are cut from the pieces of a text, as an upload's body comes. A reader's lines are in `lines.rt`. `specs/Pieces`.
+//! Splits a text that comes in pieces, as an upload's body does, into lines. Each byte is looked at
+//! once and copied once, whatever the pieces; room for the longest line is made at the start. A
+//! reader's lines are in `lines.rt`. `specs/Pieces`.
 ghost use Rattle.std.specs.Prelude.{◌≡◌, ◌≤◌, ◌+◌, ◌++◌, length, vec_capacity, MatchOption, MatchResult, [], option_map, IfSome};
 ghost use Rattle.lsif.specs.Lines.{IsLine};
 ghost use Rattle.lsif.specs.Pieces.{Takes, line_in, rest_in};
@@ -19,7 +21,7 @@ enum LineState {
     TooLong,
 }
 
-/// Cuts a text that comes in pieces into lines of at most so many bytes.
+/// Splits a text that comes in pieces into lines of at most so many bytes.
 #[derive(Drop)]
 pub struct Cutter {
     longest: usize,
@@ -77,7 +79,8 @@ impl Cutter {
     ghost use Rattle.lsif.specs.declared.cutter.LineState.TheVariants.{Open};
     ghost use Rattle.lsif.specs.declared.lines.LinesFault.TheVariants.{Memory};
 
-    /// Room for lines of at most `longest` bytes, each without its line feed. What comes after takes no memory.
+    /// Room for lines of at most `longest` bytes, each without its line feed. What comes after
+    /// takes no memory.
     pub fn new(alloc: Global, longest: usize) -> Result<Cutter, LinesFault>
         ensures { MatchResult result (λ c. c ≡ record { longest = longest; line = []; state = Open }) (λ fault. fault ≡ Memory) }
     {
@@ -89,8 +92,9 @@ impl Cutter {
         })
     }
 
-    /// Takes the beginning of the piece up to and with its first line feed, or all of it, and says how many bytes it took. After
-    /// a line that has ended it begins another. A line that is too long is answered for good.
+    /// Takes the beginning of the piece up to and with its first line feed, or all of it, and
+    /// returns how many bytes it took. After a line that has ended it begins another. Once a line
+    /// is too long it returns that for good.
     pub fn take(&mut self, piece: &[u8]) -> Result<usize, LinesFault>
         ensures { Takes self.old piece.now result self.new }
     {
@@ -136,7 +140,8 @@ impl Cutter {
         }
     }
 
-    /// Ends the last line without its line feed, where it isn't empty, and says whether there is one.
+    /// Ends the last line without its line feed, where it isn't empty, and says whether there is
+    /// one.
     pub(crate) fn end(&mut self) -> bool
         ensures { EndsLast self.old result self.new }
     {

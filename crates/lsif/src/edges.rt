@@ -1,5 +1,5 @@
-//! The edges that lines spell: their labels in each profile, and what they join. Whether they may join it isn't asked here, but in the crate `dump`.
-//! `specs/Edges`.
+//! The edges that lines spell: their labels in each profile, and what they join. Whether they may
+//! join it is checked in the crate `dump`. `specs/Edges`.
 ghost use Rattle.std.specs.Prelude.{◌≡◌, IfOk, IfErr, option_map, codes};
 ghost use Rattle.lsif.specs.Element.{id_value, item_value, edge_value};
 ghost use Rattle.lsif.specs.Edges.{targets_in, ends_in, target_in, property_of, property_in, shard_in, item_in, edge_label, wider_edge_label, edge_from, edge_in};

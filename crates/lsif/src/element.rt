@@ -1,5 +1,6 @@
-//! The types of elements: vertices, edges and what they hold. How a line spells them is in `vertices.rt` and `edges.rt`; `specs/Element` has the
-//! same without where it lies in memory.
+//! The types of elements: vertices, edges and what they hold. How a line spells them is in
+//! `vertices.rt` and `edges.rt`; `specs/Element` has the same types as values, without how memory
+//! holds them.
 ghost use Rattle.std.specs.Prelude.{◌≡◌};
 ghost use Rattle.lsif.specs.Element.{id_value, edge_value, element_value, element_id, ends_of};
 ghost use Rattle.lsif.specs.Lent.{lent_value};
@@ -13,13 +14,13 @@ use positions::Span;
 pub enum Profile {
     /// Definitions, references and hovers, with monikers, packages and events.
     One,
-    /// What `One` reads; and declarations and implementations: vertices `declarationResult` and `implementationResult`, edges
-    /// `textDocument/declaration` and `textDocument/implementation`.
+    /// What `One` reads; and declarations and implementations: vertices `declarationResult` and
+    /// `implementationResult`, edges `textDocument/declaration` and `textDocument/implementation`.
     Two,
 }
 
-/// Whether a symbol comes from another project, may be named in others, or is only known in its own (LSIF 0.6.0,
-/// "moniker").
+/// Whether a symbol comes from another project, may be named in others, or is only known in its own
+/// (LSIF 0.6.0, "moniker").
 #[derive(Clone, Copy, Debug, PartialEq, Eq)]
 pub enum MonikerKind {
     Import,
@@ -35,7 +36,8 @@ pub struct Moniker {
     pub kind: MonikerKind,
 }
 
-/// A `packageInformation`: the package that a symbol is of. No text holds U+0000; a version may be empty.
+/// A `packageInformation`: the package that a symbol is of. No text holds U+0000; a version may be
+/// empty.
 #[derive(Debug, Drop)]
 pub struct Package {
     pub manager: String,
@@ -75,9 +77,10 @@ pub enum Vertex {
     DeclarationResult,
     /// `implementationResult`, of profile 2 alone.
     ImplementationResult,
-    /// `hoverResult`, and its contents as compact JSON with the members of objects in the order of their names' bytes: a
-    /// text; an object with `kind` and `value`, or with `language` and `value`; or an array of texts and of objects
-    /// with `language` and `value` (Language Server Protocol 3.17, "Hover").
+    /// `hoverResult`, and its contents as compact JSON with the members of objects in the order of
+    /// their names' bytes: a text; an object with `kind` and `value`, or with `language` and
+    /// `value`; or an array of texts and of objects with `language` and `value` (Language Server
+    /// Protocol 3.17, "Hover").
     HoverResult(String),
     /// `moniker`.
     Moniker(Moniker),
@@ -100,11 +103,11 @@ pub enum Property {
 /// An `item` edge (LSIF 0.6.0, "item").
 #[derive(Debug, Drop)]
 pub struct Item {
-    /// A result.
+    /// The id of a result.
     pub source: Id,
-    /// Ranges or results.
+    /// The ids of ranges or of results.
     pub targets: Ids,
-    /// What the targets are; an edge may leave it out.
+    /// What the targets are to the source; an edge may leave it out.
     pub property: Option<Property>,
     /// The document or the project that holds the targets.
     pub shard: Id,
@@ -140,7 +143,8 @@ pub enum Edge {
 }
 
 impl Edge {
-    /// The source, and the target or the targets (LSIF 0.6.0, "Edges"). The shard of an `item` edge is none of them.
+    /// The source, and the target or the targets (LSIF 0.6.0, "Edges"). The shard of an `item` edge
+    /// is none of them.
     pub fn ends(&self) -> (IdRef<'_>, IdsIter<'_>)
         ensures source { lent_value result.0 ≡ (ends_of (edge_value self.now)).0 }
         ensures targets { result.1 ≡ (ends_of (edge_value self.now)).1 }

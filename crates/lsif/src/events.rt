@@ -1,4 +1,5 @@
-//! The vertices that say that a document begins or ends. Whether it may is asked in the crate `dump`. `specs/Events`.
+//! The vertices that say that a document begins or ends. Whether it may is checked in the crate
+//! `dump`. `specs/Events`.
 ghost use Rattle.std.specs.Prelude.{◌≡◌, IfOk, codes, option_map};
 ghost use Rattle.lsif.specs.Element.{id_value, event_value};
 ghost use Rattle.lsif.specs.Events.{event_of, document_event_in, event_in};

@@ -1,4 +1,4 @@
-//! Why a line gives no element: a code, or want of memory. The codes are in `code.rt`.
+//! Why a line gives no element: a code, or lack of memory. The codes are in `code.rt`.
 ghost use Rattle.std.specs.Prelude.{◌≡◌};
 ghost use Rattle.lsif.specs.declared.fault.ReadFault.TheVariants.{Memory};
 
@@ -7,7 +7,7 @@ use crate::messages::OUT_OF_MEMORY;
 use std::alloc::{AllocError, AllocFailed};
 use thiserror::Error;
 
-/// Why a line gives no element.
+/// Why a line has no element.
 #[derive(Clone, Copy, Debug, PartialEq, Eq, Error)]
 pub enum ReadFault {
     /// Memory was refused.

@@ -1,5 +1,6 @@
-//! The contents of hover results: what is kept of them, and their text as compact JSON. The label that leads here is read in `vertices.rt`;
-//! `specs/Hovers` says what is kept.
+//! The contents of hover results: what is kept of them, and their text as compact JSON, so that a
+//! reply copies it unchanged. The label that leads here is read in `vertices.rt`; `specs/Hovers`
+//! says what is kept.
 ghost use Rattle.std.specs.Prelude.{◌≡◌, IfOk, codes, option_map, string_bytes};
 ghost use Rattle.lsif.specs.Hovers.{code_in, markup_in, marked_in, marked_strings_in, contents_in, hover_in};
 ghost use Rattle.serde_json.specs.View.{view, items_view};
@@ -88,7 +89,8 @@ fn contents_text(alloc: Global, value: &Value) -> Result<Option<String>, AllocEr
     Ok(Some(kept.to_string(alloc)?))
 }
 
-/// The contents of a hover result as compact JSON, with the members that are named, in the order of their names' bytes.
+/// The contents of a hover result as compact JSON, with the members that are named, in the order of
+/// their names' bytes.
 #[tactic(auto, unfolding(crate::specs::Hovers::hover_in))]
 pub(crate) fn hover(alloc: Global, value: &Value) -> Result<Option<String>, AllocError>
     ensures { IfOk result (λ o. option_map (λ s. string_bytes s) o ≡ hover_in (view value.now)) }

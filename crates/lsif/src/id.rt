@@ -1,5 +1,5 @@
-//! Ids of vertices and edges: numbers and texts, how a line spells them and when two are the same. What has an id is in `element.rt`; which ids are
-//! read is said in `specs/Ids`.
+//! Ids of vertices and edges: numbers and texts, how a line spells them and when two are the same.
+//! What has an id is in `element.rt`; `specs/Ids` says which ids are read.
 ghost use Rattle.std.specs.Prelude.{◌≡◌, IsTrue, ◌↔◌, IfOk, IfSome, option_map, codes};
 ghost use Rattle.lsif.specs.Element.{id_value, same_id};
 ghost use Rattle.lsif.specs.Lent.{lent_value};
@@ -10,21 +10,22 @@ ghost use Rattle.serde_json.specs.View.{view};
 use serde_json::Value;
 use std::alloc::{AllocError, Global};
 
-/// The greatest number that is an id: the greatest that JavaScript distinguishes from its neighbours.
+/// The greatest number that is an id: the greatest that JavaScript distinguishes from its
+/// neighbours.
 pub(crate) const GREATEST_ID: u64 = 9007199254740991;
 
 /// The greatest length of an id's text, in bytes.
 const LONGEST_ID: usize = 128;
 
-/// The id of a vertex or an edge (LSIF 0.6.0, "Id"): a number up to 9007199254740991, or a text of 1 to 128 bytes.
-/// The number 1 and the text "1" differ.
+/// The id of a vertex or an edge (LSIF 0.6.0, "Id"): a number up to 9007199254740991, or a text of
+/// 1 to 128 bytes. The number 1 and the text "1" differ.
 #[derive(Debug, PartialEq, Eq, Drop)]
 pub enum Id {
     Number(u64),
     Text(String),
 }
 
-/// An id that is lent.
+/// A borrowed id, which look-ups take so that no text is copied.
 #[derive(Clone, Copy, Debug, PartialEq, Eq)]
 pub enum IdRef<'a> {
     Number(u64),
@@ -32,7 +33,7 @@ pub enum IdRef<'a> {
 }
 
 impl Id {
-    /// The same id, lent.
+    /// The same id, borrowed.
     pub fn lent(&self) -> IdRef<'_>
         ensures { lent_value result ≡ id_value self.now }
     {
@@ -44,7 +45,7 @@ impl Id {
 }
 
 impl IdRef<'_> {
-    /// Whether both are the same id.
+    /// Whether both are the same id: equal numbers, or equal texts.
     pub fn is(self, other: IdRef<'_>) -> bool
         ensures value { result ≡ same_id (lent_value self.entry) (lent_value other.entry) }
         ensures meaning { IsTrue result ↔ (lent_value self.entry ≡ lent_value other.entry) }
@@ -57,7 +58,7 @@ impl IdRef<'_> {
     }
 }
 
-/// The id that a JSON value is, lent from it. None where it's no id.
+/// The id that a JSON value is, borrowed from it. None where it's no id.
 #[tactic(auto, unfolding(crate::specs::Ids::id_in))]
 pub(crate) fn id_in(value: &Value) -> Option<IdRef<'_>>
     ensures id { option_map lent_value result ≡ id_in (view value.now) }
@@ -72,7 +73,8 @@ pub(crate) fn id_in(value: &Value) -> Option<IdRef<'_>>
     }
 }
 
-/// The id that the member of this name is, lent from it. None where there is no such member, or it's no id.
+/// The id that the member of this name is, borrowed from it. None where there is no such member, or
+/// it's no id.
 pub(crate) fn lent_member<'a>(value: &'a Value, name: &str) -> Option<IdRef<'a>>
     ensures id { option_map lent_value result ≡ id_at name.now (view value.now) }
     ensures whole { IfSome result (λ id. IsWhole (lent_value id)) }

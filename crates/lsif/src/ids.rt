@@ -1,5 +1,6 @@
-//! Lists of ids, as edges name their targets: a number takes 8 bytes there, and a text as many more as it has, so that a list takes at most four times as much
-//! as the line that spells it. What they hold is said in `specs/Steps/IdLists`.
+//! Lists of ids, as edges name their targets. A number takes 8 bytes, and a text its own length
+//! more, all in two allocations; so a list takes at most four times as much memory as the line that
+//! spells it. `specs/Steps/IdLists` says what they hold.
 ghost use Rattle.std.specs.Prelude.{◌≡◌, ◌<◌, ◌++◌, ◌∷◌, [], List, length, IfOk, OnOk, string_bytes};
 ghost use Rattle.lsif.specs.Steps.IdLists.{AreCut, ids_of};
 ghost use Rattle.lsif.specs.Lent.{ids_behind, lent_value};
@@ -18,7 +19,7 @@ use std::marker::Model;
 pub struct Ids {
     /// For each id its number; or, beyond the greatest, the length of its text in bytes.
     entries: Vec<u64>,
-    /// The texts, one behind the other.
+    /// The texts, one after the other.
     texts: String,
 }
 
@@ -66,7 +67,7 @@ impl Ids {
         Ok(())
     }
 
-    /// The ids, lent one after the other.
+    /// The ids, borrowed one after the other.
     pub fn iter(&self) -> IdsIter<'_>
         ensures { result ≡ self.now }
     {
@@ -109,7 +110,7 @@ pub(crate) fn id_alone(alloc: Global, id: IdRef<'_>) -> Result<Ids, AllocError>
     Ok(found)
 }
 
-/// Ids that are lent one after the other: of a list, or one alone.
+/// Ids that are borrowed one after the other: of a list, or one alone.
 #[derive(Drop)]
 pub struct IdsIter<'a> {
     first: Option<IdRef<'a>>,

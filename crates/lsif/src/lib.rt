@@ -1,5 +1,5 @@
-//! Readers and writers that count their failures, the lines of a reader, and the vertices and edges that lines of a
-//! dump in the Language Server Index Format 0.6.0 spell.
+//! Readers and writers that count their failures, the lines of a reader, and the vertices and edges
+//! that lines of a dump in the Language Server Index Format 0.6.0 spell.
 #![tactic(auto)]
 
 mod buffer;

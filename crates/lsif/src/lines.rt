@@ -1,5 +1,6 @@
-//! The lines of a reader, one after the other, of at most so many bytes each. A text that comes in pieces is cut by `cutter.rt`. `specs/Lines` says
-//! which lines a text has.
+//! The lines of a reader, of at most so many bytes each. The reader is asked for up to 65,536 bytes
+//! at a time, and `cutter.rt` splits them; so the memory is that of one block and one line, and the
+//! time is linear in the bytes. `specs/Lines` says which lines a text has.
 ghost use Rattle.std.specs.Prelude.{◌≡◌, ◌≢◌, ℕ, ◌-◌, ◌^◌, ◌<◌, List, [], ◌++◌, None, MatchResult, false};
 ghost use Rattle.lsif.specs.Pieces.{begun};
 ghost use Rattle.lsif.specs.Steps.Cutting.{CountsRead, CutsLine, NextTaken};
@@ -22,10 +23,10 @@ use thiserror::Error;
 /// Why no line came.
 #[derive(Clone, Copy, Debug, PartialEq, Eq, Error)]
 pub enum LinesFault {
-    /// The memory for the buffer was refused. Only a constructor answers it.
+    /// The memory for the buffer was refused. Only a constructor returns it.
     #[error("{}", OUT_OF_MEMORY)]
     Memory,
-    /// The line is longer than the longest that is asked for.
+    /// The line is longer than the caller allows.
     #[error("{}", Code::L01.text())]
     TooLong,
     /// The reader failed.
@@ -44,13 +45,13 @@ impl From<AllocError> for LinesFault {
     }
 }
 
-/// The lines of a text are one list: that which cuts it.
+/// A text has one list of lines: the one that splits it.
 pub fn lines_law()
     ensures cut { (text : List ℕ) → Cuts text (lines_of text) }
     ensures only { (text : List ℕ) (lines : List (List ℕ)) → Cuts text lines → lines ≡ lines_of text }
 {}
 
-/// Cuts the bytes of a reader, which each call is lent, into lines of at most so many bytes.
+/// Splits the bytes of a reader, which each call borrows, into lines of at most so many bytes.
 #[derive(Drop)]
 pub struct LineBuffer {
     buffer: Buffer,
@@ -97,8 +98,8 @@ impl<S: Source> Model for Lines<S> {
 /// How many bytes are read at a time.
 const BUFFER_LEN: usize = 65536;
 
-/// Cuts the next line from the buffered bytes, and reads more until it has ended. Answers whether a line feed ended it; none
-/// where there is no line.
+/// Takes the next line from the buffered bytes, and reads more until it has ended. Returns whether
+/// a line feed ended it; none where there is no line.
 fn cut_line<S: Source>(
     source: &mut S,
     buffer: &mut Buffer,
@@ -163,8 +164,8 @@ impl LineBuffer {
         }
     }
 
-    /// Goes on to the next line, and says whether there is one. It takes no memory. After a fault it answers
-    /// the same for good.
+    /// Goes on to the next line, and says whether there is one. It takes no memory. After a fault
+    /// it returns the same fault for good.
     pub fn advance<S: Source>(&mut self, source: &mut S) -> Result<bool, LinesFault>
         requires { S.failed source.old < 2 ^ 64 - 1 }
         ensures { NextLine (over self.old (S.left source.old) (S.failed source.old)) (shown result self.new.line)
@@ -183,7 +184,8 @@ impl LineBuffer {
         self.cutter.line().unwrap_or(&[])
     }
 
-    /// Whether a line feed ended the line that came last. Only a line that the reader's end ended has none.
+    /// Whether a line feed ended the line that came last. Only a line that the reader's end ended
+    /// has none.
     pub fn has_feed(&self) -> bool
         ensures { result ≡ self.now.has_feed }
     {
@@ -209,7 +211,7 @@ impl<S: Source> Lines<S> {
         Ok(Lines { source, lines })
     }
 
-    /// How often the reader failed so far.
+    /// How often the reader has failed so far.
     pub fn failures(&self) -> u64
         ensures { result ≡ self.now.failures }
     {
@@ -224,8 +226,8 @@ impl<S: Source> Lines<S> {
         self.lines.advance(&mut self.source)
     }
 
-    /// Lends the next line, without its line feed, or says that there is none. It takes no memory. After a fault
-    /// it answers the same for good.
+    /// Borrows the next line, without its line feed, or says that there is none. It takes no
+    /// memory. After a fault it returns the same fault for good.
     pub fn next_line(&mut self) -> Result<Option<&[u8]>, LinesFault>
         requires { self.old.failures < 2 ^ 64 - 1 }
         ensures* after_borrow { sem 𝓛 (Rests (lines_row S.row S.Source) self.entry (λ new. NextLine self.old (lent result) new)) }

@@ -1,4 +1,4 @@
-//! The messages that errors of several crates have. They are what the program prints of such an error.
+//! The messages that errors of several crates share, as the program prints them.
 
 /// Memory was refused.
 pub const OUT_OF_MEMORY: &str = "out of memory";

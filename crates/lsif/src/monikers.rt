@@ -1,5 +1,5 @@
-//! Monikers and packages: the names of symbols across projects, and what lines spell of them. What they join is asked in the crate `dump`.
-//! `specs/Monikers`.
+//! Monikers and packages: the names of symbols across projects, and what lines spell of them. What
+//! they join is checked in the crate `dump`. `specs/Monikers`.
 ghost use Rattle.std.specs.Prelude.{◌≡◌, IfOk, codes, option_map, string_bytes};
 ghost use Rattle.lsif.specs.Element.{moniker_value, package_value};
 ghost use Rattle.lsif.specs.Monikers.{holds_nul, name_in, name_at, kind_of, kind_in, version_in, moniker_in, package_in};
@@ -30,7 +30,8 @@ fn name(alloc: Global, value: &Value) -> Result<Option<String>, AllocError>
     Ok(Some(String::from_str(alloc, text)?))
 }
 
-/// A copy of the text that the member of this name is. None where there is no such member, or it's no text or holds U+0000.
+/// A copy of the text that the member of this name is. None where there is no such member, or it's
+/// no text or holds U+0000.
 fn member_name(alloc: Global, value: &Value, member: &str) -> Result<Option<String>, AllocError>
     ensures { IfOk result (λ o. option_map (λ s. string_bytes s) o ≡ name_at member.now (view value.now)) }
 {
@@ -86,7 +87,8 @@ pub(crate) fn moniker(alloc: Global, value: &Value) -> Result<Option<Moniker>, A
     }))
 }
 
-/// The version of a package: the empty text where it has none. None where it's no text, or holds U+0000.
+/// The version of a package: the empty text where it has none. None where it's no text, or holds
+/// U+0000.
 #[tactic(auto, unfolding(crate::specs::Monikers::version_in))]
 fn version(alloc: Global, value: &Value) -> Result<Option<String>, AllocError>
     ensures { IfOk result (λ o. option_map (λ s. string_bytes s) o ≡ version_in (view value.now)) }

@@ -1,4 +1,5 @@
-//! The reading of one line: the element that it spells in a profile, or the least code of its shape. The lines before it aren't known here.
+//! Reads one line of a dump: the element that it spells in a profile, or the least code of its
+//! shape. It doesn't know the lines before it: what these forbid is in the crate `dump`.
 //! `specs/Reading`.
 ghost use Rattle.std.specs.Prelude.{◌≡◌, ℕ, List, IfErr};
 ghost use Rattle.lsif.specs.Element.{element_value};
@@ -62,15 +63,16 @@ fn json(alloc: Global, line: &[u8]) -> Result<Value, ReadFault>
     }
 }
 
-/// Profile 1 reads by its own labels alone, and the four labels that profile 2 adds are other labels to it. Each line that
-/// has none of the four is read alike in both profiles.
+/// Profile 1 reads by its own labels alone, and the four labels that profile 2 adds are other
+/// labels to it. Each line that has none of the four is read alike in both profiles.
 pub fn profile_law()
     ensures base { (line : List ℕ) → reading Profile.One line ≡ reading_by base_labels line }
     ensures added { (text : List ℕ) → IsAddedLabel text → IsOtherLabel text }
     ensures alike { (line : List ℕ) → HasNoAddedLabel line → reading Profile.Two line ≡ reading Profile.One line }
 {}
 
-/// The element that a line of a dump is in a profile, given without its line feed, or the least fault of its shape.
+/// The element that a line of a dump is in a profile, given without its line feed, or the least
+/// fault of its shape.
 #[tactic(auto, unfolding(crate::specs::Reading::reading, crate::specs::Reading::reading_by))]
 pub fn read_element(alloc: Global, profile: Profile, line: &[u8]) -> Result<Element, ReadFault>
     ensures reading { Gives element_value result (reading profile line.now) }

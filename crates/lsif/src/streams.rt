@@ -1,17 +1,18 @@
-//! The traits of readers and writers that count their failures, and the wrapper that makes such of any others. `specs/Streams` says what is known of
-//! them.
+//! The traits of readers and writers that count their failures, and the wrapper that makes these of
+//! any others. A contract says by the count whether a call failed; after a failure the bytes are
+//! unknown. `specs/Streams`.
 ghost use Rattle.std.specs.Prelude.{◌≡◌, ℕ, ◌+◌, ◌-◌, ◌^◌, ◌<◌, ◌≤◌, List, Option, Some, IfOk, length};
 ghost use Rattle.lsif.specs.Streams.{CanCount, CountsFailure, Output, Pulls, Pushes, counted, unless_failed};
 
 use std::io::{Read, Write};
 use thiserror::Error;
 
-/// A read or a write failed.
+/// A read or a write failed, for whatever cause.
 #[derive(Clone, Copy, Debug, PartialEq, Eq, Error)]
 #[error("a read or a write failed")]
 pub struct Failed;
 
-/// What bytes are pulled from.
+/// A reader with a count of its failures.
 pub trait Source {
     // the bytes that are left, where they are known
     ghost left: { Self → Option (List ℕ) };
@@ -31,7 +32,7 @@ pub trait Source {
         ensures counted { CountsFailure (failed self.old) (failed self.new) result };
 }
 
-/// What bytes are pushed into.
+/// A writer with a count of its failures, and of the writes that took no byte.
 pub trait Sink {
     // what is known of it
     ghost output: { Self → Output };
@@ -40,7 +41,7 @@ pub trait Sink {
     fn failures(&self) -> u64
         ensures { result ≡ (output self.now).failures };
 
-    /// How many pushes took no byte of some so far.
+    /// How many pushes of one byte or more took none so far.
     fn zero_writes(&self) -> u64
         ensures { result ≡ (output self.now).zero_writes };
 
@@ -51,7 +52,8 @@ pub trait Sink {
         ensures bytes { Pushes (output self.old) bytes.now result (output self.new) };
 }
 
-/// A reader or a writer of std's with a count of its failures. Once it failed its bytes aren't known any more.
+/// A reader or a writer of the standard library with a count of its failures. Once it has failed
+/// its bytes are unknown.
 #[derive(Drop)]
 pub struct Counted<T> {
     inner: T,
@@ -60,7 +62,7 @@ pub struct Counted<T> {
 }
 
 impl<T> Counted<T> {
-    /// Counts from none.
+    /// The reader or the writer, which hasn't failed so far.
     pub fn new(inner: T) -> Counted<T>
         ensures { result ≡ counted inner }
     {
@@ -71,7 +73,7 @@ impl<T> Counted<T> {
         }
     }
 
-    /// Hands out the reader or the writer.
+    /// The reader or the writer.
     pub fn into_inner(self) -> T
         ensures { result ≡ self.inner }
     {
@@ -88,8 +90,8 @@ impl<T> Counted<T> {
     }
 }
 
-/// Of a reader that never failed are left the bytes that std's reader has, and a writer that never failed took those that
-/// std's writer has. After a failure neither is known.
+/// A reader that never failed has the bytes left that the reader below has. A writer that never
+/// failed took the bytes that the writer below took. After a failure neither is known.
 pub fn counted_law<R: Read, W: Write>()
     ensures left { (reader : Counted R) → ⟦<Counted<R> as Source>⟧.left reader ≡ unless_failed reader.failures (R.remaining reader.inner) }
     ensures taken { (writer : Counted W) → (⟦<Counted<W> as Sink>⟧.output writer).taken ≡ unless_failed writer.failures (W.contents writer.inner) }

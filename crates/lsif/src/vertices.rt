@@ -1,5 +1,5 @@
-//! The vertices that lines spell: their labels in each profile, and what they say. Hovers, monikers and events have files of their own.
-//! `specs/Vertices`.
+//! The vertices that lines spell: their labels in each profile, and what they say. Hovers, monikers
+//! and events have files of their own. `specs/Vertices`.
 ghost use Rattle.std.specs.Prelude.{◌≡◌, IfOk, option_map, codes, string_bytes};
 ghost use Rattle.lsif.specs.Element.{vertex_value};
 ghost use Rattle.lsif.specs.Vertices.{coordinate_at, position_in, span_in, is_supported, uri_in, vertex_label, wider_vertex_label, vertex_of};
@@ -15,7 +15,7 @@ use serde_json::Value;
 use std::alloc::{AllocError, Global};
 use url::{ParseError, Url};
 
-/// The greatest line and the greatest character.
+/// The greatest line and the greatest character (LSP 3.17, "uinteger").
 const GREATEST_COORDINATE: u64 = 2147483647;
 
 fn coordinate(value: &Value, name: &str) -> Option<u32>

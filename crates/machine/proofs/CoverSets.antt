@@ -1,4 +1,5 @@
--- The ranges that cover a position have a list, and a request at the position is asked of one of them or of none.
+-- The ranges that cover a position have a list, and one of them or none answers a request at the
+-- position.
 use Rattle.std.proofs.Common.{◌≡◌, ◌&&◌, ⊎_elim, ℕ, true, List, [], ◌∷◌, map, subst, arith}
 use Rattle.std.specs.Prelude.{◌↔◌, Contains, Option, Some, None, Ok, if◌then◌else◌}
 use Rattle.std.specs.Cmp.{IsTotalOrder, on_total}

@@ -1,4 +1,5 @@
--- What the walks over a dump without fault lead to are finite sets, and there is a first result of each vertex or none.
+-- What the walks over a dump without fault lead to are finite sets, and there is a first result of
+-- each vertex or none.
 use Rattle.std.proofs.Common.{◌≡◌, ◌⊎◌, inl, inr, ⊎_elim, ℕ, true, List, [], ◌∷◌, map, refl, sym, ap, subst, zero, suc, slice_get}
 use Rattle.std.specs.Prelude.{Contains, Option, Some, None, Ok, bytes_eq}
 use Rattle.std.proofs.lemmas.Slice.Eq.{bytes_eq-Decides}
@@ -48,7 +49,7 @@ path_ends ps x = of_same (λ y. Contains (x ∷ map (λ (p : Pair). p.1) ps) y �
 
 -- ---- marks
 
--- the marks that a vertex bears
+-- the marks that a vertex has
 pub borne : (d : List ElementValue) (x : IdValue) → Finite (Bears d x)
 borne d x = of_same (λ mark. (m : IdValue) × Contains (moniker_pairs d) (x, m) × ((n : IdValue) × Near d m n × (mark_of d n ≡ Some mark))) (Bears d x)
     (λ mark. (λ h. (h.0, h.2.0, h.1, h.2.1, h.2.2), λ h. (h.0, h.2, (h.1, h.3, h.4))))
@@ -67,7 +68,7 @@ is_vertex (edge i e) x = inr (λ h. let clash : edge i e ≡ vertex x h.0 = h.1 
 some_same : {X : Type 0} (x y : X) → Some x ≡ Some y → x ≡ y
 some_same x y e = cc
 
--- the lines of a list at which a vertex of this id stands
+-- the lines of a list at which a vertex of this id is
 pub vertex_lines : (d : List ElementValue) (x : IdValue) → Finite (Stands d x)
 vertex_lines [] x = of_none (Stands [] x) (λ k h. none k h.0 h.1)
   where
@@ -147,7 +148,7 @@ module _ (d : List ElementValue) (free : IsFaultless (map Ok d)) where
       ))
       (of_union (λ y mark. Bears d y mark) (Contains c.0) (of_list c.0) (λ y at. borne d y))
 
-  -- whether a vertex speaks
+  -- whether a vertex has an answer
   pub speaks : (request : RequestKind) (x : IdValue) → Decision (Speaks request d x)
   speaks request x = ⊎_elim
       (λ (r : (r : IdValue) × First request d x (Some r)). inl (inl r))

@@ -92,7 +92,7 @@ no_reading : (k : ℕ) (line : Reading) → slice_get [] k ≡ Some line → ⊥
 no_reading zero line e = cc
 no_reading (suc k) line e = no_reading k line e
 
--- it stands for the body of that byte
+-- it represents the body of that byte
 pub stands_for_the_brace : HasRead brace_came (codes "{")
 stands_for_the_brace = inr ([], codes "{", (tt, (λ e. absurd (omega (arith, e)), tt), refl), (refl, λ k c has. no_reading k has.0 has.1, refl))
 

@@ -1,4 +1,5 @@
--- Finite sets: those whose members a list has. What is made of finite sets by tests, unions and images is finite, and has a listing.
+-- Finite sets: those whose members a list has. What is made of finite sets by tests, unions and
+-- images is finite, and has a listing.
 use Rattle.std.proofs.Common.{◌≡◌, ◌⊎◌, inl, inr, ⊎_elim, ◌∙◌, Bool, true, false, List, [], ◌∷◌, ◌++◌, refl, sym, ap, subst}
 use Rattle.std.specs.Prelude.{◌↔◌, Contains, Option, Some, None}
 use Rattle.std.specs.Cmp.{IsTotalOrder}

@@ -83,7 +83,7 @@ at_tie a b e =
 module _ (m : State) (index : IsIndex m) (request : RequestKind) (project : List ℕ) (dump : DumpValue) (free : IsFaultless (map Ok dump.elements)) (r : IdValue) where
   -- ---- the joined vertices
 
-  -- a mark of the range, and one of the same key that the vertex bears
+  -- a mark of the range, and one of the same key that the vertex has
   abbrev MarksMeet : DumpValue → IdValue → Type 0
   MarksMeet second y =
       (mark : MarkValue) × (Marks dump.elements r mark × ((follows request mark.kind ≡ true)

@@ -1,4 +1,4 @@
--- What is said of a body, against the fault of the dump that it is.
+-- The verdict on a body, against the fault of the dump that it is.
 use Rattle.std.proofs.Common.{◌≡◌, ◌∙◌, List, [], ◌∷◌, map, Option, None, Some, Ok, Err, refl, sym, ap, subst}
 use Rattle.std.specs.Prelude.{ℕ}
 use Rattle.lsif.specs.Element.{ElementValue, Reading}

@@ -28,7 +28,7 @@ long_element profile line lt = rw (lt-ltb dumps.longest_line (length line) lt) r
 pub long_tag : (line : List ℕ) (is_ended : Bool) → tags.longest_line < length line → reading_of (record { bytes = line; ended = is_ended }) ≡ Err T01
 long_tag line is_ended lt = rw (lt-ltb tags.longest_line (length line) lt) refl
 
--- the reading of a line that is handed to a reader of tags
+-- the reading of a line that is passed to a reader of tags
 pub handed_tag : (law : (line : Line) → IsReading line (reading_of line)) (line : Option (Bor (List ℕ))) (is_ended : Bool) (bytes : List ℕ)
     → IsHanded tags.longest_line line bytes
     → tags.IsHanded (result_map (λ b. b.now) (ok_or line T01)) is_ended (reading_of (record { bytes = bytes; ended = is_ended }))

@@ -89,6 +89,6 @@ spells_low text long low =
       | inr other ↦ other (omega (arith, low))
     ])
 
--- the first byte is behind the digits
+-- the first byte is after the digits
 pub spells_above : (text : List ℕ) → 58 ≤ slice_index text 0 → None ≡ number_in text
 spells_above text above = spells_none text (λ n h. let d = first_digit text n h in omega (arith, above))

@@ -1,4 +1,4 @@
--- What is said of a body, by the lines that were taken.
+-- The verdict on a body, by the lines that were taken.
 use Rattle.std.proofs.Common.{◌≡◌, ◌∙◌, ◌↔◌, ℕ, ◌<◌, ◌≤◌, ◌⊎◌, IfOk, List, [], ◌∷◌, ◌++◌, length, map, fold, true, false, Some, None, Result, Ok, Err, refl, sym, ap, subst, inl, inr, arith, append-nil}
 use Rattle.std.specs.List.{AllByRecursion, flat_map}
 use Rattle.std.proofs.lemmas.List.{map-append}

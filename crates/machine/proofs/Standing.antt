@@ -1,4 +1,4 @@
--- What an upload stands for, by the lines that were taken.
+-- What an upload represents, by the lines that were taken.
 use Rattle.std.proofs.Common.{suc, zero, ◌≡◌, ◌∙◌, ◌↔◌, ℕ, ◌+◌, List, [], ◌∷◌, ◌++◌, map, fold, true, false, slice_get, Some, None, Ok, refl, sym, ap, ap₂, subst, inl, inr, arith, ◌-◌, ◌==◌, length, take, drop, append_assoc, append-nil}
 use Rattle.std.proofs.lemmas.Bool.Decides.{nat_tests}
 use Rattle.std.proofs.lemmas.List.{take-append-drop, take_rest}
@@ -188,7 +188,7 @@ no_summary : record { count = 0; kept = []; last = None; checked = false } ≡ s
 unfolding summary_of tags_of
 no_summary = refl
 
--- a reader of tags that has taken nothing stands for the body of no byte
+-- a reader of tags that has taken nothing represents the empty body
 pub empty_tags : HasRead (empty no_tags_line) []
 empty_tags = inr ([], [], (tt, tt, refl), ([], tt, (λ k c has. no_line k has.0 has.1, no_summary, refl)))
 

@@ -345,7 +345,7 @@ state_long known new states.Faulty old cut piece same goes takes judges =
 pub ended_goes : (old cut : CutterValue) (piece line : List ℕ) (n : ℕ) → Takes old piece (Ok n) cut → Some line ≡ line_in cut → cut.state ≢ TooLong
 ended_goes old cut piece line n takes some = elim takes.3 [ inl e ↦ (λ is. cc (ap (λ (c : CutterValue). c.state) e.5, is)) | inr g ↦ cc (some, g.2) ]
 
--- ---- what a reader of a body stands by
+-- ---- the invariant of a reader of a body
 
 -- where no line has a fault the lines were taken
 pub running_took : (known : TakenLines) (cutter : CutterValue) (state : ReadingState) (body : List ℕ) → state ≡ states.Running

@@ -61,8 +61,8 @@ HasJoinedContents m project dump r other line contents =
 abbrev pub IsAtOrBefore : List ℕ → ℕ → List ℕ → ℕ → Type 0
 IsAtOrBefore p line q other = ordering_then (text_cmp p q) (nat_cmp line other) ≢ Greater
 
--- what answers the request at the range that is picked: its own contents, and where it has none those of the joined vertex of the
--- least project and in it the least line
+-- what answers the request at the range that is picked: its own contents, and where it has none
+-- those of the joined vertex of the least project and in it the least line
 pub data HoversAt (m : State) (project : List ℕ) (dump : DumpValue) (r : IdValue) : Option (List ℕ) → Type 0 where
   own : {contents : List ℕ} → HasContents dump r contents → HoversAt m project dump r (Some contents)
   joined : {contents : List ℕ} (other : List ℕ) (line : ℕ) → First requests.Hover dump.elements r None → HasJoinedContents m project dump r other line contents

@@ -1,5 +1,5 @@
--- What the vertices of other projects say of a range (LSIF 0.6.0, "Multiple Projects": a symbol that one project imports is
--- found where another exports a moniker of the same key).
+-- What the vertices of other projects say of a range (LSIF 0.6.0, "Multiple Projects": a symbol
+-- that one project imports is found where another exports a moniker of the same key).
 use Rattle.std.specs.Prelude.{◌≡◌, ◌≢◌, true, List, ℕ, Some}
 use Rattle.lsif.specs.Element.{IdValue}
 use Rattle.dump.specs.declared.request_kind.RequestKind.{RequestKind}
@@ -8,8 +8,9 @@ use Rattle.dump.specs.Progress.{DumpValue}
 use Rattle.dump.specs.Requests.{follows, finds}
 use Rattle.machine.specs.State.{State}
 
--- the vertex y there, in another project, is joined to the range r here, in this project's dump: a mark that r has and one that y bears
--- are of one moniker, by kinds that the request follows here and finds there
+-- the vertex y there, in another project, is joined to the range r here, in this project's dump: a
+-- mark that r has and one that y has itself are of one moniker, by kinds that the request follows
+-- here and finds there
 pub record IsJoined (m : State) (request : RequestKind) (project : List ℕ) (dump : DumpValue) (r : IdValue) (other : List ℕ) (second : DumpValue)
     (y : IdValue) : Type 0 where
   pub elsewhere : other ≢ project

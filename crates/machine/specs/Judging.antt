@@ -1,4 +1,5 @@
--- What a command asks for, judged by its body alone: the change that it makes, or the reply that refuses it.
+-- What a command asks for, judged by its body alone: the change that it makes, or the reply that
+-- refuses it.
 use Rattle.std.specs.Prelude.{ℕ, List, Option, None, Some, Result, Ok, Err}
 use Rattle.lsif.specs.declared.element.Profile.{Profile}
 use Rattle.dump.specs.declared.fault.LineFault as dumps
@@ -41,7 +42,7 @@ abbrev pub tags_change : Result (List TagValue) tags.LineFault → Result Change
 tags_change (Ok tags) = Ok (set_tags tags)
 tags_change (Err f) = Err (tags_refused f)
 
--- what is said of a command: the change that it makes, or the fault of its body
+-- the verdict on a command: the change that it makes, or the fault of its body
 abbrev pub judged : ActionValue → Result Change ReplyValue
 judged (put_dump profile body) = dump_change (judged_dump profile body)
 judged (put_tags body) = tags_change (judged_tags body)

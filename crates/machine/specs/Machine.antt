@@ -18,8 +18,8 @@ pub record Effect : Type 0 where
   pub after : State
   pub is_new : Bool
 
--- a command whose key is kept has the kept reply; another whose body has a fault is refused by that fault; any other makes its
--- change, and its reply is kept
+-- a command whose key is kept has the kept reply; another whose body has a fault is refused by that
+-- fault; any other makes its change, and its reply is kept
 abbrev pub effect_by : State → CommandValue → Option Accepted → Result Change ReplyValue → Effect
 effect_by m c (Some kept) said = record { reply = reply_of kept; after = m; is_new = false }
 effect_by m c None (Err fault) = record { reply = fault; after = m; is_new = false }

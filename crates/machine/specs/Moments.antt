@@ -6,7 +6,8 @@ use Rattle.tags.specs.Judging.{HasTags}
 use Rattle.tags.specs.Values.{TagValue}
 use Rattle.machine.specs.State.{State}
 
--- each dump has no fault, the tags of each project are those of a text, and finitely many projects have a part
+-- each dump has no fault, the tags of each project are those of a text, and finitely many projects
+-- have a part
 pub record IsIndex (m : State) : Type 0 where
   pub dumps : (project : List ℕ) (dump : DumpValue) → m.dump project ≡ Some dump → IsFaultless (map Ok dump.elements)
   pub tags : (project : List ℕ) (tags : List TagValue) → m.tags project ≡ Some tags → (text : List ℕ) × HasTags text tags

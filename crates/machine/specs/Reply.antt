@@ -1,4 +1,5 @@
--- Replies: the status and the body of each. Bodies are compact JSON (RFC 8259) with members in the order of their bytes.
+-- Replies: the status and the body of each. Bodies are compact JSON (RFC 8259) with members in the
+-- order of their bytes.
 use Rattle.std.specs.Prelude.{ℕ, Bool, true, false, ◌++◌, List, codes, map, Option, Some, None}
 use Rattle.serde_json.specs.Data.{Data, null, boolean, number, string, array, object, unsigned, member, no_members, item, no_items}
 use Rattle.serde_json.specs.View.{items_of}

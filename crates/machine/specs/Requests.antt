@@ -27,8 +27,9 @@ pub record DocumentPositionValue : Type 0 where
   pub uri : List ℕ
   pub position : PositionValue
 
--- a query at a position, by the kind of its request; references, and whether definitions are asked, too; the tags of a name or a prefix, in all projects or
--- in one; the projects; or the profile of a project's dump
+-- a query at a position, by the kind of its request; references, and whether definitions are asked,
+-- too; the tags of a name or a prefix, in all projects or in one; the projects; or the profile of a
+-- project's dump
 pub data QueryValue : Type 0 where
   position_query : RequestKind → DocumentPositionValue → QueryValue
   references : DocumentPositionValue → Bool → QueryValue

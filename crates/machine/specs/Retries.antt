@@ -1,4 +1,5 @@
--- Commands that are sent again, over lives with stops in between. Histories have the newest first.
+-- Commands that are sent again, over lives with crashes in between. Histories have the newest
+-- first.
 use Rattle.std.specs.Prelude.{◌≡◌, ◌&&◌, ◌||◌, ℕ, Bool, true, false, bytes_eq, List, [], ◌∷◌, ◌++◌, map, if◌then◌else◌, Option, Some, None, Result, Ok, Err, Contains}
 use Rattle.dump.specs.Progress.{DumpValue}
 use Rattle.tags.specs.Values.{TagValue}
@@ -52,17 +53,17 @@ plain_kept (k ∷ ks) project key =
 
 -- ---- lives
 
--- what happens: a command is sent and has this reply; or there is a stop
+-- what happens: a command is sent and has this reply; or there is a crash
 pub data Event : Type 0 where
   sent : CommandValue → ReplyValue → Event
   stop : Event
 
--- a state that a stop may leave, with the commands that it has beyond those that count
+-- a state that a crash may leave, with the commands that it has beyond those that count
 pub record StopValue : Type 0 where
   pub state : State
   pub commands : List CommandValue
 
--- a moment of a life: the state, what a stop may leave, and the commands that count
+-- a moment of a life: the state, what a crash may leave, and the commands that count
 pub record Moment : Type 0 where
   pub now : State
   pub after_a_stop : List StopValue
@@ -84,7 +85,7 @@ moment_after_reply false c t = record {
   counted = c ∷ t.counted;
 }
 
--- after a stop that left this: the commands that it has count
+-- after a crash that left this: the commands that it has count
 abbrev pub moment_after_stop : StopValue → Moment → Moment
 moment_after_stop l t = record { now = l.state; after_a_stop = record { state = l.state; commands = [] } ∷ []; counted = l.commands ++ t.counted }
 
@@ -113,6 +114,6 @@ with_run (query q ∷ qs) (r ∷ rs) es = with_run qs rs es
 with_run [] rs es = es
 with_run (q ∷ qs) [] es = es
 
--- the states that a stop may leave at a moment
+-- the states that a crash may leave at a moment
 abbrev pub states_after_a_stop : Moment → List State
 states_after_a_stop t = map (λ (l : StopValue). l.state) t.after_a_stop

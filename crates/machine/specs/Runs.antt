@@ -1,4 +1,5 @@
--- Runs of the machine, with refusals in between, because memory ran out or the store refused; and what a stop may leave.
+-- Runs of the machine, with refusals in between, because memory ran out or the store refused; and
+-- what a crash may leave.
 use Rattle.std.specs.Prelude.{◌≡◌, Bool, true, List, [], ◌∷◌, ◌++◌, if◌then◌else◌}
 use Rattle.machine.specs.Answers.{Answers}
 use Rattle.machine.specs.Machine.{reply_to, after, is_new}
@@ -11,7 +12,8 @@ abbrev pub Replies : State → RequestValue → ReplyValue → Type 0
 Replies m (command c) r = r ≡ reply_to m c
 Replies m (query q) r = Answers m q r
 
--- the machine may give this reply: its own, or that memory was refused, or, where the store may refuse, that it did
+-- the machine may give this reply: its own, or that memory was refused, or, where the store may
+-- refuse, that it did
 pub data MayReply (store_may_refuse : Bool) (m : State) (q : RequestValue) : ReplyValue → Type 0 where
   own : {r : ReplyValue} → Replies m q r → MayReply store_may_refuse m q r
   no_memory : MayReply store_may_refuse m q out_of_memory
@@ -22,17 +24,18 @@ abbrev pub moved : State → RequestValue → ReplyValue → State
 moved m (command c) r = if is_refusal r then m else after m c
 moved m (query q) r = m
 
--- the machine may give these replies to these requests, one after another, and is then in this state
+-- the machine may give these replies to these requests, one after another, and is then in this
+-- state
 abbrev pub Run : Bool → State → List RequestValue → List ReplyValue → State → Type 0
 Run store_may_refuse m [] [] n = n ≡ m
 Run store_may_refuse m (q ∷ qs) (r ∷ rs) n = MayReply store_may_refuse m q r × Run store_may_refuse (moved m q r) qs rs n
 Run store_may_refuse m [] (r ∷ rs) n = ⊥
 Run store_may_refuse m (q ∷ qs) [] n = ⊥
 
--- ---- stops
+-- ---- crashes
 
--- the states of which a stop leaves one, after this reply: where a command was refused, its own state may have been reached;
--- where it made its change, that is there; else nothing new
+-- the states of which a crash leaves one, after this reply: where a command was refused, its own
+-- state may have been reached; where it made its change, that is there; else nothing new
 abbrev pub after_a_stop : State → List State → RequestValue → ReplyValue → List State
 after_a_stop m states (command c) r = if is_refusal r then states ++ after m c ∷ [] else if is_new m c then after m c ∷ [] else states
 after_a_stop m states (query q) r = states

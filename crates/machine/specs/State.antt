@@ -5,14 +5,15 @@ use Rattle.serde_json.specs.Written.{compact_text}
 use Rattle.dump.specs.Progress.{DumpValue}
 use Rattle.tags.specs.Values.{TagValue}
 
--- what the reply to an accepted command says: that a dump of so many elements was put, or so many tags; or whether anything was
--- removed
+-- what the reply to an accepted command says: that a dump of so many elements was put, or so many
+-- tags; or whether anything was removed
 pub data Accepted : Type 0 where
   dump_put : ℕ → Accepted
   tags_put : ℕ → Accepted
   parts_removed : Bool → Accepted
 
--- of each project its dump and its tags, where it has them; and for pairs of a project and a key what the reply says that is kept
+-- of each project its dump and its tags, where it has them; and for pairs of a project and a key
+-- what the reply says that is kept
 pub record State : Type 0 where
   pub dump : List ℕ → Option DumpValue
   pub tags : List ℕ → Option (List TagValue)
@@ -40,7 +41,8 @@ accepted_text a = compact_text (accepted_data a)
 
 -- ---- a change
 
--- what an accepted command does to a project: it has this dump, or these tags, from then on; or neither
+-- what an accepted command does to a project: it has this dump, or these tags, from then on; or
+-- neither
 pub data Change : Type 0 where
   set_dump : DumpValue → Change
   set_tags : List TagValue → Change

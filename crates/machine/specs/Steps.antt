@@ -1,4 +1,5 @@
--- What only private contracts and proofs name: the lines of an upload, and values of the program's own types.
+-- What only private contracts and proofs name: the lines of an upload, and values of the program's
+-- own types.
 pub mod Changes
 pub mod Covers
 pub mod Names

@@ -1,4 +1,4 @@
--- Bodies that come in pieces: what an upload holds, and the bodies that it stands for.
+-- Bodies that come in pieces: what an upload holds, and the bodies that it represents.
 use Rattle.std.specs.Prelude.{◌≡◌, ℕ, ◌+◌, nat_lt, Bool, true, false, List, [], ◌∷◌, ◌++◌, length, map, ◌⊎◌, Ok, if◌then◌else◌}
 use Rattle.std.specs.List.{AllByRecursion, flat_map}
 use Rattle.lsif.specs.Lines as texts
@@ -24,19 +24,22 @@ use Rattle.machine.specs.Requests.{ActionValue, put_dump, put_tags, CommandValue
 abbrev pub IsCut : List ℕ → List (List ℕ) → List ℕ → Type 0
 IsCut body lines last = AllByRecursion IsLine lines × IsLine last × (body ≡ flat_map texts.ended lines ++ last)
 
--- the lines whose readings no more bytes change: those that have ended, and the last where it's longer than a line may be
+-- the lines whose readings no more bytes change: those that have ended, and the last where it's
+-- longer than a line may be
 abbrev pub settled : ℕ → List (List ℕ) → List ℕ → List (List ℕ)
 settled longest lines last = if nat_lt longest (length last) then lines ++ last ∷ [] else lines
 
 -- ---- what an upload holds
 
--- of the lines of a dump, by its profile, the elements, or the fault of the first faulty one; of those of a tags file the tags
--- and what has to be known for the lines to come, or the first faulty one
+-- of the lines of a dump, by its profile, the elements, or the fault of the first faulty one; of
+-- those of a tags file the tags and what has to be known for the lines to come, or the first faulty
+-- one
 pub data TakenLines : Type 0 where
   dump_lines : Profile → Progress → TakenLines
   tags_lines : State (List TagValue) → TakenLines
 
--- what is held of a body: its lines, the bytes after the last line feed, and whether memory was refused
+-- what is held of a body: its lines, the bytes after the last line feed, and whether memory was
+-- refused
 pub record BodyValue : Type 0 where
   pub lines : TakenLines
   pub last : List ℕ
@@ -47,10 +50,10 @@ pub record UploadValue : Type 0 where
   pub key : List ℕ
   pub body : BodyValue
 
--- ---- what it stands for
+-- ---- what it represents
 
--- the settled lines of a dump have no fault and are these elements, and the bytes after the last line feed are held; or this is
--- the fault of the first faulty one
+-- the settled lines of a dump have no fault and are these elements, and the bytes after the last
+-- line feed are held; or this is the fault of the first faulty one
 abbrev pub HoldsDump : Profile → Progress → List ℕ → List (List ℕ) → List ℕ → Type 0
 HoldsDump profile (dumps_progress.running elements) held lines last =
     (map (reading profile) (settled dumps.longest_line lines last) ≡ map Ok elements) × AreSoundLines (map Ok elements) × (held ≡ last)

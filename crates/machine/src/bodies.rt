@@ -1,4 +1,5 @@
-//! The bodies of replies, as `serde_json` writes them; lists are made item by item. What they say is in `specs/Reply`.
+//! The bodies of replies, as `serde_json` writes them. Lists are made item by item, since a value
+//! of all of them would take many times the memory of the text. What they say is in `specs/Reply`.
 ghost use Rattle.std.specs.Prelude.{◌≡◌, ◌++◌, ◌∷◌, [], IfOk, OnOk, false, map, option_map, string_bytes};
 ghost use Rattle.serde_json.specs.Data.{array};
 ghost use Rattle.serde_json.specs.View.{view, items_of};
@@ -28,16 +29,16 @@ fn written(alloc: Global, status: u16, body: &Value) -> Result<Reply, AllocError
 
 // ---- lists, whose text is made item by item: they may be long
 
-/// What stands before the places of a reply.
+/// What comes before the places of a reply. A desk adds each by `add_place`, and then `END`.
 pub const PLACES: &str = "{\"places\":[";
 
-/// What stands before its tags.
+/// What comes before its tags.
 const TAGS: &str = "{\"tags\":[";
 
-/// What stands behind its items.
+/// What comes after its items.
 pub const END: &str = "]}";
 
-/// Adds an item to the text of a list, behind a comma where it isn't the first.
+/// Adds an item to the text of a list, after a comma where it isn't the first.
 fn add_item(alloc: Global, text: &mut String, later: bool, item: &Value) -> Result<(), AllocError>
     requires { has_float (view item.now) ≡ false }
     ensures { OnOk result (string_bytes text.new ≡ string_bytes text.old ++ (comma_if later ++ compact_text (view item.now))) }
@@ -57,7 +58,7 @@ fn count_value(alloc: Global, part: &str, count: usize) -> Result<Value, AllocEr
     json!(in alloc; {"accepted": part, "count": count})
 }
 
-/// The reply that a dump of so many elements was put.
+/// The reply to an accepted dump, with the number of its elements.
 pub fn dump_accepted(alloc: Global, elements: usize) -> Result<Reply, AllocError>
     ensures { IfOk result (λ r. r ≡ dump_accepted elements) }
 {
@@ -66,7 +67,7 @@ pub fn dump_accepted(alloc: Global, elements: usize) -> Result<Reply, AllocError
     Ok(reply)
 }
 
-/// The reply that so many tags were put.
+/// The reply to an accepted tags file, with the number of its tags.
 pub fn tags_accepted(alloc: Global, tags: usize) -> Result<Reply, AllocError>
     ensures { IfOk result (λ r. r ≡ tags_accepted tags) }
 {
@@ -75,7 +76,7 @@ pub fn tags_accepted(alloc: Global, tags: usize) -> Result<Reply, AllocError>
     Ok(reply)
 }
 
-/// The text of the reply to a removal.
+/// The body of the reply to a removal, by whether the project had a part.
 pub fn removal_text(was_there: bool) -> &'static str
     ensures { result.now ≡ accepted_text (parts_removed was_there) }
 {
@@ -86,7 +87,8 @@ pub fn removal_text(was_there: bool) -> &'static str
     }
 }
 
-/// The reply to a removal: whether anything was there. It takes no memory, so that none is asked for once the parts are gone.
+/// The reply to a removal: whether anything was there. It takes no memory, so that it can't fail
+/// once the parts are gone.
 pub fn removed(was_there: bool) -> Reply
     ensures { result ≡ removed was_there }
 {
@@ -136,7 +138,7 @@ fn place(alloc: Global, found: &FoundPlace<'_>) -> Result<Value, AllocError>
     })
 }
 
-/// Adds a place to the text of a list of places, behind a comma where it isn't the first.
+/// Adds a place to the text of a list of places, after a comma where it isn't the first.
 pub fn add_place(
     alloc: Global,
     text: &mut String,
@@ -186,7 +188,7 @@ fn field_list(alloc: Global, fields: &[Field]) -> Result<Vec<Value>, AllocError>
     Ok(list)
 }
 
-/// The fields of a tag: an array of pairs of texts.
+/// The fields of a tag as JSON: an array with a pair of name and value for each.
 pub fn fields_value(alloc: Global, fields: &[Field]) -> Result<Value, AllocError>
     ensures { IfOk result (λ v. view v ≡ array (items_of (map field_data (map field_value fields.now)))) }
 {
@@ -217,7 +219,7 @@ fn tag(alloc: Global, found: &FoundTag) -> Result<Value, AllocError>
     })
 }
 
-/// Adds a tag to the text of a list of tags, behind a comma where it isn't the first.
+/// Adds a tag to the text of a list of tags, after a comma where it isn't the first.
 fn add_tag(
     alloc: Global,
     text: &mut String,
@@ -285,7 +287,7 @@ pub fn projects_found(alloc: Global, projects: &[FoundProject]) -> Result<Reply,
     Ok(reply)
 }
 
-/// The number by which replies and tables name a profile.
+/// The number by which replies and tables name a profile: 1 or 2.
 pub fn profile_number(profile: Profile) -> u32
     ensures { result ≡ profile_number profile }
 {

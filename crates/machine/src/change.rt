@@ -1,4 +1,5 @@
-//! What a command asks for, judged by its body: the change that it makes, or the reply that refuses it.
+//! What a command asks for, judged by its body alone: the change that it makes, or the reply that
+//! refuses it. Each desk judges by it, before it looks at what it keeps.
 ghost use Rattle.std.specs.Prelude.{◌≡◌, [], IfOk};
 ghost use Rattle.machine.specs.Judging.{judged};
 ghost use Rattle.machine.specs.Uploads.{HasRead, action_of};
@@ -12,7 +13,8 @@ use crate::upload::BodyReader;
 use dump::CheckedDump;
 use std::alloc::{AllocError, Global};
 
-/// What an accepted command does to a project: it has this dump, or these tags, from then on; or neither.
+/// What an accepted command does to a project: it has this dump, or these tags, from then on; or
+/// neither.
 #[derive(Drop)]
 pub enum Change {
     SetDump(CheckedDump),
@@ -20,7 +22,7 @@ pub enum Change {
     Clear,
 }
 
-/// What is said of a body that is one piece: the change that its command makes, or its fault.
+/// The verdict on a body that is one piece: the change that its command makes, or its fault.
 fn judge_body(mut reader: BodyReader, body: &[u8]) -> Result<Result<Change, Reply>, AllocError>
     requires { HasRead reader [] }
     ensures { IfOk result (λ answer. said_value answer ≡ judged (action_of reader.lines body.now)) }
@@ -29,7 +31,7 @@ fn judge_body(mut reader: BodyReader, body: &[u8]) -> Result<Result<Change, Repl
     reader.finish()
 }
 
-/// What is said of a command: the change that it makes, or the fault of its body.
+/// The verdict on a command: the change that it makes, or the fault of its body.
 pub fn judge(alloc: Global, command: &Command<'_>) -> Result<Result<Change, Reply>, AllocError>
     ensures { IfOk result (λ said. said_value said ≡ judged (command_value command.now).action) }
 {

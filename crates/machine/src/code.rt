@@ -1,8 +1,9 @@
-//! The codes of requests that are of no line, each with its status and its body, in one table. `specs/Reply`.
+//! The codes of faults that no line has, each with its status and its body, in one table.
+//! `specs/Reply`.
 ghost use Rattle.std.specs.Prelude.{◌≡◌};
 ghost use Rattle.machine.specs.Reply.{row_of, fault_text};
 
-/// Why a request has no answer: a fault that is of no line.
+/// Why a request has no answer, where that is no line's fault.
 #[derive(Clone, Copy, Debug, PartialEq, Eq)]
 pub enum Code {
     /// The project has no dump.

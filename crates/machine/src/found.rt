@@ -1,4 +1,5 @@
-//! What queries find, as replies are made of it: places, tags and projects. How they're found isn't known here. `specs/Found`.
+//! What queries find, as replies are made of it: places, tags and projects. How they're found isn't
+//! known here, so that each desk makes the same replies. `specs/Found`.
 use positions::Span;
 use tags::Tag;
 
@@ -8,7 +9,7 @@ pub struct FoundPlace<'a> {
     pub project: &'a str,
     /// The document's serialized URL.
     pub uri: &'a str,
-    /// In UTF-16 code units.
+    /// The place in the document, in UTF-16 code units.
     pub span: &'a Span,
 }
 

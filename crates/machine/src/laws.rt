@@ -1,5 +1,5 @@
-//! Laws of the machine, which speak of its definitions alone: what a body is judged to be, that a query has one reply, and that commands may be sent
-//! again.
+//! Laws of the machine's definitions, which mention no program: what a body is judged to be, that a
+//! query has one reply, and that commands may be sent again.
 ghost use Rattle.std.specs.Prelude.{◌≡◌, ◌↔◌, ◌⊎◌, ℕ, Bool, true, List, Contains, None, Some, Ok, Err, map};
 ghost use Rattle.dump.specs.declared.fault.LineFault as dumps;
 ghost use Rattle.dump.specs.Fault.{IsFault};
@@ -22,8 +22,8 @@ ghost use Rattle.machine.specs.Runs.{MayReply, Run, after_a_stop_of_run};
 use dump::{fault_law, listing_law, pick_law};
 use tags::text_law;
 
-/// What is said of a body is the fault of the dump that it is by the profile, or of the tags file, and where it has none the
-/// dump or the tags.
+/// The verdict on a body is the fault of the dump that it is by the profile, or of the tags file;
+/// and where it has none, the dump or the tags.
 pub fn judgement_law()
     ensures dump_fault { (profile : Profile) (body : List ℕ) (f : dumps.LineFault)
         → (judged_dump profile body ≡ Err f) ↔ IsFault (dump_of profile body) (Some f) }
@@ -37,7 +37,7 @@ pub fn judgement_law()
     text_law();
 }
 
-/// A query has one reply at most from each state.
+/// From each state a query has at most one reply.
 pub fn answer_law()
     ensures { (m : State) (query : QueryValue) (r s : ReplyValue) → Answers m query r → Answers m query s → r ≡ s }
 {
@@ -45,8 +45,8 @@ pub fn answer_law()
     pick_law();
 }
 
-/// In every life each dump has no fault, the tags of a project are those of a text, and finitely many projects have a part. From
-/// each such state each query has a reply.
+/// In every life each dump has no fault, the tags of a project are those of a text, and finitely
+/// many projects have a part. From each such state each query has a reply.
 pub fn reply_law()
     ensures index { (store_may_refuse : Bool) (events : List Event) (t : Moment) → Life store_may_refuse events t → IsIndex t.now }
     ensures reply { (m : State) → IsIndex m → (query : QueryValue) → (r : ReplyValue) × Answers m query r }
@@ -54,11 +54,12 @@ pub fn reply_law()
     judgement_law();
 }
 
-/// In every life the state is what plain writing leaves of the commands that count, each once. A command whose key one of these
-/// has is refused, or has the reply that was made for that one. So where a command was accepted (only then does a command's
-/// reply have the status 200), each later one of its project and key is refused by S01 or S02, or has that very reply, whatever
-/// stops there were. And a run goes on with a life, which may be stopped in the states that the run leaves; so this holds of
-/// each desk.
+/// In every life the state is what plain writing leaves of the commands that count, each once. A
+/// command whose key one of these has is refused, or has the reply that was made for that one. Say
+/// that a command was accepted; only then does its reply have the status 200. Then each later one
+/// of its project and key is refused by S01 or S02, or has that very reply, whatever crashes there
+/// were. A run goes on with a life, and the states that the run may leave are those that a crash of
+/// the life may leave. So this holds of each desk.
 pub fn retry_law()
     ensures parts { (store_may_refuse : Bool) (events : List Event) (t : Moment) → Life store_may_refuse events t → IsPlain t }
     ensures again { (store_may_refuse : Bool) (events : List Event) (t : Moment) (c : CommandValue) (r : ReplyValue) (kept : Accepted)

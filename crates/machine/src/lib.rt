@@ -1,6 +1,7 @@
-//! The abstract machine: what an index is, how requests change it and what they are answered. Here are names, keys, document URLs and numbers, commands and
-//! queries, replies with their JSON and codes, uploads that come in pieces, `Desk`, the trait of what serves requests, runs of requests, and the laws of the
-//! machine. What keeps an index is in `tables` and `desk`. The definitions are in `specs/`: `State` and `Machine` for commands, `Answers` and `Joins` for
+//! The abstract machine: what an index is, how requests change it and what they are answered. Here
+//! are the types of requests and replies, uploads that come in pieces, `Desk`, the trait of what
+//! serves requests, and the laws of the machine. What keeps an index is in `tables` and `desk`. The
+//! definitions are in `specs/`: `State` and `Machine` for commands, `Answers` and `Joins` for
 //! queries, `Runs` and `Retries` for runs.
 #![tactic(auto)]
 

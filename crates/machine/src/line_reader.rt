@@ -1,4 +1,5 @@
-//! What takes the lines of a body: those of a dump or of a tags file, each to its checker. The pieces are cut in `upload.rt`.
+//! What takes the lines of a body: those of a dump or of a tags file, each to its checker. So no
+//! body is held whole. The pieces are split into lines in `upload.rt`.
 ghost use Rattle.std.specs.Prelude.{◌≡◌, ℕ, List, IfOk, true};
 ghost use Rattle.machine.specs.Steps.Changes.{said_value};
 ghost use Rattle.dump.specs.Judging.{IsHanded};
@@ -63,7 +64,8 @@ fn feed_tags(reader: &mut TagReader, line: Option<&[u8]>, is_ended: bool) -> Rea
 }
 
 impl LineReader {
-    /// Takes the next line without its line feed; none where it's too long. `is_ended` says whether a line feed follows.
+    /// Takes the next line without its line feed; none where it's too long. `is_ended` says whether
+    /// a line feed follows.
     pub(crate) fn feed(
         &mut self,
         alloc: Global,
@@ -80,7 +82,7 @@ impl LineReader {
         }
     }
 
-    /// What is said of the lines: the change that they make, or their fault.
+    /// The verdict on the lines: the change that they make, or their fault.
     pub(crate) fn finish(self, alloc: Global) -> Result<Result<Change, Reply>, AllocError>
         requires { Rises (taken self) }
         ensures { IfOk result (λ answer. said_value answer ≡ said (taken self)) }

@@ -1,4 +1,5 @@
-//! The parts of requests that have a form: names of projects, keys, URLs of documents and numbers. `specs/Names`.
+//! The parts of requests that have a form: names of projects, keys, URLs of documents and numbers.
+//! A value of such a type was checked when it was made. `specs/Names`.
 ghost use Rattle.std.specs.Prelude.{◌≡◌, ◌<◌, None, IfOk, IfSome, option_and_then};
 ghost use Rattle.std.specs.List.{list_all};
 ghost use Rattle.url.specs.Parser.{parse_url};
@@ -14,7 +15,7 @@ use url::{ParseError, Url};
 /// The most characters of a project's name and of a key.
 const LONGEST_NAME: usize = 64;
 
-/// How many numbers a line or a character may be: 0 to 2147483647.
+/// The first number above those of lines and characters, which are 0 to 2147483647.
 const NUMBER_LIMIT: u32 = 2147483648;
 
 /// What a text is a name of.
@@ -24,7 +25,7 @@ enum Named {
     Command,
 }
 
-/// Whether names of this have the byte.
+/// Whether names of this kind may have the byte.
 fn is_name_byte(named: Named, byte: u8) -> bool
     ensures { result ≡ is_name_byte named byte }
 {
@@ -44,7 +45,7 @@ fn are_name_bytes(named: Named, bytes: &[u8]) -> bool
     bytes.iter().all(|byte| is_name_byte(named, *byte))
 }
 
-/// Whether the text has the form of a name of this.
+/// Whether the text has the form of a name of this kind.
 fn is_name(named: Named, text: &str) -> bool
     ensures { result ≡ is_name_of (is_name_byte named) text.now }
 {
@@ -82,7 +83,7 @@ impl ProjectName {
         Ok(Some(ProjectName { name }))
     }
 
-    /// The name as it was read.
+    /// The name's text.
     pub fn as_str(&self) -> &str
         ensures value { result.now ≡ self.now }
         ensures form { is_project_name result.now ≡ true }
@@ -122,7 +123,7 @@ impl Key {
         Ok(Some(Key { key }))
     }
 
-    /// The key as it was read.
+    /// The key's text.
     pub fn as_str(&self) -> &str
         ensures value { result.now ≡ self.now }
         ensures form { is_key result.now ≡ true }
@@ -157,7 +158,8 @@ impl Model for DocUri {
 impl DocUri {
     ghost use Rattle.std.specs.Prelude.{true};
 
-    /// The URL that this text spells, serialized (URL Standard, "URL serializing"). None where it spells none.
+    /// The URL that this text spells, serialized (URL Standard, "URL serializing"). None where it
+    /// spells none.
     pub fn read(alloc: Global, text: &str) -> Result<Option<DocUri>, AllocError>
         ensures { IfOk result (λ o. o ≡ option_and_then (where_so is_without_nul) (serialized (parse_url None text.now))) }
     {
@@ -183,8 +185,8 @@ impl DocUri {
     }
 }
 
-/// The number that a text spells: decimal digits without leading zeros (zero is `0`), at most 2147483647. None where it
-/// isn't of this form.
+/// The number that a text spells: decimal digits without leading zeros (zero is `0`), at most
+/// 2147483647. None where it isn't of this form.
 pub fn read_number(text: &str) -> Option<u32>
     ensures value { result ≡ number_in text.now }
     ensures below { IfSome result (λ n. n < number_limit) }

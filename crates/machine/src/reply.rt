@@ -1,11 +1,11 @@
-//! The type of a reply: a status and a body, or a code that is of no line. What bodies say is in `bodies.rt`, how they're sent in the crate
-//! `http_edge`. `specs/Reply`.
+//! The type of a reply: a status and a body, or the code of a fault that no line has. What bodies
+//! say is in `bodies.rt`, how they're sent in the crate `http_edge`. `specs/Reply`.
 ghost use Rattle.std.specs.Prelude.{◌≡◌, map};
 
 use crate::code::Code;
 use std::marker::Model;
 
-// A code; or a status with a made body, or with a fixed one.
+// A code; or a status with a body that was made, or with a constant one.
 #[derive(Drop)]
 pub(crate) enum Content {
     Refused(Code),
@@ -13,7 +13,8 @@ pub(crate) enum Content {
     Fixed(u16, &'static str),
 }
 
-/// A status (RFC 9110, section 15) and a body, which is compact JSON with its members in the order of their bytes.
+/// A status (RFC 9110, section 15) and a body, which is compact JSON with its members in the order
+/// of their bytes.
 #[derive(Drop)]
 pub struct Reply {
     content: Content,
@@ -54,7 +55,7 @@ impl Reply {
         }
     }
 
-    /// The reply of a code that is of no line. It takes no memory.
+    /// The reply of a code that no line has. It takes no memory.
     pub fn refused(code: Code) -> Reply
         ensures { result ≡ refused code }
     {
@@ -70,7 +71,7 @@ impl Reply {
         Reply::refused(Code::S02)
     }
 
-    /// A reply with a body that is there already. It takes no memory.
+    /// A reply with a constant body. It takes no memory.
     pub(crate) fn fixed(status: u16, body: &'static str) -> Reply
         ensures { result ≡ made status body.now }
     {
@@ -79,7 +80,7 @@ impl Reply {
         }
     }
 
-    /// A reply with a made body.
+    /// A reply with a body that was made for it.
     pub fn made(status: u16, body: String) -> Reply
         ensures { result ≡ made status (string_bytes body) }
     {

@@ -1,5 +1,5 @@
-//! The types of requests: commands, which change a project, and queries. How they're read from a stream is known in the crate `http_edge`.
-//! `specs/Requests`.
+//! The types of requests: commands, which change a project, and queries. How they're read from a
+//! stream is known in the crate `http_edge`. `specs/Requests`.
 ghost use Rattle.std.specs.Prelude.{◌≡◌};
 ghost use Rattle.machine.specs.Requests.{command_value};
 
@@ -8,17 +8,20 @@ use dump::RequestKind;
 use lsif::Profile;
 use positions::Position;
 
-/// What changes a project. A command whose key is kept for its project is a repeat: it has the kept reply.
+/// What changes a project. A command whose key is kept for its project is a repeat: it has the kept
+/// reply.
 #[derive(Drop)]
 pub enum Command<'a> {
-    /// Puts a dump (LSIF 0.6.0, one element on each line), read by a profile, in the place of the one that the project has.
+    /// Puts a dump (LSIF 0.6.0, one element on each line), read by a profile, in the place of the
+    /// one that the project has.
     PutDump {
         project: ProjectName,
         key: Key,
         profile: Profile,
         body: &'a [u8],
     },
-    /// Puts a tags file (Universal Ctags, tags(5), format 2) in the place of the one that the project has.
+    /// Puts a tags file (Universal Ctags, tags(5), format 2) in the place of the one that the
+    /// project has.
     PutTags {
         project: ProjectName,
         key: Key,
@@ -55,17 +58,20 @@ impl Command<'_> {
     }
 }
 
-/// What is asked of the projects. A position stands in the document of a serialized URL (Language Server Protocol 3.17).
+/// What is asked of the projects. A position is in the document of a serialized URL (Language
+/// Server Protocol 3.17).
 #[derive(Drop)]
 pub enum Query {
-    /// What a request of this kind finds at a position ("textDocument/definition" and the like); of references where it's named and where it's defined.
+    /// What a request of this kind finds at a position ("textDocument/definition" and the like).
+    /// For references: where the symbol is named and where it's defined.
     At {
         kind: RequestKind,
         project: ProjectName,
         uri: DocUri,
         at: Position,
     },
-    /// Where what stands at a position is named ("textDocument/references"), and where it's defined, too, if the declaration is asked for.
+    /// Where the symbol at a position is named ("textDocument/references"), and where it's defined
+    /// too, if the declaration is asked for.
     References {
         project: ProjectName,
         uri: DocUri,
@@ -77,7 +83,7 @@ pub enum Query {
         name: String,
         project: Option<ProjectName>,
     },
-    /// The tags whose names begin so, in all projects or in one.
+    /// The tags whose names begin with a text, in all projects or in one.
     Prefix {
         prefix: String,
         project: Option<ProjectName>,

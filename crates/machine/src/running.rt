@@ -1,5 +1,5 @@
-//! Runs: requests that are served one after another by any desk. Tests alone call it; the program serves streams (the crate `http_edge`).
-//! `specs/Runs`.
+//! Runs: requests that are served one after another by any desk. Tests alone call it; the program
+//! serves streams (the crate `http_edge`). `specs/Runs`.
 ghost use Rattle.std.specs.Prelude.{◌≡◌, List, IfOk, OnErr};
 ghost use Rattle.machine.specs.State.{State};
 ghost use Rattle.machine.specs.Requests.{request_value, request_values};
@@ -12,7 +12,7 @@ use lsif::OUT_OF_MEMORY;
 use std::alloc::{AllocError, Global};
 use thiserror::Error;
 
-/// Why no request was served.
+/// Why a run served no request.
 #[derive(Clone, Copy, Debug, PartialEq, Eq, Error)]
 pub enum RunFault {
     /// Memory for the replies was refused.
@@ -44,8 +44,8 @@ fn serve<D: Desk>(desk: &mut D, request: &Request<'_>) -> Reply
     }
 }
 
-/// Serves requests in order, each from the state that the one before left. Room for all replies is made first: where
-/// that is refused, no request was served.
+/// Serves requests in order, each from the state that the one before left. Room for all replies is
+/// made first: where that is refused, no request was served.
 pub fn run<D: Desk>(
     alloc: Global,
     desk: &mut D,

@@ -1,4 +1,4 @@
-//! The tags of a file that was judged and is free of faults, as a project has them.
+//! The tags of a file that was judged and has no fault, as a project keeps them.
 ghost use Rattle.std.specs.Prelude.{◌≡◌, true, map};
 ghost use Rattle.tags.specs.Judging.{lines_rise};
 ghost use Rattle.tags.specs.Views.{tag_value, tag_values};

@@ -1,4 +1,5 @@
--- Where the greater start is before the lesser end, a position is covered by both spans, and only there.
+-- Where the greater start is before the lesser end, a position is covered by both spans, and only
+-- there.
 use Rattle.std.proofs.Common.{◌≡◌, Bool, true, false, if◌then◌else◌, refl, arith}
 use Rattle.positions.specs.Position.{PositionValue, IsBefore, is_before, later_of, earlier_of}
 use Rattle.positions.specs.Span.{SpanValue, overlaps, Covers}

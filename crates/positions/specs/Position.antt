@@ -1,4 +1,5 @@
--- What a position is to a clause, and how positions are ordered (Language Server Protocol 3.17, "Position").
+-- What a position is to a clause, and how positions are ordered (Language Server Protocol 3.17,
+-- "Position").
 use Rattle.std.specs.Prelude.{◌≡◌, ℕ, ◌+◌, ◌*◌, ◌<◌, ◌⊎◌, Bool, nat_lt, ◌&&◌, ◌||◌, ◌==◌, if◌then◌else◌}
 
 -- a zero-based line, and in it a zero-based character in UTF-16 code units

@@ -1,4 +1,5 @@
--- What a span is to a clause, and how spans lie to positions and to each other (Language Server Protocol 3.17, "Range").
+-- What a span is to a clause, and how spans lie to positions and to each other (Language Server
+-- Protocol 3.17, "Range").
 use Rattle.std.specs.Prelude.{Bool, not, ◌&&◌}
 use Rattle.positions.specs.Position.{PositionValue, is_before, later_of, earlier_of, IsBefore, IsAtOrBefore}
 

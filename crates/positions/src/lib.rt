@@ -1,4 +1,5 @@
-//! Positions in a text document and spans between two of them, as the Language Server Protocol has them.
+//! Positions in a text document and spans between two of them, as the Language Server Protocol has
+//! them.
 #![tactic(auto)]
 
 mod position;

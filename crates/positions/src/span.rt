@@ -1,4 +1,5 @@
-//! Spans of text documents, and how two of them lie: what covers a position, nests or overlaps. `specs/Span`.
+//! Spans of text documents, and how two of them lie: what covers a position, nests or overlaps.
+//! `specs/Span`.
 ghost use Rattle.std.specs.Prelude.{◌≡◌, ◌↔◌, IsTrue, IsSome, IfSome};
 ghost use Rattle.positions.specs.Position.{PositionValue, IsPosition, IsAtOrBefore};
 ghost use Rattle.positions.specs.Span.{SpanValue, is_span, covers, nests, overlaps, Covers, Nests};
@@ -6,8 +7,9 @@ ghost use Rattle.positions.specs.Span.{SpanValue, is_span, covers, nests, overla
 use crate::position::Position;
 use std::marker::Model;
 
-/// The positions from a start up to an end, which is exclusive (Language Server Protocol 3.17, "Range"). The start
-/// isn't after the end. Where both are equal the span is empty: it covers nothing and overlaps nothing.
+/// The positions from a start up to an end, which is exclusive (Language Server Protocol 3.17,
+/// "Range"). The start isn't after the end. Where both are equal the span is empty: it covers
+/// nothing and overlaps nothing.
 #[derive(Clone, Copy, Debug, PartialEq, Eq, PartialOrd, Ord)]
 pub struct Span {
     start: Position,
@@ -63,7 +65,8 @@ impl Span {
         !p.is_before(self.start) && p.is_before(self.end)
     }
 
-    /// Whether this span lies in the other: its start isn't before the other's, and its end isn't after the other's.
+    /// Whether this span lies in the other: its start isn't before the other's, and its end isn't
+    /// after the other's.
     pub fn nests(self, other: Span) -> bool
         ensures value { result ≡ nests self other }
         ensures meaning { IsTrue result ↔ Nests self other }
@@ -71,7 +74,8 @@ impl Span {
         !self.start.is_before(other.start) && !other.end.is_before(self.end)
     }
 
-    /// Whether the greater start is before the lesser end, that is, whether a position is covered by both.
+    /// Whether the greater start is before the lesser end, that is, whether a position is covered
+    /// by both.
     pub fn overlaps(self, other: Span) -> bool
         ensures value { result ≡ overlaps self other }
         ensures meaning { IsTrue result ↔ ((p : PositionValue) × (Covers self p × Covers other p)) }

@@ -1,5 +1,6 @@
-//! Connections to databases in memory and in files in memory that stop after so many calls: what the tests of tables, desks and streams share. What is asked of
-//! a connection stands in functions over any store: one over a store of files takes long to prove.
+//! Connections to databases in memory and in files in memory that stop after so many calls: what
+//! the tests of tables, desks and streams share. What a connection must do is in functions over any
+//! store, since one over a store of files takes long to prove.
 #![tactic(auto)]
 
 ghost use Rattle.std.specs.Prelude.{◌≡◌, false, IfOk};
@@ -21,10 +22,12 @@ pub fn opened<S: Alter + Drop>(conn: Connection<S>) -> Result<Tables<S>, Fail> {
     }
 }
 
-/// What is done over a connection whose store may stop: how many steps were accepted, the fault of the next one, where it's told, and the connection.
+/// What is done over a connection whose store may stop: how many steps were accepted, the fault of
+/// the next one, where it's known, and the connection.
 pub type Lived<S> = (usize, Option<TablesFault>, Connection<S>);
 
-/// A database in files in memory that stop after so many calls; or the files, where they stop while it's opened.
+/// A database in files in memory that stop after so many calls; or the files, where they stop while
+/// it's opened.
 pub fn connected(
     alloc: Global,
     log: u64,

@@ -11,7 +11,8 @@ pub fn reply(alloc: Global, status: &str, length: u32, body: &str) -> Result<Str
     )?)
 }
 
-/// The stream that readers and writers fail in: uploads under keys, one of them a second time, and tags.
+/// The stream that readers and writers fail in: uploads under keys, one of them a second time, and
+/// tags.
 pub const UPLOADS: &str = r#"
 PUT /projects/app/lsif?key=k1 < base => 200 {"accepted":"lsif","count":11}
 PUT /projects/app/lsif?key=k2 < base | 3 range 0:5 0:7 => 200 {"accepted":"lsif","count":11}
@@ -43,7 +44,7 @@ fn body_of(alloc: Global, short: &'static str) -> Result<String, Fail> {
     dump_text(alloc, short)
 }
 
-/// The text of a request that stands in a row before its reply.
+/// The text of a request that is in a row before its reply.
 fn request(alloc: Global, row: &'static str) -> Result<String, Fail> {
     match row.split_once(" <") {
         None => Ok(format!(in alloc; "{row} HTTP/1.1\r\n\r\n")?),
@@ -67,7 +68,7 @@ fn status_of(status: &str) -> Result<&'static str, Fail> {
     }
 }
 
-/// The text of a reply whose status and body stand in a row.
+/// The text of a reply whose status and body are in a row.
 pub fn reply_of(alloc: Global, short: &str) -> Result<String, Fail> {
     let (status, body) = parted(short, " ")?;
     let length = u32::try_from(body.len())?;

@@ -1,9 +1,10 @@
-//! What has to be there. An `ok_or(..)?` is proved where it stands, which takes seconds each time; a call of one of these isn't.
+//! What must be there. An `ok_or(..)?` is proved at each place where it's used, which takes seconds
+//! each time; a call of one of these isn't.
 ghost use Rattle.std.specs.Prelude.{◌≡◌, IfOk, Some};
 
 use std::test::Fail;
 
-/// What is found, where it has to be there.
+/// What is found, which must be there.
 pub fn there<T>(found: Option<T>, what: &str) -> Result<T, Fail>
     ensures { IfOk result (λ it. found ≡ Some it) }
 {
@@ -13,7 +14,7 @@ pub fn there<T>(found: Option<T>, what: &str) -> Result<T, Fail>
     }
 }
 
-/// What stands before and behind this mark, which has to be in the text.
+/// The text before and after this mark, which must be in it.
 pub fn parted<'a>(text: &'a str, mark: &str) -> Result<(&'a str, &'a str), Fail> {
     there(text.split_once(mark), "a row isn't parted")
 }

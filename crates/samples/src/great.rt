@@ -1,4 +1,5 @@
-//! Dumps that are deep or long: a long chain, a ring of results, many edges of one result, and ranges that lie in each other.
+//! Dumps that are deep or long: a long chain, a ring of results, many edges of one result, and
+//! ranges that lie in each other.
 use crate::short::{NUMBERS, push_line, push_made, text_of};
 use std::alloc::Global;
 use std::test::Fail;
@@ -12,7 +13,7 @@ pub fn filled(alloc: Global, dump: &str, last: usize) -> Result<String, Fail> {
     Ok(text)
 }
 
-/// A line without its line feed, and spaces behind it up to so many bytes.
+/// A line without its line feed, and spaces after it up to so many bytes.
 pub fn spaced(alloc: Global, line: &str, bytes: usize) -> Result<String, Fail> {
     let line = line.trim_end();
     let spaces = " ".repeat(alloc, bytes.saturating_sub(line.len()))?;
@@ -41,7 +42,8 @@ pub fn contains(alloc: Global, first: usize, last: usize) -> Result<String, Fail
     Ok(edge)
 }
 
-/// One range, a chain of 49,996 result sets each made before the edge that leads to it, and a definition at the last, the range itself: 99,999 elements.
+/// One range, a chain of 49,996 result sets each made before the edge that leads to it, and a
+/// definition at the last, the range itself: 99,999 elements.
 pub fn long_chain(alloc: Global) -> Result<String, Fail> {
     let mut text = text_of(
         alloc,
@@ -90,8 +92,8 @@ fn push_ring_edges(text: &mut String) -> Result<(), Fail> {
     Ok(())
 }
 
-/// 100 results of references in a ring, each with its own range, the first character of a line: 503 elements. The ranges are the elements 3, 5 and so on, the
-/// results those behind them.
+/// 100 results of references in a ring, each with its own range, the first character of a line: 503
+/// elements. The ranges are the elements 3, 5 and so on, the results those after them.
 pub fn ring(alloc: Global) -> Result<String, Fail> {
     let mut text = text_of(alloc, "metaData 0.6.0\ndocument file:///a.ts")?;
     for k in 0..100 {
@@ -117,8 +119,8 @@ pub fn many_edges(alloc: Global) -> Result<String, Fail> {
     Ok(text)
 }
 
-/// Ranges of 10,000 levels, of which the outermost, which is the first or the last, is defined at itself: 10,006 elements. The one of level `k` goes from
-/// 0:`k` to 0:`20000-k`.
+/// Ranges of 10,000 levels, of which the outermost, which is the first or the last, is defined at
+/// itself: 10,006 elements. The one of level `k` goes from 0:`k` to 0:`20000-k`.
 pub fn levels(alloc: Global, is_falling: bool) -> Result<String, Fail> {
     let mut text = text_of(alloc, "metaData 0.6.0\ndocument file:///a.ts")?;
     for k in 0..10_000usize {

@@ -1,5 +1,7 @@
-//! Dumps and streams of requests that are written in short, dumps that are deep or long, readers and writers that move so many bytes at a time, and what has to
-//! be there: what the crates of tests share. An assert may end the process, which the gate allows in tests alone, so each of these has its own in `asserts.rt`.
+//! What the crates of tests share: dumps and streams of requests that are written in short, dumps
+//! that are deep or long, readers and writers that move so many bytes at a time, and what must be
+//! there. An assert may end the process, which the gate allows in tests alone; so each crate of
+//! tests has its own in `asserts.rt`.
 #![tactic(auto)]
 
 mod exchanges;

@@ -26,7 +26,8 @@ textDocument/definition 3>5
 item 5>[3] @2
 contains 2>[4,3]";
 
-/// Ranges that are each defined at itself: 3 and 4, which touch, and the empty range 5 between them.
+/// Ranges that are each defined at itself: 3 and 4, which touch, and the empty range 5 between
+/// them.
 pub const TOUCHING: &str = "metaData 0.6.0 utf-16
 document file:///u.ts
 range 0:0 0:5
@@ -43,7 +44,8 @@ item 7>[4] @2
 item 8>[5] @2
 contains 2>[3,4,5]";
 
-/// Ranges 4, 5 and 3, each in the next, and the empty range 6 in all of them; and range 9 of another document.
+/// Ranges 4, 5 and 3, each in the next, and the empty range 6 in all of them; and range 9 of
+/// another document.
 const COVERING: &str = r#"metaData 0.6.0 utf-16
 document file:///n.ts
 range 0:0 0:20
@@ -70,8 +72,8 @@ textDocument/hover 9>22
 hoverResult "empty"
 textDocument/hover 6>24"#;
 
-/// Range 3 with two results along its chain, the first of them at itself; in it range 4 without a result, and range
-/// 15 with a result of no items.
+/// Range 3 with two results along its chain, the first of them at itself; in it range 4 without a
+/// result, and range 15 with a result of no items.
 const CHAINED: &str = "metaData 0.6.0 utf-16
 document file:///c.ts
 range 0:0 0:9
@@ -91,7 +93,8 @@ definitionResult
 textDocument/definition 15>16
 contains 2>[3,4,15]";
 
-/// A result that names range 5 twice in one item and range 6 in two, and range 7 of another document.
+/// A result that names range 5 twice in one item and range 6 in two, and range 7 of another
+/// document.
 const REPEATED: &str = "metaData 0.6.0 utf-16
 document file:///b.ts
 document file:///a.ts
@@ -121,7 +124,8 @@ item 6>[4] references @2
 item 5>[4] references @2
 contains 2>[3,4]";
 
-/// Reference result 7 names 8, which names 9, which names 7; nothing names 10. Ranges 3 and 5 have 7 and 9.
+/// Reference result 7 names 8, which names 9, which names 7; nothing names 10. Ranges 3 and 5 have
+/// 7 and 9.
 const LEVELS: &str = "metaData 0.6.0 utf-16
 document file:///r.ts
 range 0:0 0:1
@@ -151,9 +155,9 @@ hoverResult [{"value":"f","language":"c","x":1},"d"]
 textDocument/hover 3>4
 contains 2>[3]"#;
 
-/// Range 3 has a result for each request. In it, range 4 has an export moniker, 5 an import one, 6 a local one; 7 a
-/// definition result of no items; 8 a local moniker that is attached to the export one, and 9 one that the import one
-/// is attached to.
+/// Range 3 has a result for each request. In it, range 4 has an export moniker, 5 an import one, 6
+/// a local one; 7 a definition result of no items; 8 a local moniker that is attached to the export
+/// one, and 9 one that the import one is attached to.
 const SPEAKING: &str = r#"metaData 0.6.0 utf-16
 document file:///s.ts
 range 0:0 0:9
@@ -214,9 +218,10 @@ textDocument/definition 3>8
 item 8>[3] @2
 contains 2>[3]";
 
-/// By the lines of the ranges: 0 has an import moniker; 1 an export one of its key, and is defined at itself; 2 a
-/// local one of that key; 3 another local one, which the import one is attached to; 4 an import one with a package; 5
-/// the first at the end of its chain; 6 a local one from which two attached monikers lead to the first.
+/// By the lines of the ranges: 0 has an import moniker; 1 an export one of its key, and is defined
+/// at itself; 2 a local one of that key; 3 another local one, which the import one is attached to;
+/// 4 an import one with a package; 5 the first at the end of its chain; 6 a local one from which
+/// two attached monikers lead to the first.
 const CALLER: &str = "metaData 0.6.0 utf-16
 document file:///app.ts
 range 0:0 0:1
@@ -257,8 +262,9 @@ textDocument/references 4>36
 item 36>[4] definitions @2
 contains 2>[3,4,5,6,7,8,9]";
 
-/// Each range has its own place as its definition and its reference. By their lines: 0 has an export moniker, 1 an
-/// import one, 2 a local one, 3 an export one with a package; the result set after 4 has that of 0.
+/// Each range has its own place as its definition and its reference. By their lines: 0 has an
+/// export moniker, 1 an import one, 2 a local one, 3 an export one with a package; the result set
+/// after 4 has that of 0.
 const CALLED: &str = "metaData 0.6.0 utf-16
 document file:///lib.ts
 range 0:0 0:1
@@ -328,8 +334,8 @@ moniker 3>6
 textDocument/hover 5>10
 textDocument/hover 4>9"#;
 
-/// Range 3 leads by way of a result set to a local moniker, to which an import one with a package and an export one
-/// are attached. Range 5 has an import one.
+/// Range 3 leads by way of a result set to a local moniker, to which an import one with a package
+/// and an export one are attached. Range 5 has an import one.
 const IMPORTING: &str = "metaData 0.6.0 utf-16
 document file:///a.ts
 range 0:4 0:7
@@ -348,7 +354,8 @@ packageInformation 7>10
 moniker 5>9
 contains 2>[3,5]";
 
-/// Ranges with monikers of the same keys, each with its own place as its definition and its reference.
+/// Ranges with monikers of the same keys, each with its own place as its definition and its
+/// reference.
 const EXPORTING: &str = r#"metaData 0.6.0 utf-16
 document file:///lib.ts
 range 0:0 0:1

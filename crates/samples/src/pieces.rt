@@ -65,7 +65,8 @@ pub fn in_pieces(bytes: &[u8], most: usize) -> Pieces<'_>
     }
 }
 
-/// A writer that takes so many bytes at a time, and fails at the write of that number, where it isn't 0.
+/// A writer that takes so many bytes at a time, and fails at the write of that number, where it
+/// isn't 0.
 pub fn slow_writer(alloc: Global, most: usize, fails_at: u32) -> Slow
     ensures taken { result.taken.items ≡ [] }
     ensures pace { (result.most ≡ most) × (result.fails_at ≡ fails_at) × (result.writes ≡ 0) }

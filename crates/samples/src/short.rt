@@ -6,7 +6,7 @@ use lsif::{Counted, Profile};
 use std::alloc::{AllocError, Global};
 use std::test::Fail;
 
-/// What stands before and behind an id.
+/// The texts before and after an id.
 pub type Marks = (&'static str, &'static str);
 
 /// Ids that are numbers, which have a slot in the table of ids.
@@ -131,7 +131,7 @@ fn element(alloc: Global, id: &str, short: &str) -> Result<String, Fail> {
     Ok(format!(in alloc; "{{'id':<{id}>,'type':'{kind}','label':'{label}'{members}}}")?)
 }
 
-/// An element whose id stands before it.
+/// An element whose id comes before it.
 fn named_element(alloc: Global, short: &str) -> Result<String, Fail> {
     let (id, rest) = parted(short, " ")?;
     element(alloc, id, rest)
@@ -154,7 +154,7 @@ fn marked_line(alloc: Global, number: usize, short: &str) -> Result<String, Fail
     }
 }
 
-/// Adds a character, or what a mark stands for.
+/// Adds a character, or what a mark represents.
 fn push_marked(text: &mut String, c: char, (before, behind): Marks) -> Result<(), AllocError> {
     match c {
         '\'' => text.push('"'),
@@ -164,10 +164,12 @@ fn push_marked(text: &mut String, c: char, (before, behind): Marks) -> Result<()
     }
 }
 
-/// Adds the line of this number, written in short: `document file:///a.ts`, `range 0:0 0:4`, `hoverResult "f"`, `moniker import npm f`,
-/// `packageInformation npm f 1.0`, `$event begin 2`, `next 3>5`, `contains 2>[3,4]`, `item 5>[6] references @2`, where `@2` is the shard; or a label and all
-/// members, as `project 'name':'a'`. The id is the line's number, unless it stands before, as in `#3 resultSet`. A line that is empty or begins with `{` is
-/// written as it is, but for its marks. Ids stand between these marks.
+/// Adds the line of this number, written in short: `document file:///a.ts`, `range 0:0 0:4`,
+/// `hoverResult "f"`, `moniker import npm f`, `packageInformation npm f 1.0`, `$event begin 2`,
+/// `next 3>5`, `contains 2>[3,4]`, `item 5>[6] references @2`, where `@2` is the shard; or a label
+/// and all members, as `project 'name':'a'`. The id is the line's number, unless it comes before,
+/// as in `#3 resultSet`. A line that is empty or begins with `{` is written as it is, but for its
+/// marks. Ids are between these marks.
 pub fn push_line(text: &mut String, number: usize, short: &str, marks: Marks) -> Result<(), Fail> {
     let line = marked_line(*text.allocator(), number, short)?;
     for c in line.chars() {
@@ -195,7 +197,7 @@ pub fn text_of(alloc: Global, dump: &str) -> Result<String, Fail> {
     Ok(text)
 }
 
-/// Puts what stands behind the number of a line in its place, or behind the last line.
+/// Replaces a line by the text after its number, or adds that after the last line.
 fn change_line(lines: &mut Vec<&'static str>, change: &'static str) -> Result<(), Fail> {
     let (number, line) = change.split_once(' ').unwrap_or((change, ""));
     let place = there(number.parse::<usize>()?.checked_sub(1), "no line 0")?;
@@ -206,7 +208,8 @@ fn change_line(lines: &mut Vec<&'static str>, change: &'static str) -> Result<()
     Ok(())
 }
 
-/// The lines of a dump with other lines: after each number what stands there. A number beyond the last line adds one.
+/// The lines of a dump with other lines: after each number the new line. A number beyond the last
+/// line adds one.
 fn changed_lines(
     alloc: Global,
     dump: &'static str,
@@ -219,7 +222,7 @@ fn changed_lines(
     Ok(lines)
 }
 
-/// The text of a dump with other lines, where `-` stands for none. The other lines keep their ids.
+/// The text of a dump with other lines, where `-` represents none. The other lines keep their ids.
 pub fn changed(
     alloc: Global,
     dump: &'static str,

@@ -1,4 +1,5 @@
--- The climb from the start to the ranges around it: what is found covers the position, and what else covers it is yet to come.
+-- The climb from the start to the ranges around it: what is found covers the position, and what
+-- else covers it is yet to come.
 use Rattle.std.proofs.Common.{◌≡◌, ◌⊎◌, inl, inr, ◌∙◌, ℕ, List, [], ◌∷◌, ◌++◌, map, Option, Some, None, refl, sym, ap, subst}
 use Rattle.std.specs.Prelude.{⊤, Ok}
 use Rattle.std.specs.List.{AllByRecursion, AllZip}
@@ -63,7 +64,8 @@ module _ (dump : DumpValue) (uri : List ℕ) (at : PositionValue) where
   IsHere None = ⊤
   IsHere (Some r) = IsStarted dump uri at r
 
-  -- the rows of what is found, and the next: what is found covers the position, and what else covers it lies around the next or is it
+  -- the rows of what is found, and the next: what is found covers the position, and what else
+  -- covers it lies around the next or is it
   pub record Climbs (rows : List RangeRowValue) (next : Option RangeRowValue) : Type 0 where
     pub each : AllByRecursion (IsCoverRow dump uri at) rows
     pub left : (o : RangeRowValue) → IsCoverRow dump uri at o → Has rows o ⊎ IsAbove o next

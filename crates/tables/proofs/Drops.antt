@@ -1,4 +1,5 @@
--- DROP INDEX IF EXISTS over the tables of format 1: the indexes that format 2 makes are gone, in whatever order they stood there.
+-- DROP INDEX IF EXISTS over the tables of format 1: the indexes that format 2 makes are gone, in
+-- whatever order they were listed.
 use Rattle.std.proofs.Common.{arith, ◌≡◌, ◌≢◌, ◌≤◌, ◌<◌, ◌==◌, inl, inr, refl, sym, ap, subst, ◌∙◌, ℕ, suc, ◌+◌, Bool, not, true, false, true≢false, List, [], ◌∷◌, ◌++◌, filter, slice_get, ne_eqb, eq-eqb, Option, Some, None, Ok, codes, if◌then◌else◌}
 use Rattle.std.specs.Fmt.{digits}
 use Rattle.std.specs.List.{AllByRecursion, position_from}
@@ -31,7 +32,7 @@ abbrev drop_at : Option ℕ → Command
 drop_at (Some at) = DropIndex at
 drop_at None = Nothing
 
--- where one is found behind those of the keys
+-- where one is found after those of the keys
 abbrev among : List ℕ → List Index → Option ℕ
 among name more = position_from (λ (i : Index). same_name i.name name) 9 more
 

@@ -56,7 +56,8 @@ pub empty_listing : {V : Type 0} (cmp : V → V → Ordering) (P : V → Type 0)
 unfolding IsStrictlySortedBy
 empty_listing cmp P none = record { rises = tt; each = λ v. ((λ at. absurd (has_contained [] v at)), (λ p. absurd (none v p))) }
 
--- The values that are read from a selection are those of the entries: for each value `entry` is the one that it shows.
+-- The values that are read from a selection are those of the entries: for each value `entry` is the
+-- one that it shows.
 module _ {E X V : Type 0} (shown : E → Row) (Of Matches : E → Type 0) (columns : X → Row) (value : X → V) (entry : V → E) (IsSound : X → Type 0) (matches : (v : V) → Matches (entry v))
     (is_of : (x : X) (e : E) → IsSound x → Of e → Matches e → columns x ≡ shown e → e ≡ entry (value x)) (is_value : (x : X) (v : V) → IsSound x → Of (entry v) → columns x ≡ shown (entry v) → value x ≡ v) where
   pub are_values : (xs : List X) → AllByRecursion IsSound xs → SelectsOf shown Of Matches (map columns xs) → (v : V) → Contains (map value xs) v ↔ Of (entry v)

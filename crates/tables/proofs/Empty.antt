@@ -1,4 +1,5 @@
--- New tables stand for the state with no part and no key, and tables that stand for a state have their version.
+-- New tables represent the state with no part and no key, and tables that represent a state have
+-- their version.
 use Rattle.std.proofs.Common.{arith, ◌≡◌, ◌≢◌, ◌↔◌, inl, inr, ℤ, pos, List, [], ◌∷◌, None, refl, sym, ap, subst, ◌∙◌}
 use Rattle.std.proofs.lemmas.Cmp.{tied_itself, int_cmp_total}
 use Rattle.sqlite_value.specs.Order.{Row}

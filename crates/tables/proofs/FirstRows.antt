@@ -22,7 +22,8 @@ module _ (tests shown : List Term) (order : List (Term × Key)) (params : Row) (
   abbrev before : Row → Row → Bool
   before a b = is_lt (sort_cmp order (params ∷ a ∷ []) (params ∷ b ∷ []))
 
-  -- what is shown of a row that passes, and before which no other that passes comes; or nothing, where none passes
+  -- what is shown of a row that passes, and before which no other that passes comes; or nothing,
+  -- where none passes
   abbrev pub IsFirst : List Row → Type 0
   IsFirst [] = (row : Row) → Has rows row → passes row ≡ false
   IsFirst (given ∷ more) = (best : Row) × Has rows best × (passes best ≡ true) × (given ≡ show shown params best) × ((row : Row) → Has rows row → passes row ≡ true → before row best ≡ false)

@@ -112,7 +112,7 @@ module _ (db : Trees) (m : State) (s : StandsFor db m) where
         is = refl;
       })
 
-  -- a row that shows an entry tells its tag
+  -- a row that shows an entry has its tag
   tells : (x : TagRow) (e : TagEntries db m) → tag_row_columns x ≡ entry_row db m e → TellsTag db m x e.0.found
   tells x e h =
       let id : e.0.slot ≡ x.slot = let a = h in cc in

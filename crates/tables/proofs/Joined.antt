@@ -1,4 +1,5 @@
--- What the SELECT of the bearers of a key gives: their rows, each with the row of its slot, and with that of its line in `more` where there is one.
+-- What the SELECT of the bearers of a key gives: their rows, each with the row of its slot, and
+-- with that of its line in `more` where there is one.
 use Rattle.std.proofs.Common.{◌≡◌, inl, inr, refl, sym, ap, subst, ◌∙◌, pos, negsuc, List, [], ◌∷◌, map, filter, flat_map, Bool, true, false, None, codes, if◌then◌else◌}
 use Rattle.std.specs.List.{list_all}
 use Rattle.std.specs.List.Sorted.{IsPermutation}

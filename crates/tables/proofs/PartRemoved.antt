@@ -202,7 +202,7 @@ module _ (parts : Contents) (replies : Replies) (p : List ℕ) (k : Part) (old n
       let same = all_has (λ (x : Table). x.tree ≢ 1 → mid x.tree ≡ old x.tree) schema_two.tables t r.taken.others listed other in
       ((λ h. rw same at ((unhit t listed free row).0 h)), (λ h. (unhit t listed free row).1 (rw same h)))
 
-  -- the tables stand for the state without the part
+  -- the tables represent the state without the part
   pub keeps_drop : Keeps new (changed parts p k None) replies
   keeps_drop = record {
     ordered = r.taken.ordered;

@@ -1,4 +1,5 @@
--- The texts that begin with another are those from it up to the text with a last byte that is one greater.
+-- The texts that begin with another are those from it up to the text with a last byte that is one
+-- greater.
 use Rattle.std.proofs.Common.{◌≡◌, ◌<◌, ◌++◌, inl, inr, ◌∙◌, lt-ltb, le-ltb, ℕ, suc, Bool, true, false, Ordering, Less, Equal, Greater, nat_cmp, eqb, List, [], ◌∷◌, ◌&&◌, refl, sym, subst, arith}
 use Rattle.std.proofs.lemmas.Bool.Decides.{nat_tests}
 use Rattle.std.specs.Ordering.{is_ge, is_lt, ordering_then}
@@ -118,7 +119,7 @@ if_begins (y ∷ p) (x ∷ t) h =
     let more = if_begins p t (h.0, rest) in
     subst (λ (z : ℕ). (eqb z x && starts_with eqb t p) ≡ true) same (rw (itself x, more) refl)
 
--- ---- the value behind a text
+-- ---- the value after a text
 
 all_before : (t b : List ℕ) → is_lt (value_cmp (Text t) (Blob b)) ≡ true
 unfolding value_cmp

@@ -172,7 +172,7 @@ module _ (text : List ℕ) (tree : ℕ) (values : Row) (rows : List Row) (it : I
   listed_ok old new (Err e) has h = tt
   listed_ok old new (Ok count) has h = let done = inserted old new count has h.0 in subst (λ s. IsListed s new.now.trees) done.schema_is done.sound.lists
 
--- an INSERT of one row tells its rowid
+-- an INSERT of one row returns its rowid
 module _ (sql : List ℕ) (params : Row) (at : ℕ) (t : Table) (terms : List Term) (width : ℕ)
     (is : command_of (understood schema_two sql) ≡ Insert at (Values terms width)) (plain : IsPlain (understood schema_two sql))
     (placed : slice_get schema_two.tables at ≡ Some (plainly t))

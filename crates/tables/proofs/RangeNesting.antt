@@ -1,4 +1,5 @@
--- The rows of the ranges of one document: how they lie to each other, and what the parent of each is.
+-- The rows of the ranges of one document: how they lie to each other, and what the parent of each
+-- is.
 use Rattle.std.proofs.Common.{◌≡◌, ◌≢◌, ◌⊎◌, inl, inr, ◌∙◌, ◌==◌, ℕ, true, false, List, [], ◌∷◌, map, Option, Some, None, sym, ap, subst, arith}
 use Rattle.std.specs.Prelude.{Ok}
 use Rattle.std.specs.List.Sorted.{IsStrictlySortedBy}

@@ -56,7 +56,8 @@ module _ (tests terms : List Term) (params : Row) (table rows : List Row) (same 
   pub wide_as : (r : Row) → Has rows r → length r ≡ length terms
   wide_as r there = let it = from_table r there in ap length it.3 ∙ width terms _
 
--- The statement is a SELECT of the wanted entries of a table: its tests are that columns equal parameters.
+-- The statement is a SELECT of the wanted entries of a table: its tests are that columns equal
+-- parameters.
 pub record IsSelection {E : Type 0} (values : E → Row) (shown : ℤ → E → Row) (Wanted : ℤ → E → Type 0) (sql : List ℕ) (params : Row) (t : ℕ) : Type 0 where
   pub pairs : List (ℕ × ℕ)
   pub terms : List Term

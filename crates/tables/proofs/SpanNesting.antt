@@ -93,7 +93,8 @@ one_of_three s t f g clear = by (nests s t) (nests t s) (overlaps s t) refl refl
     by false false true a b c e = absurd cc
     by false false false a b c e = inr (inr (apart_of s t f g c))
 
--- a span that covers a position at or after another's start, and comes before this one, lies around it
+-- a span that covers a position at or after another's start, and comes before this one, lies around
+-- it
 pub comes_around : (s t : SpanValue) (p : PositionValue) → IsFilled t → conflicts s t ≡ false → Covers s p → IsAtOrBefore t.start p → ComesBefore s t → Nests t s
 comes_around s t p f clear h start (inr ties) = (λ k. never s.start (subst (λ q. IsBefore q s.start) (sym ties.0) k), ties.1)
 comes_around s t p f clear h start (inl less) = elim (one_of_three s t (covers_filled s p h) f clear) [

@@ -1,4 +1,4 @@
--- The tables stand for the next state where they keep its parts and its replies.
+-- The tables represent the next state where they keep its parts and its replies.
 use Rattle.std.proofs.Common.{◌≡◌, ◌≢◌, ◌&&◌, inl, inr, ℕ, Bool, true, false, List, Option, Some, None, option_map, if◌then◌else◌, bytes_eq, refl, sym, ap, subst, ◌∙◌, zero, suc, nat_lt, is_some, arith, ◌||◌, ◌↔◌}
 use Rattle.std.proofs.lemmas.Bool.{cases_Bool}
 use Rattle.std.proofs.lemmas.Bool.Decides.{nat_tests}

@@ -1,4 +1,4 @@
--- Tags that rows tell, one row after the other.
+-- The tags of rows, one row after the other.
 use Rattle.std.proofs.Common.{◌≡◌, ◌⊎◌, inl, inr, ℕ, List, [], ◌∷◌, ◌++◌, map, Option, Some, None, sym, ap, subst, ◌∙◌, ◌↔◌, Contains}
 use Rattle.std.specs.List.{AllByRecursion}
 use Rattle.std.proofs.lemmas.List.{map-append}
@@ -26,7 +26,7 @@ module _ (db : Trees) (m : State) (asked : Option (List ℕ)) where
     there : ((y : TagRow) → Has left y → Has rows y) → (y : TagRow) → Has rest y → Has rows y
     there within y h = within y (subst (λ l. Has l y) (sym is) (has_before rest x y h))
 
-    -- told by a row that is left, or by this one
+    -- the tag of a row that is left, or of this one
     still_or : (v : FoundTag) → IsTold db m left v → IsTold db m rest v ⊎ TellsTag db m x v
     still_or v told = elim (last_or rest x told.0 (subst (λ l. Has l told.0) is told.1)) [
       | inl before ↦ inl (told.0, before, told.2)
@@ -70,7 +70,7 @@ module _ (db : Trees) (m : State) (asked : Option (List ℕ)) where
   any_asked : (v : FoundTag) → IsTag m asked v → IsTag m None v
   any_asked v is = (is.0, is.1, is.2, tt)
 
-  -- the tags that rows with such names tell, of the project that is asked for
+  -- the tags of rows with such names, of the project that is asked for
   pub named_are : (IsNamed : List ℕ → Type 0) (rows : List TagRow) (found : List FoundTag) → TellNamed db m IsNamed rows → ((x : TagRow) (v w : FoundTag) → TellsTag db m x v → TellsTag db m x w → v ≡ w)
       → ((v : FoundTag) → Contains found v ↔ (IsTold db m rows v × IsAsked asked v.project)) → (v : FoundTag) → Contains found v ↔ (IsTag m asked v × IsNamed v.tag.name)
   named_are IsNamed rows found told one each v = (
@@ -85,7 +85,7 @@ module _ (db : Trees) (m : State) (asked : Option (List ℕ)) where
   pub all_tell : (IsNamed : List ℕ → Type 0) (rows : List TagRow) → TellNamed db m IsNamed rows → AllTell db m rows
   all_tell IsNamed rows told = all_of _ rows (λ x there. let e = of_all _ rows x told.each there in (e.0, e.1))
 
--- a row tells one tag
+-- a row has one tag
 pub one_told : (db : Trees) (m : State) (s : StandsFor db m) (x : TagRow) (v w : FoundTag) → TellsTag db m x v → TellsTag db m x w → v ≡ w
 one_told db m s x v w a b =
     let project = (one_slot db s.parts _ x.slot v.project w.project Tags Tags s.keeps a.slot b.slot).0 in

@@ -1,4 +1,4 @@
--- Tables that were upgraded stand for the state that those of format 1 stood for.
+-- Tables that were upgraded represent the state that those of format 1 represented.
 use Rattle.std.proofs.Common.{arith, ◌≡◌, ◌≢◌, ◌⊎◌, ◌↔◌, ◌&&◌, inl, inr, ℕ, ℤ, pos, Bool, true, false, List, [], ◌∷◌, Option, Some, None, refl, sym, ap, subst, ◌∙◌, int_cmp, is_eq}
 use Rattle.std.specs.List.{list_all}
 use Rattle.sqlite_value.specs.Order.{Row}

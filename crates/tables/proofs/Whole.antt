@@ -105,7 +105,8 @@ made_ok g old new (Ok tt) blank h = made g old new blank h
 
 -- ---- from format 1
 
--- what the trees hold before the rows of profiles: those of format 1 as they were, and the new ones nothing
+-- what the trees hold before the rows of profiles: those of format 1 as they were, and the new ones
+-- nothing
 abbrev older : Trees → Trees
 older db t = if nat_lt t 19 then db t else []
 
@@ -155,7 +156,8 @@ after_all was mid late end grown put risen =
       listed = subst (λ s. IsListed s end.trees) risen.schema_is risen.sound.lists;
     }
 
--- once the first three statements have dropped the indexes that stood there, the tables are as format 1 made them
+-- once the first three statements have dropped the indexes that were there, the tables are as
+-- format 1 made them
 pub cleared : {S : Type 0} (g : Ghosts S) (was : Trees) (more : List Index) (old new : Held S) → AreAdded more → IsKept (with_indexes more) (older was) (state g old).now
     → RunInTurn g (Some 0) (length upgrade0) upgrade0 old new (Ok tt) → (mid : Held S) × (left : ℕ) × IsKept schema_one (older was) (state g mid).now × RunInTurn g (Some 0) left upgrade3 mid new (Ok tt)
 cleared g was more old new added kept h =

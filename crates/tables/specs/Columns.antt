@@ -1,4 +1,4 @@
--- What the rows of a part have behind the id of its slot.
+-- What the rows of a part have after the id of its slot.
 use Rattle.std.specs.Prelude.{◌++◌, ◌==◌, ℕ, pos, List, [], ◌∷◌, map, Option, Some, None, if◌then◌else◌}
 use Rattle.std.specs.List.{flat_map}
 use Rattle.sqlite_value.specs.declared.value.Value.{Value}
@@ -75,7 +75,8 @@ laid tree list rows t = if t == tree then list else rows t
 abbrev pub nowhere : ℕ → List Row
 nowhere t = []
 
--- those of a dump: of `document`, `range_row`, `item`, `hover`, `mark`, `bearer`, `part_profile` and `more`
+-- those of a dump: of `document`, `range_row`, `item`, `hover`, `mark`, `bearer`, `part_profile`
+-- and `more`
 abbrev pub dump_rows : Profile → RowsValue → ℕ → List Row
 dump_rows profile flat =
     laid more_tree (more_rows flat) (laid part_profile_tree (profile_columns profile ∷ []) (laid bearer_tree (map bearer_columns flat.bearers)

@@ -13,7 +13,8 @@ use Rattle.tables.specs.Parts.{part_number, same_part}
 use Rattle.tables.specs.TableTrees.{format_tree, slot_tree, keyed_tree, document_tree, range_row_tree, item_tree, hover_tree, mark_tree, bearer_tree, tag_tree, part_profile_tree, more_tree}
 use Rattle.tables.specs.declared.slots.Part.{Part}
 
--- for each project and kind of part nothing, or for each table the part's rows without the id of its slot
+-- for each project and kind of part nothing, or for each table the part's rows without the id of
+-- its slot
 abbrev pub Contents : Type 0
 Contents = List ℕ → Part → Option (ℕ → List Row)
 
@@ -65,8 +66,8 @@ owned = document_tree ∷ range_row_tree ∷ item_tree ∷ hover_tree ∷ mark_t
 abbrev pub owned_one : List ℕ
 owned_one = document_tree ∷ range_row_tree ∷ item_tree ∷ hover_tree ∷ mark_tree ∷ bearer_tree ∷ tag_tree ∷ []
 
--- The tables are of the format of this schema and number: they have one slot for each part that is there, in each other table the rows of the
--- parts and no more, and the kept replies.
+-- The tables are of the format of this schema and number: they have one slot for each part that is
+-- there, in each other table the rows of the parts and no more, and the kept replies.
 pub record KeepsIn (schema : Schema) (number : ℕ) (owners : List ℕ) (db : Trees) (parts : Contents) (replies : Replies) : Type 0 where
   pub ordered : AllOrdered schema db
   pub version : (row : Row) → Has (db format_tree) row ↔ (row ≡ Int (pos number) ∷ Null ∷ [])

@@ -26,7 +26,8 @@ chosen tests shown params rows = map (λ r. eval_all shown (params ∷ r ∷ [])
 abbrev pub version_row : ℕ → List Row
 version_row n = (Int (pos n) ∷ Null ∷ []) ∷ []
 
--- the database's list of what it has, `sqlite_schema`, is that of the schema: so an opening finds this schema in it
+-- the database's list of what it has, `sqlite_schema`, is that of the schema: so an opening finds
+-- this schema in it
 unfoldable pub IsListed : Schema → Trees → Type 0
 IsListed schema db = Lists (db catalog_tree) schema
 
@@ -66,7 +67,7 @@ pub record IsOrdered (rows : List Row) : Type 0 where
 abbrev pub AllOrdered : Schema → Trees → Type 0
 AllOrdered schema db = (t : Table) → Has schema.tables t → IsOrdered (db t.tree)
 
--- `part = 1`, asked of a row of `slot`: it is the slot of a dump
+-- `part = 1`, for a row of `slot`: it is the slot of a dump
 abbrev pub dump_tests : List Term
 dump_tests = op2 (Compare Eq Binary) (col 1 3) (lit (Int (pos 1))) ∷ []
 
@@ -74,8 +75,9 @@ dump_tests = op2 (Compare Eq Binary) (col 1 3) (lit (Int (pos 1))) ∷ []
 abbrev pub profile_shown : List Term
 profile_shown = col 1 0 ∷ lit (Int (pos 1)) ∷ []
 
--- Format 2 stands where format 1 stood: each of its tables but the versions has its rows; the rows of `part_profile` are those of
--- `SELECT id, 1 FROM slot WHERE part = 1`, so each dump has profile 1; and `more` has no row.
+-- Format 2 is in the place of format 1: each of its tables but the versions has its rows; the rows
+-- of `part_profile` are those of `SELECT id, 1 FROM slot WHERE part = 1`, so each dump has profile
+-- 1; and `more` has no row.
 pub record WasUpgraded (old new : Trees) : Type 0 where
   pub version : new 0 ≡ version_row 2
   pub others : AllByRecursion (λ t. t.tree ≢ format_tree → new t.tree ≡ old t.tree) schema_one.tables

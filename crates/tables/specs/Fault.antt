@@ -12,8 +12,8 @@ name_of Memory = codes "S02"
 name_of Foreign = codes "S03"
 name_of OldFormat = codes "S04"
 
--- Want of memory, in memory also where the store can't do what was asked, or a refusal for any other cause. The first argument says
--- whether the database is in memory alone.
+-- Want of memory, in memory also where the store can't do what was asked, or a refusal for any
+-- other cause. The first argument says whether the database is in memory alone.
 abbrev pub fault_of : Bool → Error → TablesFault
 fault_of _ (SqliteFailure OutOfMemory) = Memory
 fault_of true (SqliteFailure SystemIoFailure) = Memory

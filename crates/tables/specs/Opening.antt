@@ -1,4 +1,5 @@
--- What an opening and a migration of the tables answer. Each gives back the tables, or a fault with the connection; what either shows is a state of `sqlite`'s.
+-- What an opening and a migration of the tables answer. Each gives back the tables, or a fault with
+-- the connection; what either shows is a state of `sqlite`'s.
 use Rattle.std.specs.Prelude.{◌≡◌, ◌≢◌, ◌⊎◌, Bool, Result, IfOk, IfErr}
 use Rattle.sqlite.specs.State as sqlite
 use Rattle.sqlite.specs.State.{HasCleanDisk}
@@ -8,14 +9,15 @@ use Rattle.tables.specs.Fault.{IsStoreFault}
 use Rattle.tables.specs.Stands.{Rests}
 use Rattle.machine.specs.State.{State}
 
--- what is said of the state that is shown afterwards, with the tables or with a fault
+-- what is known of the state that is shown afterwards, with the tables or with a fault
 abbrev pub AfterOpening : {C : Type 0} → (C → sqlite.State) → Result C (TablesFault × C) → (sqlite.State → Type 0) → Type 0
 AfterOpening shown result Said = IfOk result (λ c. Said (shown c)) × IfErr result (λ e. Said (shown e.1))
 
 abbrev pub AfterMigration : {C : Type 0} → (C → sqlite.State) → Result (C × Bool) (TablesFault × C) → (sqlite.State → Type 0) → Type 0
 AfterMigration shown result Said = IfOk result (λ r. Said (shown r.0)) × IfErr result (λ e. Said (shown e.1))
 
--- the tables rest for the state, or the store refused: where the disk returned what was written to it
+-- the tables rest for the state, or the store refused: where the disk returned what was written to
+-- it
 abbrev pub Gives : {C : Type 0} → (C → sqlite.State) → Result C (TablesFault × C) → State → Type 0
 Gives shown result m = IfOk result (λ c. HasCleanDisk (shown c) → Rests (shown c) m) × IfErr result (λ e. HasCleanDisk (shown e.1) → IsStoreFault e.0)
 

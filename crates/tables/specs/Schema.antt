@@ -182,7 +182,7 @@ schema_one = record {
   views = [];
 }
 
--- the same with more indexes, behind those of the keys
+-- the same with more indexes, after those of the keys
 abbrev pub with_indexes : List Index → Schema
 with_indexes more = record schema_one { indexes = schema_one.indexes ++ more }
 
@@ -190,13 +190,14 @@ with_indexes more = record schema_one { indexes = schema_one.indexes ++ more }
 abbrev pub added_names : List (List ℕ)
 added_names = codes "range_by_start" ∷ codes "bearer_by_key" ∷ codes "tag_by_name" ∷ []
 
--- indexes of these names, each once at most, in trees behind those of format 1: of whatever columns, and in any order
+-- indexes of these names, each once at most, in trees after those of format 1: of whatever
+-- columns, and in any order
 pub record AreAdded (more : List Index) : Type 0 where
   pub named : (i : Index) → Has more i → Has added_names i.name
   pub once : (i j : Index) → Has more i → Has more j → i.name ≡ j.name → i ≡ j
   pub behind : (i : Index) → Has more i → 19 ≤ i.tree
 
--- the schema of a database of format 1, where none, some or all of these indexes stand already
+-- the schema of a database of format 1, where none, some or all of these indexes are there already
 pub record IsSchemaOne (schema : Schema) : Type 0 where
   pub more : List Index
   pub is : schema ≡ with_indexes more

@@ -95,12 +95,14 @@ pub record IsRangeFound (request : RequestKind) (elements : List ElementValue) (
   pub span : r.span ≡ found.span
   pub result : IsResult elements request r.id found.result
 
--- the ranges of the document of this uri that cover the position, the smallest first, with their results for the request
+-- the ranges of the document of this uri that cover the position, the smallest first, with their
+-- results for the request
 abbrev pub FindsCover : RequestKind → List ElementValue → List ℕ → PositionValue → List RangeFound → Type 0
 FindsCover request elements uri position found =
     (ranges : List RangeValue) × Cover elements uri position ranges × AllZip (IsRangeFound request elements) ranges found
 
--- the project has no dump, or its dump no document of this uri, or these ranges of it cover the position
+-- the project has no dump, or its dump no document of this uri, or these ranges of it cover the
+-- position
 abbrev pub FindsCovering : State → RequestKind → List ℕ → List ℕ → PositionValue → Covering → Type 0
 FindsCovering m request project uri position NoDump = m.dump project ≡ None
 FindsCovering m request project uri position NoDocument = (dump : DumpValue) × (m.dump project ≡ Some dump) × (HasDocument dump.elements uri → ⊥)
@@ -110,7 +112,8 @@ FindsCovering m request project uri position (Ranges found) =
 
 -- ---- bearers
 
--- a vertex of a project's dump that bears a mark itself: its line, the kind of the mark, and its first results
+-- a vertex of a project's dump that has a mark itself: its line, the kind of the mark, and its
+-- first results
 pub record BearerFound : Type 0 where
   pub project : List ℕ
   pub line : ℕ
@@ -129,7 +132,7 @@ bearer_found b = record {
 abbrev pub bearer_row : List ℕ → BearerFound → BearerRowValue
 bearer_row key b = record { line = b.line; key = key; kind = b.kind; results = b.results }
 
--- the vertex bears a mark with this key, in its project's dump
+-- the vertex has a mark with this key, in its project's dump
 abbrev pub Bears : State → List ℕ → BearerFound → Type 0
 Bears m key b = (dump : DumpValue) × (m.dump b.project ≡ Some dump) × IsBearerRow dump.elements (bearer_row key b)
 

@@ -1,4 +1,4 @@
--- Which states of the index the tables stand for.
+-- Which states of the index the tables represent.
 use Rattle.std.specs.Prelude.{◌≡◌, ⊤, ℕ, List, [], map, Option, Some, None, option_map, Ok, IsTrue}
 use Rattle.sqlite_value.specs.Order.{Row}
 use Rattle.sqlite_schema.specs.declared.schema.Schema.{Schema}
@@ -21,7 +21,8 @@ use Rattle.machine.specs.State.{State, Change, accepted_text, text_after}
 use Rattle.tables.specs.TableTrees.{more_tree}
 use Rattle.tables.specs.declared.slots.Part.TheVariants.{Dump, Tags}
 
--- the dump has no fault, its ranges have positions within their bounds, and these are the rows that its walks lead to
+-- the dump has no fault, its ranges have positions within their bounds, and these are the rows that
+-- its walks lead to
 pub record IsDump (dump : DumpValue) (rows : ℕ → List Row) : Type 0 where
   pub faultless : IsFaultless (map Ok dump.elements)
   pub located : (r : IdValue) (span : SpanValue) → vertex_at dump.elements r ≡ Some (range span) → IsPosition span.start × IsPosition span.«end»
@@ -43,8 +44,8 @@ Each HasRows (Some x) (Some rows) = HasRows x rows
 abbrev pub replies_of : State → Replies
 replies_of m project key = option_map accepted_text (m.kept project key)
 
--- The database lists the tables of a format. They keep rows for each part, which are those of the state's dumps and tags, and its replies: rows as the
--- format keeps them.
+-- The database lists the tables of a format. They keep rows for each part, which are those of the
+-- state's dumps and tags, and its replies: rows as the format keeps them.
 pub record StandsIn (ListsTables : Trees → Type 0) (KeepsRows : Trees → Contents → Replies → Type 0) (IsDumpOf : DumpValue → (ℕ → List Row) → Type 0)
     (db : Trees) (m : State) : Type 0 where
   pub listed : ListsTables db
@@ -56,7 +57,7 @@ pub record StandsIn (ListsTables : Trees → Type 0) (KeepsRows : Trees → Cont
 abbrev pub StandsFor : Trees → State → Type 0
 StandsFor = StandsIn (IsListed schema_two) Keeps IsDump
 
--- between calls the tables show what is committed, and stand for the state
+-- between calls the tables show what is committed, and represent the state
 pub record Rests (s : sqlite.State) (m : State) : Type 0 where
   pub schema_is : s.now.schema ≡ schema_two
   pub settled : s.committed ≡ s.now
@@ -64,7 +65,7 @@ pub record Rests (s : sqlite.State) (m : State) : Type 0 where
 
 -- ---- what an opening finds
 
--- a new connection shows a database that stands for the state, as a stop left it
+-- a new connection shows a database that represents the state, as a crash left it
 pub record Finds (s : sqlite.State) (m : State) : Type 0 where
   pub opens : sqlite.Opens s
   pub live : sqlite.IsLive s
@@ -72,7 +73,8 @@ pub record Finds (s : sqlite.State) (m : State) : Type 0 where
 
 -- ---- format 1
 
--- the dump is of profile 1, and nothing in it has a declaration or an implementation: format 1 has no place for these
+-- the dump is of profile 1, and nothing in it has a declaration or an implementation: format 1 has
+-- no place for these
 pub record IsDumpOne (dump : DumpValue) (rows : ℕ → List Row) : Type 0 where
   pub is_dump : IsDump dump rows
   pub by_one : dump.profile ≡ One
@@ -85,13 +87,13 @@ IsListedOne db = (schema : Schema) × IsSchemaOne schema × IsListed schema db
 abbrev pub StandsForOne : Trees → State → Type 0
 StandsForOne = StandsIn IsListedOne KeepsOne IsDumpOne
 
--- tables of format 1 show what is committed, and stand for the state
+-- tables of format 1 show what is committed, and represent the state
 pub record RestsOne (s : sqlite.State) (m : State) : Type 0 where
   pub schema_is : IsSchemaOne s.now.schema
   pub settled : s.committed ≡ s.now
   pub stands : StandsForOne s.now.trees m
 
--- a new connection shows a database of format 1 that stands for the state
+-- a new connection shows a database of format 1 that represents the state
 pub record FindsOne (s : sqlite.State) (m : State) : Type 0 where
   pub opens : sqlite.Opens s
   pub live : sqlite.IsLive s

@@ -1,4 +1,5 @@
--- What only private contracts and proofs name: the texts of statements, what they test and change, and what a database holds between them.
+-- What only private contracts and proofs name: the texts of statements, what they test and change,
+-- and what a database holds between them.
 pub mod Clauses
 pub mod Climbs
 pub mod DumpEntries

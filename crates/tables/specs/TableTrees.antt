@@ -1,4 +1,5 @@
--- The numbers of the tables' trees, in the order in which they are made; those between are of indexes.
+-- The numbers of the tables' trees, in the order in which they are made; those between are of
+-- indexes.
 use Rattle.std.specs.Prelude.{ℕ}
 
 abbrev pub format_tree : ℕ

@@ -1,4 +1,5 @@
-//! The changes of the index, each one transaction with its kept reply: a dump or tags replaced, and both removed. `specs/Contents` says what they
+//! The changes of the index: a dump or tags replaced, and both removed. Each is one transaction
+//! with its kept reply, so that a crash leaves both or neither. `specs/Contents` says what they
 //! leave.
 ghost use Rattle.std.specs.Prelude.{◌≡◌, ◌||◌, ℕ, List, Option, Some, None, is_some, false, IsTrue, IfOk, OnOk, OnErr, IfErr};
 ghost use Rattle.sqlite.specs.State.{HasCleanDisk, Survives};
@@ -30,7 +31,7 @@ use tags::Tag;
 
 // ---- a dump
 
-/// Puts the rows of a dump in the place of those that the project has, and keeps the reply under the key.
+/// Replaces the rows of the project's dump, and keeps the reply under the key.
 fn change_dump<S: Alter>(
     tx: &mut Transaction<'_, S>,
     project: &str,
@@ -83,7 +84,7 @@ fn commit_dump<S: Alter>(
 
 // ---- tags
 
-/// Puts the rows of tags in the place of those that the project has, and keeps the reply under the key.
+/// Replaces the rows of the project's tags, and keeps the reply under the key.
 fn change_tags<S: Alter>(
     alloc: Global,
     tx: &mut Transaction<'_, S>,
@@ -136,7 +137,7 @@ fn commit_tags<S: Alter>(
 
 // ---- a removal
 
-/// Takes out both parts of the project: whether there was one.
+/// Removes both parts of the project, and returns whether there was one.
 fn clear_parts<S: Alter>(tx: &mut Transaction<'_, S>, project: &str) -> Result<bool, Error>
     ensures gone { HasCleanDisk (state S.Store tx.new.conn.now) → IsTrue tx.old.conn.now.in_transaction
         → (state S.Store tx.old.conn.now).now.schema ≡ schema_two
@@ -151,7 +152,7 @@ fn clear_parts<S: Alter>(tx: &mut Transaction<'_, S>, project: &str) -> Result<b
     Ok(dumps > 0 || tags > 0)
 }
 
-/// Takes out both parts of the project, and keeps under the key whether there was one.
+/// Removes both parts of the project, and keeps under the key whether there was one.
 fn change_both<S: Alter>(
     tx: &mut Transaction<'_, S>,
     project: &str,
@@ -211,12 +212,11 @@ impl<S: Alter> Tables<S> {
     ghost use Rattle.tables.specs.Stands.{IsAsBefore, IsDump, IsNew, Rests, StandsFor};
     ghost use Rattle.machine.specs.State.{State, set_dump, set_tags, clear, changed};
 
-    /// Puts the rows of a dump in the place of those of the dump that the project has, where it has one, and keeps the text of
-    /// the reply under the key, all in one transaction: the key must not be kept yet, and the rows be those of a dump without
-    /// fault.
+    /// Replaces the rows of the project's dump, where it has one, and keeps the text of the reply
+    /// under the key, all in one transaction. The key must not be kept yet, and the rows must be
+    /// those of a dump without fault.
     ///
-    /// With each fault the tables are as they were: `Memory` where memory was refused, also to a database in memory (`in_memory`), and `Refused` where
-    /// the store refused for another cause.
+    /// With each error the tables are as they were: `Refused` and `Memory` (`TablesFault`).
     pub fn replace_dump(
         &mut self,
         project: &str,
@@ -245,11 +245,10 @@ impl<S: Alter> Tables<S> {
         }
     }
 
-    /// Puts tags in the place of those that the project has, where it has some, and keeps the text of the reply under the key,
-    /// all in one transaction: the key must not be kept yet. No tags are a part too.
+    /// Replaces the project's tags, where it has some, and keeps the text of the reply under the
+    /// key, all in one transaction. The key must not be kept yet. No tags are a part too.
     ///
-    /// With each fault the tables are as they were: `Memory` where memory was refused, also to a database in memory (`in_memory`), and `Refused` where
-    /// the store refused for another cause.
+    /// With each error the tables are as they were: `Refused` and `Memory` (`TablesFault`).
     pub fn replace_tags(
         &mut self,
         alloc: Global,
@@ -277,11 +276,10 @@ impl<S: Alter> Tables<S> {
         }
     }
 
-    /// Takes out the dump and the tags of the project, and keeps under the key, which must not be kept yet, the text of the reply,
-    /// all in one transaction: whether either was there.
+    /// Removes the dump and the tags of the project, and keeps the text of the reply under the key,
+    /// all in one transaction. The key must not be kept yet. Returns whether either was there.
     ///
-    /// With each fault the tables are as they were: `Memory` where memory was refused, also to a database in memory (`in_memory`), and `Refused` where
-    /// the store refused for another cause.
+    /// With each error the tables are as they were: `Refused` and `Memory` (`TablesFault`).
     pub fn remove(&mut self, project: &str, key: &str) -> Result<bool, TablesFault>
         ensures clean { HasCleanDisk (state S.Store self.new) → HasCleanDisk (state S.Store self.old) }
         ensures fault { IfErr result IsStoreFault }

@@ -1,4 +1,5 @@
-//! What the values of columns read as: numbers, texts, positions, kinds. A value of another type is refused. `specs/Columns`.
+//! What the values of columns read as: numbers, texts, positions, kinds. A value of another type is
+//! refused. `specs/Columns`.
 ghost use Rattle.std.specs.Prelude.{◌≡◌, ◌∷◌, [], IfOk, string_bytes};
 ghost use Rattle.sqlite_value.specs.declared.value.Value.TheVariants.{Int, Text};
 ghost use Rattle.sqlite_value.specs.Order.{column};

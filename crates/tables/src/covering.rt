@@ -1,4 +1,6 @@
-//! The ranges that cover a position, as they are selected: a climb from the one that starts last at the position or before, by the parents.
+//! The ranges that cover a position, as they are selected: an index finds the last range that
+//! starts at the position or before, and a climb by its parents the others. That takes one
+//! statement for each range on the way, however many the document has.
 ghost use Rattle.std.specs.Prelude.{◌≡◌, List, ℕ, Some, map, IfOk, IfErr, OnOk};
 ghost use Rattle.sqlite.specs.State.{HasCleanDisk};
 ghost use Rattle.sqlite.specs.Held.{state};
@@ -46,7 +48,8 @@ pub enum Covering {
     Ranges(Vec<FoundRange>),
 }
 
-/// The rows of the ranges of a document that cover the position, in the dump that has this slot, the smallest range first.
+/// The rows of the ranges of a document that cover the position, in the dump that has this slot,
+/// the smallest range first.
 fn climb<S: Alter>(
     alloc: Global,
     conn: &mut Connection<S>,
@@ -68,7 +71,8 @@ fn climb<S: Alter>(
     Ok(found)
 }
 
-/// The number of the first result that a request has of the range of this row. Declarations and implementations stand in rows of their own.
+/// The number of the range's first result for a request. Those of declarations and implementations
+/// are in rows of their own.
 fn result_of<S: Alter>(
     conn: &mut Connection<S>,
     slot: i64,
@@ -131,7 +135,8 @@ fn ranges_in<S: Alter>(
     Ok(found)
 }
 
-/// What covers the position in a document of the dump that has this slot. Whether there is such a document is asked only where nothing covers it.
+/// What covers the position in a document of the dump that has this slot. Whether there is such a
+/// document is asked only where nothing covers it.
 fn covering_in<S: Alter>(
     alloc: Global,
     conn: &mut Connection<S>,
@@ -177,9 +182,9 @@ fn find_covering<S: Alter>(
 }
 
 impl<S: Alter> Tables<S> {
-    /// The ranges of a document of the project's dump that cover the position, the smallest first, with their results for the request; or that the
-    /// project has no dump, or the dump no document of this serialized URL. It's `Refused` where the store refuses, or where a row isn't one of this
-    /// product's, and `Memory` where memory is refused, also to a database in memory (`in_memory`).
+    /// The ranges of a document of the project's dump that cover the position, the smallest first,
+    /// with their results for the request; or that the project has no dump, or the dump no document
+    /// of this serialized URL. Errors: `Refused` and `Memory` (`TablesFault`).
     pub fn covering(
         &mut self,
         alloc: Global,

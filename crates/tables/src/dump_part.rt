@@ -1,4 +1,5 @@
-//! The rows of a dump, put under a slot of its own, table by table. The rows are made by the crate `flatten`.
+//! The rows of a dump, put under a slot of its own, table by table. The rows are made by the crate
+//! `flatten`.
 ghost use Rattle.std.specs.Prelude.{◌≡◌, ◌∷◌, [], map, Some, None, IsTrue, OnOk};
 ghost use Rattle.sqlite_value.specs.declared.value.Value.TheVariants.{Int};
 ghost use Rattle.sqlite.specs.State.{HasCleanDisk};

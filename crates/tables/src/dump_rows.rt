@@ -1,4 +1,5 @@
-//! The rows of a dump's tables, one type each, with the statements that insert them and the values of these. What they hold is in `specs/Columns`.
+//! The rows of a dump's tables, one type each, with the statements that insert them and the values
+//! of these. What they hold is in `specs/Columns`.
 ghost use Rattle.std.specs.Prelude.{◌≡◌};
 ghost use Rattle.flatten.specs.Flat.{role_index, kind_index};
 ghost use Rattle.flatten.specs.Rows.{document_value, range_value, item_value, hover_value, mark_value, bearer_value};

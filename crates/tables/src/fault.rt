@@ -1,4 +1,5 @@
-//! Why the tables refuse, with the code of each reason and its message, and the private reason that a row isn't one of the tables'. `specs/Fault`.
+//! Why the tables refuse, with the code of each reason and its message, and the private reason that
+//! a row isn't one of the tables'. `specs/Fault`.
 ghost use Rattle.std.specs.Prelude.{◌≡◌};
 ghost use Rattle.tables.specs.Fault.{IsStoreFault, name_of, fault_of};
 ghost use Rattle.tables.specs.Steps.Refusals.{told_fault};
@@ -11,13 +12,15 @@ use std::alloc::{AllocError, AllocFailed};
 /// Why a call of the tables is refused. Its message is what the program prints.
 #[derive(Clone, Copy, Debug, PartialEq, Eq, thiserror::Error)]
 pub enum TablesFault {
-    /// The store or a statement refused, for another cause than memory.
+    /// The store or a statement refused for another cause than memory, or a row isn't one that this
+    /// product writes.
     #[error("store refused")]
     Refused,
-    /// Memory was refused, also to the store of a database in memory.
+    /// Memory was refused, also to the store of a database in memory (`Tables::in_memory`).
     #[error("{}", OUT_OF_MEMORY)]
     Memory,
-    /// The database isn't the product's: something has the name of one of its tables, and no version can be read.
+    /// The database isn't the product's: something has the name of one of its tables, and no
+    /// version can be read.
     #[error("not a codenav database")]
     Foreign,
     /// The tables are of format 1, which `migrate` upgrades.
@@ -39,7 +42,8 @@ impl TablesFault {
     }
 }
 
-/// The fault that an error of the store is, of a database in memory or of another. What a store in memory can't do is for want of memory.
+/// The fault that an error of the store is, of a database in memory or of another. What a store in
+/// memory can't do is for lack of memory.
 pub(crate) fn fault_of(is_in_memory: bool, error: Error) -> TablesFault
     ensures is { result ≡ fault_of is_in_memory error }
     ensures kind { IsStoreFault result }

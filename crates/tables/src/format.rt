@@ -1,4 +1,5 @@
-//! Which format the tables of a database have, by its version, and whether its names are the index's own.
+//! Which format the tables of a database have, by its version, and whether its names are the
+//! index's own.
 ghost use Rattle.std.specs.Prelude.{◌≡◌, ◌≢◌, ◌∷◌, [], ◌⊎◌, pos, true, false, codes, IsTrue, IfOk, OnErr, Ok};
 ghost use Rattle.sqlite_value.specs.declared.value.Value.TheVariants.{Int};
 ghost use Rattle.sqlite_value.specs.Order.{Row as Columns, column};
@@ -96,7 +97,7 @@ pub(crate) enum Format {
     Unknown,
 }
 
-/// The format that the rows of versions tell.
+/// The format by the rows of versions.
 fn format_in(rows: &[Row]) -> Format
     ensures old { rows.now ≡ (Int (pos 1) ∷ []) ∷ [] → result ≡ Format.One }
     ensures known { rows.now ≡ (Int (pos 2) ∷ []) ∷ [] → result ≡ Format.Two }
@@ -114,7 +115,8 @@ fn format_in(rows: &[Row]) -> Format
     }
 }
 
-/// The format of a database's tables. The version is asked only where the schema has a column for it.
+/// The format of a database's tables. The version is asked only where the schema has a column for
+/// it.
 pub(crate) fn find_format<S: Alter>(conn: &mut Connection<S>) -> Result<Format, Error>
     ensures absent { (state S.Store conn.old).now.schema ≡ empty_schema → (result ≡ Ok Format.Absent) × (conn.new ≡ conn.old) }
     ensures one { HasCleanDisk (state S.Store conn.new) → result ≡ Ok Format.One → ShowsVersion (state S.Store conn.old) (state S.Store conn.new) 1 }

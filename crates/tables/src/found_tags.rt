@@ -1,4 +1,5 @@
-//! Tags with their projects, made of the rows that are selected (`names.rt`); the fields are read from their JSON.
+//! Tags with their projects, made of the rows that are selected (`names.rt`). The fields are read
+//! from their JSON, only for the project that is asked for.
 ghost use Rattle.std.specs.Prelude.{◌≡◌, ◌↔◌, List, ℕ, Contains, Some, map, option_map, string_bytes, IsTrue, IfOk, OnOk};
 ghost use Rattle.sqlite.specs.Held.{state};
 ghost use Rattle.serde_json.specs.Data.{string};
@@ -115,7 +116,7 @@ fn fields_of(alloc: Global, text: &str) -> Result<Vec<Field>, Refusal>
     Ok(found)
 }
 
-/// The tag that a row tells.
+/// The tag of a row.
 fn tag_of(alloc: Global, row: TagRow) -> Result<Tag, Refusal>
     ensures { (tag : TagValue) → columns_of row ≡ tag_columns tag → IfOk result (λ found. tag_value found ≡ tag) }
 {
@@ -140,7 +141,7 @@ fn is_asked(asked: Option<&str>, project: &str) -> bool
     }
 }
 
-/// The tag that a row tells, with its project, or none where another project is asked for.
+/// The tag of a row, with its project, or none where another project is asked for.
 fn complete<S: Alter>(
     alloc: Global,
     conn: &mut Connection<S>,
@@ -162,7 +163,7 @@ fn complete<S: Alter>(
     Ok(Some(FoundTag { project, tag }))
 }
 
-/// Puts the tag behind those that were found, where there is one.
+/// Puts the tag after those that were found, where there is one.
 fn push_some(found: &mut Vec<FoundTag>, tag: Option<FoundTag>) -> Result<(), Refusal>
     ensures { OnOk result (Grows tag found.old.items found.new.items) }
 {
@@ -175,7 +176,7 @@ fn push_some(found: &mut Vec<FoundTag>, tag: Option<FoundTag>) -> Result<(), Ref
     }
 }
 
-/// The tags that the rows tell, each with its project: all, or those of the project that is asked for.
+/// The tags of the rows, each with its project: all, or those of the project that is asked for.
 pub(crate) fn complete_all<S: Alter>(
     alloc: Global,
     conn: &mut Connection<S>,

@@ -1,4 +1,5 @@
-//! The items of results, as they are selected: the places of a result in a role, in order. `FindsItems` in `specs/Selections`.
+//! The items of results, as they are selected by the key of their table: the places of a result in
+//! a role, then sorted. `FindsItems` in `specs/Selections`.
 ghost use Rattle.std.specs.Prelude.{◌≡◌, ◌∷◌, [], List, ℕ, Contains, map, IfOk, IfErr, OnOk};
 ghost use Rattle.std.specs.Rc.{rc_str_bytes};
 ghost use Rattle.sqlite_value.specs.declared.value.Value.TheVariants.{Text};
@@ -49,7 +50,7 @@ impl Listed for FoundItem {
         Ok(FoundItem { uri, span })
     }
 
-    /// It shares its uri with the item before, where both have the same.
+    /// The item, which shares its uri with the item before where both have the same.
     fn after(self, before: Option<&FoundItem>) -> Result<FoundItem, AllocError> {
         match before {
             Some(before) if before.uri == self.uri => Ok(FoundItem {
@@ -123,9 +124,9 @@ fn find_items<S: Alter>(
 }
 
 impl<S: Alter> Tables<S> {
-    /// The places that a result of the project's dump has in a role, by the result's number: each once, by uri, start and end, and none where the dump
-    /// has no such result or the project no dump. It's `Refused` where the store refuses, or where a row isn't one of this product's, and `Memory`
-    /// where memory is refused, also to a database in memory (`in_memory`).
+    /// The places that a result of the project's dump has in a role, by the result's number: each
+    /// once, by uri, start and end, and none where the dump has no such result or the project no
+    /// dump. Errors: `Refused` and `Memory` (`TablesFault`).
     pub fn items(
         &mut self,
         alloc: Global,

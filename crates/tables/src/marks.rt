@@ -1,4 +1,4 @@
-//! Marks, as they are selected: those of a range, by kind and key. `FindsMarks` in `specs/Selections`.
+//! The marks of a range, as they are selected, by kind and key. `FindsMarks` in `specs/Selections`.
 ghost use Rattle.std.specs.Prelude.{◌≡◌, ◌∷◌, [], List, ℕ, Contains, map, string_bytes, IfOk, IfErr, OnOk};
 ghost use Rattle.sqlite_value.specs.declared.value.Value.TheVariants.{Text};
 ghost use Rattle.sqlite.specs.State.{HasCleanDisk};
@@ -26,7 +26,8 @@ use sqlite::{Alter, Connection, Row, params};
 use std::alloc::Global;
 use std::cmp::Ordering;
 
-/// A mark of a range: the kind and the text of the key of a moniker that the range, or another member of its chain, bears.
+/// A mark of a range: the kind and the text of the key of a moniker that the range, or another
+/// member of its chain, has.
 #[derive(Debug, PartialEq, Eq, Drop)]
 pub struct FoundMark {
     pub kind: MonikerKind,
@@ -104,9 +105,9 @@ fn find_marks<S: Alter>(
 }
 
 impl<S: Alter> Tables<S> {
-    /// The marks of the range at this line of the project's dump, counted from 1: each once, by kind and key, and none where there is no such range.
-    /// It's `Refused` where the store refuses, or where a row isn't one of this product's, and `Memory` where memory is refused, also to a database in
-    /// memory (`in_memory`).
+    /// The marks of the range at this line of the project's dump, counted from 1: each once, by
+    /// kind and key, and none where there is no such range. Errors: `Refused` and `Memory`
+    /// (`TablesFault`).
     pub fn marks(
         &mut self,
         alloc: Global,

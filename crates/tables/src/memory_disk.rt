@@ -1,4 +1,5 @@
-//! A file in memory, for databases that no other program sees. `specs/MemoryDisk`.
+//! A file in memory, for databases that no other program sees: tests and `:memory:`.
+//! `specs/MemoryDisk`.
 ghost use Rattle.std.specs.Prelude.{◌≡◌, ◌∷◌, [], length, true, false, refl, is_ok, IsTrue, OnOk, OnErr};
 ghost use Rattle.sqlite_disk.specs.Disk.{Holds, Torn, Cut, CountsFault};
 ghost use Rattle.sqlite_disk.specs.Refusal.{finds_no_room};
@@ -7,8 +8,9 @@ use sqlite_disk::{Disk, Tally, digest_of};
 use std::alloc::{AllocError, Global};
 use std::io;
 
-/// A file in memory, of bytes. What a write leaves is what a crash would leave, so a sync has nothing to do: it takes no memory and
-/// can't fail. A write or a change of the length fails where memory is refused.
+/// A file in memory, of bytes. What a write leaves is what a crash would leave, so a sync has
+/// nothing to do: it takes no memory and can't fail. A write or a change of the length fails where
+/// memory is refused.
 #[derive(Drop)]
 pub struct MemoryDisk {
     bytes: Vec<u8>,

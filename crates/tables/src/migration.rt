@@ -1,4 +1,5 @@
-//! The way from format 1 to format 2, in one transaction. An opening alone changes no format (`tables.rt`). `WasUpgraded` in `specs/Databases`.
+//! The way from format 1 to format 2, in one transaction. An opening alone changes no format
+//! (`tables.rt`). `WasUpgraded` in `specs/Databases`.
 ghost use Rattle.std.specs.Prelude.{◌≡◌, ◌≢◌, ◌⊎◌, true, false, IsTrue, IfOk, IfErr, OnOk, OnErr};
 ghost use Rattle.tables.specs.Fault.{IsStoreFault};
 ghost use Rattle.tables.specs.Opening.{AfterMigration, StaysCommitted, IsRolledBack, Migrates};
@@ -15,8 +16,8 @@ use crate::format::{Format, find_format};
 use crate::tables::Tables;
 use sqlite::{Alter, Connection, Error, Transaction};
 
-/// The statements that make format 2 of format 1, within a transaction. Indexes that have the names of those of format 2 are made anew, so that they are
-/// on the columns that format 2 has them on.
+/// The statements that make format 2 of format 1, within a transaction. Indexes with the names of
+/// those of format 2 are made anew, so that they are on the columns that format 2 has them on.
 fn upgrade_tables<S: Alter>(tx: &mut Transaction<'_, S>) -> Result<(), Error>
     ensures made { IsFormatOne (state S.Store tx.old.conn.now).now → HasCleanDisk (state S.Store tx.new.conn.now)
         → OnOk result (IsUpgraded (state S.Store tx.old.conn.now).now (state S.Store tx.new.conn.now).now) }
@@ -56,11 +57,12 @@ fn upgrade<S: Alter>(conn: &mut Connection<S>) -> Result<(), Error>
     tx.commit()
 }
 
-/// The tables of format 2 in a database, made of those of format 1 in one transaction where it has these: and whether it had. Each row is kept, and each
-/// dump gets profile 1.
+/// The tables of format 2 in a database, and whether they were made of those of format 1, in one
+/// transaction. Each row is kept, and each dump gets profile 1.
 ///
-/// With each fault the connection comes back, and nothing was made. It's `Foreign` where nothing has the name of one of the tables, or where `format`
-/// doesn't read as one row of version 1 or 2; and `Memory` or `Refused` where the store refuses.
+/// With each fault the connection comes back, and nothing was made. It's `Foreign` where nothing
+/// has the name of one of the tables, or where `format` doesn't read as one row of version 1 or 2.
+/// It's `Memory` or `Refused` where the store refuses.
 pub fn migrate<S: Alter>(
     mut conn: Connection<S>,
 ) -> Result<(Tables<S>, bool), (TablesFault, Connection<S>)>

@@ -1,4 +1,5 @@
-//! Tags by their names, as they are selected: of one name, or of a prefix, from the first name on. `specs/Names`.
+//! Tags by their names, as they are selected: of one name, or of a prefix. Both are ranges of the
+//! index on names, so that no tag of another name is read. `specs/Names`.
 ghost use Rattle.std.specs.Prelude.{◌≡◌, Contains, map, option_map, IfOk, OnOk, IfErr};
 ghost use Rattle.sqlite.specs.State.{HasCleanDisk};
 ghost use Rattle.sqlite.specs.Held.{state};
@@ -30,7 +31,8 @@ fn order_by_line(a: &FoundTag, b: &FoundTag) -> Ordering
     a.project.as_str().cmp(b.project.as_str()).then(lines)
 }
 
-/// Puts the tags in order by project and line. It's `Row` where a project has two tags of one line, which the key of `tag` forbids.
+/// Puts the tags in order by project and line. It's `Row` where a project has two tags of one line,
+/// which the key of `tag` forbids.
 fn list_by_line(found: &mut Vec<FoundTag>) -> Result<(), Refusal>
     ensures { OnOk result (IsListing line_cmp (Contains (map tag_found found.old.items)) (map tag_found found.new.items)) }
 {
@@ -50,7 +52,8 @@ fn order_by_name(a: &FoundTag, b: &FoundTag) -> Ordering
     names.then(order_by_line(a, b))
 }
 
-/// Puts the tags in order by name, project and line. It's `Row` where a project has two tags of one line, which the key of `tag` forbids.
+/// Puts the tags in order by name, project and line. It's `Row` where a project has two tags of one
+/// line, which the key of `tag` forbids.
 fn list_by_name(found: &mut Vec<FoundTag>) -> Result<(), Refusal>
     ensures { OnOk result (IsListing name_cmp (Contains (map tag_found found.old.items)) (map tag_found found.new.items)) }
 {
@@ -97,8 +100,9 @@ fn find_named<S: Alter>(
     Ok(found)
 }
 
-/// The value that comes next behind all texts that begin with this one, by their bytes: it with its last byte one greater; or where it's empty, and all texts
-/// begin with it, the first blob, since blobs come behind texts (SQLite, "Comparison Expressions").
+/// The least value after all texts that begin with this one, by their bytes: the text with its last
+/// byte one greater. Where the text is empty all texts begin with it, and the value is the first
+/// blob, since blobs come after texts (SQLite, "Comparison Expressions").
 fn value_behind(alloc: Global, prefix: &str) -> Result<Value, AllocError>
     ensures { IfOk result (IsBehind prefix.now) }
 {
@@ -147,9 +151,8 @@ fn find_prefixed<S: Alter>(
 }
 
 impl<S: Alter> Tables<S> {
-    /// The tags of this name: of the project, where one is given, and else of all. They are in order by project (its bytes) and line. It's `Refused`
-    /// where the store refuses, or where a row isn't one of this product's, and `Memory` where memory is refused, also to a database in memory
-    /// (`in_memory`).
+    /// The tags of this name: of the project, where one is given, and else of all. They are in
+    /// order by project (its bytes) and line. Errors: `Refused` and `Memory` (`TablesFault`).
     pub fn names_exact(
         &mut self,
         alloc: Global,
@@ -168,9 +171,9 @@ impl<S: Alter> Tables<S> {
         }
     }
 
-    /// The tags whose names begin with the text: of the project, where one is given, and else of all. They are in order by name (its bytes), project
-    /// and line. It's `Refused` where the store refuses, or where a row isn't one of this product's, and `Memory` where memory is refused, also to a
-    /// database in memory (`in_memory`).
+    /// The tags whose names begin with the text: of the project, where one is given, and else of
+    /// all. They are in order by name (its bytes), project and line. Errors: `Refused` and `Memory`
+    /// (`TablesFault`).
     pub fn names_prefix(
         &mut self,
         alloc: Global,

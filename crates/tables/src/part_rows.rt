@@ -1,5 +1,6 @@
-//! The trait of the rows of a part, and how a list of them is put into its table: eight by one statement, as long as there are so many, and the last
-//! ones one by one. What the rows hold is in `specs/Columns`, what a statement makes of its values in `specs/Steps/Inserts`.
+//! The trait of the rows of a part, and how a list of them is put into its table: eight by one
+//! statement, since each statement costs a plan, and the last ones one by one. What the rows hold
+//! is in `specs/Columns`, what a statement makes of its values in `specs/Steps/Inserts`.
 ghost use Rattle.std.specs.Prelude.{◌≡◌, ◌∷◌, ◌++◌, ℕ, map, IfSome, OnOk};
 ghost use Rattle.std.specs.List.{flat_map};
 ghost use Rattle.sqlite_value.specs.declared.value.Value.TheVariants.{Int};
@@ -23,7 +24,7 @@ pub(crate) trait PartRow {
     /// The tree of the table.
     ghost tree: { ℕ };
 
-    /// The row's columns behind that of the slot.
+    /// The row's columns after that of the slot.
     ghost columns: { Self → Columns };
 
     /// Adds the row's values, the slot first, to those of a statement.
@@ -31,7 +32,8 @@ pub(crate) trait PartRow {
         ensures { OnOk result (bound values.new.items ≡ bound values.old.items ++ (Int slot ∷ columns self.now)) };
 }
 
-/// Puts the rows into their table, under this slot, by a statement for so many. The values that are there are those of rows before.
+/// Puts the rows into their table, under this slot, by a statement for so many. The values that are
+/// there are those of rows before.
 fn insert_by<'a, S: Alter, R: PartRow>(
     tx: &mut Transaction<'_, S>,
     slot: i64,
@@ -69,7 +71,8 @@ fn insert_each<'a, S: Alter, R: PartRow>(
     Ok(())
 }
 
-/// Puts the rows into their table, under this slot, by a statement for one row and, where there is such a one, a statement for eight.
+/// Puts the rows into their table, under this slot, by a statement for one row and, where there is
+/// one, a statement for eight.
 pub(crate) fn insert_all<S: Alter, R: PartRow>(
     alloc: Global,
     tx: &mut Transaction<'_, S>,

@@ -34,7 +34,8 @@ fn has_part<S: Alter>(conn: &mut Connection<S>, project: &str, part: Part) -> Re
     Ok(slot.is_some())
 }
 
-/// The project of this name, and which parts it has. It's `Row` where it has neither: the row of a slot that named it is of another part.
+/// The project of this name, and which parts it has. It's `Row` where it has neither: the row of a
+/// slot that named it is of another part.
 fn project_of<S: Alter>(conn: &mut Connection<S>, name: String) -> Result<FoundProject, Refusal>
     ensures name { IfOk result (λ project. string_bytes project.name ≡ string_bytes name) }
     ensures told { OfState S.Store conn.old conn.new (λ m. IfOk result (λ project. IsTold m (project_found project))) }
@@ -89,8 +90,8 @@ fn list_projects<S: Alter>(
 }
 
 impl<S: Alter> Tables<S> {
-    /// The projects with a part: each once, by name (its bytes). It's `Refused` where the store refuses, or where a row isn't one of this product's,
-    /// and `Memory` where memory is refused, also to a database in memory (`in_memory`).
+    /// The projects with a part: each once, by name (its bytes). Errors: `Refused` and `Memory`
+    /// (`TablesFault`).
     pub fn projects(&mut self, alloc: Global) -> Result<Vec<FoundProject>, TablesFault>
         ensures found { HasCleanDisk (state S.Store self.new) → (m : State) → Rests (state S.Store self.old) m
             → IfOk result (λ found. FindsProjects m (map project_found found.items)) }

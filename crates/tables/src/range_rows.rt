@@ -1,4 +1,5 @@
-//! The rows of ranges, as they are selected: the one from which a climb starts, and that of the parent of each.
+//! The rows of ranges, as they are selected: the one from which a climb starts, by the index on
+//! starts, and that of the parent of each.
 ghost use Rattle.std.specs.Prelude.{◌<◌, ◌∷◌, [], Some, IsTrue, IfOk};
 ghost use Rattle.positions.specs.Position.{IsPosition};
 ghost use Rattle.tables.specs.Columns.{number, optional, position};
@@ -11,7 +12,8 @@ use crate::selection::{Listed, select_first};
 use positions::{Position, Span};
 use sqlite::{Alter, Connection, Row, params};
 
-/// What is read of the row of a range: all but its document, its declaration and its implementation.
+/// What is read of the row of a range: all but its document, its declaration and its
+/// implementation.
 #[derive(Clone, Copy, Drop)]
 pub(crate) struct SlotRange {
     pub(crate) line: u32,
@@ -42,7 +44,8 @@ impl Listed for SlotRange {
     }
 }
 
-/// The range of a document, in the dump that has this slot, that isn't empty, starts at the position or before, and comes last, start up, end down.
+/// The range of a document, in the dump that has this slot, that isn't empty, starts at the
+/// position or before, and comes last by start, then by falling end.
 pub(crate) fn start_of<S: Alter>(
     conn: &mut Connection<S>,
     slot: i64,
@@ -60,7 +63,7 @@ pub(crate) fn start_of<S: Alter>(
     )
 }
 
-/// Whether the first range comes before the second, start up, end down.
+/// Whether the first range comes before the second, by start, then by falling end.
 fn comes_before(first: &SlotRange, second: &SlotRange) -> bool
     ensures lighter { IsTrue result → weight (Some first.now) < weight (Some second.now) }
 {
@@ -69,8 +72,9 @@ fn comes_before(first: &SlotRange, second: &SlotRange) -> bool
     start < other_start || (start == other_start && end > other_end)
 }
 
-/// The range that a range of a document has as its parent, in the dump that has this slot. It's `Row` where the document has no such range, or one
-/// that doesn't come before this one, start up, end down: so that no climb goes on for ever.
+/// The parent of a range of a document, in the dump that has this slot. It's `Row` where the
+/// document has no such range, or one that doesn't come before this one (by start, then by falling
+/// end). So every climb ends.
 pub(crate) fn parent_of<S: Alter>(
     conn: &mut Connection<S>,
     slot: i64,

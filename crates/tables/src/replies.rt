@@ -30,8 +30,8 @@ fn find_reply<S: Alter>(
 }
 
 impl<S: Alter> Tables<S> {
-    /// The text of the reply that is kept for the project under the key, or none where none is. It's `Refused` where the store refuses, or where a row
-    /// isn't one of this product's, and `Memory` where memory is refused, also to a database in memory (`in_memory`).
+    /// The text of the reply that is kept for the project under the key, or none where none is.
+    /// Errors: `Refused` and `Memory` (`TablesFault`).
     pub fn kept_reply(&mut self, project: &str, key: &str) -> Result<Option<String>, TablesFault>
         ensures found { HasCleanDisk (state S.Store self.new) → (m : State) → Rests (state S.Store self.old) m
             → IfOk result (λ reply. option_map string_bytes reply ≡ option_map accepted_text (m.kept project.now key.now)) }

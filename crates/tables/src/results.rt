@@ -1,4 +1,5 @@
-//! The contents of hover results, as they are selected. `FindsHover` in `specs/Selections`.
+//! The contents of hover results, selected by the number of the result. `FindsHover` in
+//! `specs/Selections`.
 ghost use Rattle.std.specs.Prelude.{List, ℕ, Some, option_map, string_bytes, IfOk, IfErr};
 ghost use Rattle.sqlite.specs.State.{HasCleanDisk};
 ghost use Rattle.sqlite.specs.Held.{state};
@@ -59,9 +60,9 @@ fn find_hover<S: Alter>(
 }
 
 impl<S: Alter> Tables<S> {
-    /// The contents of a hover result of the project's dump, by the result's number, or none where the dump has no such result or the project no dump.
-    /// It's `Refused` where the store refuses, or where a row isn't one of this product's, and `Memory` where memory is refused, also to a database in
-    /// memory (`in_memory`).
+    /// The contents of a hover result of the project's dump, by the result's number, or none where
+    /// the dump has no such result or the project no dump. Errors: `Refused` and `Memory`
+    /// (`TablesFault`).
     pub fn hover(
         &mut self,
         project: &str,

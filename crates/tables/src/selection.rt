@@ -1,5 +1,5 @@
-//! Selections of typed rows: a statement is run, and each row read by its type's columns, or refused. The statements are in the files of what they
-//! select.
+//! Selections of typed rows: a statement is run, and each row read by its type's columns, or
+//! refused. The statements are in the files of what they select.
 ghost use Rattle.std.specs.Prelude.{◌≡◌, ◌++◌, ◌∷◌, [], ⊤, List, IfOk, IfSome, OnOk};
 ghost use Rattle.std.specs.List.{AllByRecursion};
 ghost use Rattle.sqlite_value.specs.Order.{Row as Columns};
@@ -28,7 +28,7 @@ pub(crate) trait Listed: Sized + Drop {
         ensures columns { IfOk result (λ x. AreColumns 0 (columns x) row.now) }
         ensures sound { IfOk result is_sound };
 
-    /// The value as it's kept behind the one of the row before, with which it may share memory.
+    /// The value as it's kept after the one of the row before, with which it may share memory.
     fn after(self, _before: Option<&Self>) -> Result<Self, AllocError>
         ensures columns { IfOk result (λ kept. columns kept ≡ columns self) }
         ensures sound { is_sound self → IfOk result is_sound }
@@ -37,7 +37,7 @@ pub(crate) trait Listed: Sized + Drop {
     }
 }
 
-/// Adds what a row reads as, behind what the rows before it read as.
+/// Adds what a row reads as, after what the rows before it read as.
 pub(crate) fn add_row<T: Listed>(found: &mut Vec<T>, row: &Row) -> Result<(), Refusal>
     ensures read { OnOk result ((rows : List Columns) → AreRead T.columns rows found.old.items → AreRead T.columns (rows ++ row.now ∷ []) found.new.items) }
     ensures sound { OnOk result (AllByRecursion T.is_sound found.old.items → AllByRecursion T.is_sound found.new.items) }
@@ -47,7 +47,8 @@ pub(crate) fn add_row<T: Listed>(found: &mut Vec<T>, row: &Row) -> Result<(), Re
     Ok(())
 }
 
-/// What the rows of the answer to a query that writes nothing read as. Each is read as it comes, so that no row is held beside what it reads as.
+/// What the rows of the answer to a query that writes nothing read as. Each row is read as it
+/// comes, so that no row is held with its value.
 pub(crate) fn select_all<S: Alter, T: Listed>(
     alloc: Global,
     conn: &mut Connection<S>,

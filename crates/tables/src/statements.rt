@@ -1,4 +1,4 @@
-//! A statement that is run within a transaction: what was committed stays, whatever it changes.
+//! A statement that is run within a transaction. What was committed stays, whatever it changes.
 ghost use Rattle.std.specs.Prelude.{IsTrue};
 ghost use Rattle.sqlite.specs.State.{HasCleanDisk, ExecutesInside};
 ghost use Rattle.sqlite.specs.Held.{state};
@@ -8,7 +8,7 @@ ghost use Rattle.sqlite.specs.Values.{bound};
 use sqlite::types::ValueRef;
 use sqlite::{Alter, Error, Transaction};
 
-/// Runs a statement with these values: how many rows it wrote.
+/// Runs a statement with these values, and returns how many rows it wrote.
 pub(crate) fn run<S: Alter>(
     tx: &mut Transaction<'_, S>,
     text: &str,

@@ -1,5 +1,5 @@
-//! The tables of the index: a database is opened, or its tables are made, or it's refused. Changes and selections are in files of their own.
-//! `specs/Stands` says which states they stand for.
+//! The tables of the index: a database is opened, or its tables are made, or it's refused. Changes
+//! and selections are in files of their own. `specs/Stands` says which states they represent.
 ghost use Rattle.std.specs.Prelude.{◌≡◌, ◌⊎◌, codes, true, false, IsTrue, IfOk, IfErr, OnOk, OnErr};
 ghost use Rattle.sqlite_catalog.specs.Change.{is_used};
 ghost use Rattle.sqlite.specs.State.{HasCleanDisk, Survives, IsUnchanged};
@@ -22,9 +22,10 @@ use std::marker::Model;
 #[derive(Drop)]
 pub struct Tables<S: Alter> {
     pub(crate) conn: Connection<S>,
-    /// The database is in memory alone.
+    /// Whether the database is in memory alone.
     pub(crate) is_in_memory: bool,
-    /// The slot of the dump that was asked last: so a query finds it once. Changes and faults forget it, and selections of names, projects and replies.
+    /// The slot of the dump that was asked last, so that a query finds it once. Changes, faults and
+    /// selections of names, projects and replies forget it.
     pub(crate) slot: Option<ProjectSlot>,
 }
 
@@ -100,12 +101,14 @@ impl<S: Alter> Tables<S> {
         }
     }
 
-    /// The tables of format 2 in a database: found, or made in one transaction where nothing has the name of one of them, in any case of letters. What
-    /// else the database has doesn't count.
+    /// The tables of format 2 in a database: found, or made in one transaction where nothing has
+    /// the name of one of them, in any case of letters. What else the database has doesn't count.
     ///
-    /// With each fault the connection comes back. It's `OldFormat` where the tables are of format 1, which `migrate` upgrades; `Foreign` where something
-    /// has such a name, and `format` doesn't read as one row of version 1 or 2; and `Memory` or `Refused` where the store refuses: then no table was made.
-    /// A store in memory that can't grow while the tables are made is `Refused` too: that a database is in memory is said of its tables (`in_memory`).
+    /// With each fault the connection comes back. It's `OldFormat` where the tables are of format
+    /// 1, which `migrate` upgrades. It's `Foreign` where something has such a name, and `format`
+    /// doesn't read as one row of version 1 or 2. It's `Memory` or `Refused` where the store
+    /// refuses: then no table was made. A store in memory that can't grow while the tables are made
+    /// is `Refused` too, since only the tables know that their database is in memory (`in_memory`).
     pub fn open(mut conn: Connection<S>) -> Result<Tables<S>, (TablesFault, Connection<S>)>
         requires { conn.in_transaction ≡ false }
         ensures fresh { (state S.Store conn).now.schema ≡ empty_schema → IfOk result (λ c. HasCleanDisk (state S.Store c) → Rests (state S.Store c) nothing) }
@@ -145,8 +148,9 @@ impl<S: Alter> Tables<S> {
         }
     }
 
-    /// The same tables, held to be in memory alone: where their store can't do what is asked, as grow, memory was refused. A call answers this by
-    /// `Memory` from then on, and by `Refused` where this isn't said of the tables.
+    /// The same tables, of which it's known from now on that their database is in memory alone.
+    /// Where its store can't do what a call asks, as grow, memory was refused, and the call returns
+    /// `Memory` instead of `Refused`.
     pub fn in_memory(self) -> Tables<S>
         ensures { result ≡ self }
     {
@@ -157,8 +161,8 @@ impl<S: Alter> Tables<S> {
         }
     }
 
-    /// Whether the store still serves: nothing is read or written. It's `Refused` where a fault has shut it, and `Memory` where memory is refused, also
-    /// to a database in memory (`in_memory`).
+    /// Whether the store still serves: nothing is read or written. It's `Refused` where a fault has
+    /// shut it, and `Memory` where memory is refused, also to a database in memory (`in_memory`).
     pub fn check(&mut self) -> Result<(), TablesFault>
         ensures open { HasCleanDisk (state S.Store self.new)
             → OnOk result (IsTrue (state S.Store self.old).is_open × IsAsBefore (state S.Store self.old) (state S.Store self.new)) }

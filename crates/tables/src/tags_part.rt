@@ -1,4 +1,5 @@
-//! The rows of tags, put under a slot of their own; the fields are written as JSON. A dump's rows are in `dump_part.rt`.
+//! The rows of tags, put under a slot of their own; the fields are written as JSON. A dump's rows
+//! are in `dump_part.rt`.
 ghost use Rattle.std.specs.Prelude.{◌≡◌, ◌∷◌, map, string_bytes, Some, None, IsTrue, IfOk, OnOk};
 ghost use Rattle.sqlite_value.specs.declared.value.Value.TheVariants.{Int};
 ghost use Rattle.sqlite.specs.State.{HasCleanDisk};
@@ -73,7 +74,8 @@ fn written<'a>(alloc: Global, tags: &'a [Tag]) -> Result<Vec<WrittenTag<'a>>, Al
     Ok(rows)
 }
 
-/// Puts the rows of tags: so many at once as one statement takes, so that the texts of few fields are held.
+/// Puts the rows of tags into their table, as many at once as one statement takes, so that few
+/// texts of fields are in memory.
 fn insert_rows<S: Alter>(
     alloc: Global,
     tx: &mut Transaction<'_, S>,

@@ -32,7 +32,7 @@ pub ruleset digits = (digits_len-some, digits_len-none, digits_len-le-length)
 
 -- ---- the value of a number
 
--- whether value, followed by the digits from the place on, stands for a number in range
+-- whether value, followed by the digits from the place on, represents a number in range
 abbrev pub in_range_from : ℕ → List ℕ → Bool
 in_range_from value ds = list_all is_ascii_digit ds && nat_le (digits_value_after 10 value ds) greatest_number
 

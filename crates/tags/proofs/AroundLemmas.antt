@@ -1,4 +1,4 @@
--- What stands around the first of a byte, in the words of std.
+-- What is around the first of a byte, in the words of std.
 use Rattle.std.proofs.Common.{◌≡◌, ◌∙◌, ◌==◌, ℕ, ◌+◌, ◌<◌, ◌≤◌, suc, Bool, true, false, not, List, [], ◌∷◌, length, take, drop, Option, Some, None, option_map, refl, ap, sym, add-one, arith, cond, nat_lt, MatchOption, Bor}
 use Rattle.std.proofs.Math.Numerals.{one-add}
 use Rattle.std.proofs.lemmas.Bool.Decides.{nat_tests}
@@ -68,7 +68,7 @@ pub ruleset places = (around-position, around-no_position)
 
 -- ---- the parts between the bytes
 
--- the parts, by what stands around the first of the bytes
+-- the parts, by what is around the first of the bytes
 abbrev pub parts_by : ℕ → List ℕ → Option (List ℕ × List ℕ) → List (List ℕ)
 parts_by c bs None = bs ∷ []
 parts_by c bs (Some p) = p.0 ∷ slice_split (is c) p.1

@@ -13,7 +13,7 @@ use Rattle.tags.proofs.AroundLemmas.{is, parts_by, split-around}
 use Rattle.tags.proofs.NumberLemmas.{Follows, nothing, extension, address_len-address, ReadsAddress, address_len-reads}
 use Rattle.tags.proofs.TextLemmas.{around-surrounds}
 
--- ---- what stands around a byte
+-- ---- what is around a byte
 
 other_test : (b c : ℕ) → b ≢ c → (b == c) ≡ false
 other_test b c h = grind (arith, nat_tests, h)

@@ -1,4 +1,4 @@
--- What is said of a text, by its one list of readings.
+-- The verdict on a text, by its one list of readings.
 use Rattle.std.proofs.Common.{◌≡◌, ◌∙◌, ◌⊎◌, ⊎_elim, ℕ, ◌+◌, ◌<◌, Bool, true, false, ◌&&◌, nat_lt, List, [], ◌∷◌, map, Some, Ok, Err, refl, ap, sym, subst, arith, take}
 use Rattle.std.specs.List.{list_all}
 use Rattle.std.proofs.lemmas.Bool.Decides.{nat_tests}

@@ -24,7 +24,7 @@ abbrev pub last_line : List ℕ → List Line
 last_line [] = []
 last_line (b ∷ bs) = record { bytes = b ∷ bs; ended = false } ∷ []
 
--- the lines, by what stands around the first LF
+-- the lines, by what is around the first LF
 abbrev pub lines_by : List ℕ → Option (List ℕ × List ℕ) → List Line
 lines_by bs None = last_line bs
 lines_by bs (Some p) = record { bytes = p.0; ended = true } ∷ lines_of p.1

@@ -6,7 +6,7 @@ use Rattle.tags.specs.Fault.{Reading, contents, code_of, order_code, IsFaultless
 use Rattle.tags.specs.States.{State, running, stopped, Summary, add, next, advance, state_after}
 use Rattle.tags.proofs.SummaryLemmas.{kept_of, summary_by, summary_by-push, order_code-summary, count-summary, start-summary}
 
--- line k of the rest has this code, where items stand before the rest
+-- line k of the rest has this code, where items come before the rest
 abbrev pub CodeFrom : List ContentValue → List Reading → ℕ → Code → Type 0
 CodeFrom items rest k c = (line : Reading) × (slice_get rest k ≡ Some line) × (code_of (items ++ contents (take k rest)) line ≡ Some c)
 

@@ -29,7 +29,7 @@ surround_by c b bs false e ih p h =
     let later : option_map (longer b) (around c bs) ≡ Some p = rw e at h in
     surround_later c b bs (around c bs) ih p later
 
--- the bytes are the two parts and what stands between them
+-- the bytes are the two parts and what is between them
 pub around-surrounds : (c : ℕ) (bs : List ℕ) (p : List ℕ × List ℕ) → around c bs ≡ Some p → Surround c bs p
 unfolding around
 around-surrounds c [] p h = absurd cc

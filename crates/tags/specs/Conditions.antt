@@ -1,6 +1,7 @@
--- What may be wrong with a line alone, code by code, and what a line says: tags(5), "Proposal", with the escapes of
--- "Exceptions in Universal Ctags". Nothing here says how a line is read. A line's text is the line without a CR before
--- its LF; the conditions on the lines before it are in Fault.antt.
+-- What may be wrong with a line alone, code by code, and what a line says: tags(5), "Proposal",
+-- with the escapes of "Exceptions in Universal Ctags". Nothing here says how a line is read. A
+-- line's text is the line without a CR before its LF; the conditions on the lines before it are in
+-- Fault.antt.
 use Rattle.std.specs.Prelude.{◌≡◌, ◌≢◌, ℕ, ◌==◌, ◌&&◌, ◌||◌, ◌⊎◌, Bool, nat_le, List, [], ◌∷◌, ◌++◌, codes, bytes_eq, slice_get, Some, None, Result, Ok, Err, IsTrue, IsUtf8}
 use Rattle.std.specs.List.{AllByRecursion, filter_map, list_any}
 use Rattle.tags.specs.Bytes.{tab}
@@ -19,7 +20,7 @@ IsPseudoTag text = (rest : List ℕ) × (text ≡ codes "!_TAG_" ++ rest)
 abbrev pub IsOrdinary : List ℕ → Type 0
 IsOrdinary text = IsPseudoTag text → ⊥
 
--- the name stands before the first Tab, and the value between the first and the second
+-- the name comes before the first Tab, and the value between the first and the second
 abbrev pub HasValue : List ℕ → List ℕ → List ℕ → Type 0
 HasValue text name value = (rest : List ℕ) × HasNoTab name × HasNoTab value × (text ≡ name ++ tab ∷ (value ++ tab ∷ rest))
 
@@ -37,7 +38,8 @@ is_control b = nat_le b 8 || (nat_le 11 b && nat_le b 31) || b == 127
 abbrev pub HasControl : List ℕ → Type 0
 HasControl text = IsTrue (list_any is_control text)
 
--- T04: a pseudo-tag with fewer than two Tabs; or an ordinary line without a name and a file, each before a Tab and not empty
+-- T04: a pseudo-tag with fewer than two Tabs; or an ordinary line without a name and a file, each
+-- before a Tab and not empty
 abbrev pub LacksParts : List ℕ → Type 0
 LacksParts text =
     (IsPseudoTag text × ((name value : List ℕ) → HasValue text name value → ⊥))
@@ -120,7 +122,8 @@ Says text other =
     IsPseudoTag text × ((name : List ℕ) × (value : List ℕ) × HasValue text name value × (name ≢ codes "!_TAG_FILE_SORTED"))
 Says text (ordinary written e) = IsOrdinary text × ((t : TagLine) × Spells t text × SaysTag t written e)
 
--- What is read of a text by these codes: the least code whose condition holds, or where none does what the text says.
+-- What is read of a text by these codes: the least code whose condition holds, or where none does
+-- what the text says.
 abbrev pub ReadsBy : (Code → Type 0) → List Code → List ℕ → Result ContentValue Code → Type 0
 ReadsBy Condition ds text (Err c) = IsFirst Condition ds c
 ReadsBy Condition ds text (Ok x) = HoldsNone Condition ds × Says text x

@@ -1,10 +1,10 @@
--- How a name, a file, a kind and the value of a field are written: tags(5), "Proposal", on tagname and
--- tagfield, with the escapes of "Exceptions in Universal Ctags".
+-- How a name, a file, a kind and the value of a field are written: tags(5), "Proposal", on tagname
+-- and tagfield, with the escapes of "Exceptions in Universal Ctags".
 use Rattle.std.specs.Prelude.{ℕ, ◌+◌, ◌*◌, ◌==◌, ◌&&◌, nat_lt, List, [], ◌∷◌, Option, Some, None, option_map, option_and_then, if◌then◌else◌}
 use Rattle.std.specs.Char.{digit_value}
 use Rattle.tags.specs.Bytes.{backslash, letter_x}
 
--- the byte that a backslash and a letter stand for
+-- the byte that a backslash and a letter represent
 unfoldable pub letter_value : ℕ → Option ℕ
 letter_value c =
     if c == 116 then Some 9  -- \t
@@ -21,7 +21,7 @@ letter_value c =
 abbrev pub in_ascii : ℕ → Option ℕ
 in_ascii n = if nat_lt 0 n && nat_lt n 128 then Some n else None
 
--- the byte that \x and two hexadecimal digits of either case stand for
+-- the byte that \x and two hexadecimal digits of either case represent
 unfoldable pub hex_value : ℕ → ℕ → Option ℕ
 hex_value high low =
     if nat_lt (digit_value high) 16 && nat_lt (digit_value low) 16

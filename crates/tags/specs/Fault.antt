@@ -56,11 +56,12 @@ is_descending last checked (ordinary written e) = checked && descends last writt
 abbrev pub most_lines : ℕ
 most_lines = 100000
 
--- T11: as many lines stand before as a file may have; the argument is their number
+-- T11: as many lines come before as a file may have; the argument is their number
 abbrev pub is_past_limit : ℕ → Bool
 is_past_limit count = nat_le most_lines count
 
--- the condition of a code on a line, by the last name, whether the order is checked, and the number of lines before
+-- the condition of a code on a line, by the last name, whether the order is checked, and the number
+-- of lines before
 abbrev pub order_condition : Option (List ℕ) → Bool → ℕ → ContentValue → Code → Bool
 order_condition last checked count x T09 = is_late last x
 order_condition last checked count x T10 = is_descending last checked x

@@ -1,5 +1,5 @@
--- The fields of a tag: tags(5), "Proposal", on tagfield, and "Exceptions in Universal Ctags" on digits in
--- a field's name.
+-- The fields of a tag: tags(5), "Proposal", on tagfield, and "Exceptions in Universal Ctags" on
+-- digits in a field's name.
 use Rattle.std.specs.Prelude.{ℕ, ◌==◌, ◌||◌, ◌&&◌, Bool, false, not, nat_lt, List, [], ◌∷◌, length, codes, bytes_eq, Option, Some, None, is_none, option_map, option_and_then, if◌then◌else◌}
 use Rattle.std.specs.List.{list_all, list_any, filter_map}
 use Rattle.std.specs.Option.{option_map_or}
@@ -9,15 +9,15 @@ use Rattle.tags.specs.Bytes.{colon}
 use Rattle.tags.specs.Escapes.{decoded}
 use Rattle.tags.specs.Values.{FieldValue}
 
--- what stands before a colon, unless it's the name of the kind
+-- what comes before a colon, unless it's the name of the kind
 abbrev pub other_name : List ℕ × List ℕ → Option (List ℕ)
 other_name p = if bytes_eq p.0 (codes "kind") then None else Some p.0
 
--- the name of a field other than the kind: what stands before the first colon
+-- the name of a field other than the kind: what comes before the first colon
 abbrev pub name_in : List ℕ → Option (List ℕ)
 name_in field = option_and_then other_name (around colon field)
 
--- what stands after the first colon, or the whole field where it has none
+-- what comes after the first colon, or the whole field where it has none
 abbrev pub value_in : List ℕ → List ℕ
 value_in field = option_map_or (λ p. p.1) (around colon field) field
 

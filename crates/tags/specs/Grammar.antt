@@ -1,5 +1,5 @@
--- The line of a tag: tags(5), "Proposal", in format 2. Each form is a tree, its text, and what makes the
--- tree one of the form. Nothing here says how a line is read.
+-- The line of a tag: tags(5), "Proposal", in format 2. Each form is a tree, its text, and what
+-- makes the tree one of the form. Nothing here says how a line is read.
 use Rattle.std.specs.Prelude.{◌≡◌, ◌≢◌, ℕ, ◌<◌, ◌≤◌, ◌⊎◌, List, [], ◌∷◌, ◌++◌, length, slice_index, Option, Some, None, ⊤}
 use Rattle.std.specs.List.{AllByRecursion, flat_map}
 use Rattle.std.specs.Char.{is_ascii_digit}
@@ -9,7 +9,7 @@ use Rattle.tags.specs.Bytes.{tab, double_quote, slash, digit_zero, semicolon, qu
 
 -- ---- patterns
 
--- a byte that stands for itself, or a backslash and the byte that it escapes
+-- a byte that represents itself, or a backslash and the byte that it escapes
 pub data PatternPart : Type 0 where
   plain : ℕ → PatternPart
   escaped : ℕ → PatternPart
@@ -26,7 +26,7 @@ IsPatternPart d (escaped b) = ⊤
 abbrev pub IsDelimiter : ℕ → Type 0
 IsDelimiter d = (d ≡ slash) ⊎ (d ≡ question_mark)
 
--- what stands between two delimiters, which may be nothing
+-- what is between two delimiters, which may be nothing
 pub record Pattern : Type 0 where
   pub delimiter : ℕ
   pub parts : List PatternPart
@@ -71,7 +71,7 @@ pub record TagLine : Type 0 where
   pub address : Address
   pub fields : Option (List (List ℕ))
 
--- each field stands behind a Tab
+-- each field comes after a Tab
 abbrev pub field_text : List ℕ → List ℕ
 field_text field = tab ∷ field
 
@@ -108,6 +108,6 @@ pub record IsTagLine (t : TagLine) : Type 0 where
 abbrev pub Spells : TagLine → List ℕ → Type 0
 Spells t line = IsTagLine t × (line ≡ line_of t)
 
--- the line has a name, a file and two Tabs, whatever stands after them
+-- the line has a name, a file and two Tabs, whatever comes after them
 abbrev pub HasFront : List ℕ → Type 0
 HasFront line = (name file rest : List ℕ) × IsName name × IsName file × (line ≡ name ++ tab ∷ (file ++ tab ∷ rest))

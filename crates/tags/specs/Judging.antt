@@ -1,4 +1,4 @@
--- What is said of a text: its tags, or the fault of its first faulty line.
+-- The verdict on a text: its tags, or the fault of its first faulty line.
 use Rattle.std.specs.Prelude.{◌≡◌, ◌+◌, ◌&&◌, ℕ, nat_lt, Bool, true, List, [], ◌∷◌, Result, Ok, Err}
 use Rattle.std.specs.List.{list_all}
 use Rattle.tags.specs.Fault.{Reading, contents, tags_of, IsFaultless, IsFirstFault}

@@ -17,7 +17,7 @@ abbrev pub in_front : ℕ → List Line → List Line
 in_front b [] = record { bytes = b ∷ []; ended = false } ∷ []
 in_front b (line ∷ lines) = record { bytes = b ∷ line.bytes; ended = line.ended } ∷ lines
 
--- the lines that an LF ends, and what stands after the last LF where it isn't empty
+-- the lines that an LF ends, and what comes after the last LF where it isn't empty
 unfoldable pub lines_of : List ℕ → List Line
 lines_of [] = []
 lines_of (b ∷ bs) = if b == line_feed then record { bytes = []; ended = true } ∷ lines_of bs else in_front b (lines_of bs)
@@ -61,7 +61,8 @@ Condition line c = TextCondition (line_text line) c
 abbrev pub line_codes : List Code
 line_codes = T01 ∷ text_codes
 
--- a line's reading: the least code whose condition holds, or where none does what the line's text says
+-- a line's reading: the least code whose condition holds, or where none does what the line's text
+-- says
 abbrev pub IsReading : Line → Reading → Type 0
 IsReading line reading = ReadsBy (Condition line) line_codes (line_text line) reading
 
@@ -72,7 +73,7 @@ AreReadings [] (r ∷ rs) = ⊥
 AreReadings (line ∷ lines) [] = ⊥
 AreReadings (line ∷ lines) (r ∷ rs) = IsReading line r × AreReadings lines rs
 
--- the reading of a line that is handed in: that of its bytes, or the code that was found before
+-- the reading of a line that is passed in: that of its bytes, or the code that was found before
 abbrev pub IsHanded : Result (List ℕ) Code → Bool → Reading → Type 0
 IsHanded (Ok bytes) ended reading = IsReading (record { bytes = bytes; ended = ended }) reading
 IsHanded (Err code) ended reading = reading ≡ Err code

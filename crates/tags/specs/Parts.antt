@@ -19,7 +19,8 @@ abbrev pub fields_at : ℕ → List (List ℕ) → List PartValue
 fields_at from [] = []
 fields_at from (field ∷ fields) = part_at from field ∷ fields_at (from + length field + 1) fields
 
--- a name, a file, an address and fields, one byte apart but for the `;"` and the Tab before the fields
+-- a name, a file, an address and fields, one byte apart but for the `;"` and the Tab before the
+-- fields
 abbrev pub parts_with : List ℕ → List ℕ → List ℕ → List (List ℕ) → List PartValue
 parts_with name file address fields =
     (part_at 0 name ∷ part_at (length name + 1) file ∷ part_at (length name + length file + 2) address ∷ [])
@@ -33,8 +34,8 @@ parts_in t = parts_with t.name t.file (address_text t.address) (fields_in t.fiel
 abbrev pub IsSlice : List ℕ → PartValue → Type 0
 IsSlice line p = p.text ≡ slice_range line p.from p.to
 
--- What splitting a line answers: the parts of the grammar's cut; or T04 where it has no name and file; or
--- else T06 where it isn't of the grammar.
+-- What splitting a line answers: the parts of the grammar's cut; or T04 where it has no name and
+-- file; or else T06 where it isn't of the grammar.
 abbrev pub Splits : Result (List PartValue) SplitFault → List ℕ → Type 0
 Splits (Ok parts) line = (t : TagLine) × Spells t line × (parts ≡ parts_in t)
 Splits (Err faults.Memory) line = Unit {0}

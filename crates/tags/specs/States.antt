@@ -6,8 +6,8 @@ use Rattle.tags.specs.declared.code.Code.{Code}
 use Rattle.tags.specs.declared.code.TagsFault.{TagsFault}
 use Rattle.tags.specs.declared.code.TagsFault.TheVariants as faults
 
--- what has to be known of the lines so far: their number, what is kept of their tags, the last ordinary name as
--- written, and whether the order is checked
+-- what has to be known of the lines so far: their number, what is kept of their tags, the last
+-- ordinary name as written, and whether the order is checked
 pub record Summary (K : Type 0) : Type 0 where
   pub count : ℕ
   pub kept : K
@@ -70,8 +70,8 @@ abbrev pub IsRunning : {K : Type 0} → State K → Type 0
 IsRunning (running s) = Unit {0}
 IsRunning (stopped n c) = ⊥
 
--- What a call says of the states before it and after it, where `to` is the state that the line leads to.
--- Where memory runs out the line has no fault, and the state stays.
+-- What a call says of the states before it and after it, where `to` is the state that the line
+-- leads to. Where memory runs out the line has no fault, and the state stays.
 abbrev pub Tells : {K : Type 0} → Result ⊤ TagsFault → State K → State K → State K → Type 0
 Tells (Ok u) old new to = (new ≡ to) × IsRunning to
 Tells (Err faults.Memory) old new to = (new ≡ old) × IsRunning to

@@ -31,8 +31,8 @@ pub record TagValue : Type 0 where
 abbrev pub numbered : ℕ → EntryValue → TagValue
 numbered line e = record { line = line; name = e.name; file = e.file; address = e.address; kind = e.kind; fields = e.fields }
 
--- what a line says: that the file is sorted or not, another pseudo-tag, or an ordinary tag with its name
--- as written
+-- what a line says: that the file is sorted or not, another pseudo-tag, or an ordinary tag with its
+-- name as written
 pub data ContentValue : Type 0 where
   sorted : Bool → ContentValue
   other : ContentValue

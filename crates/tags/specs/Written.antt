@@ -1,13 +1,13 @@
--- How a name, a file, a kind and the value of a field are written: tags(5), "Proposal", on tagname and
--- tagfield, with the escapes of "Exceptions in Universal Ctags". A text is written by pieces; nothing here
--- says how they are read.
+-- How a name, a file, a kind and the value of a field are written: tags(5), "Proposal", on tagname
+-- and tagfield, with the escapes of "Exceptions in Universal Ctags". A text is written by pieces;
+-- nothing here says how they are read.
 use Rattle.std.specs.Prelude.{◌≡◌, ◌≢◌, ℕ, ◌+◌, ◌*◌, ◌<◌, List, [], ◌∷◌, Some, ⊤}
 use Rattle.std.specs.List.{flat_map}
 use Rattle.std.specs.Char.{digit_value}
 use Rattle.tags.specs.Bytes.{backslash, letter_x}
 use Rattle.tags.specs.Escapes.{letter_value}
 
--- a byte that stands for itself; a backslash and a letter; or `\x` and two hexadecimal digits
+-- a byte that represents itself; a backslash and a letter; or `\x` and two hexadecimal digits
 pub data Piece : Type 0 where
   itself : ℕ → Piece
   letter : ℕ → Piece
@@ -26,7 +26,7 @@ pub record IsHex (high low value : ℕ) : Type 0 where
   pub positive : 0 < value
   pub ascii : value < 128
 
--- the byte that a piece stands for
+-- the byte that a piece represents
 abbrev pub StandsFor : Piece → ℕ → Type 0
 StandsFor (itself b) value = (b ≢ backslash) × (value ≡ b)
 StandsFor (letter c) value = letter_value c ≡ Some value

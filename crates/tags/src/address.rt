@@ -1,4 +1,5 @@
-//! The address of a tag: a number or a pattern, where it ends and what may follow it. `specs/Grammar`.
+//! The address of a tag: a number or a pattern, where it ends and what may follow it (tags(5),
+//! "Proposal"). `specs/Grammar`.
 ghost use Rattle.std.specs.Prelude.{◌≡◌, ◌≤◌, ◌<◌, IfSome, false, length, not, position};
 ghost use Rattle.std.specs.Char.{is_ascii_digit};
 ghost use Rattle.tags.specs.Steps.Cutting.{address_len, after_number_len, closing, digits_len, is_delimiter, is_in_range_number, is_number, pattern_len};
@@ -19,7 +20,7 @@ fn digits_end(bytes: &[u8]) -> Option<usize>
     bytes.iter().position(|b| !b.is_ascii_digit())
 }
 
-/// How many digits stand at the front.
+/// How many digits are at the front.
 #[tactic(auto, using(crate::proofs::AddressLemmas::digits))]
 fn digits_len(bytes: &[u8]) -> usize
     ensures value { result ≡ digits_len bytes.now }
@@ -31,7 +32,7 @@ fn digits_len(bytes: &[u8]) -> usize
     }
 }
 
-/// Digits alone, which stand for at most the greatest number.
+/// Whether there are digits alone, of a number up to the greatest.
 fn is_in_range_number(digits: &[u8]) -> bool
     ensures { result ≡ is_in_range_number digits.now }
 {

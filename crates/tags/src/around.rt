@@ -1,4 +1,5 @@
-//! What stands around the first byte of a value: texts that are split at it. `specs/Around`.
+//! Texts that are split at the first of a byte: a linear scan, which takes no memory.
+//! `specs/Around`.
 ghost use Rattle.std.specs.Prelude.{◌≡◌, ◌==◌, ◌+◌, ◌<◌, IfSome, length, option_map, position, IsUtf8};
 ghost use Rattle.tags.specs.Around.{around};
 

@@ -1,4 +1,6 @@
-//! The checker of a tags file, which judges lines and counts tags, for `check-tags`. One that keeps the tags is in `reader.rt`. `specs/States`.
+//! The checker of a tags file, which judges lines and counts tags, for `check-tags`. It keeps one
+//! line and one name, however long the file is. A reader that keeps the tags is in `reader.rt`.
+//! `specs/States`.
 ghost use Rattle.std.specs.Prelude.{◌≡◌, ◌+◌, ◌<◌, ◌≤◌, IfNone, OnErr, OnOk};
 ghost use Rattle.tags.specs.Steps.Contents.{IsContent, Reads};
 ghost use Rattle.tags.specs.Faults.{result_map};
@@ -13,7 +15,7 @@ use crate::order::Order;
 use std::alloc::{AllocError, Global};
 use std::marker::Model;
 
-/// How many bytes a line may have, with its CR.
+/// The most bytes of a line, with its CR and without its LF.
 pub const LONGEST_LINE: usize = 65536;
 
 /// The line's text: one CR directly before an LF isn't part of it.
@@ -26,7 +28,7 @@ fn line_text(line: &[u8], ended: bool) -> &[u8]
     }
 }
 
-/// What a line says that is handed in, or the code that was found before.
+/// What a line says that is passed in, or the code that was found before.
 fn read_line(line: Result<&[u8], Code>, ended: bool) -> Result<Content<'_>, Code>
     ensures { Reads result (handed (result_map (λ bytes. bytes.now) line.entry) ended) }
 {
@@ -82,8 +84,8 @@ impl Counted {
     }
 }
 
-/// Judges the lines of a tags file one after the other, and counts its tags. It keeps their number, the last
-/// name and the first fault.
+/// Judges the lines of a tags file one after the other, and counts its tags. It keeps their number,
+/// the last name and the first fault.
 #[derive(Drop)]
 pub struct TagChecker {
     alloc: Global,
@@ -107,7 +109,7 @@ impl TagChecker {
     ghost use Rattle.tags.specs.States.{Finishes, Tells, counted, next, start};
     ghost use Rattle.tags.specs.Steps.Contents.{HasRoom, Judges, number_of, taken};
 
-    /// A checker of no line yet.
+    /// A checker that has seen no line.
     pub fn new(alloc: Global) -> TagChecker
         ensures { result ≡ start 0 }
     {
@@ -130,7 +132,8 @@ impl TagChecker {
         self.counted.order.count + 1
     }
 
-    /// What the next line says, which isn't taken yet; or the fault at which the checker stops. It takes no memory.
+    /// What the next line says, which isn't taken yet; or the fault at which the checker stops. It
+    /// takes no memory.
     pub(crate) fn judge<'a>(
         &mut self,
         line: Result<&'a [u8], Code>,
@@ -172,9 +175,10 @@ impl TagChecker {
         Ok(())
     }
 
-    /// Takes the next line without its LF, or T01 where it was too long to be lent. `ended` says whether an
-    /// LF follows, and is false for the last line alone. After a fault of a line it answers that fault for
-    /// good; where memory runs out the line has no fault, and the checker is as before.
+    /// Takes the next line without its LF, or T01 where it was longer than a line may be. `ended`
+    /// says whether an LF follows, and is false for the last line alone. After a fault of a line it
+    /// returns that fault for good. Where memory runs out the line has no fault, and the checker is
+    /// as before.
     pub fn feed(&mut self, line: Result<&[u8], Code>, ended: bool) -> Result<(), TagsFault>
         ensures { (reading : Reading) → IsHanded (result_map (λ bytes. bytes.now) line.entry) ended reading
             → Tells result self.old self.new (next counted self.old reading) }

@@ -1,5 +1,5 @@
-//! The codes of a tags file's faults, each with its name and its text, in one table, and the faults that name them. `specs/Codes`; when each holds,
-//! `specs/Conditions`.
+//! The codes of a tags file's faults, each with its name and its text, in one table, and the faults
+//! that name them. `specs/Codes` has the table; `specs/Conditions` says when each holds.
 ghost use Rattle.std.specs.Prelude.{◌≡◌};
 ghost use Rattle.tags.specs.Codes.{name_of, text_of};
 ghost use Rattle.tags.specs.declared.code.TagsFault.TheVariants as tags_fault;
@@ -9,7 +9,8 @@ use std::alloc::{AllocError, AllocFailed};
 use std::error::Error;
 use std::fmt;
 
-/// What may be wrong with a line of a tags file. Of a faulty line the least code that holds is named.
+/// What may be wrong with a line of a tags file. Of a faulty line the least code that holds is
+/// named.
 #[derive(Clone, Copy, Debug, PartialEq, Eq)]
 pub enum Code {
     /// The line, with its CR, is longer than 65,536 bytes.
@@ -57,7 +58,7 @@ impl Code {
         }
     }
 
-    /// The code as it is printed.
+    /// The code as it is printed, as `T05`.
     pub fn name(self) -> &'static str
         ensures { result.now ≡ name_of self }
     {
@@ -91,7 +92,7 @@ pub struct LineFault {
 /// Why a tags file was refused.
 #[derive(Debug, PartialEq, Eq, Drop, thiserror::Error)]
 pub enum TagsFault {
-    /// Memory ran out.
+    /// Memory was refused.
     #[error("{}", AllocError)]
     Memory,
     /// The first line that is faulty.
@@ -99,10 +100,10 @@ pub enum TagsFault {
     Line(LineFault),
 }
 
-/// Why a line was refused.
+/// Why a line has no parts.
 #[derive(Debug, PartialEq, Eq, Drop, thiserror::Error)]
 pub enum SplitFault {
-    /// Memory ran out.
+    /// Memory was refused.
     #[error("{}", AllocError)]
     Memory,
     /// What is wrong with the line.

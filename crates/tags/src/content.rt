@@ -1,4 +1,5 @@
-//! What a line says, judged without memory: its least code, or that it's a tag, a pseudo-tag or empty. `specs/Conditions`.
+//! What a line says, judged without memory: its least code, or that it's a tag, a pseudo-tag or
+//! empty. So a checker keeps nothing of a line but its name. `specs/Conditions`.
 ghost use Rattle.std.specs.Prelude.{◌≡◌, IsUtf8};
 ghost use Rattle.std.specs.List.{list_any};
 ghost use Rattle.tags.specs.Faults.{result_map};
@@ -35,7 +36,8 @@ fn is_control(byte: u8) -> bool
     byte <= 8 || (11 <= byte && byte <= 31) || byte == 127
 }
 
-/// Whether a byte is a control character. Each byte is looked at: that is quicker than to stop at the first.
+/// Whether a byte is a control character. Each byte is looked at, since a loop without an early
+/// return is faster.
 fn has_control(line: &[u8]) -> bool
     ensures { result ≡ list_any is_control line.now }
 {
@@ -98,7 +100,8 @@ fn ordinary_tag(line: &[u8]) -> Result<Cut<'_>, Code>
     }
 }
 
-/// What a line says, which is no longer than a line may be, or the least of T02 to T08. It takes no memory.
+/// What a line says, which is no longer than a line may be, or the least of T02 to T08. It takes no
+/// memory.
 #[tactic(auto, using(crate::proofs::TextLemmas::texts), unfolding(crate::specs::Steps::Reading::reading))]
 pub(crate) fn read_content(line: &[u8]) -> Result<Content<'_>, Code>
     ensures { Reads result (reading line.now) }

@@ -1,4 +1,5 @@
-//! A line of a tag cut at its Tabs and at the end of its address.
+//! A line of a tag, split at its Tabs and at the end of its address. The parts are borrowed from
+//! the line.
 ghost use Rattle.std.specs.Prelude.{◌≡◌, ◌∷◌, ◌≤◌, ◌+◌, ◌<◌, IfSome, OnSome, Some, None, length, option_map, slice_index, IsUtf8};
 ghost use Rattle.tags.specs.Steps.Cutting.{each_field, fields_after, front_of, tail_of};
 ghost use Rattle.tags.specs.Steps.Views.{front, tail};
@@ -6,7 +7,7 @@ ghost use Rattle.tags.specs.Steps.Views.{front, tail};
 use crate::address::address_len;
 use crate::around::around_byte;
 
-/// The name and the file of a tag, and what stands after the file's Tab.
+/// The name and the file of a tag, and what comes after the file's Tab.
 #[derive(Clone, Copy)]
 pub(crate) struct Front<'a> {
     pub name: &'a [u8],
@@ -21,7 +22,8 @@ pub(crate) struct Tail<'a> {
     pub fields: Option<&'a [u8]>,
 }
 
-/// An ordinary line cut: its tag's name, file and address as written, and its fields, still joined by Tabs.
+/// An ordinary line, split: its tag's name, file and address as written, and its fields, still
+/// joined by Tabs.
 #[derive(Clone, Copy)]
 pub(crate) struct Cut<'a> {
     pub name: &'a [u8],
@@ -30,7 +32,7 @@ pub(crate) struct Cut<'a> {
     pub fields: Option<&'a [u8]>,
 }
 
-/// The name and the file, where each stands before a Tab and isn't empty.
+/// The name and the file, where each comes before a Tab and isn't empty.
 #[tactic(auto, unfolding(crate::specs::Steps::Cutting::front_of))]
 pub(crate) fn front_of(line: &[u8]) -> Option<Front<'_>>
     ensures value { option_map front result ≡ front_of line.now }
@@ -45,7 +47,7 @@ pub(crate) fn front_of(line: &[u8]) -> Option<Front<'_>>
     Some(Front { name, file, rest })
 }
 
-/// What stands after an address, unless it's of no form: the fields.
+/// The fields after an address. An `Err` says that what follows it is of no form.
 #[tactic(auto, unfolding(crate::specs::Steps::Cutting::fields_after))]
 fn fields_after(bytes: &[u8]) -> Option<Option<&[u8]>>
     ensures value { option_map (λ fields. option_map (λ bs. bs.now) fields) result ≡ fields_after bytes.now }

@@ -1,4 +1,5 @@
-//! The escapes of a name, a file, a kind and a field's value.
+//! The escapes of a name, a file, a kind and a field's value (tags(5), "Exceptions in Universal
+//! Ctags"). `specs/Escapes`.
 ghost use Rattle.std.specs.Prelude.{◌≡◌, ◌<◌, ◌≤◌, ◌-◌, IfOk, IfSome, IsUtf8, Some, length, is_some, slice_index, string_bytes, true};
 ghost use Rattle.tags.specs.Escapes.{decoded, hex_value, letter_value};
 ghost use Rattle.tags.specs.Steps.Escapes.{escape_at};
@@ -6,7 +7,7 @@ ghost use Rattle.tags.specs.Steps.Escapes.{escape_at};
 use crate::around::{around_byte, around_char, text_of};
 use std::alloc::{AllocError, Global};
 
-/// The byte that a backslash and the letter stand for.
+/// The byte that a backslash and the letter represent.
 #[tactic(auto, unfolding(crate::specs::Escapes::letter_value))]
 fn letter_value(letter: u8) -> Option<u8>
     ensures value { result ≡ letter_value letter }
@@ -25,7 +26,7 @@ fn letter_value(letter: u8) -> Option<u8>
     }
 }
 
-/// The byte that `\x` and two hexadecimal digits stand for, from 01 to 7F.
+/// The byte that `\x` and two hexadecimal digits represent, from 01 to 7F.
 #[tactic(auto, unfolding(crate::specs::Escapes::hex_value))]
 fn hex_value(high: u8, low: u8) -> Option<u8>
     ensures value { result ≡ hex_value high low }
@@ -41,7 +42,7 @@ fn hex_value(high: u8, low: u8) -> Option<u8>
     }
 }
 
-/// The byte that stands after a backslash, and how many bytes its escape takes there.
+/// The byte that an escape represents, and how many bytes the escape has after its backslash.
 #[tactic(auto, unfolding(crate::specs::Steps::Escapes::escape_at))]
 fn escape_at(text: &[u8]) -> Option<(u8, usize)>
     ensures value { result ≡ escape_at text.now }
@@ -56,7 +57,8 @@ fn escape_at(text: &[u8]) -> Option<(u8, usize)>
     }
 }
 
-/// The text that a name, a file, a kind or a field's value stands for, in which each backslash begins an escape.
+/// The text that a name, a file, a kind or a field's value represents, in which each backslash
+/// begins an escape.
 pub(crate) fn decode(alloc: Global, written: &[u8]) -> Result<String, AllocError>
     requires text { IsUtf8 written.now }
     requires good { is_some (decoded written.now) ≡ true }

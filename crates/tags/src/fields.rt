@@ -1,4 +1,5 @@
-//! The fields of a tag: their least code, and what those without fault say.
+//! The fields of a tag: their least code, found without memory, and what those without fault say.
+//! `specs/Fields`.
 ghost use Rattle.std.specs.Prelude.{◌≡◌, IfOk, IsUtf8, None, Ok, OnOk, false, option_map};
 ghost use Rattle.std.specs.Char.{is_ascii_alphanumeric};
 ghost use Rattle.std.specs.List.{list_all};
@@ -75,7 +76,7 @@ impl Gathered {
     }
 }
 
-/// What the fields, joined by Tabs, say, of which none is faulty: the kind, and the others in order.
+/// What the fields, joined by Tabs and none of them faulty, say: the kind, and the others in order.
 pub(crate) fn gather(alloc: Global, fields: Option<&[u8]>) -> Result<Gathered, AllocError>
     requires text { ForSome fields (λ bs. IsUtf8 bs.now) }
     requires good { fault_in (fields_of (each_field (option_map (λ bs. bs.now) fields))) ≡ None }

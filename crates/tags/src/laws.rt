@@ -1,4 +1,5 @@
-//! Laws of the definitions of a tags file: each line has one code or parts, and each file one fault or its tags.
+//! Laws of the definitions of a tags file, which mention no program: each line has one code or
+//! parts, and each file one fault or its tags.
 ghost use Rattle.std.specs.Prelude.{◌≡◌, ◌↔◌, ◌+◌, ◌++◌, ◌∷◌, [], Ok, Err, Some, ℕ, List, fold, length, true};
 ghost use Rattle.tags.specs.Bytes.{tab};
 ghost use Rattle.tags.specs.Escapes.{decoded};
@@ -17,8 +18,8 @@ ghost use Rattle.tags.specs.declared.code.Code.{Code};
 ghost use Rattle.tags.specs.declared.code.Code.TheVariants.{T04};
 ghost use Rattle.tags.specs.declared.code.LineFault.{LineFault};
 
-/// What is written by the grammar's pieces is read as the bytes that they stand for, and nothing else is
-/// read: a text that is written so has one meaning.
+/// What is written by the grammar's pieces is read as the bytes that they represent, and nothing
+/// else is read. So a written text has one meaning.
 pub fn escape_law()
     ensures read { (written value : List ℕ) → IsWritten value written → decoded written ≡ Some value }
     ensures written { (written value : List ℕ) → decoded written ≡ Some value → IsWritten value written }
@@ -34,8 +35,8 @@ pub fn grammar_law()
         → ordinary_of line ≡ said_without_address name file }
 {}
 
-/// Each line has one reading, which its steps find: the least code whose condition holds, or where none does what the
-/// line says.
+/// Each line has one reading, which its steps find: the least code whose condition holds, or where
+/// none does what the line says.
 pub fn reading_law()
     ensures holds { (line : Line) → IsReading line (reading_of line) }
     ensures only { (line : Line) (reading : Reading) → IsReading line reading → reading ≡ reading_of line }
@@ -47,8 +48,9 @@ pub fn lines_law()
         → lines_of text ≡ with_last pieces last }
 {}
 
-/// Lines have one first fault at most, and there a reader of them stops. Where it doesn't there is none, and what it keeps is the tags and
-/// what has to be known of the lines. Once stopped it stays so.
+/// Lines have at most one first fault, and a reader of them stops there. Where it doesn't stop
+/// there is none, and it keeps the tags and what has to be known of the lines. Once stopped it
+/// stays so.
 pub fn state_law()
     ensures one { (lines : List Reading) (j k : ℕ) (c d : Code) → IsFirstFault lines j c → IsFirstFault lines k d → (j ≡ k) × (c ≡ d) }
     ensures stopped { (lines : List Reading) (n : ℕ) (c : Code) → state_after listed [] lines ≡ stopped n c
@@ -67,7 +69,8 @@ pub fn count_law()
     ensures stays { (lines : List Reading) (n : ℕ) (c : Code) → fold (next counted) (stopped n c) lines ≡ stopped n c }
 {}
 
-/// What is said of a text is its tags where no line is faulty, and else the first fault. The lines of the tags rise.
+/// A text has its tags where no line is faulty, and else its first fault. The lines of the tags
+/// rise.
 pub fn text_law()
     ensures tags { (text : List ℕ) (tags : List TagValue) → (judged text ≡ Ok tags) ↔ HasTags text tags }
     ensures fault { (text : List ℕ) (fault : LineFault) → (judged text ≡ Err fault) ↔ HasFault text fault }

@@ -1,4 +1,5 @@
-//! Tags files as Universal Ctags writes them: tags(5), format 2.
+//! Tags files as Universal Ctags writes them (tags(5), format 2): a checker that counts tags, a
+//! reader that keeps them, and the parts of one line.
 #![tactic(auto)]
 
 mod address;

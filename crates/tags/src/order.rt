@@ -1,5 +1,5 @@
-//! What the lines before a line forbid: a pseudo-tag after a tag, names that descend, too many lines. What a line says by itself is judged in
-//! `content.rt`. `specs/Fault`.
+//! What the lines before a line forbid: a pseudo-tag after a tag, names that descend, too many
+//! lines. What a line says by itself is judged in `content.rt`. `specs/Fault`.
 ghost use Rattle.std.specs.Prelude.{◌≡◌, ◌<◌, IfNone, OnErr, OnOk, Some, None, false, length, option_map, vec_capacity};
 ghost use Rattle.tags.specs.Fault.{descends, order_by, written_in};
 ghost use Rattle.tags.specs.Values.{ContentValue};
@@ -20,7 +20,7 @@ fn descends(last: Option<&[u8]>, written: &[u8]) -> bool
     }
 }
 
-/// Puts other bytes in the place of some. An `Err` changes nothing.
+/// Replaces the bytes by others. An `Err` changes nothing.
 fn replace(bytes: &mut Vec<u8>, others: &[u8]) -> Result<(), AllocError>
     ensures ok { OnOk result (bytes.new.items ≡ others.now) }
     ensures err { OnErr result (bytes.new.items ≡ bytes.old.items) }
@@ -39,14 +39,14 @@ pub(crate) struct Order {
     pub count: u32,
     /// The name of the last tag, as written.
     pub last: Option<Vec<u8>>,
-    /// The names may not descend.
+    /// Whether the names may not descend.
     pub checked: bool,
 }
 
 impl Order {
     ghost use Rattle.tags.specs.Steps.Views.{last_of, room_of};
 
-    /// That of no line yet.
+    /// The state before the first line.
     pub fn new() -> Order
         ensures { (result.count ≡ 0) × (last_of result ≡ None) × (result.checked ≡ false) }
     {
@@ -57,8 +57,8 @@ impl Order {
         }
     }
 
-    /// The least of T09 to T11 that holds of the next line, which has this name as written where it's an
-    /// ordinary one.
+    /// The least of T09 to T11 that holds of the next line, which has this name as written where
+    /// it's an ordinary one.
     pub fn code(&self, written: Option<&[u8]>) -> Option<Code>
         ensures value { (x : ContentValue) → written_in x ≡ option_map (λ name. name.now) written.entry
             → result ≡ order_by (last_of self.now) self.now.checked self.now.count x }

@@ -1,4 +1,5 @@
-//! The parts of a line as they are written, with their spans: `split`. What they say of a tag is read in `tag.rt`. `specs/Parts`.
+//! The parts of a line as they are written, with their places in it: `split`. What they say of a
+//! tag is read in `tag.rt`. `specs/Parts`.
 ghost use Rattle.std.specs.Prelude.{◌≡◌, ◌+◌, ◌-◌, ◌^◌, ◌<◌, ◌≤◌, ◌++◌, IfOk, OnOk, length, option_map};
 ghost use Rattle.std.specs.List.{AllByRecursion};
 ghost use Rattle.std.specs.Option.{ForSome};
@@ -12,8 +13,8 @@ use crate::code::{Code, SplitFault};
 use crate::cut::{first_field, front_of, tail_of};
 use std::alloc::{AllocError, Global};
 
-/// A part of a line as it is written: its bytes, the place of the first of them in the line, and the
-/// place after the last.
+/// A part of a line as it is written: its bytes, the index in bytes of the first of them in the
+/// line, and the index after the last.
 #[derive(Clone, Copy, Debug, PartialEq, Eq)]
 pub struct Part<'a> {
     pub text: &'a [u8],
@@ -74,7 +75,7 @@ fn parts_of<'a>(alloc: Global, line: &'a [u8]) -> Result<Vec<Part<'a>>, SplitFau
 }
 
 /// The name, the file, the address and each field of a tag's line, as written and in order, or the
-/// least of T04 and T06. The other codes aren't asked: tags(5), "Proposal".
+/// least of T04 and T06. The other codes aren't checked: tags(5), "Proposal".
 pub fn split<'a>(alloc: Global, line: &'a [u8]) -> Result<Vec<Part<'a>>, SplitFault>
     // The parts of the one cut that the grammar has.
     ensures cut { Splits (result_map (λ parts. part_values parts.items) result) line.now }

@@ -1,4 +1,5 @@
-//! The reader of a tags file whose tags are kept, for uploads. One that only counts them is in `checker.rt`. `specs/States`.
+//! The reader of a tags file that keeps the tags, for uploads. One that only counts them is in
+//! `checker.rt`. `specs/States`.
 ghost use Rattle.std.specs.Prelude.{◌≡◌, ◌++◌, ◌∷◌, ◌<◌, [], vec_capacity, vec_len};
 ghost use Rattle.tags.specs.Faults.{result_map};
 ghost use Rattle.tags.specs.Fault.{Reading};
@@ -49,7 +50,7 @@ impl TagReader {
     ghost use Rattle.tags.specs.States.{Finishes, Tells, listed, next, start};
     ghost use Rattle.tags.specs.Views.{tag_values};
 
-    /// A reader of no line yet.
+    /// A reader that has seen no line.
     pub fn new(alloc: Global) -> TagReader
         ensures { result ≡ start [] }
     {
@@ -77,9 +78,10 @@ impl TagReader {
         Ok(())
     }
 
-    /// Takes the next line without its LF, or T01 where it was too long to be lent. `ended` says whether an
-    /// LF follows, and is false for the last line alone. After a fault of a line it answers that fault for
-    /// good; where memory runs out the line has no fault, and the reader is as before.
+    /// Takes the next line without its LF, or T01 where it was longer than a line may be. `ended`
+    /// says whether an LF follows, and is false for the last line alone. After a fault of a line it
+    /// returns that fault for good. Where memory runs out the line has no fault, and the reader is
+    /// as before.
     pub fn feed(&mut self, line: Result<&[u8], Code>, ended: bool) -> Result<(), TagsFault>
         ensures { (reading : Reading) → IsHanded (result_map (λ bytes. bytes.now) line.entry) ended reading
             → Tells result self.old self.new (next listed self.old reading) }
@@ -97,8 +99,8 @@ impl TagReader {
     }
 }
 
-/// The tags of a text, each with its line's number, or the first line that is faulty with the least code
-/// that holds of it.
+/// The tags of a text, each with its line's number, or the first line that is faulty with the least
+/// code that holds of it.
 pub fn read_tags(alloc: Global, text: &[u8]) -> Result<Vec<Tag>, TagsFault>
     ensures { Answers (result_map (λ tags. tags.items) result) text.now }
 {

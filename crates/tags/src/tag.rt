@@ -1,4 +1,5 @@
-//! A tag, and how it's made of the cut of its line.
+//! A tag, and how it's made of the parts of its line. Escapes are decoded here, once the line has
+//! no fault.
 ghost use Rattle.std.specs.Prelude.{◌≡◌, IfOk};
 ghost use Rattle.tags.specs.Steps.Contents.{IsCut};
 ghost use Rattle.tags.specs.Values.{EntryValue, numbered};

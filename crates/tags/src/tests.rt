@@ -6,8 +6,8 @@ use crate::{
 use std::alloc::{AllocError, Global};
 use std::test::Fail;
 
-/// Texts, and the number of their tags, or the first faulty line and its code. `␉` stands for a tab, `␊` for LF, `␍` for
-/// CR and `␡` for DEL.
+/// Texts, and the number of their tags, or the first faulty line and its code. `␉` represents a
+/// tab, `␊` LF, `␍` CR and `␡` DEL.
 const TEXTS: &str = r#"
  => 0
 x␉f.c␉1␍␊ => 1
@@ -113,7 +113,7 @@ fn verdict(alloc: Global, text: &str) -> Result<String, AllocError> {
     }
 }
 
-/// The text that a row's signs stand for.
+/// The text that a row's signs represent.
 fn text_of(alloc: Global, signs: &str) -> Result<String, AllocError> {
     let mut text = String::new(alloc);
     for sign in signs.chars() {
@@ -162,7 +162,8 @@ fn not_utf_8(rt: HostRuntime) {
     assert_eq!(rt; found, Some(LineFault { line: 2, code }));
 }
 
-/// Adds a tag as a line: its line's number, name, file, address and kind, which is `-` where there's none, and its fields.
+/// Adds a tag as a line: its line's number, name, file, address and kind, which is `-` where
+/// there's none, and its fields.
 fn push_tag(alloc: Global, text: &mut String, tag: &Tag) -> Result<(), AllocError> {
     let (line, name, file) = (tag.line, tag.name.as_str(), tag.file.as_str());
     let (address, kind) = (tag.address.as_str(), tag.kind.as_deref().unwrap_or("-"));
@@ -208,7 +209,7 @@ fn escapes(rt: HostRuntime) -> Result<(), Fail> {
     Ok(())
 }
 
-/// What stands first, and then 69 fields, each behind a separator.
+/// The first text, and then 69 fields, each after a separator.
 fn fields(alloc: Global, first: &str, separator: char) -> Result<String, AllocError> {
     let mut text = String::from_str(alloc, first)?;
     for number in 0..69 {
@@ -259,7 +260,8 @@ fn over_in_a_reader(alloc: Global) -> Result<[Option<LineFault>; 3], TagsFault> 
     Ok([more, too_long, line_fault(reader.finish().err())])
 }
 
-/// What a checker of 100,000 lines, the last a tag, says of one more, of one that is too long, and at the end.
+/// What a checker of 100,000 lines, the last a tag, says of one more, of one that is too long, and
+/// at the end.
 fn over_in_a_checker(alloc: Global) -> Result<[Option<LineFault>; 3], TagsFault> {
     let mut checker = TagChecker::new(alloc);
     feed_checker(&mut checker, 99999)?;

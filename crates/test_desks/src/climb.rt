@@ -8,7 +8,8 @@ use sqlite::Alter;
 use std::alloc::Global;
 use std::test::Fail;
 
-/// Rows that ask a desk over tables, what the store's rows are then changed to, where they are, and the status and the body of the reply.
+/// Rows that ask a desk over tables, what the store's rows are then changed to, where they are, and
+/// the status and the body of the reply.
 const ROWS: &[(&str, &str, &str)] = &[
     (
         "definition app file:///n.ts 0:6",
@@ -55,7 +56,8 @@ fn changed<S: Alter + Drop>(
     Ok(TableDesk::new(alloc, opened(conn)?))
 }
 
-/// The reply to the request of a row, over the tables of a new desk in which this statement was run once there is a dump.
+/// The reply to the request of a row, over the tables of a new desk in which this statement was run
+/// once there is a dump.
 fn found<S: Alter + Drop>(
     alloc: Global,
     mut desk: TableDesk<S>,
@@ -79,7 +81,8 @@ fn climb(rt: HostRuntime) -> Result<(), Fail> {
     Ok(())
 }
 
-/// The reply to a query for the definition at the innermost range of a dump, where the desk is given the dump first.
+/// The reply to a query for the definition at the innermost range of a dump, where the desk is
+/// given the dump first.
 fn deepest<D: Desk>(alloc: Global, desk: &mut D, dump: &str) -> Result<String, Fail> {
     let upload = command(alloc, "put", "app k1 1", dump.as_bytes())?;
     let accepted = desk.apply(&upload);

@@ -2,8 +2,8 @@
 
 /// What the desk answers to commands, and what it lists then. A comment says what each list shows.
 pub(super) const SCENARIOS: &[&str] = &[
-    // The same key again has its reply again, whatever its body, and changes nothing; another project's key is
-    // another.
+    // The same key again has its reply again, whatever its body, and changes nothing; another
+    // project's key is another.
     r#"put app k1 1 base
 200 {"accepted":"lsif","count":11}
 put app k2 1 base | 3 range 0:5 0:7
@@ -88,8 +88,8 @@ put app k5 1 base
 200 {"accepted":"lsif","count":11}
 projects
 200 {"projects":[{"dump":true,"name":"app","tags":false}]}"#,
-    // An empty tags file is a part. Tags leave the dump, and a dump leaves the tags. Projects are listed by their
-    // names.
+    // An empty tags file is a part. Tags leave the dump, and a dump leaves the tags. Projects are
+    // listed by their names.
     r#"projects
 200 {"projects":[]}
 tags lib k1 -
@@ -139,7 +139,8 @@ prefix abc
 200 {"tags":[]}
 names
 200 {"tags":[]}"#,
-    // A line of the same name again is another tag. Names are ordered by bytes, so capitals come first.
+    // A line of the same name again is another tag. Names are ordered by bytes, so capitals come
+    // first.
     r#"tags app k1 b␉f.c␉1␊B␉f.c␉2␊b␉f.c␉3␊
 200 {"accepted":"tags","count":3}
 names b

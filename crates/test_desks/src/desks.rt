@@ -1,5 +1,6 @@
-//! The tests of `desk`, over its public calls alone: requests to desks with their replies, and each of its functions called once. They stand here, since a
-//! crate with tests of its own is proved twice by the gate.
+//! The tests of `desk`, over its public calls alone: requests to desks with their replies, and each
+//! of its functions called once. They are here, since a crate with tests of its own is proved twice
+//! by the gate.
 use crate::asserts::expect_equal_text;
 use crate::{commands, joins, queries};
 use desk::{
@@ -21,7 +22,7 @@ pub(crate) fn cut(text: &'static str) -> (&'static str, &'static str) {
     text.split_once(' ').unwrap_or((text, ""))
 }
 
-/// The tags file that is written in short: `␉` stands for a tab, `␍` for CR, `␊` for LF and `-` for no text.
+/// The tags file that is written in short: `␉` represents a tab, `␍` CR, `␊` LF and `-` no text.
 fn tags_text(alloc: Global, short: &str) -> Result<String, Fail> {
     let mut text = String::new(alloc);
     for sign in short.chars() {
@@ -40,8 +41,9 @@ fn tags_text(alloc: Global, short: &str) -> Result<String, Fail> {
 /// - `put PROJECT KEY PROFILE DUMP`;
 /// - `tags PROJECT KEY TEXT`, a tags file in short;
 /// - `remove PROJECT KEY`;
-/// - `definition PROJECT URL LINE:CHARACTER`, and `references`, `hover`, `declaration` and `implementation` in the same way,
-///   with `no` at the end of references where the declaration isn't asked for;
+/// - `definition PROJECT URL LINE:CHARACTER`, and `references`, `hover`, `declaration` and
+///   `implementation` in the same way, with `no` at the end of references where the declaration
+///   isn't asked for;
 /// - `names` or `prefix` with a text and, where one is asked for, a project;
 /// - `projects`, and `profile PROJECT`.
 pub(crate) fn upload(alloc: Global, row: &'static str) -> Result<String, Fail> {
@@ -204,7 +206,8 @@ pub(crate) fn table_desk(alloc: Global) -> Result<TableDesk<MemStore>, Fail> {
     Ok(TableDesk::new(alloc, opened(Connection::open_in_memory(alloc)?)?))
 }
 
-/// Asserts the replies of new desks, one that keeps dumps in memory and one over tables: below each row stand the status and the body of its reply.
+/// Asserts the replies of new desks, one that keeps dumps in memory and one over tables: below each
+/// row are the status and the body of its reply.
 pub(crate) fn expect_replies<R: AllocGlobal + Abort>(
     rt: &R,
     scenario: &'static str,
@@ -262,7 +265,8 @@ pub(crate) fn requests<'a>(
     Ok(requests)
 }
 
-/// The statuses and the bodies of the replies of a new desk to these requests, which are run together, one a line.
+/// The statuses and the bodies of the replies of a new desk to these requests, which are run
+/// together, one a line.
 fn run_all(alloc: Global, requests: &[Request<'_>]) -> Result<String, Fail> {
     let Ok(replies) = run(alloc, &mut PlainDesk::new(alloc), requests) else {
         return Err(Fail::from("out of memory"));

@@ -1,4 +1,5 @@
-//! Names, keys, URLs and numbers as they are read; codes and their replies; and what a command is of.
+//! Names, keys, URLs and numbers as they are read; codes and their replies; and what a command is
+//! of.
 use crate::asserts::expect_equal_text;
 use crate::desks::{project, text_of};
 use desk::{Code, Command, DocUri, Key, ProjectName, Reply, read_number};
@@ -26,7 +27,8 @@ fn refusal(alloc: Global, code: Code) -> Result<String, Fail> {
     Ok(format!(in alloc; "{}, {}", code.status(), text?)?)
 }
 
-/// The project and the key of a command, the numbers of the profiles, and the statuses of the codes and the replies that they refuse with.
+/// The project and the key of a command, the numbers of the profiles, and the statuses of the codes
+/// and the replies that they refuse with.
 fn found_texts(alloc: Global) -> Result<String, Fail> {
     let (one, two) = (profile_number(Profile::One), profile_number(Profile::Two));
     let mut found = format!(in alloc; "{}\n{one} {two}\n", words_of_a_command(alloc)?)?;
@@ -52,7 +54,8 @@ fn replies_of_codes(rt: HostRuntime) -> Result<(), Fail> {
     Ok(())
 }
 
-/// Texts, and what they are read as: a project's name, a key, a document's URL or a number; `-` where they are none.
+/// Texts, and what they are read as: a project's name, a key, a document's URL or a number; `-`
+/// where they are none.
 const FORMS: &str =
     "project abcdefghijklmnopqrstuvwxyz0123456789_-abcdefghijklmnopqrstuvwxyz => abcdefghijklmnopqrstuvwxyz0123456789_-abcdefghijklmnopqrstuvwxyz
 project abcdefghijklmnopqrstuvwxyz0123456789_-abcdefghijklmnopqrstuvwxyza => -

@@ -1,9 +1,10 @@
 //! Queries at positions that other projects answer, too.
 
-/// Dumps of several projects, and what the desk answers of them. A comment says which rule each list shows.
+/// Dumps of several projects, and what the desk answers of them. A comment says which rule each
+/// list shows.
 pub(super) const SCENARIOS: &[&str] = &[
-    // An import joins the export of its key in each other project, in the order of their names, until that project is
-    // removed. Its own project is listed where its name stands.
+    // An import joins the export of its key in each other project, in the order of their names,
+    // until that project is removed. Its own project is listed in that order too.
     r#"put app k1 1 import
 200 {"accepted":"lsif","count":8}
 definition app file:///app.ts 1:0
@@ -39,8 +40,8 @@ remove lib d1
 200 {"removed":true}
 definition app file:///app.ts 1:0
 200 {"places":[]}"#,
-    // The key is the scheme, the identifier and the package, if any: its manager, its name and its version, of which
-    // a missing one is the empty text. All of it is compared.
+    // The key is the scheme, the identifier and the package, if any: its manager, its name and its
+    // version, of which a missing one is the empty text. All of it is compared.
     r#"put app k1 1 import
 200 {"accepted":"lsif","count":8}
 put lib k1 1 export | 5 packageInformation npm lib 1.0.1
@@ -83,10 +84,10 @@ put lib k8 1 export | 5 packageInformation 'manager':'npm','name':'lib','version
 200 {"accepted":"lsif","count":11}
 definition app file:///app.ts 1:0
 200 {"places":[{"end":{"character":10,"line":0},"project":"lib","start":{"character":9,"line":0},"uri":"file:///lib.ts"}]}"#,
-    // For a definition an import joins an export alone. For references both join both, since the kind isn't part of
-    // the key. A local moniker joins nothing on either side, but marks are those of all monikers that are attached,
-    // either way, to one along the range's chain. A vertex of the project itself isn't joined: line 1 of the caller
-    // exports what line 0 imports.
+    // For a definition an import joins an export alone. For references both join both, since the
+    // kind isn't part of the key. A local moniker joins nothing on either side, but marks are those
+    // of all monikers that are attached, either way, to one along the range's chain. A vertex of
+    // the project itself isn't joined: line 1 of the caller exports what line 0 imports.
     r#"put app k1 1 caller
 200 {"accepted":"lsif","count":39}
 definition app file:///app.ts 0:0
@@ -123,8 +124,9 @@ definition app file:///app.ts 6:0
 200 {"places":[{"end":{"character":1,"line":0},"project":"lib","start":{"character":0,"line":0},"uri":"file:///lib.ts"}]}
 references app file:///app.ts 6:0
 200 {"places":[{"end":{"character":1,"line":0},"project":"lib","start":{"character":0,"line":0},"uri":"file:///lib.ts"},{"end":{"character":1,"line":1},"project":"lib","start":{"character":0,"line":1},"uri":"file:///lib.ts"}]}"#,
-    // The same from the other side: an import finds the caller's definition, and for references an export finds the
-    // caller's export, too. A range's marks are those along its chain, so the range of line 4 has one.
+    // The same from the other side: an import finds the caller's definition, and for references an
+    // export finds the caller's export, too. A range's marks are those along its chain, so the
+    // range of line 4 has one.
     r#"put app k1 1 caller
 200 {"accepted":"lsif","count":39}
 put lib k1 1 called
@@ -143,9 +145,9 @@ references lib file:///lib.ts 3:0
 200 {"places":[{"end":{"character":1,"line":3},"project":"lib","start":{"character":0,"line":3},"uri":"file:///lib.ts"}]}
 references lib file:///lib.ts 4:0
 200 {"places":[{"end":{"character":1,"line":1},"project":"app","start":{"character":0,"line":1},"uri":"file:///app.ts"},{"end":{"character":1,"line":4},"project":"lib","start":{"character":0,"line":4},"uri":"file:///lib.ts"}]}"#,
-    // A bearer's marks are those of its own moniker edges, so range 3, whose chain leads to the moniker's vertex,
-    // isn't joined, and its result isn't that vertex's. But the bearer's first result is that along its chain, and of
-    // two results along it the first.
+    // A bearer's marks are those of its own moniker edges, so range 3, whose chain leads to the
+    // moniker's vertex, isn't joined, and its result isn't that vertex's. But the bearer's first
+    // result is that along its chain, and of two results along it the first.
     r#"put app k1 1 import
 200 {"accepted":"lsif","count":8}
 put lib k1 1 export | 6 note | 8 resultSet | 9 definitionResult | 10 next 3>8 | 12 textDocument/definition 3>9 | 13 item 9>[3] @2 | 14 moniker 8>4
@@ -160,8 +162,8 @@ put lib k3 1 export | 10 note | 12 resultSet | 13 next 3>12 | 14 definitionResul
 200 {"accepted":"lsif","count":16}
 definition app file:///app.ts 1:0
 200 {"places":[]}"#,
-    // A bearer's marks go over attached monikers: here a local moniker, to which an export is attached by way of
-    // another local one.
+    // A bearer's marks go over attached monikers: here a local moniker, to which an export is
+    // attached by way of another local one.
     r#"put app k1 1 import
 200 {"accepted":"lsif","count":8}
 put lib k1 1 export | 12 moniker local tsc a | 13 moniker local tsc b | 6 note | 14 moniker 3>12 | 15 attach 13>12 | 16 attach 13>4
@@ -183,8 +185,8 @@ references app file:///app.ts 1:0 no
 200 {"places":[{"end":{"character":1,"line":1},"project":"lib","start":{"character":0,"line":1},"uri":"file:///r.ts"},{"end":{"character":1,"line":2},"project":"lib","start":{"character":0,"line":2},"uri":"file:///r.ts"}]}
 definition app file:///app.ts 1:0
 200 {"places":[]}"#,
-    // Contents are the range's own, else those of the first bearer in the order of projects and lines that has any.
-    // Bearers without contents are passed by, and a project that has only such.
+    // Contents are the range's own, else those of the first bearer in the order of projects and
+    // lines that has any. Bearers without contents are passed by, and a project that has only such.
     r#"put app k1 1 import
 200 {"accepted":"lsif","count":8}
 hover app file:///app.ts 1:0
@@ -239,8 +241,8 @@ put lib k2 1 export | 10 note
 200 {"accepted":"lsif","count":11}
 definition app file:///app.ts 1:0
 200 {"places":[]}"#,
-    // The keys of a range that imports and exports by way of one result set: the import joins for each request, the
-    // export for references alone. The other range joins neither of them.
+    // The keys of a range that imports and exports by way of one result set: the import joins for
+    // each request, the export for references alone. The other range joins neither of them.
     r#"put app k1 1 importing
 200 {"accepted":"lsif","count":17}
 put lib k1 1 exporting

@@ -1,4 +1,5 @@
-//! Each list of four requests, and so each shorter one: it's the beginning of others. Both desks give the same replies.
+//! Each list of four requests, and so each shorter one: it's the beginning of others. Both desks
+//! give the same replies.
 use crate::asserts::expect_equal;
 use crate::desks::{requests, served, table_desk, uploads};
 use desk::{Desk, PlainDesk, Request, TableDesk};
@@ -7,7 +8,8 @@ use sqlite::Alter;
 use std::process::Abort;
 use std::test::Fail;
 
-/// The commands, each kind with both keys; then a query at a position, and the list of the projects.
+/// The commands, each kind with both keys; then a query at a position, and the list of the
+/// projects.
 const ROWS: &str = "put app k1 1 base
 put app k2 1 base
 put app k1 1 base | 11 -
@@ -56,7 +58,8 @@ const REPLIES: &[&str] = &[
     r#"200 {"projects":[{"dump":true,"name":"app","tags":true}]}"#,
 ];
 
-/// What a project has: a dump, tags, and under each of the two keys the number of the reply that is kept.
+/// What a project has: a dump, tags, and under each of the two keys the number of the reply that is
+/// kept.
 #[derive(Clone, Copy)]
 struct Known {
     dump: bool,
@@ -95,8 +98,8 @@ fn act(known: &mut Known, kind: usize) -> usize {
     }
 }
 
-/// What answers a command: the kept reply and nothing else, where its key is kept. Else what it does; and the key is kept,
-/// where it isn't refused.
+/// What answers a command: the kept reply and nothing else, where its key is kept. Else what it
+/// does; and the key is kept, where it isn't refused.
 fn command(known: &mut Known, kind: usize, key: usize) -> usize {
     if let Some(Some(kept)) = known.kept.get(key) {
         return *kept;
@@ -175,7 +178,8 @@ fn expect_both<R: AllocGlobal + Abort>(
     expect_list_of_tables(rt, &mut desk, requests, rows)
 }
 
-/// Asserts the replies of both desks to the lists of four of the first nine rows that begin with this one, each with the list of the projects behind it.
+/// Asserts the replies of both desks to the lists of four of the first nine rows that begin with
+/// this one, each with the list of the projects after it.
 fn expect_lists<R: AllocGlobal + Abort>(rt: &R, first: usize) -> Result<(), Fail> {
     let uploads = uploads(rt.alloc(), ROWS)?;
     let requests = requests(rt.alloc(), ROWS, &uploads)?;

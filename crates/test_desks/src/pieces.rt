@@ -70,7 +70,8 @@ fn first_reply_in_pieces(
     reply_in_pieces(alloc, &mut PlainDesk::new(alloc), row, body, first, most)
 }
 
-/// Asserts the reply of a new desk to a body that is cut at each byte, and that comes in pieces of 1, 2 and 7 bytes.
+/// Asserts the reply of a new desk to a body that is cut at each byte, and that comes in pieces of
+/// 1, 2 and 7 bytes.
 fn expect_reply<R: AllocGlobal + Abort>(
     rt: &R,
     row: &'static str,
@@ -219,7 +220,8 @@ fn held_bytes_and_kept_keys(rt: HostRuntime) -> Result<(), Fail> {
     expect_kept(&rt)
 }
 
-/// Asserts the reply of a new desk to a large body that comes in pieces of 8,192 bytes: a text, and what is behind it.
+/// Asserts the reply of a new desk to a large body that comes in pieces of 8,192 bytes: a text, and
+/// what is after it.
 fn expect_large<R: AllocGlobal + Abort>(
     rt: &R,
     row: &'static str,

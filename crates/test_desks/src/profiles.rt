@@ -4,7 +4,8 @@ use std::test::Fail;
 
 /// Puts in a profile, and what the desk answers of them. A comment says what each list shows.
 const SCENARIOS: &[&str] = &[
-    // Declarations and implementations are results in profile 2 alone. In profile 1 their labels have no effect.
+    // Declarations and implementations are results in profile 2 alone. In profile 1 their labels
+    // have no effect.
     r#"put app k1 1 declared
 200 {"accepted":"lsif","count":12}
 profile app
@@ -61,7 +62,8 @@ put lib k3 1 export | 8 declarationResult | 9 textDocument/declaration 3>8
 200 {"accepted":"lsif","count":11}
 declaration app file:///app.ts 1:0
 200 {"places":[]}"#,
-    // A range with a moniker has both a declaration and an implementation. Then a result set with two monikers has a declaration.
+    // A range with a moniker has both a declaration and an implementation. Then a result set with
+    // two monikers has a declaration.
     r#"put app k1 1 import
 200 {"accepted":"lsif","count":8}
 put lib k1 2 export | 8 declarationResult | 9 textDocument/declaration 3>8 | 12 implementationResult | 13 textDocument/implementation 3>12 | 14 item 12>[3] @2
@@ -74,7 +76,8 @@ put lib k2 2 export | 6 note | 8 resultSet | 9 declarationResult | 10 next 3>8 |
 200 {"accepted":"lsif","count":16}
 declaration app file:///app.ts 1:0
 200 {"places":[{"end":{"character":10,"line":0},"project":"lib","start":{"character":9,"line":0},"uri":"file:///lib.ts"}]}"#,
-    // A dump keeps its profile until another one is put, and a kept key is answered whatever the profile.
+    // A dump keeps its profile until another one is put, and a kept key is answered whatever the
+    // profile.
     r#"put app k1 2 declared
 200 {"accepted":"lsif","count":12}
 put lib k1 1 base

@@ -2,8 +2,8 @@
 
 /// What the desk answers to queries at positions. A comment says what each list shows.
 pub(super) const SCENARIOS: &[&str] = &[
-    // Faulty bodies change nothing. The first faulty line is named, and a fault of a line goes before those of the
-    // whole dump.
+    // Faulty bodies change nothing. The first faulty line is named, and a fault of a line goes
+    // before those of the whole dump.
     r#"put app k1 1 nothing
 422 {"fault":"L06","line":1,"text":"metaData missing, wrong or repeated"}
 put app k1 1 base | 8 #9 textDocument/definition 5>8 | 9 #8 definitionResult
@@ -24,8 +24,8 @@ definition app file:///a.ts 2:1
 404 {"fault":"D01","text":"project has no dump"}
 put app k1 1 base | 1 #9007199254740991 metaData 0.6.0
 200 {"accepted":"lsif","count":11}"#,
-    // Both ranges are defined at the first, by way of a result set. An end is exclusive, and positions go up to the
-    // greatest number.
+    // Both ranges are defined at the first, by way of a result set. An end is exclusive, and
+    // positions go up to the greatest number.
     r#"put app k1 1 base
 200 {"accepted":"lsif","count":11}
 definition app file:///a.ts 2:1
@@ -45,7 +45,8 @@ definition app file:///a.ts 2147483647:2147483647
 200 {"accepted":"lsif","count":11}
 definition app file:///a.ts 2:1
 200 {"places":[{"end":{"character":4,"line":0},"project":"app","start":{"character":4,"line":0},"uri":"file:///a.ts"}]}"#,
-    // Only the last accepted dump answers, by the innermost range that has a result. An empty range covers nothing.
+    // Only the last accepted dump answers, by the innermost range that has a result. An empty range
+    // covers nothing.
     r#"put app k1 1 nested
 200 {"accepted":"lsif","count":8}
 definition app file:///n.ts 0:6
@@ -62,9 +63,9 @@ definition app file:///u.ts 0:9
 200 {"places":[]}
 definition app file:///n.ts 0:6
 404 {"fault":"D02","text":"no such document"}"#,
-    // The ranges of the document that cover are tried from the innermost outward. Here the innermost and the
-    // outermost have a definition, the one between them has references, and the outermost has contents. An empty
-    // range has contents that nothing shows.
+    // The ranges of the document that cover are tried from the innermost outward. Here the
+    // innermost and the outermost have a definition, the one between them has references, and the
+    // outermost has contents. An empty range has contents that nothing shows.
     r#"put app k1 1 covering
 200 {"accepted":"lsif","count":25}
 definition app file:///n.ts 0:4
@@ -91,7 +92,7 @@ hover app file:///n.ts 0:6
 200 {"contents":"outer"}
 hover app file:///o.ts 0:6
 200 {"contents":"other"}"#,
-    // The first result along a chain counts, and an empty result speaks too.
+    // The first result along a chain counts, even an empty one.
     r#"put app k1 1 chained
 200 {"accepted":"lsif","count":18}
 definition app file:///c.ts 0:3
@@ -124,8 +125,8 @@ references app file:///c.ts 0:0
 200 {"places":[]}
 definition app file:///c.ts 1:0
 200 {"places":[]}"#,
-    // The closure goes over three levels and back to the first, and to no result that isn't named. Without the edge
-    // back, only what lies ahead is reached.
+    // The closure follows three levels and leads back to the first, and to no result that isn't
+    // named. Without the edge back, only what lies ahead is reached.
     r#"put app k1 1 levels
 200 {"accepted":"lsif","count":20}
 references app file:///r.ts 0:0 yes
@@ -173,8 +174,9 @@ put app k7 1 hovered | 4 hoverResult {"kind":"html","value":"f"}
 422 {"fault":"L07","line":4,"text":"bad vertex member"}
 hover app file:///h.ts 0:0
 200 {"contents":[]}"#,
-    // An import mark speaks for each request, an export mark for references alone, a local one for none; and an empty
-    // result speaks for its own request. Where no range inside speaks, the one around it answers.
+    // An import mark answers each request, an export mark for references alone, a local one for
+    // none; and an empty result answers its own request. Where no range inside has an answer, the
+    // one around it answers.
     r#"put app k1 1 speaking
 200 {"accepted":"lsif","count":32}
 definition app file:///s.ts 0:0
@@ -223,7 +225,8 @@ definition app x:a"b 0:4
 200 {"accepted":"lsif","count":2}
 definition app FILE:///a.ts 0:0
 200 {"places":[]}"#,
-    // A query of a project without a dump is refused, with tags too; then one of a document that the dump hasn't.
+    // A query of a project without a dump is refused, with tags too; then one of a document that
+    // the dump hasn't.
     r#"definition app file:///a.ts 0:4
 404 {"fault":"D01","text":"project has no dump"}
 references app file:///a.ts 0:4

@@ -1,5 +1,6 @@
-//! Dumps that are fed or read, the faults that are answered for good, and what is asked of a checked dump. Reports of dumps of each label and each fault are in
-//! `labels` and `faults`.
+//! Dumps that are fed or read, the faults that are returned for good, and the look-ups of a checked
+//! dump. Reports of dumps of each label and each fault are in the crate `codenav`
+//! (`tests/labels.rt`, `tests/faults.rt`).
 mod requests;
 mod spans;
 
@@ -19,7 +20,8 @@ const META_DATA: &str = r#"{"id":1,"type":"vertex","label":"metaData","version":
 
 const DOCUMENT: &str = r#"{"id":2,"type":"vertex","label":"document","uri":"file:///a.ts"}"#;
 
-/// What is answered for an element, a fault of shape, another element and a line that is too long, and at the end; and at the end of no line.
+/// What is answered for an element, a fault of shape, another element and a line that is too long,
+/// and at the end; and at the end of no line.
 const FED: &str =
     "[Ok(()), Err(Line(LineFault { line: 2, code: L02 })), Err(Line(LineFault { line: 2, code: L02 })), Err(Line(LineFault { line: 2, code: L02 }))] \
 Some(Line(LineFault { line: 2, code: L02 })) Some(Line(LineFault { line: 1, code: L06 }))";
@@ -87,8 +89,8 @@ fn fed_and_read_dumps(rt: HostRuntime) -> Result<(), Fail> {
     Ok(())
 }
 
-/// A dump with answers to all that is asked. Range 3 begins a chain of 5 and 6, of which either has results. The last `contains` edge is the element of line
-/// 23.
+/// A dump with answers to all that is asked. Range 3 begins a chain of 5 and 6, of which either has
+/// results. The last `contains` edge is the element of line 23.
 const FULL: &str = r#"metaData 0.6.0
 document file:///a.ts
 range 0:4 0:7
@@ -132,7 +134,8 @@ const REQUESTS: &[RequestKind] = &[
     RequestKind::Implementation,
 ];
 
-/// Of this vertex the first result for each request along its chain, and its package; what its `next` edge leads to; and the results that it has itself.
+/// Of this vertex the first result for each request along its chain, and its package; what its
+/// `next` edge leads to; and the results that it has itself.
 fn found_of(alloc: Global, dump: &CheckedDump, vertex: u64) -> Result<String, Fail> {
     let id = Id::Number(vertex);
     let mut found = format!(in alloc; "{vertex}:")?;
@@ -177,8 +180,9 @@ fn kind(dump: &CheckedDump, id: u64) -> &'static str {
     }
 }
 
-/// The kinds of a document, a range and an edge; whether the range is in the document, and the document in the range; the document that contains the
-/// range; and the documents of two serialized URLs, and of one that no document has.
+/// The kinds of a document, a range and an edge; whether the range is in the document, and the
+/// document in the range; the document that contains the range; and the documents of two serialized
+/// URLs, and of one that no document has.
 fn kinds_and_documents(alloc: Global, dump: &CheckedDump) -> Result<String, Fail> {
     let (document, range) = (IdRef::Number(2), IdRef::Number(3));
     let (inside, around) = (dump.is_in(document, range), dump.is_in(range, document));
@@ -221,7 +225,8 @@ fn look_ups(rt: HostRuntime) -> Result<(), Fail> {
     Ok(())
 }
 
-/// A dump of vertices and an edge whose ids are numbers and texts. Numbers below 131072 have a slot in the table of ids.
+/// A dump of vertices and an edge whose ids are numbers and texts. Numbers below 131072 have a slot
+/// in the table of ids.
 const IDS: &str = "#3 metaData 0.6.0
 #0 resultSet
 #131071 resultSet
@@ -232,7 +237,7 @@ const IDS: &str = "#3 metaData 0.6.0
 #'x' resultSet
 #7 next 0>131071";
 
-/// Ids, a text behind a quotation mark, and the index of the element that has each.
+/// Ids, a text after a quotation mark, and the index of the element that has each.
 const INDEXES: &[(&str, Option<u32>)] = &[
     ("3", Some(0)),
     ("0", Some(1)),

@@ -1,4 +1,5 @@
-//! What is read of lines, lines of readers and of texts in pieces, and readers and writers under their counts.
+//! What is read of lines, lines of readers and of texts in pieces, and readers and writers under
+//! their counts.
 mod cutter;
 mod ends;
 mod lines;

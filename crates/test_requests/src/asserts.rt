@@ -1,7 +1,9 @@
-//! Asserts. An `assert_eq!` is proved where it stands, which takes seconds each time; a call of one of these isn't.
+//! Asserts. An `assert_eq!` is proved at each place where it's used, which takes seconds each time;
+//! a call of one of these isn't.
 use std::process::Abort;
 
-/// Asserts that the text that is found is the one that is wanted; the name of its row is printed where it isn't.
+/// Asserts that the text that is found is the one that is wanted; the name of its row is printed
+/// where it isn't.
 pub(crate) fn expect_equal_text<R: Abort>(rt: &R, found: &str, wanted: &str, row: &str) {
     assert_eq!(rt; found, wanted, "{row}");
 }

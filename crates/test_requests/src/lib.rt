@@ -1,4 +1,5 @@
-//! Tests of `http_edge` over its public calls: what request lines ask of a desk, and the routes of paths.
+//! Tests of `http_edge` over its public calls: what request lines ask of a desk, and the routes of
+//! paths.
 #![tactic(auto)]
 
 #[cfg(test)]

@@ -1,4 +1,5 @@
-//! What request lines ask of a desk, and the routes of paths. In a table's row `=>` comes before what is asked.
+//! What request lines ask of a desk, and the routes of paths. In a table's row `=>` comes before
+//! what is asked.
 ghost use Rattle.std.specs.Prelude.{◌≡◌, is_err, true};
 
 use crate::asserts::expect_equal_text;
@@ -93,8 +94,9 @@ name=a&project= => D03
 name=a&project=zed&project=zed => D03
 "#;
 
-/// Paths, each behind the method that its route takes, where it has one; and what is asked with all parameters. A segment is what stands between two slashes
-/// (RFC 3986, section 3.3), and its escapes stay as they are.
+/// Paths, each after the method that its route takes, where it has one; and what is asked with all
+/// parameters. A segment is the text between two slashes (RFC 3986, section 3.3), and its escapes
+/// stay as they are.
 const ROUTES: &str = r#"
 PUT /projects/app/lsif => L06
 PUT /projects/app/tags => tags app k1
@@ -219,7 +221,8 @@ fn query_text(alloc: Global, query: &Query) -> Result<String, AllocError> {
     }
 }
 
-/// What is asked of a desk by an upload, as tables write it. An empty dump is refused. Where the upload met want of memory, so does this.
+/// What an upload asks of a desk, as tables write it. An empty dump is refused. Where the upload
+/// lacked memory, so does this.
 fn upload_text(alloc: Global, upload: Upload) -> Result<Reply, AllocError>
     ensures { upload.body.is_out_of_memory ≡ true → is_err result ≡ true }
 {
@@ -234,7 +237,8 @@ fn upload_text(alloc: Global, upload: Upload) -> Result<Reply, AllocError>
     Ok(Reply::made(200, text))
 }
 
-/// A desk that answers each request by what is asked, as tables write it. It keeps nothing, and nothing is said of what it stands for.
+/// A desk that answers each request by what is asked, as tables write it. It keeps nothing, and
+/// promises nothing of what it represents.
 #[derive(Drop)]
 struct Recorder {
     alloc: Global,
@@ -276,7 +280,8 @@ impl Desk for Recorder {
     ghost weaker = { λ _ _ _ _. tt };
 }
 
-/// What a reply says: the code of a refusal, with the method that the route takes; or what is asked.
+/// What a reply says: the code of a refusal, with the method that the route takes; or what is
+/// asked.
 fn said(alloc: Global, reply: &str) -> Result<String, Fail> {
     let (head, body) = parted(reply, "\r\n\r\n")?;
     let Some(fault) = body.strip_prefix("{\"fault\":\"") else {
@@ -310,7 +315,8 @@ fn asked_between(alloc: Global, before: &str, part: &str, behind: &str) -> Resul
     asked(alloc, line.as_str())
 }
 
-/// Asserts what the rows of a table ask, which have these texts before and behind them in the request line.
+/// Asserts what the rows of a table ask, which have these texts before and after them in the
+/// request line.
 fn expect_asked<R: AllocGlobal + Abort>(
     rt: &R,
     before: &str,

@@ -87,7 +87,8 @@ fn push_leading(text: &mut String) -> Result<(), Fail> {
     Ok(())
 }
 
-/// A tenth of the rows that there may be, and more: each of 401 results has the places of all ranges.
+/// A tenth of the rows that there may be, and more: each of 401 results has the places of all
+/// ranges.
 #[test]
 fn great_many_rows(rt: HostRuntime) -> Result<(), Fail> {
     let text = shared(rt.alloc())?;
@@ -102,7 +103,8 @@ fn great_many_items(rt: HostRuntime) -> Result<(), Fail> {
     Ok(())
 }
 
-/// The line of the parent of a range, where each range but the outermost lies in the one before it, or in the one after it.
+/// The line of the parent of a range, where each range but the outermost lies in the one before it,
+/// or in the one after it.
 fn parent_of(row: &RangeRow<'_>, is_falling: bool) -> Option<u32> {
     if is_falling {
         (row.line < 10_002).then_some(row.line.saturating_add(1))

@@ -1,4 +1,5 @@
-//! The rows of a dump by a plain walk: whatever is looked up, all elements are gone over.
+//! The rows of a dump by a plain walk, to compare with those of `flatten`. Whatever is looked up,
+//! all elements are walked; so it's quadratic, for small dumps.
 use dump::{CheckedDump, RequestKind, Role, role_of};
 use flatten::{BearerRow, DocRow, HoverRow, ItemRow, MarkRow, RangeRow, Rows, key_text};
 use lsif::{Edge, Element, IdRef, Ids, MonikerKind, Package, Property, Vertex};
@@ -227,7 +228,8 @@ fn add<'a>(found: &mut Vec<IdRef<'a>>, id: IdRef<'a>) -> Result<(), AllocError> 
     Ok(())
 }
 
-/// Adds what an edge joins to the vertex: an `item` edge with "referenceResults", or an `attach` edge, which is read both ways.
+/// Adds what an edge joins to the vertex: an `item` edge with "referenceResults", or an `attach`
+/// edge, which is read both ways.
 fn add_joined<'a>(
     found: &mut Vec<IdRef<'a>>,
     edge: &'a Edge,
@@ -353,7 +355,8 @@ fn package_of<'a>(elements: &'a [Element], moniker: IdRef<'_>) -> Option<&'a Pac
     }
 }
 
-/// The monikers that the vertex bears: those of its `moniker` edges, and those that are attached to them.
+/// The monikers that the vertex has: those of its `moniker` edges, and those that are attached to
+/// them.
 fn monikers<'a>(
     alloc: Global,
     elements: &'a [Element],
@@ -388,7 +391,7 @@ fn add_keys(
     Ok(())
 }
 
-/// The texts of the keys of this kind that the vertices bear: in order, each once.
+/// The texts of the keys of this kind that the vertices have: in order, each once.
 fn keys_of(
     alloc: Global,
     elements: &[Element],
@@ -438,7 +441,7 @@ fn mark_rows(
     Ok(rows)
 }
 
-/// The row of a vertex of this line that bears the key, and whose chain has these members.
+/// The row of a vertex of this line that has the key, and whose chain has these members.
 fn bearer_row(
     elements: &[Element],
     members: &[IdRef<'_>],

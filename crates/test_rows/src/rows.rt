@@ -10,7 +10,8 @@ use std::alloc::Global;
 use std::process::Abort;
 use std::test::Fail;
 
-/// Two documents; ranges of three levels, and an empty one; a chain of result sets with results and monikers.
+/// Two documents; ranges of three levels, and an empty one; a chain of result sets with results and
+/// monikers.
 const LEVELS: &str = "metaData 0.6.0
 document file:///b.ts
 document file:///a.ts
@@ -44,7 +45,7 @@ item 20>[5] definitions @2
 item 20>[5] references @2
 moniker 13>23";
 
-/// Two ranges whose chains lead to a vertex with a moniker: two marks of one bearer.
+/// Two ranges whose chains lead to a vertex with a moniker: two marks of one vertex.
 const MARKED: &str = "metaData 0.6.0
 document file:///m.ts
 range 0:0 0:1
@@ -64,7 +65,8 @@ moniker local s b
 moniker 2>3
 moniker 2>4";
 
-/// A vertex with a moniker to which another is attached twice: two bearers, and four pairs, since each edge is read both ways.
+/// A vertex with a moniker to which another is attached twice: two bearers, and four pairs, since
+/// each edge is read both ways.
 const ATTACHED: &str = "metaData 0.6.0
 resultSet
 moniker local s a
@@ -158,7 +160,8 @@ fn said(alloc: Global, dump: &str) -> Result<String, Fail> {
     rows_text(alloc, &rows)
 }
 
-/// Asserts that the rows of these dumps are those of a plain walk, in both profiles. What doesn't begin with metaData is none.
+/// Asserts that the rows of these dumps are those of a plain walk, in both profiles. What doesn't
+/// begin with metaData is none.
 fn expect_plain<R: AllocGlobal + Abort>(rt: &R, dumps: &[(&str, &str)]) -> Result<(), Fail> {
     for (name, dump) in dumps {
         if dump.starts_with("metaData") {
@@ -197,7 +200,7 @@ const LIMITS: &[(&str, usize)] = &[
     (JOINED, 4),
 ];
 
-/// Whether the dump of this text is made flat within a limit.
+/// Whether the dump of this text is flattened within a limit.
 fn is_enough(alloc: Global, text: &str, limit: usize) -> Result<bool, Fail> {
     let dump = dump_of(alloc, Profile::One, text)?;
     match flatten_within(alloc, &dump, limit) {
@@ -206,8 +209,9 @@ fn is_enough(alloc: Global, text: &str, limit: usize) -> Result<bool, Fail> {
     }
 }
 
-/// The same where a text of 300 bytes stands behind another: the text of a row counts as two rows more then. Of the first dump it's that of the ranges that
-/// is too much, of the second that of items, and of the others those of marks and of bearers.
+/// The same where a text of 300 bytes comes after another. The text of a row counts as two more
+/// rows then. Of the first dump the ranges are too much, of the second the items, and of the others
+/// the marks and the bearers.
 const LONG: &[(&str, &str, usize)] = &[
     (NESTED, "file:///", 4),
     (RING, "file:///", 18),
@@ -223,7 +227,7 @@ fn expect_enough<R: AllocGlobal + Abort>(rt: &R, text: &str, enough: usize) -> R
     Ok(())
 }
 
-/// The text of a dump where 300 bytes more stand behind each text like this.
+/// The text of a dump where 300 bytes more come after each text like this.
 fn lengthened(alloc: Global, dump: &str, before: &str) -> Result<String, Fail> {
     let behind = "u".repeat(alloc, 300)?;
     let long = format!(in alloc; "{before}{behind}")?;

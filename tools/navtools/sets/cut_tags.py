@@ -24,7 +24,7 @@ class CutTags:
 
 
 def plain(found: re.Match[bytes]) -> bytes:
-    """What an escape stands for (tags(5))."""
+    """What an escape represents (tags(5))."""
     if found[1] is not None:
         return bytes([int(found[1], 16)])
     return bytes([LETTERS.get(found[2][0], found[2][0])])

@@ -272,7 +272,8 @@ class Chains:
         return self.with_own(code, None if bound is None else tuple(bound), found)
 
     def bearers(self) -> set[tuple[int, int]]:
-        """What others find by a mark: the first results of each vertex that bears a moniker, where there is one, and the mark."""
+        """What others find by a mark: the first results of each vertex that has a moniker, where there
+        is one, and the mark."""
         found = set()
         for vertex, marks in self.own_marks.items():
             at = self.at_set if vertex % KINDS == SET else self.at_range

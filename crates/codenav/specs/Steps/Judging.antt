@@ -15,8 +15,8 @@ CountsRead old new (Err faults.Memory) = new ≡ old
 CountsRead old new (Err faults.Read) = new ≡ old + 1
 CountsRead old new (Err faults.Write) = ⊥
 
--- what sending a report answers and writes: all of the report's line, or by a writer that fails a beginning of it;
--- nothing where memory was refused
+-- what sending a report answers and writes: all of the report's line, or by a writer that fails a
+-- beginning of it; nothing where memory was refused
 abbrev pub Sends : Report → Output → Result Status CheckFault → Output → Type 0
 Sends report old (Ok status) new = (status ≡ status_of report) × Writes old (report_text report) new
 Sends report old (Err faults.Memory) new = Writes old [] new

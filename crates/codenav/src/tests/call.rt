@@ -6,8 +6,9 @@ use samples::parted;
 use std::alloc::Global;
 use std::test::Fail;
 
-/// The words of a call behind the program's name, parted by `|`, and what is read of them: the call, written in the same
-/// way, or the kind of `clap`'s error and the stream that its text goes to.
+/// The words of a call after the program's name, separated by `|`, and what is read of them: the
+/// call, written in the same way, or the kind of `clap`'s error and the stream that its text goes
+/// to.
 const ROWS: &str = "check-lsif|dump.lsif => check-lsif|dump.lsif|One
 check-lsif|- => check-lsif|-|One
 check-lsif|a b/c => check-lsif|a b/c|One

@@ -1,4 +1,5 @@
-//! Reports of dumps and of tags files: what the tables of other files are asserted by, and readers and writers that fail.
+//! Reports of dumps and of tags files: what the tables of other files are asserted by, and readers
+//! and writers that fail.
 use super::asserts::expect_equal;
 use crate::check::check_lsif;
 use crate::check_tags::check_tags;
@@ -44,11 +45,12 @@ L20 too many elements
 E01 range in no document
 E02 shard is not the document of a target";
 
-/// The report that a row begins with: `ok 11`, or the line, the code and a remark, as `8 L09 before L10`.
+/// The report that a row begins with: `ok 11`, or the line, the code and a remark, as `8 L09 before
+/// L10`.
 ///
-/// After ` | ` comes each change: a line's number and what stands there, `-` for nothing. So in
-/// `8 L09 | 8 next 3>99 | 9 -` the eighth line is `next 3>99` and the ninth is left out. A line beyond the last is added, and
-/// a number alone is of a line that is empty.
+/// After ` | ` comes each change: a line's number and its new text, `-` for none. So in `8 L09 | 8
+/// next 3>99 | 9 -` the eighth line is `next 3>99` and the ninth is left out. A line beyond the
+/// last is added, and a number alone is of a line that is empty.
 fn report(alloc: Global, row: &str) -> Result<String, Fail> {
     let (short, _) = row.split_once(" | ").unwrap_or((row, ""));
     let (first, rest) = parted(short, " ")?;
@@ -70,8 +72,8 @@ fn fault_of(code: &str) -> Result<&'static str, Fail> {
     Err(Fail::from("no fault of this code"))
 }
 
-/// What is answered and written over a reader, where the writer takes so many bytes at a time and fails at the write of
-/// that number.
+/// What is answered and written over a reader, where the writer takes so many bytes at a time and
+/// fails at the write of that number.
 fn checked(
     alloc: Global,
     kind: Kind,
@@ -89,7 +91,8 @@ fn checked(
     (answer, taken)
 }
 
-/// Asserts what is printed of a file that is read in pieces of so many bytes, and the exit status: 0 where it's `ok`, else 1.
+/// Asserts what is printed of a file that is read in pieces of so many bytes, and the exit status:
+/// 0 where it's `ok`, else 1.
 pub(crate) fn expect_text<R: AllocGlobal + Abort>(
     rt: &R,
     kind: Kind,
@@ -111,7 +114,8 @@ pub(crate) fn expect_text<R: AllocGlobal + Abort>(
     );
 }
 
-/// Asserts the report, which a row begins with, of a dump that is read in pieces of 4,096 bytes, in both profiles.
+/// Asserts the report, which a row begins with, of a dump that is read in pieces of 4,096 bytes, in
+/// both profiles.
 pub(crate) fn expect_in<R: AllocGlobal + Abort>(rt: &R, text: &str, row: &str) -> Result<(), Fail> {
     let wanted = report(rt.alloc(), row)?;
     for &kind in BOTH {
@@ -120,8 +124,9 @@ pub(crate) fn expect_in<R: AllocGlobal + Abort>(rt: &R, text: &str, row: &str) -
     Ok(())
 }
 
-/// Asserts a dump's report for each row: the report, and after ` | ` each change. The texts are read in pieces of each of
-/// these sizes, as each of these kinds, and their ids stand between these marks.
+/// Asserts a dump's report for each row: the report, and after ` | ` each change. The texts are
+/// read in pieces of each of these sizes, as each of these kinds, and their ids are between these
+/// marks.
 pub(crate) fn expect_rows<R: AllocGlobal + Abort>(
     rt: &R,
     kinds: &[Kind],
@@ -143,7 +148,8 @@ pub(crate) fn expect_rows<R: AllocGlobal + Abort>(
     Ok(())
 }
 
-/// A text, of which so many bytes are read at a time, in so many reads, of which the last one finds the end; and its report.
+/// A text, of which so many bytes are read at a time, in so many reads, of which the last one finds
+/// the end; and its report.
 #[derive(Clone, Copy)]
 struct Failing<'a> {
     kind: Kind,
@@ -168,7 +174,8 @@ fn readers_that_fail<R: AllocGlobal + Abort>(rt: &R, row: &Failing<'_>) {
     }
 }
 
-/// A writer that takes so many bytes at a time and fails at this write, behind so many bytes of the report.
+/// A writer that takes so many bytes at a time and fails at this write, after so many bytes of the
+/// report.
 fn expect_taken<R: AllocGlobal + Abort>(
     rt: &R,
     row: &Failing<'_>,

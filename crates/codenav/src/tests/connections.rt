@@ -18,7 +18,8 @@ use std::process::Abort;
 use std::test::Fail;
 use std::time::{Clock, Duration};
 
-/// Requests, one a connection, written as streams of requests are in `samples`: the base dump, a list of projects, a definition and a removal.
+/// Requests, one a connection, written as streams of requests are in `samples`: the base dump, a
+/// list of projects, a definition and a removal.
 const ROWS: &str = r#"PUT /projects/app/lsif?key=k1 < base => 200 {"accepted":"lsif","count":11}
 GET /projects => 200 {"projects":[{"dump":true,"name":"app","tags":false}]}
 GET /projects/app/definition?uri=file:///a.ts&line=2&character=1 => 200 {"places":[{"end":{"character":7,"line":0},"project":"app","start":{"character":4,"line":0},"uri":"file:///a.ts"}]}
@@ -127,7 +128,7 @@ fn clients(
     Ok(clients)
 }
 
-/// The same once they are served, behind a client that sends nothing and ends.
+/// The same once they are served, after a client that sends nothing and ends.
 fn served_clients(
     rt: &HostRuntime,
     listener: &TcpListener,
@@ -166,14 +167,15 @@ fn expect_received<R: AllocGlobal + Abort>(
     Ok(())
 }
 
-/// A head that says no length, with 50,000 bytes behind it.
+/// A head that says no length, with 50,000 bytes after it.
 fn long_request(alloc: Global) -> Result<String, Fail> {
     let behind = "1234567890".repeat(alloc, 5000)?;
     Ok(format!(in alloc; "PUT /projects/app/tags?key=k1 HTTP/1.1\r\n\r\n{behind}")?)
 }
 
-/// A client that sends nothing and ends, one that sends nothing and stays, one that stops in its head, one whose head
-/// says no length and is refused before the 50,000 bytes behind it are read, and one that is told that there's no project: each counts as one connection.
+/// A client that sends nothing and ends, one that sends nothing and stays, one that stops in its
+/// head, one whose head says no length and is refused before the 50,000 bytes after it are read,
+/// and one that gets the reply that there's no project: each counts as one connection.
 #[test]
 fn counted(rt: HostRuntime) -> Result<(), Fail> {
     let long = long_request(rt.alloc())?;
@@ -199,7 +201,7 @@ fn none_accepted(rt: HostRuntime) -> Result<(), Fail> {
     Ok(())
 }
 
-/// A clock that moves when it's told.
+/// A clock that moves only when a test moves it.
 #[derive(Drop)]
 struct Moved<'a> {
     now: &'a Cell<Duration>,
@@ -218,7 +220,8 @@ impl Clock for Moved<'_> {
 /// The request of a client that takes its time.
 const REQUEST: &[u8] = b"GET /projects HTTP/1.1\r\n\r\n";
 
-/// What a client takes its time for: for each byte that it sends, that it takes of the reply, or that it sends after the reply.
+/// What a client takes its time for: for each byte that it sends, that it takes of the reply, or
+/// that it sends after the reply.
 #[derive(Clone, Copy, Debug, PartialEq, Eq)]
 enum Slowness {
     Sends,
@@ -325,8 +328,8 @@ impl OpenStream for Trickle<'_> {
     }
 }
 
-/// How many bytes a client moves that takes so many milliseconds for each, and how many milliseconds the last read or write may
-/// wait.
+/// How many bytes a client moves that takes so many milliseconds for each, and how many
+/// milliseconds the last read or write may wait.
 fn trickled(alloc: Global, slowness: Slowness, each: u64) -> Result<(u32, u128), Fail> {
     let seen = Seen {
         now: Cell::new(Duration::from_secs(7)),
@@ -354,8 +357,8 @@ fn trickled(alloc: Global, slowness: Slowness, each: u64) -> Result<(u32, u128),
     Ok((seen.moved.get(), wait.as_millis()))
 }
 
-/// Clients that send or take a byte now and then are given up when a byte takes longer than 50 ms, after the reply 30 ms, or all
-/// of the connection 200 ms.
+/// A client that sends or takes a byte now and then is dropped when a byte takes longer than 50 ms,
+/// after the reply 30 ms, or the connection in all 200 ms.
 #[test]
 fn trickles(rt: HostRuntime) -> Result<(), Fail> {
     // the time of a byte, the bytes that are moved, and what the last read or write may wait

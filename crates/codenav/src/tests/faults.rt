@@ -1,4 +1,5 @@
-//! Faults of dumps: each fault, each two of which one is reported, and the first of several faulty lines.
+//! Faults of dumps: each fault, each two of which one is reported, and the first of several faulty
+//! lines.
 use super::check::{BOTH, expect_in, expect_rows};
 use samples::named::{BASE, META_DATA};
 use samples::{GREAT_NUMBERS, Marks, NUMBERS, TEXTS, parted, push_line, text_of};
@@ -39,9 +40,10 @@ L07 {'id':2,'type':'vertex','label':'document'}
 L08 {'id':2,'type':'edge','label':'next','inV':1}
 L15 {'id':2,'type':'edge','label':'item','outV':1,'inVs':[]}";
 
-/// A metaData and a line with each two of these faults that one line can have. L07 is of vertices, L08 and L15 are of
-/// edges, so L07 is beside neither; L01 is beside each of the others in another test. Last, lines with a fault of their
-/// shape and a member that would be a fault of lesser number in an element.
+/// A metaData and a line with each two of these faults that one line can have. L07 is of vertices,
+/// L08 and L15 are of edges, so L07 is beside neither; L01 is beside each of the others in another
+/// test. Last, lines with a fault of their shape and a member that would be a fault of lesser
+/// number in an element.
 const SHAPES: &str = r"2 L02 before L03 | 2 {'type':'vertex','label':'project'
 2 L02 before L05 | 2 {'id':2,'type':'node'
 2 L02 before L07 | 2 {'id':2,'type':'vertex','label':'document'
@@ -65,8 +67,8 @@ const SHAPES: &str = r"2 L02 before L03 | 2 {'type':'vertex','label':'project'
 2 L15 and no L09 | 2 {'id':2,'type':'edge','label':'item','outV':1,'inVs':[9],'shard':1,'property':'x'}
 2 L15 and no L09 | 2 {'id':2,'type':'edge','label':'item','outV':1,'inVs':[2],'shard':1,'property':null}";
 
-/// Lines of which L06 is reported, with the other faults that they have. No vertex is before them, so no end of an edge
-/// is one of any kind, and no range was contained and no document ended.
+/// Lines of which L06 is reported, with the other faults that they have. No vertex is before them,
+/// so no end of an edge is one of any kind, and no range was contained and no document ended.
 const FIRST_LINES: &str = r"1 L06 of no line
 1 L06 before L09 | 1 contains 1>[]
 1 L06 before L09 | 1 note 2>3
@@ -80,8 +82,8 @@ const FIRST_LINES: &str = r"1 L06 of no line
 1 L06 alone | 1 metaData 'version':'0.6.0','positionEncoding':null
 1 L02 of an empty line | 1";
 
-/// Lines without a fault but at the end: two documents, of which the second has ended, and ranges, of which the first two
-/// overlap, and so do the other two. The first and the third are contained.
+/// Lines without a fault but at the end: two documents, of which the second has ended, and ranges,
+/// of which the first two overlap, and so do the other two. The first and the third are contained.
 pub(crate) const OVERLAPPING: &str = "metaData 0.6.0
 document file:///a.ts
 document file:///b.ts
@@ -114,15 +116,18 @@ L17 $event begin 3
 L18 note 10>[7]
 L19 document FILE:///a.ts";
 
-/// A line after these for each two of these faults that one line can have. L20 is beside each of the others in another
-/// test.
+/// A line after these for each two of these faults that one line can have. L20 is beside each of
+/// the others in another test.
 ///
 /// The others aren't of one line:
-/// - L06 is of a metaData vertex, which L04 and L20 alone are asked of too; on line 1 it's of any element, in another test.
-/// - L17 is of events and L19 of documents, which are vertices; L09 to L14, L16 and L18 are of edges.
-/// - L11 and L12 are of `contains`, L14 of `next`, L16 of `item`, and L13 of `next` and of other labels, but not of
-///   `contains` nor of `item`.
-/// - L14 is beside L18 only where L10 is too: L18 is of a range, and `next` edges lead to result sets.
+/// - L06 is of a metaData vertex, of which only L04 and L20 are checked too; on line 1 it's of any
+///   element, in another test.
+/// - L17 is of events and L19 of documents, which are vertices; L09 to L14, L16 and L18 are of
+///   edges.
+/// - L11 and L12 are of `contains`, L14 of `next`, L16 of `item`, and L13 of `next` and of other
+///   labels, but not of `contains` nor of `item`.
+/// - L14 is beside L18 only where L10 is too: L18 is of a range, and `next` edges lead to result
+///   sets.
 const ORDERS: &str = "6 E01
 18 L04 before L06 | 18 #5 metaData 0.6.0
 18 L04 before L09 | 18 #5 next 10>200000
@@ -169,9 +174,10 @@ range 1:0 1:1
 item 5>[7] @2
 contains 2>[4,7]";
 
-/// The least line counts at the end of a dump; E01 is of a range's line and E02 of an edge's, so no line has both. A faulty
-/// line is reported before a fault at the end of an earlier line, and the first faulty line whatever the later ones are:
-/// in the last rows line 8 names what line 7 isn't, a range and a vertex.
+/// The least line counts at the end of a dump; E01 is of a range's line and E02 of an edge's, so no
+/// line has both. A faulty line is reported before a fault at the end of an earlier line, and the
+/// first faulty line whatever the later ones are: in the last rows line 8 names what line 7 isn't,
+/// a range and a vertex.
 const OF_ENDS: &str = "ok 9
 7 E01 before 8 E02 | 9 contains 2>[4]
 4 E01 before 6 E02 | 9 contains 2>[7]
@@ -206,7 +212,7 @@ fn check_first(rt: HostRuntime) -> Result<(), Fail> {
     expect_rows(&rt, BOTH, BASE, OF_BASE, &[1, 2, 7, 1_000_000], NUMBERS)
 }
 
-/// Dumps, the rows of their changes, and what stands around their ids.
+/// Dumps, the rows of their changes, and the marks around their ids.
 const CHANGED: &[(&str, &str, Marks)] = &[
     (META_DATA, SHAPES, NUMBERS),
     ("", FIRST_LINES, NUMBERS),
@@ -223,7 +229,8 @@ const ADDED: &[(&str, usize, &str)] = &[
     (OVERLAPPING, 18, EACH_ORDER),
 ];
 
-/// Asserts the report of a dump with one line more, of this number, for a row: the code, and the line.
+/// Asserts the report of a dump with one line more, of this number, for a row: the code, and the
+/// line.
 fn expect_added<R: AllocGlobal + Abort>(
     rt: &R,
     dump: &str,
@@ -237,8 +244,8 @@ fn expect_added<R: AllocGlobal + Abort>(
     expect_in(rt, text.as_str(), wanted.as_str())
 }
 
-/// Each fault, and each two of which one is reported. Faults of a line's shape are reported though the line isn't the metaData
-/// that is missing.
+/// Each fault, and each two of which one is reported. Faults of a line's shape are reported though
+/// the line isn't the metaData that is missing.
 #[test]
 fn check_all(rt: HostRuntime) -> Result<(), Fail> {
     for (dump, rows, marks) in CHANGED {

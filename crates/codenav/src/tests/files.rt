@@ -8,7 +8,8 @@ use std::fs;
 use std::test::Fail;
 use tables::TablesFault;
 
-/// Uploads of two dumps under two keys, the first of them a second time, and what is found then; written as streams of requests are in `samples`.
+/// Uploads of two dumps under two keys, the first of them a second time, and what is found then;
+/// written as streams of requests are in `samples`.
 const TWICE: &str = r#"
 PUT /projects/app/lsif?key=k1 < base => 200 {"accepted":"lsif","count":11}
 PUT /projects/app/lsif?key=k2 < base | 3 range 0:5 0:7 => 200 {"accepted":"lsif","count":11}
@@ -60,7 +61,8 @@ fn replayed(
     Ok(Ok(taken))
 }
 
-/// What is written for the requests of these rows over the database in this file, and what is to be.
+/// What is written for the requests of these rows over the database in this file, and what is to
+/// be.
 fn written(rt: &HostRuntime, path: &str, rows: &'static str) -> Result<(String, String), Fail> {
     let (requests, replies) = exchange(rt.alloc(), rows, usize::MAX)?;
     match replayed(rt, path, requests.as_str())? {

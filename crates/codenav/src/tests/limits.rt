@@ -16,7 +16,7 @@ fn expect_after<R: AllocGlobal + Abort>(rt: &R, text: &String, row: &str) -> Res
     expect_in(rt, text.as_str(), wanted.as_str())
 }
 
-/// Asserts the report of a metaData and this line, with spaces behind it up to so many bytes.
+/// Asserts the report of a metaData and this line, with spaces after it up to so many bytes.
 fn expect_padded<R: AllocGlobal + Abort>(
     rt: &R,
     line: &str,
@@ -27,7 +27,8 @@ fn expect_padded<R: AllocGlobal + Abort>(
     expect_in(rt, text.as_str(), wanted)
 }
 
-/// A line of 1,048,576 bytes is the longest, and one that is longer is reported before each fault of its shape.
+/// A line of 1,048,576 bytes is the longest, and one that is longer is reported before each fault
+/// of its shape.
 #[test]
 fn great_lines_beyond_the_length(rt: HostRuntime) -> Result<(), Fail> {
     expect_padded(&rt, "project", 1_048_576, "ok 2")?;

@@ -1,4 +1,5 @@
-//! A stream of requests by the program's call. What streams are replied stands in the crate `test_streams`, over the desk that this call is of.
+//! A stream of requests by the program's call. The replies to streams are tested in the crate
+//! `test_streams`, over the desk that this call is of.
 use super::asserts::expect_equal;
 use crate::replay::replay_in_memory;
 use lsif::Counted;

@@ -1,4 +1,5 @@
--- Why an index refuses and what is answered then; and what is known of commands that an index serves.
+-- Why an index refuses and what is answered then; and what is known of commands that an index
+-- serves.
 use Rattle.std.specs.Prelude.{◌≡◌, [], ◌∷◌, ℕ, List, Result, IfOk, OnOk, OnErr, if◌then◌else◌}
 use Rattle.tables.specs.declared.fault.TablesFault.{TablesFault}
 use Rattle.tables.specs.declared.fault.TablesFault.TheVariants as faults
@@ -27,12 +28,14 @@ module _ {I : Type 0} (stands : I → State → Type 0) (may_leave : I → List 
       IfOk result (λ r. r ≡ reply_of (accepted change (m.dump project) (m.tags project)))
       × Changes stands may_leave old new m (changed m project key change) result
 
-  -- a command has its effect: the index stands for the machine's next state, and where that is a new one a stop leaves it alone
+  -- a command has its effect: the index represents the machine's next state, and where that is a
+  -- new one a crash leaves it alone
   pub record IsApplied (old new : I) (m : State) (c : CommandValue) : Type 0 where
     pub state : stands new (after m c)
     pub left : (states : List State) → may_leave old states → may_leave new (if is_new m c then after m c ∷ [] else states)
 
-  -- the reply is the machine's and the command has its effect; or it was refused, and nothing changed
+  -- the reply is the machine's and the command has its effect; or it was refused, and nothing
+  -- changed
   pub record IsServed (old new : I) (m : State) (c : CommandValue) (result : Result ReplyValue IndexFault) : Type 0 where
     pub reply : IfOk result (λ r. r ≡ reply_to m c)
     pub ok : OnOk result (IsApplied old new m c)

@@ -45,7 +45,8 @@ tags_of is_so asked (e ∷ es) = project_tags is_so asked (string_bytes e.0) e.1
 abbrev pub by_value : (FoundTag → FoundTag → Ordering) → program.FoundTag → program.FoundTag → Ordering
 by_value cmp a b = cmp (tag_found a) (tag_found b)
 
--- tags of a name stay as they were, those of a prefix are put in the order of names, projects and lines
+-- tags of a name stay as they were, those of a prefix are put in the order of names, projects and
+-- lines
 abbrev pub AreOrdered : Wanted → List program.FoundTag → List program.FoundTag → Type 0
 AreOrdered (Name text) old new = new ≡ old
 AreOrdered (Prefix text) old new = IsPermutation old new × IsSorted (by_value name_cmp) new

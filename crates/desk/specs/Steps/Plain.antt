@@ -1,4 +1,4 @@
--- What a desk in memory keeps of its projects, and the states that it stands for.
+-- What a desk in memory keeps of its projects, and the states that it represents.
 use Rattle.std.specs.Prelude.{◌≡◌, ℕ, List, Option, String, Result, option_map, option_and_then, string_bytes}
 use Rattle.std.specs.BTreeMap as tree
 use Rattle.std.specs.BTreeMap.{BTreeMap}

@@ -23,7 +23,8 @@ abbrev pub HasContentsOf : State → Option JoinedValue → Option (List ℕ) �
 HasContentsOf m None contents = contents ≡ None
 HasContentsOf m (Some j) contents = FindsHover m j.project j.number contents
 
--- the contents of the range's own first result; and where it has none, of that of the first vertex that is joined
+-- the contents of the range's own first result; and where it has none, of that of the first vertex
+-- that is joined
 abbrev pub RowHovers : State → List ℕ → RangeFound → Option (List ℕ) → Type 0
 RowHovers m own row contents =
     ((n : ℕ) × (row.result ≡ Some n) × FindsHover m own n contents)

@@ -30,7 +30,8 @@ Adds old new P = AreThose (λ x. Contains old x ⊎ P x) new
 
 -- ---- the range that is picked
 
--- the text of the key of a mark of the range at this line, by which the request goes on to other projects
+-- the text of the key of a mark of the range at this line, by which the request goes on to other
+-- projects
 abbrev pub IsRowKey : State → RequestKind → List ℕ → ℕ → List ℕ → Type 0
 IsRowKey m request project line text = (mark : MarkText) × HasMark m project line mark × (follows request mark.kind ≡ true) × (mark.key ≡ text)
 
@@ -42,7 +43,7 @@ RowSpeaks m request project row = (is_some row.result ≡ true) ⊎ ((text : Lis
 abbrev pub HasRow : RequestKind → List ElementValue → RangeValue → RangeFound → Type 0
 HasRow request elements r row = (vertex_at elements r.id ≡ Some (range r.span)) × IsRangeFound request elements r row
 
--- a request at the position is asked of the range of this row, or of none
+-- the range of this row answers a request at the position, or none does
 abbrev pub PicksRow : DumpValue → RequestKind → List ℕ → PositionValue → Option RangeFound → Type 0
 PicksRow dump request uri at None = Pick request dump.elements uri at None
 PicksRow dump request uri at (Some row) = (r : RangeValue) × Pick request dump.elements uri at (Some r) × HasRow request dump.elements r row
@@ -55,7 +56,8 @@ AreFollowed request marks = AreThose (λ text. (mark : MarkText) × Contains mar
 abbrev pub AreKeys : State → RequestKind → List ℕ → ℕ → List (List ℕ) → Type 0
 AreKeys m request project line = AreThose (IsRowKey m request project line)
 
--- in a document of the project's dump a request at the position is asked of the range of this row, or of none
+-- in a document of the project's dump the range of this row answers a request at the position, or
+-- none does
 abbrev pub PicksIn : State → RequestKind → List ℕ → List ℕ → PositionValue → Option RangeFound → Type 0
 PicksIn m request project uri at row = (dump : DumpValue) × (m.dump project ≡ Some dump) × HasDocument dump.elements uri × PicksRow dump request uri at row
 
@@ -68,7 +70,8 @@ Picks m request project uri at (picks.Range row) = PicksIn m request project uri
 
 -- ---- what is joined
 
--- a vertex of another project that is joined: its project, its line, counted from 1, and the number of its first result
+-- a vertex of another project that is joined: its project, its line, counted from 1, and the number
+-- of its first result
 pub record JoinedValue : Type 0 where
   pub project : List ℕ
   pub line : ℕ
@@ -85,15 +88,15 @@ pub record OfBearer (request : RequestKind) (own : List ℕ) (bearer : BearerFou
   pub its_line : bearer.line ≡ j.line
   pub its_result : result_for request bearer.results ≡ Some j.number
 
--- one that bears a mark with the key of this text
+-- one that has a mark with the key of this text
 abbrev pub IsKeyJoined : State → RequestKind → List ℕ → List ℕ → JoinedValue → Type 0
 IsKeyJoined m request own text j = (bearer : BearerFound) × Bears m text bearer × OfBearer request own bearer j
 
--- one that bears a mark with one of these keys
+-- one that has a mark with one of these keys
 abbrev pub AreJoined : State → RequestKind → List ℕ → List (List ℕ) → JoinedValue → Type 0
 AreJoined m request own texts j = (text : List ℕ) × Contains texts text × IsKeyJoined m request own text j
 
--- one that bears a mark with a key of the range of this row
+-- one that has a mark with a key of the range of this row
 abbrev pub IsRowJoined : State → RequestKind → List ℕ → RangeFound → JoinedValue → Type 0
 IsRowJoined m request own row j = (text : List ℕ) × IsRowKey m request own row.line text × IsKeyJoined m request own text j
 

@@ -1,4 +1,4 @@
--- What selections in memory want of the rows of a dump.
+-- What selections in memory find in the rows of a dump.
 use Rattle.std.specs.Prelude.{◌≡◌, ◌&&◌, ◌==◌, ◌++◌, ℕ, List, Option, Some, None, String, Contains, bytes_eq, string_bytes, if◌then◌else◌}
 use Rattle.std.specs.List.Sorted.{IsStrictlySortedBy}
 use Rattle.std.specs.Map.{keys_of}
@@ -97,7 +97,8 @@ IsBearerAmong {Y} key entries b = (e : String Y × Project) × Contains entries 
 abbrev pub AddsBearers : List ℕ → List ℕ → Option DumpValue → List BearerFound → List BearerFound → Type 0
 AddsBearers key name kept old new = (more : List BearerFound) × (new ≡ old ++ more) × IsListing bearer_in_cmp (IsBearerHere key name kept) more
 
--- those of the projects before the rest were found: with a listing of those of the rest they're a listing of those of all
+-- those of the projects before the rest were found: with a listing of those of the rest they're a
+-- listing of those of all
 pub record FoundSoFar {Y : Type 0} (key : List ℕ) (all rest : List (String Y × Project)) (found : List BearerFound) : Type 0 where
   pub up : IsStrictlySortedBy string_cmp (keys_of rest)
   pub listed : (more : List BearerFound) → IsListing bearer_found_cmp (IsBearerAmong key rest) more

@@ -1,5 +1,6 @@
-//! The vertices of other projects that are joined to a range: those that bear a moniker with one of its keys (`IsJoined` of `specs/Joins`). They are
-//! found by the rows of the bearers.
+//! The vertices of other projects that are joined to a range: those that have a moniker with one of
+//! its keys (`IsJoined` of `specs/Joins`). They are found by the rows of the bearers, one selection
+//! for each key.
 ghost use Rattle.std.specs.Prelude.{◌≡◌, Contains, IfOk, IfErr, IfSome, IfNone, OnOk, map, string_bytes, true};
 ghost use Rattle.flatten.specs.Flat.{result_for};
 ghost use Rattle.tables.specs.Selections.{BearerFound, bearer_found};
@@ -36,7 +37,8 @@ fn result_of(bearer: &FoundBearer, request: RequestKind) -> Option<u32>
     }
 }
 
-/// What the row of a bearer tells, where it's of another project, and of a kind that the request looks for there, and has a result.
+/// The joined vertex of a bearer's row. None where it's of the project itself, or of a kind that
+/// the request doesn't look for there, or has no result.
 fn joined_of(request: RequestKind, own: &str, bearer: FoundBearer) -> Option<JoinedBearer>
     ensures some { IfSome result (λ j. OfBearer request own.now (bearer_found bearer) (joined_value j)) }
     ensures none { IfNone result ((j : JoinedValue) → OfBearer request own.now (bearer_found bearer) j → ⊥) }
@@ -72,7 +74,7 @@ fn add_bearers(
     Ok(())
 }
 
-/// Adds those that bear a mark with this key.
+/// Adds those that have a mark with this key.
 fn add_key<I: Index>(
     alloc: Global,
     index: &mut I,
@@ -92,7 +94,8 @@ fn add_key<I: Index>(
     Ok(())
 }
 
-/// The vertices of other projects that bear a mark with one of these keys, which the request looks for there, and have a result.
+/// The vertices of other projects that have a mark with one of these keys, which the request looks
+/// for there, and have a result.
 pub(crate) fn joined_bearers<I: Index>(
     alloc: Global,
     index: &mut I,

@@ -1,5 +1,6 @@
-//! The contents that answer a hover query: those of the range's own result, and where it has none, those of the first vertex that is joined to it, by
-//! project and line (`HoversAt` of `specs/Answers`).
+//! The contents that answer a hover query: those of the range's own result, and where it has none,
+//! those of the first vertex that is joined to it, by project and line (`HoversAt` of
+//! `specs/Answers`).
 ghost use Rattle.std.specs.Prelude.{◌≡◌, IfOk, IfErr, option_map, string_bytes, true};
 ghost use Rattle.tables.specs.Selections.{range_found};
 ghost use Rattle.machine.specs.State.{State};
@@ -18,8 +19,8 @@ use positions::Position;
 use std::alloc::Global;
 use tables::FoundRange;
 
-/// The contents that answer a hover query at the range of this row: of its own result, and where it has none, of the least vertex that is joined to it
-/// (by project, line and number).
+/// The contents that answer a hover query at the range of this row: those of its own result, and
+/// where it has none, those of the least vertex that is joined to it (by project, line and number).
 fn contents_at<I: Index>(
     alloc: Global,
     index: &mut I,

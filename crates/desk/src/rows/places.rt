@@ -1,4 +1,5 @@
-//! The places of results in the roles that are asked for, each once and in order: those of the items that an index finds.
+//! The places of results in the roles that are asked for: those of the items that an index finds,
+//! sorted, each once.
 ghost use Rattle.std.specs.Prelude.{◌≡◌, Contains, IfOk, IfErr, OnOk, map, string_bytes, true};
 ghost use Rattle.dump.specs.Places.{IsListing, PlaceValue};
 ghost use Rattle.tables.specs.Selections.{item_found};

@@ -1,4 +1,5 @@
-//! The replies to queries, each made of what the selections of an index find.
+//! The replies to queries, each made of what the selections of an index find, whether that is in a
+//! database or in memory.
 ghost use Rattle.std.specs.Prelude.{◌≡◌, ◌≢◌, IfOk, IfErr, true};
 ghost use Rattle.dump.specs.declared.request_kind.RequestKind.TheVariants as requests;
 ghost use Rattle.machine.specs.State.{State};
@@ -19,7 +20,7 @@ use machine::{Code, DocUri, ProjectName, Query, Reply, profile_found, projects_f
 use positions::Position;
 use std::alloc::{AllocError, Global};
 
-/// The roles of the places that a references query asks for.
+/// The roles of the places that answer a references query.
 fn reference_roles(declaration: bool) -> &'static [Role]
     ensures { result.now ≡ reference_roles declaration }
 {

@@ -1,5 +1,6 @@
-//! The range that a request at a position is asked of: the smallest that covers it and has a result, or a key by which the request goes on to other
-//! projects (`Pick` of the crate dump). It is found by the rows of the ranges and of their marks.
+//! The range that answers a request at a position: the smallest that covers it and has a result, or
+//! a key by which the request goes on to other projects (`Pick` of the crate `dump`). The rows come
+//! smallest first, so the search ends at the first that does.
 ghost use Rattle.std.specs.Prelude.{◌≡◌, ◌↔◌, IsTrue, IfOk, IfErr, OnOk, map, option_map, string_bytes, true};
 ghost use Rattle.dump.specs.Requests.{IsFirst};
 ghost use Rattle.tables.specs.Selections.{mark_found, range_found};
@@ -14,7 +15,7 @@ use positions::Position;
 use std::alloc::{AllocError, Global};
 use tables::{Covering, FoundMark, FoundRange};
 
-/// What a request at a position is asked of.
+/// What answers a request at a position.
 #[derive(Clone, Copy)]
 pub(crate) enum Picked {
     /// The project has no dump.
@@ -44,7 +45,8 @@ fn followed_keys(
     Ok(keys)
 }
 
-/// The texts of the keys by which the request goes on to other projects from the range at this line (counted from 1) of the project's dump.
+/// The texts of the keys by which the request goes on to other projects from the range at this line
+/// (counted from 1) of the project's dump.
 pub(crate) fn keys_at<I: Index>(
     alloc: Global,
     index: &mut I,
@@ -63,7 +65,8 @@ pub(crate) fn keys_at<I: Index>(
     Ok(keys)
 }
 
-/// Whether the range has a result, or a key by which the request goes on to other projects. Its marks are asked for where it has no result alone.
+/// Whether the range has a result, or a key by which the request goes on to other projects. Its
+/// marks are selected only where it has no result.
 fn speaks<I: Index>(
     alloc: Global,
     index: &mut I,
@@ -84,7 +87,8 @@ fn speaks<I: Index>(
     Ok(!keys.is_empty())
 }
 
-/// The first of the ranges that has a result or a key by which the request goes on to other projects.
+/// The first of the ranges that has a result or a key by which the request goes on to other
+/// projects.
 fn first_speaking<I: Index>(
     alloc: Global,
     index: &mut I,
@@ -106,7 +110,7 @@ fn first_speaking<I: Index>(
     Ok(None)
 }
 
-/// What a request at a position of a project's document is asked of.
+/// What answers a request at a position of a project's document.
 pub(crate) fn pick<I: Index>(
     alloc: Global,
     index: &mut I,

@@ -1,5 +1,6 @@
-//! The results that answer a query at a position: the first result of the range and those of the vertices that are joined to it. A result is named by its
-//! project and by its number, which is its line in the project's dump.
+//! The results that answer a query at a position: the first result of the range and those of the
+//! vertices that are joined to it. A result is named by its project and by its number, which is its
+//! line in the project's dump.
 ghost use Rattle.std.specs.Prelude.{◌≡◌, Contains, IfOk, IfErr, OnOk, map, true};
 ghost use Rattle.dump.specs.Places.{IsListing};
 ghost use Rattle.tables.specs.Selections.{range_found};

@@ -14,8 +14,8 @@ index_in d i = position (has_id i) d
 abbrev pub IsIndexIn : List ElementValue → ℕ → Type 0
 IsIndexIn d k = (i : IdValue) × (index_in d i ≡ Some k)
 
--- a shortcut from a vertex leads to one that a path goes to from what the vertex is joined to; there is none where it's joined to
--- nothing
+-- a shortcut from a vertex leads to one that a path goes to from what the vertex is joined to;
+-- there is none where it's joined to nothing
 abbrev pub Shortens : List Pair → List ElementValue → IdValue → Option ℕ → Type 0
 Shortens pairs d i None = first_to pairs i ≡ None
 Shortens pairs d i (Some s) = (y z : IdValue) × (first_to pairs i ≡ Some y) × Path pairs y z × (index_in d z ≡ Some s)

@@ -17,11 +17,13 @@ abbrev pub index_at : IndexMap → IdValue → Option ℕ
 index_at table (number n) = if nat_lt n table.bound then get_or table.slots.items n None else value_at table.others (number n)
 index_at table (text s) = value_at table.others (text s)
 
--- the table leads from an id to the index of the first element that passes the id's test, and to none where no element does
+-- the table leads from an id to the index of the first element that passes the id's test, and to
+-- none where no element does
 abbrev pub IsTable : {X : Type 0} → (IdValue → Option ℕ) → (IdValue → X → Bool) → List X → Type 0
 IsTable table test elements = (i : IdValue) → table i ≡ position (test i) elements
 
--- what a table has at an id after a value was entered there, or wasn't: the first value that was entered stays
+-- what a table has at an id after a value was entered there, or wasn't: the first value that was
+-- entered stays
 abbrev pub entered : {V : Type 0} → Bool → V → Option V → Option V
 entered here new (Some old) = Some old
 entered here new None = if here then Some new else None

@@ -19,7 +19,8 @@ IsOutside faults.Memory = ⊤
 IsOutside faults.Read = ⊤
 IsOutside (faults.Line f) = ⊥
 
--- by a profile the first line of a dump has this reading; where it's an element, these bytes hold the other lines
+-- by a profile the first line of a dump has this reading; where it's an element, these bytes hold
+-- the other lines
 abbrev pub ReadsFirst : Profile → List ℕ → Reading → Option (List ℕ) → Type 0
 ReadsFirst profile text (Ok x) left = (rest : List ℕ) × (left ≡ Some rest) × (dump_of profile text ≡ Ok x ∷ dump_of profile rest)
 ReadsFirst profile text (Err c) left = (others : List Reading) × (dump_of profile text ≡ Err c ∷ others)

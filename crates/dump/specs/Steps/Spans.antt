@@ -31,7 +31,8 @@ goes_by s t = not (is_lt (span_order t s))
 abbrev pub AreBelow : List Link → Type 0
 AreBelow links = (i : ℕ) (l : Link) → i < length links → ((slice_index_or links i l).next ≤ i) × ((slice_index_or links i l).jump ≤ i)
 
--- the spans from a span's link up to it end no later than it; those from the one behind its jump up to it end no later than that one
+-- the spans from a span's link up to it end no later than it; those from the one after its jump up
+-- to it end no later than that one
 pub record HasLinks (spans : List SpanValue) (links : List Link) : Type 0 where
   pub below : AreBelow links
   pub over : (i k : ℕ) (l : Link) (d : SpanValue) → i < length links → (slice_index_or links i l).next ≤ k → k < i

@@ -44,8 +44,9 @@ abbrev pub IsFilled : Bool → List SpanValue → Option (Vec (List SpanValue) G
 IsFilled true targets old new = IsPermutation (kept old ++ targets) (kept new)
 IsFilled false targets old new = kept new ≡ kept old
 
--- the indices lead to the element of each id; each element has a row, which leads to the first elements that name it in each way;
--- each serialized URL leads to its first document; and of each document the spans of its ranges are kept, of which no two conflict
+-- the indices lead to the element of each id; each element has a row, which leads to the first
+-- elements that name it in each way; each serialized URL leads to its first document; and of each
+-- document the spans of its ranges are kept, of which no two conflict
 pub record AreTables (x : Tables) (d : List ElementValue) : Type 0 where
   pub elements : IsTable (index_at x.indices) has_id d
   pub rows : length x.rows.items ≡ length d

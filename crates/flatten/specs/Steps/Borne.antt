@@ -1,4 +1,4 @@
--- The monikers that vertices bear, by numbers, and the texts of their marks.
+-- The monikers that vertices have, by numbers, and the texts of their marks.
 use Rattle.std.specs.Prelude.{◌≡◌, ℕ, List, map, Option, Some, None, option_map, Contains}
 use Rattle.std.specs.Rc.{rc_str_bytes}
 use Rattle.lsif.specs.declared.element.MonikerKind.{MonikerKind}
@@ -30,7 +30,7 @@ mark_text elements (vertex i (moniker m)) = Some (text_of elements i m)
 mark_text elements (vertex i v) = None
 mark_text elements (edge i e) = None
 
--- the numbers of a vertex and of a moniker that it bears
+-- the numbers of a vertex and of a moniker that it has
 pub record IsBorne (elements : List ElementValue) (p : ℕ × ℕ) : Type 0 where
   pub vertex : IdValue
   pub bound : IdValue

@@ -123,12 +123,12 @@ abbrev pub IsAfter : List ElementValue → List (ℕ × ℕ) → Option IdValue 
 IsAfter elements borne (Some y) along = AreAlong elements borne y along
 IsAfter elements borne None along = along ≡ nothing
 
--- `next` edges lead along these, of which the last stands first, from the first vertex to this one
+-- `next` edges lead along these, of which the last comes first, from the first vertex to this one
 abbrev pub Leads : List ElementValue → IdValue → IdValue → List IdValue → Type 0
 Leads elements from at [] = at ≡ from
 Leads elements from at (x ∷ path) = (first_to (next_pairs elements) x ≡ Some at) × Leads elements from x path
 
--- what those after the path have, of which the last stands first
+-- what those after the path have, of which the last comes first
 abbrev pub IsWalkBack : List ElementValue → List (ℕ × ℕ) → IdValue → List IdValue → AlongValue → Type 0
 IsWalkBack elements borne from [] along = AreAlong elements borne from along
 IsWalkBack elements borne from (x ∷ path) along = IsAfter elements borne (first_to (next_pairs elements) x) along × Leads elements from x path

@@ -54,7 +54,8 @@ with_places (Some number) (Some places) = Some (number, places)
 with_places (Some number) None = None
 with_places None places = None
 
--- the number of the first with the place of the second, by its span and by its numbers, where each has one
+-- the number of the first with the place of the second, by its span and by its numbers, where each
+-- has one
 abbrev pub placed_of_pair : List ElementValue → Pair → List (ℕ × (PlaceValue × PlaceValue))
 placed_of_pair elements p = one_or_none (with_places (number_of elements p.0) (option_map twice (place_of elements p.1)))
 

@@ -18,7 +18,7 @@ mark_of number None = []
 abbrev pub marks_of : ℕ → List (Option MarkText) → List (ℕ × ℕ) → List MarkRowValue
 marks_of number marks pairs = flat_map (λ p. mark_of number (get_or marks p.1 None)) pairs
 
--- the row of the number for a mark that the vertex bears, by its number
+-- the row of the number for a mark that the vertex has, by its number
 abbrev pub IsMarkOfNumber : List (ℕ × ℕ) → List (Option MarkText) → ℕ → ℕ → MarkRowValue → Type 0
 IsMarkOfNumber borne marks number bearer row = (moniker : ℕ) × Contains borne (bearer, moniker) × Contains (mark_of number (get_or marks moniker None)) row
 
@@ -44,11 +44,11 @@ abbrev pub IsBearerFrom : List ElementValue → List (ℕ × ℕ) → Option IdV
 IsBearerFrom elements borne (Some y) bearer = (xs : List IdValue) × IsChain (next_pairs elements) y xs × (bearer ≡ first_by (own_bearer elements borne) xs)
 IsBearerFrom elements borne None bearer = bearer ≡ None
 
--- the first that bears marks, from what follows the vertex in its chain on
+-- the first that has marks, from what follows the vertex in its chain on
 abbrev pub IsNextBearer : List ElementValue → List (ℕ × ℕ) → IdValue → Option IdValue → Type 0
 IsNextBearer elements borne x bearer = IsBearerFrom elements borne (first_to (next_pairs elements) x) bearer
 
--- the pairs are those of the vertices with the monikers that they bear
+-- the pairs are those of the vertices with the monikers that they have
 abbrev pub AreBorne : List ElementValue → List (ℕ × ℕ) → Type 0
 AreBorne elements borne = (p : ℕ × ℕ) → Contains borne p ↔ IsBorne elements p
 
@@ -63,7 +63,7 @@ IsBorneMark borne marks row = (p : ℕ × ℕ) × Contains borne p × Contains (
 abbrev pub bearer_mark : BearerRowValue → MarkRowValue
 bearer_mark r = record { range = r.line; kind = r.kind; key = r.key }
 
--- the row is of a mark that its vertex bears
+-- the row is of a mark that its vertex has
 pub record IsBorneRow (elements : List ElementValue) (row : MarkRowValue) : Type 0 where
   pub vertex : IdValue
   pub mark : MarkValue

@@ -61,7 +61,8 @@ IsInside inner outer = (outer.document ≡ inner.document) × (outer.first ≤ i
 abbrev pub interval_at : List IntervalValue → ℕ → IntervalValue
 interval_at intervals i = get_or intervals i (record { document = 0; first = 0; last = 0; range = 0 })
 
--- the second comes after the first: in a later document, inside it and not equal to it, or behind its end
+-- the second comes after the first: in a later document, inside it and not equal to it, or after
+-- its end
 abbrev pub Follows : IntervalValue → IntervalValue → Type 0
 Follows a b =
     (a.document < b.document)
@@ -69,7 +70,8 @@ Follows a b =
     ((a.first ≤ b.first) × (b.last ≤ a.last) × ((a.first < b.first) ⊎ (b.last < a.last)))
     ⊎ (a.last ≤ b.first)))
 
--- intervals that aren't empty, in order, of which no two in one document are equal or overlap with neither inside the other
+-- intervals that aren't empty, in order, of which no two in one document are equal or overlap with
+-- neither inside the other
 pub record AreIntervals (intervals : List IntervalValue) : Type 0 where
   pub filled : (i : ℕ) → i < length intervals → (interval_at intervals i).first < (interval_at intervals i).last
   pub follows : (i j : ℕ) → i < j → j < length intervals → Follows (interval_at intervals i) (interval_at intervals j)
@@ -86,7 +88,8 @@ IsOpenBefore intervals i None = (q : ℕ) → q < i → IsInside (interval_at in
 abbrev pub AreLinks : List IntervalValue → List (Option ℕ) → Type 0
 AreLinks intervals links = (i : ℕ) → i < length links → IsOpenBefore intervals i (get_or links i None)
 
--- the number of an interval's range with that of the interval to which its link leads, of the first so many intervals
+-- the number of an interval's range with that of the interval to which its link leads, of the first
+-- so many intervals
 pub record IsLinkPair (intervals : List IntervalValue) (links : List (Option ℕ)) (count : ℕ) (p : ℕ × ℕ) : Type 0 where
   pub inner : ℕ
   pub outer : ℕ

@@ -12,7 +12,7 @@ place_value p = record { uri = p.uri.now; span = p.span.now }
 abbrev pub placed_value : ℕ × Place → ℕ × PlaceValue
 placed_value p = (p.0, place_value p.1)
 
--- ---- the numbers that stand in a place
+-- ---- the numbers that are in a place
 
 abbrev pub point_value : Point → PositionValue
 point_value p = record { line = p.line; character = p.character }

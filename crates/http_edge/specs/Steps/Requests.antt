@@ -22,7 +22,8 @@ AsksFor (Upload upload) asked = HasRead upload.body [] × ((body : List ℕ) →
 AsksFor (Request q) asked = (body : List ℕ) → asked body ≡ Some (request_value q)
 AsksFor (Refused refusal) asked = (refusal ≡ BadParameter) × ((body : List ℕ) → asked body ≡ None)
 
--- this is what the method and the target ask with each body, and an upload stands for these bytes of it; or memory was refused
+-- this is what the method and the target ask with each body, and an upload represents these bytes
+-- of it; or memory was refused
 abbrev pub AsksAfter : Result Asked AllocError → List ℕ → List ℕ → List ℕ → Type 0
 AsksAfter (Ok (Upload upload)) method target body =
     HasRead upload.body body × ((whole : List ℕ) → message_of method target whole ≡ request (command (command_of upload whole)))

@@ -38,7 +38,8 @@ abbrev pub Refills : {E : Type 0} → List ℕ → Option (List ℕ) → List �
 Refills held left held' left' (Ok u) = (bytes : List ℕ) × Moves left left' bytes × (held' ≡ held ++ bytes) × (held' ≡ [] → AtEnd left')
 Refills held left held' left' (Err e) = (bytes : List ℕ) × MovesOrHides left left' bytes × (held ++ bytes ≡ [])
 
--- what a call for the next piece of a body reads and hands on, which is at most so long: none only at the end of the input
+-- what a call for the next piece of a body reads and passes on, which is at most so long: none only
+-- at the end of the input
 abbrev pub TakesPiece : {E : Type 0} → ℕ → List ℕ → Option (List ℕ) → Result Asked AllocError → List ℕ → Option (List ℕ) → Result Asked AllocError → Result ℕ E
     → Type 0
 TakesPiece most held left asked held' left' asked' (Ok count) =
@@ -47,7 +48,8 @@ TakesPiece most held left asked held' left' asked' (Ok count) =
     × ((method target body : List ℕ) → AsksAfter asked method target body → AsksAfter asked' method target (body ++ piece))
 TakesPiece most held left asked held' left' asked' (Err e) = (bytes : List ℕ) × MovesOrHides left left' bytes × (held ++ bytes ≡ [])
 
--- what a call for a body of so many bytes reads and hands on: all of it, or what there was at the end
+-- what a call for a body of so many bytes reads and passes on: all of it, or what there was at the
+-- end
 abbrev pub ReadsBody : {E : Type 0} → ℕ → List ℕ → Option (List ℕ) → Result Asked AllocError → List ℕ → Option (List ℕ) → Result Asked AllocError
     → Result Bool E → Type 0
 ReadsBody len held left asked held' left' asked' (Ok true) =
@@ -57,7 +59,8 @@ ReadsBody len held left asked held' left' asked' (Ok false) =
     (bytes : List ℕ) × Moves left left' bytes × AtEnd left' × (length (held ++ bytes) < len) × (held' ≡ [])
 ReadsBody len held left asked held' left' asked' (Err e) = (bytes : List ℕ) × MovesOrHides left left' bytes × (length (held ++ bytes) < len)
 
--- what was read of a message is this one: an upload stands for its body; where memory was refused, it's any that doesn't end the stream
+-- what was read of a message is this one: an upload represents its body; where memory was refused,
+-- it's any that doesn't end the stream
 abbrev pub Says : Result Asked AllocError → MessageValue → Type 0
 Says (Ok (Upload upload)) message = (body : List ℕ) × HasRead upload.body body × (message ≡ request (command (command_of upload body)))
 Says (Ok (Request q)) message = message ≡ request (request_value q)
@@ -70,7 +73,8 @@ Gives bytes message rest left =
     Settles bytes message rest
     ⊎ (AtEnd left × (refusal : Refusal) × IsUnended bytes refusal × (bytes ≢ []) × (message ≡ refused refusal) × (rest ≡ []))
 
--- what a call for the body of a request reads and gives: the message of all of it, or where the input ended in it its refusal
+-- what a call for the body of a request reads and gives: the message of all of it, or where the
+-- input ended in it its refusal
 abbrev pub TakesBody : {E : Type 0} → ℕ → List ℕ → List ℕ → List ℕ → Option (List ℕ) → List ℕ → Option (List ℕ) → Result (Result Asked AllocError) E → Type 0
 TakesBody len method target held left held' left' (Ok asked) =
     ((bytes : List ℕ) × (body : List ℕ) × Moves left left' bytes × (held ++ bytes ≡ body ++ held') × (length body ≡ len)
@@ -87,8 +91,9 @@ NextMessage held left held' left' (Ok None) =
 NextMessage held left held' left' (Err e) =
     (bytes : List ℕ) × MovesOrHides left left' bytes × (refusal : Refusal) × IsUnended (held ++ bytes) refusal
 
--- what was read of a message has this answer from each state that a desk stood for, where it is reliable; it then stands for the next one,
--- and leaves at a stop one of those of which it left one and of the next
+-- what was read of a message has this answer from each state that a desk represented, where it is
+-- reliable; it then represents the next one, and a crash leaves one of those of which it left one
+-- and of the next
 pub record Responds (store_may_refuse : Bool) (stood stands : State → Type 0) (old_leaves new_leaves : List State → Type 0) (was_reliable is_reliable : Type 0)
     (asked : Result Asked AllocError) (given : AnswerValue) : Type 0 where
   pub reliable : is_reliable → was_reliable

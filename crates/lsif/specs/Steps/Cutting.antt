@@ -26,13 +26,14 @@ abbrev pub EndsLast : CutterValue → Bool → CutterValue → Type 0
 EndsLast old true new = (0 < length (begun old)) × (new ≡ record { longest = old.longest; line = begun old; state = Ended })
 EndsLast old false new = (begun old ≡ []) × (new ≡ old)
 
--- this is the first line of known bytes, and a line feed ended it, or the end did; or there is none; and what is left after it
+-- this is the first line of known bytes, and a line feed ended it, or the end did; or there is
+-- none; and what is left after it
 abbrev pub CutsKnown : Option (List ℕ) → List ℕ → Option Bool → Option (List ℕ) → Type 0
 CutsKnown None line next new = ⊤
 CutsKnown (Some text) line (Some has_feed) new = (rest : List ℕ) × (new ≡ Some rest) × BeginsWith text line has_feed rest
 CutsKnown (Some text) line None new = (text ≡ []) × (new ≡ Some [])
 
--- what a cutter makes of the bytes that weren't handed out
+-- what a cutter makes of the bytes that weren't returned
 abbrev pub CutsLine : Option (List ℕ) → CutterValue → Result (Option Bool) LinesFault → Option (List ℕ) → Type 0
 CutsLine old cutter (Ok (Some has_feed)) new =
     (cutter.state ≡ Ended) × IsLine cutter.line × (length cutter.line ≤ cutter.longest) × CutsKnown old cutter.line (Some has_feed) new

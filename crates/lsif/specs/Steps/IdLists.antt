@@ -1,4 +1,5 @@
--- The ids that a list of them holds (LSIF 0.6.0, "Id"): an entry for each, and the texts of those that are texts, one behind the other.
+-- The ids that a list of them holds (LSIF 0.6.0, "Id"): an entry for each, and the texts of those
+-- that are texts, one after the other.
 use Rattle.std.specs.Prelude.{◌≡◌, ◌-◌, ℕ, List, [], ◌∷◌, take, drop, nat_lt, Option, Some, None, if◌then◌else◌}
 use Rattle.std.specs.Str.{IsCharBoundary}
 use Rattle.lsif.specs.IdValues.{IdValue, number, text, greatest_id}
@@ -20,7 +21,7 @@ abbrev pub IsCutBy : Option ℕ → List ℕ → (List ℕ → Type 0) → Type 
 IsCutBy None texts later = later texts
 IsCutBy (Some n) texts later = IsCharBoundary texts n × later (drop n texts)
 
--- the texts of these entries are whole characters, and nothing is behind the last
+-- the texts of these entries are whole characters, and nothing is after the last
 unfoldable pub AreCut : List ℕ → List ℕ → Type 0
 AreCut [] texts = texts ≡ []
 AreCut (entry ∷ entries) texts = IsCutBy (text_length entry) texts (AreCut entries)

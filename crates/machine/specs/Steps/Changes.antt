@@ -1,4 +1,4 @@
--- What is said of a command, as the program has it.
+-- The verdict on a command, as the program has it.
 use Rattle.std.specs.Prelude.{Result, Ok, Err}
 use Rattle.machine.specs.State.{Change, set_dump, set_tags, clear}
 use Rattle.machine.specs.Reply.{ReplyValue}
@@ -10,7 +10,7 @@ change_value (SetDump dump) = set_dump dump
 change_value (SetTags tags) = set_tags tags
 change_value Clear = clear
 
--- what is said of a command
+-- the verdict on a command
 abbrev pub said_value : Result makes.Change ReplyValue → Result Change ReplyValue
 said_value (Ok change) = Ok (change_value change)
 said_value (Err fault) = Err fault

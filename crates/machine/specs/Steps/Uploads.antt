@@ -38,7 +38,7 @@ Judges states.Running due new = (new ≡ due) × IsRunning due
 Judges states.Faulty due new = (new ≡ due) × (IsRunning due → ⊥)
 Judges states.OutOfMemory due new = ⊤
 
--- what is said at the end
+-- the verdict at the end
 abbrev pub said : TakenLines → Result Change ReplyValue
 said (dump_lines profile progress) = dump_change (dump_at_end profile progress)
 said (tags_lines state) = tags_change (judged_at state)
@@ -58,7 +58,8 @@ emptied (tags_lines state) = no_tags_line
 abbrev pub after : TakenLines → List (List ℕ) → TakenLines
 after old lines = fold (λ known line. next known line true) old lines
 
--- the settled lines were taken, and where none has a fault the bytes after the last line feed are held
+-- the settled lines were taken, and where none has a fault the bytes after the last line feed are
+-- held
 abbrev pub Took : TakenLines → List ℕ → List (List ℕ) → List ℕ → Type 0
 Took known held lines last = (known ≡ after (emptied known) (settled (longest_of known) lines last)) × (IsRunning known → held ≡ last)
 
@@ -85,7 +86,7 @@ HasState states.OutOfMemory known cutter = ⊤
 abbrev pub StandsBy : BodyValue → List ℕ → Type 0
 StandsBy held body = (held.is_out_of_memory ≡ true) ⊎ TookBody held.lines held.last body
 
--- at the end this is said of the lines, unless memory was refused
+-- at the end this is the verdict on the lines, unless memory was refused
 abbrev pub Says : ReadingState → TakenLines → Result Change ReplyValue → Type 0
 Says states.Running known answer = said known ≡ answer
 Says states.Faulty known answer = said known ≡ answer

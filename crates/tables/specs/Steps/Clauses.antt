@@ -1,4 +1,5 @@
--- The forms of clauses that many functions have, over what a connection shows before a call and after it.
+-- The forms of clauses that many functions have, over what a connection shows before a call and
+-- after it.
 use Rattle.std.specs.Prelude.{◌≡◌, ℕ, ℤ, Bool, false, IsTrue, List, Some, Result, OnOk, is_ok}
 use Rattle.std.specs.Bool.{OnTrue}
 use Rattle.std.specs.Borrow.{MutBor}
@@ -15,7 +16,7 @@ use Rattle.tables.specs.Steps.Puts.{Steps}
 use Rattle.tables.specs.Steps.Selected.{Looks}
 use Rattle.tables.specs.declared.slots.Part.TheVariants.{Dump}
 
--- this holds of each state that the tables stood for, where what was read is what was written
+-- this holds of each state that the tables represented, where what was read is what was written
 abbrev pub OfState : {S : Type 0} → Ghosts S → Held S → Held S → (State → Type 0) → Type 0
 OfState store old new P =
     sqlite.HasCleanDisk (state store new) → (state store old).now.schema ≡ schema_two → (m : State) → StandsFor (state store old).now.trees m → P m
@@ -38,13 +39,15 @@ pub record Reads (succeeded : Bool) (old new : sqlite.State) : Type 0 where
 abbrev pub OnlyReads : {S A E : Type 0} → Ghosts S → Result A E → Held S → Held S → Type 0
 OnlyReads store result old new = Reads (is_ok result) (state store old) (state store new)
 
--- within a transaction, where the call succeeded, such a step led from the tables before to those after
+-- within a transaction, where the call succeeded, such a step led from the tables before to those
+-- after
 abbrev pub Edits : {S A E : Type 0} → Ghosts S → Result A E → MutBor (Held S) → MutBor (Held S) → (Trees → Trees → Type 0) → Type 0
 Edits store result old new Step =
     sqlite.HasCleanDisk (state store new.now) → IsTrue old.now.in_transaction → (state store old.now).now.schema ≡ schema_two
     → OnOk result (Steps Step (state store old.now) (state store new.now))
 
--- What statements within a transaction leave of its connection, also where they fail: they commit nothing.
+-- What statements within a transaction leave of its connection, also where they fail: they commit
+-- nothing.
 pub record CommitsNothing {S : Type 0} (store : Ghosts S) (old new : MutBor (Held S)) : Type 0 where
   -- it's the same connection
   pub same_reference : new.ghost_name ≡ old.ghost_name

@@ -59,7 +59,8 @@ abbrev pub AreWithin : List RangeRowValue → Type 0
 AreWithin [] = ⊤
 AreWithin (r ∷ rows) = AllByRecursion (λ s. IsWithin r.place.span s.place.span) rows × AreWithin rows
 
--- the rows of the ranges of the document that cover the position were read, the smallest range first
+-- the rows of the ranges of the document that cover the position were read, the smallest range
+-- first
 pub record IsClimbed (dump : DumpValue) (uri : List ℕ) (position : PositionValue) (found : List SlotRange) : Type 0 where
   pub rows : List RangeRowValue
   pub told : AllZip TellsRange found rows

@@ -27,7 +27,7 @@ pub record IsOfDump {E : Type 0} (Of : DumpValue → E → Type 0) (db : Trees) 
 abbrev pub Entries : {E : Type 0} → (DumpValue → E → Type 0) → Trees → State → Type 0
 Entries {E} Of db m = (e : DumpEntry E) × IsOfDump Of db m e
 
--- its columns in its table, behind the row's number
+-- its columns in its table, after the row's number
 abbrev pub entry_values : {E : Type 0} → (E → Row) → (Of : DumpValue → E → Type 0) → (db : Trees) → (m : State) → Entries Of db m → Row
 entry_values columns Of db m e = Int e.0.slot ∷ columns e.0.value
 

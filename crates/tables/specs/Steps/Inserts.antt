@@ -20,8 +20,9 @@ use Rattle.tables.specs.Schema.{schema_two}
 abbrev pub plainly : Table → Table
 plainly t = record t { stamps = record { places = []; terms = []; formats = [] }; is_counted = false }
 
--- The statement of this text is an INSERT of values into the table of this tree, whose rows no foreign key refers to yet. Of these values it makes
--- these rows, at least one, which the table takes as they are, each with a rowid that is chosen for it.
+-- The statement of this text is an INSERT of values into the table of this tree, whose rows no
+-- foreign key refers to yet. Of these values it makes these rows, at least one, which the table
+-- takes as they are, each with a rowid that is chosen for it.
 pub record Inserts (text : List ℕ) (tree : ℕ) (values : Row) (rows : List Row) : Type 0 where
   pub at : ℕ
   pub table : Table

@@ -21,7 +21,8 @@ pub record Puts (tree : ℕ) (id : ℤ) (values : Row) (old new : Trees) : Type 
   pub others : AllByRecursion (λ t. t.tree ≢ tree → new t.tree ≡ old t.tree) schema_two.tables
   pub ordered : AllOrdered schema_two old → AllOrdered schema_two new
 
--- the rows of the list are there beside those that were there, and the other tables are as they were
+-- the rows of the list are there beside those that were there, and the other tables are as they
+-- were
 pub record PutsAll (tree : ℕ) (list : List Row) (old new : Trees) : Type 0 where
   pub rows : (row : Row) → Holds new tree row ↔ (Has list row ⊎ Holds old tree row)
   pub others : AllByRecursion (λ t. t.tree ≢ tree → new t.tree ≡ old t.tree) schema_two.tables

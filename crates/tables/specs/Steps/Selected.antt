@@ -25,15 +25,16 @@ abbrev pub IsSilent : Result Compiled CompileError → Type 0
 IsSilent (Ok c) = c.returning ≡ None
 IsSilent (Err e) = ⊤
 
--- the text is a query of these tables that doesn't read the time; and whatever the tables, it writes nothing
+-- the text is a query of these tables that doesn't read the time; and whatever the tables, it
+-- writes nothing
 pub record IsQuery (sql : List ℕ) : Type 0 where
   pub plain : IsPlain (understood schema_two sql)
   pub silent : (schema : Schema) → IsSilent (understood schema sql)
 
 -- ---- what a selection leaves
 
--- Nothing was written, whether rows were found or the store refused: nothing more may be left than before, and where what is committed was shown,
--- it still is.
+-- Nothing was written, whether rows were found or the store refused: nothing more may be left than
+-- before, and where what is committed was shown, it still is.
 pub record Looks (old new : State) : Type 0 where
   pub survives : Survives old new (λ _. ⊥)
   pub kept : HasCleanDisk new → IsTrue new.is_open → old.committed ≡ old.now → IsAsBefore old new
@@ -65,7 +66,7 @@ IsFirstRead columns (r ∷ rows) (Some x) = AreColumns 0 (columns x) r
 abbrev pub equals : List (ℕ × ℕ) → List Term
 equals pairs = map (λ p. same (col 1 p.0) (col 0 p.1)) pairs
 
--- each row of the table has the values of an entry, behind its number
+-- each row of the table has the values of an entry, after its number
 abbrev pub AreTyped : {E : Type 0} → (E → Row) → List Row → Type 0
 AreTyped {E} values rows = (row : Row) → Has rows row → (id : ℤ) × (e : E) × (row ≡ Int id ∷ values e)
 

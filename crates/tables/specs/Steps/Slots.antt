@@ -24,7 +24,7 @@ abbrev pub IsDumpSlot : Trees → State → List ℕ → Option ℤ → Type 0
 IsDumpSlot db m project None = m.dump project ≡ None
 IsDumpSlot db m project (Some id) = HasSlot db id project Dump
 
--- a slot that is known is that of its project's dump, where the tables stand for a state
+-- a slot that is known is that of its project's dump, where the tables represent a state
 abbrev pub IsKnown : sqlite.State → Option ProjectSlot → Type 0
 IsKnown s None = ⊤
 IsKnown s (Some slot) = sqlite.HasCleanDisk s → s.now.schema ≡ schema_two → (m : State) → StandsFor s.now.trees m
@@ -40,6 +40,6 @@ IsNamed s (Some slot) = sqlite.HasCleanDisk s → s.now.schema ≡ schema_two �
 abbrev pub HasPart : Contents → List ℕ → Type 0
 HasPart parts project = (part : Part) × (rows : ℕ → List Row) × (parts project part ≡ Some rows)
 
--- the parts that the project has are told
+-- the value says which parts the project has
 abbrev pub IsTold : State → ProjectValue → Type 0
 IsTold m p = (p.dump ≡ is_some (m.dump p.name)) × (p.tags ≡ is_some (m.tags p.name))

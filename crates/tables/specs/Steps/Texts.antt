@@ -110,7 +110,7 @@ rest1 = (slot_text ++ semicolon) ++ rest2
 abbrev pub rest0 : List ℕ
 rest0 = (format_text ++ semicolon) ++ rest1
 
--- and of the batch that makes format 2 of format 1, where its indexes may stand already
+-- and of the batch that makes format 2 of format 1, where its indexes may be there already
 abbrev pub drop_range_by_start : List ℕ
 drop_range_by_start = codes "DROP INDEX IF EXISTS range_by_start"
 

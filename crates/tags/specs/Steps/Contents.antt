@@ -1,4 +1,4 @@
--- What judging a line hands out, and what the line says.
+-- What judging a line returns, and what the line says.
 use Rattle.std.specs.Prelude.{◌≡◌, ◌<◌, ◌+◌, ℕ, None, Some, option_map, Result, Ok, Err, IsUtf8}
 use Rattle.std.specs.Option.{ForSome}
 use Rattle.tags.specs.Steps.Cutting.{each_field}
@@ -25,7 +25,7 @@ pub record IsCut (c : Cut) (e : EntryValue) : Type 0 where
   pub address_text : IsUtf8 c.address.now
   pub fields_text : ForSome c.fields (λ bs. IsUtf8 bs.now)
 
--- what is handed out of a line that says x
+-- what is returned of a line that says x
 abbrev pub IsContent : Content → ContentValue → Type 0
 IsContent (contents.Pseudo tag) x = x ≡ pseudo_value tag
 IsContent (contents.Ordinary cut) x = (e : EntryValue) × IsCut cut e × (x ≡ ordinary cut.name.now e)
@@ -35,7 +35,7 @@ abbrev pub ReadsTag : Result Cut Code → Reading → Type 0
 ReadsTag (Ok cut) reading = (e : EntryValue) × IsCut cut e × (reading ≡ Ok (ordinary cut.name.now e))
 ReadsTag (Err code) reading = reading ≡ Err code
 
--- what is handed out of what is read, or the code of the reading
+-- what is returned of what is read, or the code of the reading
 abbrev pub Reads : Result Content Code → Reading → Type 0
 Reads (Ok content) reading = (x : ContentValue) × IsContent content x × (reading ≡ Ok x)
 Reads (Err code) reading = reading ≡ Err code
@@ -62,7 +62,8 @@ abbrev pub taken : State ℕ → ContentValue → State ℕ
 taken (running s) x = running (add counted s x)
 taken (stopped n c) x = stopped n c
 
--- what judging a line says of the states before it and after it: a line without fault changes nothing yet
+-- what judging a line says of the states before it and after it: a line without fault changes
+-- nothing yet
 abbrev pub Judges : Result Content LineFault → State ℕ → State ℕ → Reading → Type 0
 Judges (Ok content) old new line =
     (new ≡ old) × HasRoom old × ((x : ContentValue) × IsContent content x × (line ≡ Ok x) × IsGoodNext old x)

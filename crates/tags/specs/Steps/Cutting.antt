@@ -9,7 +9,7 @@ use Rattle.tags.specs.Bytes.{tab, double_quote, slash, digit_zero, semicolon, qu
 
 -- ---- the name and the file
 
--- a name, a file, and what stands after its Tab
+-- a name, a file, and what comes after its Tab
 pub record Front : Type 0 where
   pub name : List ℕ
   pub file : List ℕ
@@ -30,7 +30,7 @@ front_of line = option_and_then (λ p. option_and_then (front_by p.0) (around ta
 abbrev pub greatest_number : ℕ
 greatest_number = 2147483647
 
--- digits that stand for a number up to the greatest
+-- digits that represent a number up to the greatest
 abbrev pub is_in_range_number : List ℕ → Bool
 is_in_range_number ds = list_all is_ascii_digit ds && nat_le (digits_value 10 ds) greatest_number
 
@@ -47,7 +47,7 @@ abbrev pub further : ℕ → Option ℕ → Option ℕ
 further k place = option_map (λ n. k + n) place
 
 -- the place of the delimiter that ends a pattern: the first that no backslash escapes, where a
--- backslash escapes the byte after it; escaped says whether one stands before the first byte
+-- backslash escapes the byte after it; escaped says whether one comes before the first byte
 unfoldable pub closing : ℕ → Bool → List ℕ → Option ℕ
 closing d escaped [] = None
 closing d true (b ∷ bs) = further 1 (closing d false bs)
@@ -58,13 +58,13 @@ unfoldable pub pattern_len : List ℕ → Option ℕ
 pattern_len [] = None
 pattern_len (d ∷ bs) = if is_delimiter d then further 2 (closing d false bs) else None
 
--- what stands after a number: nothing of the address, or `;` and a pattern
+-- what comes after a number: nothing of the address, or `;` and a pattern
 unfoldable pub after_number_len : List ℕ → Option ℕ
 after_number_len [] = Some 0
 after_number_len (b ∷ []) = Some 0
 after_number_len (b ∷ d ∷ bs) = if b == semicolon && is_delimiter d then further 1 (pattern_len (d ∷ bs)) else Some 0
 
--- how many digits stand at the front
+-- how many digits are at the front
 abbrev pub digits_len : List ℕ → ℕ
 digits_len bs = position_or_len (λ b. not (is_ascii_digit b)) bs
 
@@ -78,7 +78,7 @@ address_len (b ∷ bs) = if is_delimiter b then pattern_len (b ∷ bs) else numb
 
 -- ---- the fields
 
--- what stands after the address: the end, or `;"` and the end, or `;"`, a Tab and the fields
+-- what comes after the address: the end, or `;"` and the end, or `;"`, a Tab and the fields
 unfoldable pub fields_after : List ℕ → Option (Option (List ℕ))
 fields_after [] = Some None
 fields_after (a ∷ []) = None

@@ -27,7 +27,8 @@ gathered good kind others rest =
 abbrev pub gathered_in : Gathered → List (List ℕ) → Result FieldsValue Code
 gathered_in g rest = gathered true (option_map (λ s. string_bytes s) g.kind) (map field_value g.others.items) rest
 
--- what a call says of what was gathered before it and after it: fields without fault say what they said
+-- what a call says of what was gathered before it and after it: fields without fault say what they
+-- said
 abbrev pub Gathers : Gathered → Gathered → List ℕ → Type 0
 Gathers old new field =
     (rest : List (List ℕ)) → fault_in (gathered_in old (field ∷ rest)) ≡ None → gathered_in new rest ≡ gathered_in old (field ∷ rest)
@@ -38,8 +39,8 @@ Gathers old new field =
 abbrev pub Stands : Noted → Option (List ℕ) → Type 0
 Stands n kind = is_some kind ≡ n.has_kind
 
--- what a call says of the notes before it and after it: that the field leads to some kind, as is noted then, and
--- others; or that it has a bad escape
+-- what a call says of the notes before it and after it: that the field leads to some kind, as is
+-- noted then, and others; or that it has a bad escape
 abbrev pub Notes : Bool → Noted → Noted → List ℕ → Type 0
 Notes true old new field =
     (kind : Option (List ℕ)) (others : List FieldValue) → Stands old kind

@@ -6,7 +6,7 @@ use Rattle.tags.specs.Parts.{PartValue, fields_at, parts_with}
 use Rattle.tags.specs.declared.code.Code.{Code}
 use Rattle.tags.specs.declared.code.Code.TheVariants.{T04, T06}
 
--- the fields that stand at the end of a line of so many bytes
+-- the fields that are at the end of a line of so many bytes
 abbrev pub fields_from : ℕ → Option (List ℕ) → List PartValue
 fields_from len None = []
 fields_from len (Some bs) = fields_at (len - length bs) (each_field (Some bs))

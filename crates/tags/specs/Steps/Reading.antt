@@ -23,7 +23,8 @@ pseudo_by name value =
     else if bytes_eq name (codes "!_TAG_FILE_SORTED") then Ok (sorted (bytes_eq value (codes "1")))
     else Ok other
 
--- the name stands before the first Tab of a pseudo-tag, and the value between the first and the second
+-- the name comes before the first Tab of a pseudo-tag, and the value between the first and the
+-- second
 unfoldable pub pseudo_of : List ℕ → Result ContentValue Code
 pseudo_of line = do
   name ← some_or T04 (around tab line)

@@ -14,7 +14,7 @@ reading_of line = if nat_lt longest_line (length line.bytes) then Err T01 else r
 abbrev pub readings_of : List ℕ → List (Result ContentValue Code)
 readings_of text = map reading_of (lines_of text)
 
--- what a line that is handed in says: its bytes, or the code that was found before
+-- what a line that is passed in says: its bytes, or the code that was found before
 abbrev pub handed : Result (List ℕ) Code → Bool → Result ContentValue Code
 handed (Ok bytes) ended = reading_of (record { bytes = bytes; ended = ended })
 handed (Err code) ended = Err code

@@ -38,7 +38,7 @@ room_of o = option_map_or (λ name. vec_capacity name) o.last 0
 abbrev pub count_of : Counted → Summary ℕ
 count_of c = record { count = c.order.count; kept = c.tags; last = last_of c.order; checked = c.order.checked }
 
--- the state that a checker's fields stand for
+-- the state that a checker's fields represent
 abbrev pub checked_state : Option LineFault → Counted → State ℕ
 checked_state None c = running (count_of c)
 checked_state (Some fault) c = stopped fault.line fault.code

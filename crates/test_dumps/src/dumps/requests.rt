@@ -4,7 +4,8 @@ use dump::{RequestKind, Role};
 use lsif::MonikerKind;
 use std::test::Fail;
 
-/// A request and a kind of monikers: whether the request goes on to other projects by them, and whether it looks for them there.
+/// A request and a kind of monikers: whether the request goes on to other projects by them, and
+/// whether it looks for them there.
 const JOINS: &[(RequestKind, MonikerKind, bool, bool)] = &[
     (RequestKind::Definition, MonikerKind::Import, true, false),
     (RequestKind::Definition, MonikerKind::Export, false, true),

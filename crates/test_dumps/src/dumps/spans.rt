@@ -10,7 +10,8 @@ use std::test::Fail;
 /// From a line and a character up to a line and a character.
 type Ends = (u32, u32, u32, u32);
 
-/// Adds ranges behind the line of this number, and an edge by which the document contains them. The number of that edge.
+/// Adds ranges after the line of this number, and an edge by which the document contains them. The
+/// number of that edge.
 fn push_contained(text: &mut String, last: usize, ranges: &[Ends]) -> Result<usize, Fail> {
     let alloc = *text.allocator();
     let mut number = last;
@@ -28,7 +29,8 @@ fn push_contained(text: &mut String, last: usize, ranges: &[Ends]) -> Result<usi
     Ok(number)
 }
 
-/// A dump whose document contains the others, which so many edges name at once, and then the targets; and the number of its last line.
+/// A dump whose document contains the others, which so many edges name at once, and then the
+/// targets; and the number of its last line.
 fn dump_where(
     alloc: Global,
     others: &[Ends],
@@ -44,8 +46,8 @@ fn dump_where(
     Ok((text, last))
 }
 
-/// Whether the targets of a `contains` edge conflict with the others, which so many edges before it name at once, or
-/// with each other. The others don't conflict.
+/// Whether the targets of a `contains` edge conflict with the others, which so many edges before it
+/// name at once, or with each other. The others don't conflict.
 fn conflict_where(
     alloc: Global,
     others: &[Ends],
@@ -64,7 +66,8 @@ fn conflict_where(
     }
 }
 
-/// As `conflict_where`, where the others come in one edge, and where each comes in an edge of its own.
+/// As `conflict_where`, where the others come in one edge, and where each comes in an edge of its
+/// own.
 fn is_conflict(alloc: Global, others: &[Ends], targets: &[Ends]) -> Result<bool, Fail> {
     let found = conflict_where(alloc, others, 100, targets)?;
     if conflict_where(alloc, others, 1, targets)? != found {

@@ -4,7 +4,8 @@ use lsif::Cutter;
 use std::alloc::{AllocError, Global};
 use std::test::Fail;
 
-/// Adds the lines that the piece ends, or why the cutter takes no more, and says whether it goes on.
+/// Adds the lines that the piece ends, or why the cutter takes no more, and says whether it goes
+/// on.
 fn push_lines(
     alloc: Global,
     cutter: &mut Cutter,
@@ -28,8 +29,8 @@ fn push_lines(
     Ok(true)
 }
 
-/// The text, the lines of at most seven bytes that are cut from its pieces, and what no line feed has ended. Where a line is
-/// too long, one more line feed and no byte at all come after it.
+/// The text, the lines of at most seven bytes that are cut from its pieces, and what no line feed
+/// has ended. Where a line is too long, one more line feed and no byte at all come after it.
 fn row(alloc: Global, text: &str, most: usize) -> Result<String, Fail> {
     let mut cutter = Cutter::new(alloc, 7)?;
     let mut found = format!(in alloc; "{text:?} =>")?;

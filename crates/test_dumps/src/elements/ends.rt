@@ -6,7 +6,8 @@ use std::alloc::Global;
 use std::process::Abort;
 use std::test::Fail;
 
-/// Elements behind their ids, and what is read of them: the id, and of an edge the source, and behind `>` the targets.
+/// Elements after their ids, and what is read of them: the id, and of an edge the source, and
+/// after `>` the targets.
 const ENDS: &str = r#"
 7,"type":"edge","label":"contains","outV":1,"inVs":[2,3] => Number(7): Number(1) > Number(2) Number(3)
 7,"type":"edge","label":"contains","outV":1,"inVs":[0,1,"2"] => Number(7): Number(1) > Number(0) Number(1) Text("2")

@@ -24,7 +24,7 @@ fn count_lines<S: Source>(lines: &mut Lines<S>) -> Result<Option<u64>, LinesFaul
     Ok(None)
 }
 
-/// The same over a source that is lent.
+/// The same over a source that is borrowed.
 fn count_lines_of<S: Source>(
     lines: &mut LineBuffer,
     source: &mut S,
@@ -78,7 +78,8 @@ fn row(alloc: Global, text: &str, most: usize, fails_at: u32) -> Result<String, 
     Ok(format!(in alloc; "{text:?} =>{}\n", found?)?)
 }
 
-/// Texts, and after each the lines or the faults that seven asks answer, with the failures after each.
+/// Texts, and after each the lines or the faults that seven asks answer, with the failures after
+/// each.
 const ROWS: &str = r#"
 "" => end 0 end 0 end 0 end 0 end 0 end 0 end 0
 "\n" => "" 0 end 0 end 0 end 0 end 0 end 0 end 0
@@ -123,7 +124,7 @@ fn lines_of_input_in_pieces(rt: HostRuntime) -> Result<(), Fail> {
     Ok(())
 }
 
-/// What the first line of a lent source is, and how many are left.
+/// What the first line of a borrowed source is, and how many are left.
 fn lent_lines(alloc: Global, lines: &mut LineBuffer) -> Result<String, Fail> {
     let mut source = Counted::new(b"one\ntwo".as_slice());
     let first = lines.advance(&mut source);

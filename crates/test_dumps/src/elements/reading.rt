@@ -1,6 +1,7 @@
-//! What is read of lines: an element, or the code of its shape. Ids and ends are in `ends.rt`. A table's row is a part of a line and what is read of
-//! it, with `=>` between them: a code, what a vertex or an edge of some labels says, or `an element`; and behind a bar what
-//! profile 2 reads, where that differs.
+//! What is read of lines: an element, or the code of its shape. Ids and ends are in `ends.rt`. A
+//! table's row is a part of a line and what is read of it, with `=>` between them: a code, what a
+//! vertex or an edge of some labels says, or `an element`; and after a bar what profile 2 reads,
+//! where that differs.
 use crate::asserts::expect_equal_text;
 use lsif::{
     Edge, Element, Id, IdRef, MonikerKind, Profile, ReadFault, Vertex, profile_law, read_element,
@@ -232,7 +233,8 @@ fn tables_of_lines(rt: HostRuntime) -> Result<(), Fail> {
     Ok(())
 }
 
-/// Lines, and a row of what is read of each. In a line so many of a second text and as many of a third stand between the first and the last.
+/// Lines, and a row of what is read of each. In a line so many of a second text and as many of a
+/// third come between the first and the last.
 const MADE: &[(&[u8], usize, &str, &str, &str, &str)] = &[
     (b"", 0, "", "", "", "empty => L02\n"),
     (b" \t\r", 0, "", "", "", "blank => L02\n"),

@@ -1,4 +1,4 @@
-//! Readers and writers of std's under the counts.
+//! Readers and writers of the standard library under the counts.
 use crate::asserts::expect_equal_text;
 use lsif::{Counted, Sink, Source, counted_law};
 use samples::slow_writer;
@@ -21,7 +21,8 @@ fn slice_pulls(alloc: Global) -> Result<String, Fail> {
     Ok(found)
 }
 
-/// Pushes each of the parts: the answers, and then how often a push failed and how often one took nothing.
+/// Pushes each of the parts: the answers, and then how often a push failed and how often one took
+/// nothing.
 fn pushes<W: Sink>(alloc: Global, writer: &mut W, parts: &[&str]) -> Result<String, Fail> {
     let mut found = String::new(alloc);
     for part in parts {

@@ -5,7 +5,7 @@ use Rattle.dump.specs.Graph.{is_among, has_repeated}
 use Rattle.dump.specs.Steps.Ids.{value_at}
 use Rattle.dump.proofs.ids.is_repeating.Given as goal
 
--- the table has the ids that were passed, and none of them stood there twice
+-- the table has the ids that were passed, and none of them was passed twice
 abbrev pub invariant-loop-id : goal.invariant-loop-id
 invariant-loop-id l = record {
   front : List IdValue;

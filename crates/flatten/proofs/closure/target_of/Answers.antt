@@ -8,7 +8,7 @@ use Rattle.flatten.proofs.Listing.{eq_of}
 use Rattle.flatten.proofs.Members.{contains_cases, not_in_nil}
 use Rattle.flatten.proofs.closure.target_of.Goals as goal
 
--- where a member stands
+-- where a member is
 index_of : {X : Type 0} (xs : List X) (x : X) → Contains xs x → (i : ℕ) × (i < length xs) × ((d : X) → get_or xs i d ≡ x)
 index_of [] x at = absurd (not_in_nil x at)
 index_of {X} (y ∷ xs) x at = ⊎_elim (λ (e : y ≡ x). (zero, omega arith, λ d. e)) (λ (t : Contains xs x). let r = index_of xs x t in (suc r.0, omega (arith, r.1), r.2)) (contains_cases y xs x at)
