@@ -14,6 +14,7 @@ pub mod Judgings
 pub mod Known
 pub mod Leads
 pub mod Lines
+pub mod Listing
 pub mod Lists
 pub mod Members
 pub mod Merges

@@ -1,6 +1,7 @@
 //! How many rows or pairs there may still be: each takes one, and so does each 128 bytes of text.
 //! The limits are in `flattening.rt`.
-ghost use Rattle.std.specs.Prelude.{◌≡◌, ◌+◌, OnOk};
+ghost use Rattle.std.specs.Prelude.{◌≡◌, ◌↔◌, ◌+◌, ◌/◌, ◌≤◌, IsOk, OnOk};
+ghost use Rattle.flatten.specs.Limits.{text_bytes};
 
 use crate::fault::FlattenFault;
 
@@ -22,7 +23,8 @@ impl Budget {
 
     /// Takes so many. Where there are too few, that counts as lack of memory.
     pub(crate) fn take(&mut self, count: usize) -> Result<(), FlattenFault>
-        ensures { OnOk result (self.old.left ≡ self.new.left + count) }
+        ensures left { OnOk result (self.old.left ≡ self.new.left + count) }
+        ensures enough { IsOk result ↔ (count ≤ self.old.left) }
     {
         match self.left.checked_sub(count) {
             Some(left) => {
@@ -35,7 +37,10 @@ impl Budget {
 
     /// Takes a text of a row, of so many bytes, beside the row: it counts as a row for each 128
     /// bytes.
-    pub(crate) fn take_text(&mut self, len: usize) -> Result<(), FlattenFault> {
+    pub(crate) fn take_text(&mut self, len: usize) -> Result<(), FlattenFault>
+        ensures left { OnOk result (self.old.left ≡ self.new.left + len / text_bytes) }
+        ensures enough { IsOk result ↔ (len / text_bytes ≤ self.old.left) }
+    {
         self.take(len / TEXT_BYTES)
     }
 }

@@ -2,6 +2,7 @@
 //! of their number. `IsFlat` in `specs/Flat`.
 ghost use Rattle.std.specs.Prelude.{◌≡◌, IfOk, map};
 ghost use Rattle.dump.specs.Places.{IsListing};
+ghost use Rattle.flatten.specs.Limits.{most_rows};
 ghost use Rattle.flatten.specs.Flat.{HasPositions, IsBearerRow, IsFlat, IsMarkRow, bearer_cmp, mark_cmp};
 ghost use Rattle.flatten.specs.Rows.{bearer_value, mark_value, rows_value};
 ghost use Rattle.flatten.specs.Steps.Kinds.{AreKinds};
@@ -23,6 +24,13 @@ use std::alloc::Global;
 /// bytes of the texts of rows, which the tables keep row by row, count as one more row. So the
 /// texts of a kind have some 512 MB at most.
 const MOST_ROWS: usize = 4000000;
+
+/// The limit of the product.
+fn most_rows() -> usize
+    ensures { result ≡ most_rows }
+{
+    MOST_ROWS
+}
 
 /// Takes the documents' URLs of these rows from a budget of so many.
 fn take_uris(ranges: &[RangeRow<'_>], limit: usize) -> Result<(), FlattenFault> {
@@ -92,5 +100,5 @@ pub fn flatten<'a>(alloc: Global, dump: &'a CheckedDump) -> Result<Rows<'a>, Fla
     ensures rows { IfOk result (λ rows. IsFlat dump.now.elements (rows_value rows)) }
     ensures located { IfOk result (λ rows. HasPositions dump.now.elements) }
 {
-    flatten_within(alloc, dump, MOST_ROWS)
+    flatten_within(alloc, dump, most_rows())
 }

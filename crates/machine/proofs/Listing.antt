@@ -1,62 +1,9 @@
--- A sort and a `dedup` leave the list of the set of what was there.
-use Rattle.std.proofs.Common.{◌≡◌, Bool, true, List, [], ◌∷◌, map, refl, sym, ◌∙◌, subst}
-use Rattle.std.specs.Prelude.{◌↔◌, T, ℕ, Contains, ◌==◌, nat_eq}
-use Rattle.std.proofs.Math.Dec.{eqb→eq}
-use Rattle.std.specs.List.{AllByRecursion, dedup}
-use Rattle.std.specs.Cmp.{IsTotalOrder, IsEquivalence}
+-- Texts that are equal by a test, beside those lemmas of `dump` on lists in order that are used here too.
+use Rattle.std.proofs.Common.{◌≡◌, true, List, [], ◌∷◌, refl}
+use Rattle.std.specs.Prelude.{ℕ, ◌==◌, nat_eq}
 use Rattle.std.specs.Cmp.Lexicographic.{pointwise}
-use Rattle.std.specs.Ordering.{eq_by_cmp}
-use Rattle.std.specs.declared.cmp.Ordering.{Ordering}
-use Rattle.std.specs.declared.cmp.Ordering.TheVariants.{Less}
-use Rattle.std.specs.List.Sorted.{IsSorted, IsStrictlySortedBy, IsPermutation}
-use Rattle.std.proofs.lemmas.Cmp.{eq_by_cmp_equiv}
-use Rattle.std.proofs.lemmas.List.Kept.{IsStrictlySortedBy-dedup, Any-dedup, Contains-from_dedup}
-use Rattle.std.proofs.lemmas.List.Sorted.{Contains-permutation, IsPermutation-sym}
-use Rattle.dump.specs.Places.{IsListing}
-use Rattle.machine.proofs.Members.{contains_map, map_source, and_both}
-
-abbrev pub under : {X Y : Type 0} → (X → Y) → (Y → Y → Ordering) → X → X → Ordering
-under f R a b = R (f a) (f b)
-
-all_map : {X Y : Type 0} (f : X → Y) (P : Y → Type 0) (xs : List X) → AllByRecursion (λ x. P (f x)) xs → AllByRecursion P (map f xs)
-all_map f P [] h = tt
-all_map f P (x ∷ xs) h = (h.0, all_map f P xs h.1)
-
-pub rises_map : {X Y : Type 0} (f : X → Y) (R : Y → Y → Ordering) (xs : List X) → IsStrictlySortedBy (under f R) xs → IsStrictlySortedBy R (map f xs)
-unfolding IsStrictlySortedBy
-rises_map f R [] h = h
-rises_map f R (x ∷ xs) h = (all_map f (λ y. R (f x) y ≡ Less) xs h.0, rises_map f R xs h.1)
-
-module _ {X Y : Type 0} (f : X → Y) (R : Y → Y → Ordering) (o : IsTotalOrder (under f R)) (E : X → X → Bool) (ties : (x y : X) → E x y ≡ eq_by_cmp (under f R) x y) (same : (x y : X) → E x y ≡ true → f x ≡ f y) where
-  equiv : IsEquivalence E
-  equiv = subst IsEquivalence (λ i x y. sym (ties x y) i) (eq_by_cmp_equiv o)
-
-  kept : (ys : List X) (v : Y) → Contains (map f ys) v → Contains (map f (dedup E ys)) v
-  kept ys v at =
-      let s = map_source f ys v at in
-      let a = Any-dedup equiv ys s.0 s.1 in
-      subst (Contains (map f (dedup E ys))) (sym (same s.0 a.1 a.4) ∙ s.2) (contains_map f (dedup E ys) a.1 (a.0, a.2, a.3))
-
-  from : (xs ys : List X) (v : Y) → ((x : X) → Contains xs x → Contains ys x) → Contains (map f xs) v → Contains (map f ys) v
-  from xs ys v to at = let s = map_source f xs v at in subst (Contains (map f ys)) s.2 (contains_map f ys s.0 (to s.0 s.1))
-
-  pub listed : (xs ys zs : List X) → IsPermutation xs ys → IsSorted (under f R) ys → zs ≡ dedup E ys → IsListing R (Contains (map f xs)) (map f zs)
-  listed xs ys zs moved up is = rw is (record {
-    rises = rises_map f R (dedup E ys) (IsStrictlySortedBy-dedup o ties ys up);
-    each = λ v. (
-      λ at. from ys xs v (λ x h. Contains-permutation ys xs x (IsPermutation-sym xs ys moved) h) (from (dedup E ys) ys v (λ x h. Contains-from_dedup E ys x h) at),
-      λ at. kept ys v (from xs ys v (λ x h. Contains-permutation xs ys x moved h) at),
-    );
-  })
-
--- the list of the same set
-pub relisted : {X : Type 0} (cmp : X → X → Ordering) (P Q : X → Type 0) (xs : List X) → ((x : X) → P x ↔ Q x) → IsListing cmp P xs → IsListing cmp Q xs
-relisted cmp P Q xs same l = record { rises = l.rises; each = λ x. (λ at. (same x).0 ((l.each x).0 at), λ q. (l.each x).1 ((same x).1 q)) }
-
--- ---- texts and numbers
-
-pub eq_of : (x y : ℕ) → (x == y) ≡ true → x ≡ y
-eq_of x y e = eqb→eq x y (subst T (sym e) tt)
+pub use Rattle.dump.proofs.Listing.{eq_of, rises_map, same_listing as relisted, sorted_listing as listed, under}
+use Rattle.machine.proofs.Members.{and_both}
 
 pub text_eq : (xs ys : List ℕ) → pointwise nat_eq xs ys ≡ true → xs ≡ ys
 text_eq [] [] e = refl

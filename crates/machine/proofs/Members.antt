@@ -1,95 +1,14 @@
--- Members of lists, and tests of lists.
-use Rattle.std.proofs.Common.{◌≡◌, ◌⊎◌, inl, inr, ⊎_elim, ◌∙◌, ◌&&◌, ◌||◌, ℕ, suc, ◌+◌, ◌<◌, length, drop, get_or, drop-cons, add-one, Bool, true, false, List, [], ◌∷◌, map, refl, sym, ap, subst, arith}
-use Rattle.std.specs.Prelude.{Contains, if◌then◌else◌}
-use Rattle.std.specs.List.{list_any, flat_map}
-use Rattle.std.proofs.lemmas.Slice.Eq.{bytes_eq-Decides}
-use Rattle.std.proofs.lemmas.List.Elements.{Contains-append_left, Contains-append_right, Contains-append_cases, Contains-push_cases}
-use Rattle.lsif.specs.Element.{IdValue, number, text, same_id}
-
-pub contains_head : {X : Type 0} (x : X) (xs : List X) → Contains (x ∷ xs) x
-contains_head x xs = Contains-append_left (x ∷ []) xs x (0, omega arith, refl)
-
-pub contains_tail : {X : Type 0} (y : X) (xs : List X) (x : X) → Contains xs x → Contains (y ∷ xs) x
-contains_tail y xs x at = Contains-append_right (y ∷ []) xs x at
-
-pub not_in_nil : {X : Type 0} (x : X) → Contains [] x → ⊥
-not_in_nil x at = omega (arith, at.1)
-
-pub contains_cases : {X : Type 0} (y : X) (xs : List X) (x : X) → Contains (y ∷ xs) x → (y ≡ x) ⊎ Contains xs x
-contains_cases y xs x at = ⊎_elim (λ (h : Contains (y ∷ []) x). ⊎_elim (λ (n : Contains [] x). absurd (not_in_nil x n)) (λ (e : y ≡ x). inl e) (Contains-push_cases [] y x h)) (λ (t : Contains xs x). inr t) (Contains-append_cases (y ∷ []) xs x at)
-
-pub contains_one : {X : Type 0} (y x : X) → Contains (y ∷ []) x → y ≡ x
-contains_one y x at = ⊎_elim (λ (e : y ≡ x). e) (λ (n : Contains [] x). absurd (not_in_nil x n)) (contains_cases y [] x at)
-
-pub contains_map : {X Y : Type 0} (f : X → Y) (xs : List X) (x : X) → Contains xs x → Contains (map f xs) (f x)
-contains_map f [] x at = absurd (not_in_nil x at)
-contains_map f (y ∷ xs) x at = ⊎_elim (λ (e : y ≡ x). subst (λ z. Contains (f y ∷ map f xs) (f z)) e (contains_head (f y) (map f xs))) (λ (t : Contains xs x). contains_tail (f y) (map f xs) (f x) (contains_map f xs x t)) (contains_cases y xs x at)
-
--- whence a member of a mapped list comes
-pub map_source : {X Y : Type 0} (f : X → Y) (xs : List X) (y : Y) → Contains (map f xs) y → (x : X) × Contains xs x × (f x ≡ y)
-map_source f [] y at = absurd (not_in_nil y at)
-map_source f (x ∷ xs) y at = ⊎_elim
-    (λ (e : f x ≡ y). (x, contains_head x xs, e))
-    (λ (t : Contains (map f xs) y). let r = map_source f xs y t in (r.0, contains_tail x xs r.0 r.1, r.2))
-    (contains_cases (f x) (map f xs) y at)
-
-pub flat_of : {X Y : Type 0} (f : X → List Y) (xs : List X) (y : Y) → Contains (flat_map f xs) y → (x : X) × Contains xs x × Contains (f x) y
-flat_of f [] y at = absurd (not_in_nil y at)
-flat_of f (x ∷ xs) y at = ⊎_elim (λ (h : Contains (f x) y). (x, contains_head x xs, h)) (λ (t : Contains (flat_map f xs) y). let r = flat_of f xs y t in (r.0, contains_tail x xs r.0 r.1, r.2)) (Contains-append_cases (f x) (flat_map f xs) y at)
-
-pub flat_from : {X Y : Type 0} (f : X → List Y) (xs : List X) (x : X) (y : Y) → Contains xs x → Contains (f x) y → Contains (flat_map f xs) y
-flat_from f [] x y at h = absurd (not_in_nil x at)
-flat_from f (z ∷ xs) x y at h = ⊎_elim (λ (s : z ≡ x). Contains-append_left (f z) (flat_map f xs) y (subst (λ w. Contains (f w) y) (sym s) h)) (λ (t : Contains xs x). Contains-append_right (f z) (flat_map f xs) y (flat_from f xs x y t h)) (contains_cases z xs x at)
-
--- what is in a list that is there where a test holds
-pub in_if : {X : Type 0} (b : Bool) (xs : List X) (x : X) → Contains (if b then xs else []) x → (b ≡ true) × Contains xs x
-in_if true xs x at = (refl, at)
-in_if false xs x at = absurd (not_in_nil x at)
-
-pub if_in : {X : Type 0} (b : Bool) (xs : List X) (x : X) → b ≡ true → Contains xs x → Contains (if b then xs else []) x
-if_in true xs x e at = at
-if_in false xs x e at = cc
-
--- the item at an index, and those after it
-pub drop_next : {A : Type 0} (xs : List A) (k : ℕ) (x : A) → k < length xs → x ≡ get_or xs k x → drop k xs ≡ x ∷ drop (k + 1) xs
-drop_next xs k x lt e = let d : drop k xs ≡ get_or xs k x ∷ drop (suc k) xs = drop-cons xs k x lt in rw add-one (d ∙ ap (λ y. y ∷ drop (suc k) xs) (sym e))
-
--- ---- tests
-
-pub and_both : (a b : Bool) → (a && b) ≡ true → (a ≡ true) × (b ≡ true)
-and_both true b e = (refl, e)
-and_both false b e = cc
-
-pub and_of : (a b : Bool) → a ≡ true → b ≡ true → (a && b) ≡ true
-and_of true b e f = f
-and_of false b e f = cc
-
-or_cases : (a b : Bool) → (a || b) ≡ true → (a ≡ true) ⊎ (b ≡ true)
-or_cases true b e = inl refl
-or_cases false b e = inr e
-
-or_left : (a b : Bool) → a ≡ true → (a || b) ≡ true
-or_left true b e = refl
-or_left false b e = cc
-
-or_right : (a b : Bool) → b ≡ true → (a || b) ≡ true
-or_right true b e = refl
-or_right false b e = e
+-- Members of lists, and tests of lists, beside those lemmas of `dump` that are used here too.
+use Rattle.std.proofs.Common.{◌≡◌, ⊎_elim, Bool, true, List, [], ◌∷◌}
+use Rattle.std.specs.Prelude.{Contains}
+use Rattle.std.specs.List.{list_any}
+use Rattle.dump.proofs.Bools.{or_some}
+pub use Rattle.dump.proofs.Bools.{and_both, and_of}
+pub use Rattle.dump.proofs.Lists.{drop_next}
+pub use Rattle.dump.proofs.Members.{contains_head, contains_tail, not_in_nil, contains_cases, contains_one, contains_map, map_source, flat_of, flat_from, in_if, if_in}
+pub use Rattle.dump.proofs.SameIds.{same_id_eq, same_id_self}
+pub use Rattle.dump.proofs.Uniques.{any_from}
 
 pub any_of : {X : Type 0} (p : X → Bool) (xs : List X) → list_any p xs ≡ true → (x : X) × Contains xs x × (p x ≡ true)
 any_of p [] e = cc
-any_of p (x ∷ xs) e = ⊎_elim (λ (h : p x ≡ true). (x, contains_head x xs, h)) (λ (t : list_any p xs ≡ true). let r = any_of p xs t in (r.0, contains_tail x xs r.0 r.1, r.2)) (or_cases (p x) (list_any p xs) e)
-
-pub any_from : {X : Type 0} (p : X → Bool) (xs : List X) (x : X) → Contains xs x → p x ≡ true → list_any p xs ≡ true
-any_from p [] x at e = absurd (not_in_nil x at)
-any_from p (y ∷ xs) x at e = ⊎_elim (λ (s : y ≡ x). or_left (p y) (list_any p xs) (ap p s ∙ e)) (λ (t : Contains xs x). or_right (p y) (list_any p xs) (any_from p xs x t e)) (contains_cases y xs x at)
-
-pub same_id_eq : (x y : IdValue) → same_id x y ≡ true → x ≡ y
-same_id_eq (number m) (number n) e = let same : m ≡ n = grind (arith, e) in ap number same
-same_id_eq (text s) (text t) e = ap text ((bytes_eq-Decides s t).0 e)
-same_id_eq (number m) (text t) e = cc
-same_id_eq (text s) (number n) e = cc
-
-pub same_id_self : (x : IdValue) → same_id x x ≡ true
-same_id_self (number m) = grind arith
-same_id_self (text s) = (bytes_eq-Decides s s).1 refl
+any_of p (x ∷ xs) e = ⊎_elim (λ (h : p x ≡ true). (x, contains_head x xs, h)) (λ (t : list_any p xs ≡ true). let r = any_of p xs t in (r.0, contains_tail x xs r.0 r.1, r.2)) (or_some (p x) (list_any p xs) e)

@@ -12,7 +12,7 @@ use Rattle.sqlite_sql.specs.declared.ops.CompareOp.TheVariants.{Eq}
 use Rattle.sqlite_sql.specs.Ops.{binary, is_true}
 use Rattle.sqlite_sql.specs.Term.{holds}
 use Rattle.tables.specs.Steps.Selected.{equals}
-use Rattle.tables.proofs.Keeping.{same_int_is, same_int_itself, same_text_is, same_text_itself}
+use Rattle.tables.proofs.Keeping.{same_int_is, same_int_itself, same_text_is, same_text_itself, both}
 use Rattle.tables.proofs.PartRemoved.{truly}
 
 -- two values of one kind, a number or a text
@@ -28,10 +28,6 @@ AllAlike (p ∷ ps) params row = AreAlike (column row p.0) (column params p.1) �
 abbrev pub Agree : List (ℕ × ℕ) → Row → Row → Type 0
 Agree [] params row = Unit {0}
 Agree (p ∷ ps) params row = (column row p.0 ≡ column params p.1) × Agree ps params row
-
-pub both : (a b : Bool) → a && b ≡ true → (a ≡ true) × (b ≡ true)
-both true b h = (refl, h)
-both false b h = absurd cc
 
 abbrev tests_same : Value → Value → Bool
 tests_same a b = is_true (binary (Compare Eq Binary) a b)

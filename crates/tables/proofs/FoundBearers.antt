@@ -1,5 +1,5 @@
 -- The bearers of a key, as they are selected.
-use Rattle.std.proofs.Common.{◌≡◌, ◌⊎◌, inl, inr, ℕ, ℤ, true, List, [], ◌∷◌, ◌++◌, length, map, refl, sym, ap, subst, subst₂, ◌∙◌, ◌↔◌, Contains, Equal, string_bytes}
+use Rattle.std.proofs.Common.{◌≡◌, ◌⊎◌, inl, inr, ℕ, ℤ, true, List, [], ◌∷◌, ◌++◌, length, map, refl, sym, ap, subst, ◌∙◌, ◌↔◌, Contains, Equal, string_bytes}
 use Rattle.std.specs.List.{list_all}
 use Rattle.sqlite.specs.Listing.{understood}
 use Rattle.sqlite.specs.State.{State as Store, Shown}
@@ -30,11 +30,11 @@ use Rattle.tables.specs.Steps.Selected.{AreRead, IsQuery}
 use Rattle.tables.specs.Steps.DumpEntries.{Entries, entry_values}
 use Rattle.tables.specs.Steps.Known.{IsKnown, IsMore, MoreValue, more_values}
 use Rattle.tables.proofs.DumpEntries.{typed, held, in_dump, rows_of, listed_are}
-use Rattle.tables.proofs.Equalities.{both, same_if, if_same}
+use Rattle.tables.proofs.Equalities.{same_if, if_same}
 use Rattle.tables.proofs.FoundMarks.{one_kind}
 use Rattle.tables.proofs.FoundSlots.{one_slot}
-use Rattle.tables.proofs.Joined.{joined, of_line, of_slot_and_key, mores, shows, each_joins, all_joins, answer_of, select_bearers_plain}
-use Rattle.tables.proofs.Keeping.{same_some, from_map, to_map}
+use Rattle.tables.proofs.Joined.{joined, of_line, of_slot, of_key, mores, slots, shows, each_joins, all_joins, answer_of, select_bearers_plain}
+use Rattle.tables.proofs.Keeping.{same_some, from_map, to_map, both}
 use Rattle.tables.proofs.LineResults.{one_optional, one_known, nothing, are as more_are, is_owned as more_owned}
 use Rattle.tables.proofs.Reading.{rows_are}
 use Rattle.tables.proofs.Silent.{silent}
@@ -83,6 +83,10 @@ some_or_null : (l : List Row) → (r : Row) × Has (or_nulls l) r
 some_or_null [] = ([], inl refl)
 some_or_null (x ∷ xs) = (x, inl refl)
 
+not_null : (l : List Row) (r : Row) → Has l r → Has (or_nulls l) r
+not_null [] r h = absurd h
+not_null (x ∷ xs) r h = h
+
 module _ (key : List ℕ) (db : Trees) (m : State) (s : StandsFor db m) where
   abbrev params : Row
   params = Text key ∷ []
@@ -96,6 +100,18 @@ module _ (key : List ℕ) (db : Trees) (m : State) (s : StandsFor db m) where
 
   abbrev value_of : Entries IsBearer db m → BearerFound
   value_of e = record { project = e.1.project; line = e.0.value.line; kind = e.0.value.kind; results = e.0.value.results }
+
+  -- the slot of a bearer's dump is there, and so no row of a bearer comes without one
+  module _ (e : Entries IsBearer db m) (id : ℤ) where
+    abbrev of_dump : List Row
+    of_dump = slots params read_from (row_of id e)
+
+    slot_there : Has of_dump (slot_row e.0.slot e.1.project Dump)
+    slot_there = has_kept (λ s. list_all (holds (params ∷ row_of id e ∷ s ∷ [])) of_slot) (db 1) (slot_row e.0.slot e.1.project Dump) e.1.slot (rw (if_same (Int e.0.slot) (Int e.0.slot) tt refl) refl)
+
+    slot_of_row : (l : List Row) → of_dump ≡ l → (s : Row) → Has (or_nulls l) s → Has of_dump s
+    slot_of_row [] none s h = absurd (subst (λ l. Has l (slot_row e.0.slot e.1.project Dump)) none slot_there)
+    slot_of_row (x ∷ xs) is s h = subst (λ l. Has l s) (sym is) h
 
   module _ (e : Entries IsBearer db m) (id : ℤ) (q : Row) where
     abbrev of_this : List Row
@@ -147,12 +163,14 @@ module _ (key : List ℕ) (db : Trees) (m : State) (s : StandsFor db m) where
         let j = each_joins params read_from rows a row h in
         let b = typed db m s IsBearer bearer_columns 15 is_owned are (λ tags. refl) j.0 j.3.bearer in
         let e = b.1 in
-        let q = s.keeps.slots j.1 j.3.slot in
-        let ok = subst₂ (λ x y. list_all (holds (params ∷ x ∷ y ∷ j.2 ∷ [])) of_slot_and_key ≡ true) b.2 q.is j.3.passes in
-        let two = both _ _ ok in
-        let slot : q.id ≡ e.0.slot = let it = same_if (Int q.id) (Int e.0.slot) tt two.0 in cc in
-        let under : e.0.value.key ≡ key = let it = same_if (Text e.0.value.key) (Text key) tt (both _ _ two.1).0 in cc in
-        let there : Has (db 1) (slot_row e.0.slot q.project q.part) = subst (λ (i : ℤ). Has (db 1) (slot_row i q.project q.part)) slot (subst (Has (db 1)) q.is j.3.slot) in
+        let of_slots = slot_of_row e b.0 _ refl j.1 (subst (λ x. Has (or_nulls (slots params read_from x)) j.1) b.2 j.3.slot) in
+        let kept = has_filtered (λ s. list_all (holds (params ∷ row_of b.0 e ∷ s ∷ [])) of_slot) (db 1) j.1 of_slots in
+        let q = s.keeps.slots j.1 kept.0 in
+        let of_this_slot = subst (λ y. list_all (holds (params ∷ row_of b.0 e ∷ y ∷ [])) of_slot ≡ true) q.is kept.1 in
+        let slot : q.id ≡ e.0.slot = let it = same_if (Int q.id) (Int e.0.slot) tt (both _ _ of_this_slot).0 in cc in
+        let of_this_key = subst (λ x. list_all (holds (params ∷ x ∷ j.1 ∷ j.2 ∷ [])) of_key ≡ true) b.2 j.3.passes in
+        let under : e.0.value.key ≡ key = let it = same_if (Text e.0.value.key) (Text key) tt (both _ _ of_this_key).0 in cc in
+        let there : Has (db 1) (slot_row e.0.slot q.project q.part) = subst (λ (i : ℤ). Has (db 1) (slot_row i q.project q.part)) slot (subst (Has (db 1)) q.is kept.0) in
         let project = (one_slot db s.parts _ e.0.slot q.project e.1.project q.part Dump s.keeps there e.1.slot).0 in
         let tells = more_is e b.0 j.1 _ refl j.2 (subst (λ x. Has (or_nulls (mores params read_from x j.1)) j.2) b.2 j.3.more) in (
           value_of e,
@@ -168,9 +186,9 @@ module _ (key : List ℕ) (db : Trees) (m : State) (s : StandsFor db m) where
         let row = held db m s IsBearer bearer_columns 15 is_owned are (λ tags. refl) e in
         let q = slot_row slot.0 v.project Dump in
         let more = some_or_null (of_this e row.0 q) in
-        let passes : list_all (holds (params ∷ row_of row.0 e ∷ q ∷ more.0 ∷ [])) of_slot_and_key ≡ true = rw (if_same (Int slot.0) (Int slot.0) tt refl, if_same (Text key) (Text key) tt refl) refl in
+        let passes : list_all (holds (params ∷ row_of row.0 e ∷ q ∷ more.0 ∷ [])) of_key ≡ true = rw (if_same (Text key) (Text key) tt refl) refl in
         subst (Has rows) (shown_is e row.0 q more.0 (more_is e row.0 q _ refl more.0 more.1) refl)
-        (all_joins params read_from rows a (row_of row.0 e) q more.0 (record { bearer = row.1; slot = slot.1; more = more.1; passes = passes }))
+        (all_joins params read_from rows a (row_of row.0 e) q more.0 (record { bearer = row.1; slot = not_null (of_dump e row.0) q (slot_there e row.0); more = more.1; passes = passes }))
 
 pub bearers_told : (key : List ℕ) (m : State) (old new : Store) (rows : List Row) (xs : List FoundBearer) → StandsFor old.now.trees m → old.now.schema ≡ schema_two → Shown select_bearers (Text key ∷ []) old new rows → AreRead told_columns rows xs
     → (v : BearerFound) → Contains (map bearer_found xs) v ↔ Bears m key v

@@ -1,5 +1,5 @@
--- What the SELECT of the bearers of a key gives: their rows, each with the row of its slot, and
--- with that of its line in `more` where there is one.
+-- What the SELECT of the bearers of a key gives: their rows, each with the row of its slot and with
+-- that of its line in `more`, where these are there.
 use Rattle.std.proofs.Common.{◌≡◌, inl, inr, refl, sym, ap, subst, ◌∙◌, pos, negsuc, List, [], ◌∷◌, map, filter, flat_map, Bool, true, false, None, codes, if◌then◌else◌}
 use Rattle.std.specs.List.{list_all}
 use Rattle.std.specs.List.Sorted.{IsPermutation}
@@ -21,24 +21,28 @@ use Rattle.tables.specs.Schema.{schema_two}
 use Rattle.tables.specs.Steps.Queries.{same}
 use Rattle.tables.specs.Steps.SelectionTexts.{select_bearers}
 use Rattle.tables.proofs.Keeping.{from_map, to_map}
-use Rattle.tables.proofs.LineResults.{from_flat, to_flat}
+use Rattle.tables.proofs.Puts.{flat_has, from_flat}
 use Rattle.tables.proofs.PartRemoved.{has_permuted}
 
 -- `more.slot = bearer.slot AND more.line = bearer.line`
 abbrev pub of_line : List Term
 of_line = same (col 3 1) (col 1 1) ∷ same (col 3 2) (col 1 2) ∷ []
 
--- `slot.id = bearer.slot AND bearer.keytext = ?1`
-abbrev pub of_slot_and_key : List Term
-of_slot_and_key = same (col 2 0) (col 1 1) ∷ same (col 1 3) (col 0 0) ∷ []
+-- `slot.id = bearer.slot`
+abbrev pub of_slot : List Term
+of_slot = same (col 2 0) (col 1 1) ∷ []
+
+-- `bearer.keytext = ?1`
+abbrev pub of_key : List Term
+of_key = same (col 1 3) (col 0 0) ∷ []
 
 abbrev pub bearer_terms : List Term
 bearer_terms = col 2 2 ∷ col 1 2 ∷ col 1 4 ∷ col 1 5 ∷ col 1 6 ∷ col 1 7 ∷ col 3 3 ∷ col 3 4 ∷ []
 
 abbrev pub joined : Query
 joined = record {
-  from = inner 15 (inner 1 (left 24 of_line end));
-  filter = of_slot_and_key;
+  from = inner 15 (left 1 of_slot (left 24 of_line end));
+  filter = of_key;
   group = None;
   project = bearer_terms;
   distinct = false;
@@ -70,28 +74,32 @@ true_there false x e = absurd cc
 -- ---- the answer
 
 module _ (params : Row) (db : Trees) where
+  -- the rows of `slot` for a bearer
+  abbrev pub slots : Row → List Row
+  slots b = filter (λ s. list_all (holds (params ∷ b ∷ s ∷ [])) of_slot) (db 1)
+
   -- the rows of `more` for the line of a bearer
   abbrev pub mores : Row → Row → List Row
   mores b s = filter (λ r. list_all (holds (params ∷ b ∷ s ∷ r ∷ [])) of_line) (db 24)
 
-  -- a row of a bearer of the key, that of its slot, and one of its line, or none
+  -- a row of a bearer of the key, that of its slot or none, and one of its line or none
   pub record Joins (b s r : Row) : Type 0 where
     pub bearer : Has (db 15) b
-    pub slot : Has (db 1) s
+    pub slot : Has (or_nulls (slots b)) s
     pub more : Has (or_nulls (mores b s)) r
-    pub passes : list_all (holds (params ∷ b ∷ s ∷ r ∷ [])) of_slot_and_key ≡ true
+    pub passes : list_all (holds (params ∷ b ∷ s ∷ r ∷ [])) of_key ≡ true
 
   abbrev pub shows : Row → Row → Row → Row
   shows b s r = eval_all bearer_terms (params ∷ b ∷ s ∷ r ∷ [])
 
   abbrev with_more : Row → Row → Row → List Env
-  with_more b s r = if list_all (holds (params ∷ b ∷ s ∷ r ∷ [])) of_slot_and_key then (params ∷ b ∷ s ∷ r ∷ []) ∷ [] else []
+  with_more b s r = if list_all (holds (params ∷ b ∷ s ∷ r ∷ [])) of_key then (params ∷ b ∷ s ∷ r ∷ []) ∷ [] else []
 
   abbrev with_slot : Row → Row → List Env
   with_slot b s = flat_map (with_more b s) (or_nulls (mores b s))
 
   abbrev with_bearer : Row → List Env
-  with_bearer b = flat_map (with_slot b) (db 1)
+  with_bearer b = flat_map (with_slot b) (or_nulls (slots b))
 
   module _ (rows : List Row) (a : IsAnswer joined db params rows) where
     abbrev all_matches : List Env
@@ -108,7 +116,7 @@ module _ (params : Row) (db : Trees) where
     each_joins row h =
         let e = from_map (eval_all bearer_terms) all_matches row (has_permuted _ rows row same_rows h) in
         let b = from_flat with_bearer (db 15) e.0 e.1 in
-        let s = from_flat (with_slot b.0) (db 1) e.0 b.2 in
+        let s = from_flat (with_slot b.0) (or_nulls (slots b.0)) e.0 b.2 in
         let r = from_flat (with_more b.0 s.0) (or_nulls (mores b.0 s.0)) e.0 s.2 in
         let one = where_true _ _ e.0 r.2 in
         (b.0, s.0, r.0, record { bearer = b.1; slot = s.1; more = r.1; passes = one.0 }, e.2 ∙ ap (eval_all bearer_terms) one.1)
@@ -117,7 +125,7 @@ module _ (params : Row) (db : Trees) where
     all_joins b s r j =
         let env = params ∷ b ∷ s ∷ r ∷ [] in
         let one : Has (with_more b s r) env = true_there _ env j.passes in
-        let there : Has all_matches env = to_flat with_bearer (db 15) b env j.bearer (to_flat (with_slot b) (db 1) s env j.slot (to_flat (with_more b s) (or_nulls (mores b s)) r env j.more one)) in
+        let there : Has all_matches env = flat_has with_bearer (db 15) b env j.bearer (flat_has (with_slot b) (or_nulls (slots b)) s env j.slot (flat_has (with_more b s) (or_nulls (mores b s)) r env j.more one)) in
         has_permuted rows _ _ (IsPermutation-sym _ rows same_rows) (to_map (eval_all bearer_terms) all_matches env there)
 
 pub answer_of : (params : Row) (old new : State) (rows : List Row) → old.now.schema ≡ schema_two → Shown select_bearers params old new rows → IsAnswer joined (overlay old.now.trees []) params rows

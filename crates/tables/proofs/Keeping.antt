@@ -22,7 +22,7 @@ use Rattle.tables.specs.declared.slots.Part.TheVariants.{Dump, Tags}
 use Rattle.tables.specs.TableTrees.{keyed_tree, slot_tree}
 use Rattle.tables.proofs.Cascade.{same_or_not, equal_is}
 
-both : (a b : Bool) → a && b ≡ true → (a ≡ true) × (b ≡ true)
+pub both : (a b : Bool) → a && b ≡ true → (a ≡ true) × (b ≡ true)
 both true b h = (refl, h)
 both false b h = absurd cc
 

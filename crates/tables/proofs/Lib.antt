@@ -33,6 +33,7 @@ pub mod Joined
 pub mod KeptReplies
 pub mod Knowing
 pub mod LineResults
+pub mod MoreOnce
 pub mod Looking
 pub mod Ordered
 pub mod PartRemoved

@@ -10,7 +10,7 @@ use Rattle.sqlite_sql.specs.Term.{col}
 use Rattle.sqlite_schema.specs.declared.command.Command.TheVariants.{Select}
 use Rattle.sqlite_trees.specs.Tree.{Trees}
 use Rattle.sqlite_rules.specs.Lists.{Has}
-use Rattle.sqlite_rules.proofs.ListLemmas.{has_contained, contains_had}
+use Rattle.sqlite_rules.proofs.ListLemmas.{has_contained, contains_had, has_left, has_right, has_either}
 use Rattle.lsif.specs.Element.{IdValue}
 use Rattle.dump.specs.Progress.{DumpValue}
 use Rattle.dump.proofs.Lines.{one_line}
@@ -34,6 +34,7 @@ use Rattle.tables.proofs.DumpEntries.{typed, shows_one_of}
 use Rattle.tables.proofs.Select.{one_table}
 use Rattle.tables.proofs.Selecting.{IsSelection, shows_one}
 use Rattle.tables.proofs.Silent.{silent}
+use Rattle.tables.proofs.Puts.{flat_has, from_flat}
 
 select_more_is : command_of (understood schema_two select_more) ≡ Select (record { lets = []; body = one_table 24 (equals ((1, 0) ∷ (2, 1) ∷ [])) (col 1 3 ∷ col 1 4 ∷ []) }) (codes "decl" ∷ codes "imp" ∷ [])
 unfolding understood everything
@@ -62,30 +63,7 @@ one_known d line r s a b =
 
 -- ---- the rows
 
-has_left : {X : Type 0} (xs ys : List X) (x : X) → Has xs x → Has (xs ++ ys) x
-has_left [] ys x h = absurd h
-has_left (z ∷ xs) ys x (inl e) = inl e
-has_left (z ∷ xs) ys x (inr h) = inr (has_left xs ys x h)
-
-has_right : {X : Type 0} (xs ys : List X) (x : X) → Has ys x → Has (xs ++ ys) x
-has_right [] ys x h = h
-has_right (z ∷ xs) ys x h = inr (has_right xs ys x h)
-
-has_one : {X : Type 0} (xs ys : List X) (x : X) → Has (xs ++ ys) x → Has xs x ⊎ Has ys x
-has_one [] ys x h = inr h
-has_one (z ∷ xs) ys x (inl e) = inl (inl e)
-has_one (z ∷ xs) ys x (inr h) = elim (has_one xs ys x h) [ inl a ↦ inl (inr a) | inr b ↦ inr b ]
-
-pub from_flat : {X Y : Type 0} (f : X → List Y) (xs : List X) (y : Y) → Has (flat_map f xs) y → (x : X) × Has xs x × Has (f x) y
-from_flat f [] y h = absurd h
-from_flat f (x ∷ xs) y h = elim (has_one (f x) (flat_map f xs) y h) [ inl a ↦ (x, inl refl, a) | inr b ↦ let it = from_flat f xs y b in (it.0, inr it.1, it.2) ]
-
-pub to_flat : {X Y : Type 0} (f : X → List Y) (xs : List X) (x : X) (y : Y) → Has xs x → Has (f x) y → Has (flat_map f xs) y
-to_flat f [] x y h k = absurd h
-to_flat f (z ∷ xs) x y (inl e) k = has_left (f z) (flat_map f xs) y (subst (λ w. Has (f w) y) e k)
-to_flat f (z ∷ xs) x y (inr h) k = has_right (f z) (flat_map f xs) y (to_flat f xs x y h k)
-
-from_columns : (line : ℕ) (d i : Option ℕ) (row : Row) → Has (more_columns line d i) row → ((is_some d || is_some i) ≡ true) × (row ≡ number line ∷ optional d ∷ optional i ∷ [])
+pub from_columns : (line : ℕ) (d i : Option ℕ) (row : Row) → Has (more_columns line d i) row → ((is_some d || is_some i) ≡ true) × (row ≡ number line ∷ optional d ∷ optional i ∷ [])
 from_columns line None None row h = absurd h
 from_columns line None (Some i) row (inl e) = (refl, e)
 from_columns line None (Some i) row (inr none) = absurd none
@@ -99,7 +77,7 @@ to_columns line (Some d) i some = inl refl
 
 pub are : (d : DumpValue) (flat : RowsValue) → IsFlat d.elements flat → (row : Row) → Has (dump_rows d.profile flat 24) row ↔ ((v : MoreValue) × IsMore d v × (row ≡ more_values v))
 are d flat is row = (
-  (λ h. elim (has_one (flat_map range_more flat.ranges) (flat_map bearer_more flat.bearers) row h) [
+  (λ h. elim (has_either (flat_map range_more flat.ranges) (flat_map bearer_more flat.bearers) row h) [
     | inl a ↦
         let it = from_flat range_more flat.ranges row a in
         let r = it.0 in
@@ -118,11 +96,11 @@ are d flat is row = (
       subst (Has (flat_map range_more flat.ranges ++ flat_map bearer_more flat.bearers)) (sym h.2) (elim h.1.known [
         | inl k ↦
             let at = has_contained flat.ranges k.0 ((is.ranges.each k.0).1 k.1) in
-            has_left (flat_map range_more flat.ranges) (flat_map bearer_more flat.bearers) (more_values v) (to_flat range_more flat.ranges k.0 (more_values v) at
+            has_left (flat_map range_more flat.ranges) (flat_map bearer_more flat.bearers) (more_values v) (flat_has range_more flat.ranges k.0 (more_values v) at
             (told k.0.line k.0.results v k.2 (ap (λ (r : ResultsValue). r.declaration) k.3 ∙ h.1.declaration) (ap (λ (r : ResultsValue). r.implementation) k.3 ∙ h.1.implementation) h.1.some))
         | inr k ↦
             let at = has_contained flat.bearers k.0 ((is.bearers.each k.0).1 k.1) in
-            has_right (flat_map range_more flat.ranges) (flat_map bearer_more flat.bearers) (more_values v) (to_flat bearer_more flat.bearers k.0 (more_values v) at
+            has_right (flat_map range_more flat.ranges) (flat_map bearer_more flat.bearers) (more_values v) (flat_has bearer_more flat.bearers k.0 (more_values v) at
             (told k.0.line k.0.results v k.2 (ap (λ (r : ResultsValue). r.declaration) k.3 ∙ h.1.declaration) (ap (λ (r : ResultsValue). r.implementation) k.3 ∙ h.1.implementation) h.1.some))
       ])),
 )

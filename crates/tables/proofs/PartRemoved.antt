@@ -52,7 +52,7 @@ loses_is id p k = rw (value_cmp-Int id id, same_int_itself id)
 child_test : (olds : List Row) (t : Table) (w : Work) → IsOn olds t w → (row : Row) (m o : Row × Row) → m ≡ o → is_child_of w row m ≡ true → (loses plain (0 ∷ []) o && agree plain (1 ∷ []) row (0 ∷ []) o.0) ≡ true
 child_test olds t w on row m o same h = rw (on.order, on.refers, on.places, same) at h
 
-plainly_true : (b : Bool) → (b && true) ≡ true → b ≡ true
+pub plainly_true : (b : Bool) → (b && true) ≡ true → b ≡ true
 plainly_true true h = refl
 plainly_true false h = h
 

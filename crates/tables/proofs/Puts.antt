@@ -108,6 +108,13 @@ flat_has f (z ∷ xs) x y (inl same) h = has_left (f z) (flat_map f xs) y (subst
 flat_has f (z ∷ xs) x y (inr later) h = has_right (f z) (flat_map f xs) y (flat_has f xs x y later h)
 flat_has f [] x y none h = absurd none
 
+pub from_flat : {X Y : Type 0} (f : X → List Y) (xs : List X) (y : Y) → Has (flat_map f xs) y → (x : X) × Has xs x × Has (f x) y
+from_flat f [] y h = absurd h
+from_flat f (x ∷ xs) y h = elim (has_either (f x) (flat_map f xs) y h) [
+  | inl here ↦ (x, inl refl, here)
+  | inr later ↦ let it = from_flat f xs y later in (it.0, inr it.1, it.2)
+]
+
 pub ordered_put : (one : Row) (id : ℤ) (rows : List Row) → rowid one ≡ Int id → IsOrdered rows → IsOrdered (put_row one rows)
 ordered_put one id rows is up = record {
   rises = IsTable-put_row one rows up.rises;

@@ -47,12 +47,13 @@ use Rattle.tables.proofs.DumpEntries.{typed, held, in_dump, entry}
 use Rattle.tables.proofs.FirstRows.{IsFirst, first_is}
 use Rattle.tables.proofs.FoundItems.{one_position}
 use Rattle.tables.proofs.FoundRanges.{IsRange, IsSound, HasPositions, are, found_columns, is_owned, located, numbered, range_names, range_shown, range_terms, tells}
-use Rattle.tables.proofs.Keeping.{same_int_is, same_int_itself}
+use Rattle.tables.proofs.Keeping.{same_int_is, same_int_itself, both}
 use Rattle.tables.proofs.Ordered.{in_order, selects_in_order}
 use Rattle.tables.proofs.PartRemoved.{truly}
 use Rattle.tables.proofs.Reading.{columns_are}
 use Rattle.tables.proofs.Selecting.{show}
 use Rattle.tables.proofs.Silent.{silent}
+use Rattle.tables.proofs.Cascade.{equal_is}
 
 -- `slot = ?1 AND uri = ?2 AND first <= ?3 AND last > first`
 abbrev start_tests : List Term
@@ -75,15 +76,6 @@ unfolding understood everything
 select_start_reads = record { plain = select_start_plain.0; silent = silent select_start (λ schema base. refl) }
 
 -- ---- numbers and texts that are compared
-
-both : (a b : Bool) → (a && b) ≡ true → (a ≡ true) × (b ≡ true)
-both true b h = (refl, h)
-both false b h = absurd cc
-
-equal_of : (o : Ordering) → is_eq o ≡ true → o ≡ Equal
-equal_of Less h = absurd cc
-equal_of Equal h = refl
-equal_of Greater h = absurd cc
 
 le_of : (x y : ℕ) (o : Ordering) → o ≡ int_cmp (pos x) (pos y) → is_le o ≡ true → x ≤ y
 le_of x y Less e h = let l = int_ranked (pos x) (pos y) Less e in omega (arith, ints)
@@ -162,7 +154,7 @@ module _ (id : ℤ) (uri : List ℕ) (at : ℕ) where
       let b = both _ _ a.1 in
       let c = both _ _ b.1 in
       let d = both _ _ c.1 in
-      record { slot_is = same_int_is slot id a.0; uri_is = exact_bytes r.place.uri uri (equal_of _ b.0); before = le_of (first_of r) at _ refl c.0; filled = gt_of (last_of r) (first_of r) _ refl d.0 }
+      record { slot_is = same_int_is slot id a.0; uri_is = exact_bytes r.place.uri uri (equal_is _ b.0); before = le_of (first_of r) at _ refl c.0; filled = gt_of (last_of r) (first_of r) _ refl d.0 }
 
   tested_if : (slot : ℤ) (r : RangeRowValue) → Passes slot r → tested slot r ≡ true
   tested_if slot r it =

@@ -39,13 +39,7 @@ use Rattle.sqlite_rules.specs.Calls.{ids_of}
 use Rattle.sqlite_rules.specs.Edit.{id_in, without_all, row_at, edit_of}
 use Rattle.sqlite_rules.specs.declared.error.Rowids.TheVariants.{Given}
 use Rattle.sqlite.specs.Rows.{Written, Task, Deletes}
-
-has_mapped : {X Y : Type 0} (f : X → List Y) (xs : List X) (y : Y) → Has (flat_map f xs) y → (x : X) × Has xs x × Has (f x) y
-has_mapped f [] y h = absurd h
-has_mapped f (x ∷ xs) y h = elim (has_either (f x) (flat_map f xs) y h) [
-  | inl here ↦ (x, inl refl, here)
-  | inr later ↦ let it = has_mapped f xs y later in (it.0, inr it.1, it.2)
-]
+use Rattle.tables.proofs.Puts.{from_flat}
 
 -- only slots are referred to
 quiet_child : (depth : ℕ) (taken : List Row) → AllByRecursion (λ t. t.tree ≢ slot_tree → works schema_two Enforced depth t.tree taken [] ≡ []) schema_two.tables
@@ -80,7 +74,7 @@ on_each olds = ((λ w none. absurd none), ((λ w none. absurd none), ((λ w none
 -- each work is on a table that belongs to slots
 pub each_on : (olds : List Row) (w : Work) → Has (works schema_two Enforced 0 1 olds []) w → (t : Table) × Has schema_two.tables t × IsOn olds t w
 each_on olds w h =
-    let it = has_mapped (λ child. filter_map (work_for schema_two Enforced 0 1 olds [] child) child.references) schema_two.tables w h in
+    let it = from_flat (λ child. filter_map (work_for schema_two Enforced 0 1 olds [] child) child.references) schema_two.tables w h in
     (it.0, it.1, all_has (λ t. (x : Work) → Has (filter_map (work_for schema_two Enforced 0 1 olds [] t) t.references) x → IsOn olds t x) schema_two.tables it.0 (on_each olds) it.1 w it.2)
 
 all_wanted : (b : Bool) (a c d e f g h i j : Work) → b ≡ true
@@ -97,7 +91,7 @@ works_are olds lost = all_wanted (list_any (loses plain (0 ∷ [])) (pairs olds 
 
 pub each_leaf : (olds : List Row) (w : Work) → Has (works schema_two Enforced 0 1 olds []) w → IsLeaf schema_two w
 each_leaf olds w h =
-    let it = has_mapped (λ child. filter_map (work_for schema_two Enforced 0 1 olds [] child) child.references) schema_two.tables w h in
+    let it = from_flat (λ child. filter_map (work_for schema_two Enforced 0 1 olds [] child) child.references) schema_two.tables w h in
     let on = all_has (λ t. (x : Work) → Has (filter_map (work_for schema_two Enforced 0 1 olds [] t) t.references) x → IsOn olds t x) schema_two.tables it.0 (on_each olds) it.1 w it.2 in
     record {
       deletes = on.deletes;

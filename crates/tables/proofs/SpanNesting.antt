@@ -8,6 +8,7 @@ use Rattle.dump.specs.Requests.{IsWithin}
 use Rattle.dump.proofs.OnePicks.{same_position}
 use Rattle.dump.proofs.Passes.{not_true}
 use Rattle.tables.specs.Steps.Climbs.{ComesBefore}
+use Rattle.tables.proofs.Keeping.{both}
 
 -- ---- positions
 
@@ -59,13 +60,9 @@ within_then s t u f g = (nests_then s t u f.0 g.0, λ e. f.1 (nests_both s t f.0
 pub covers_filled : (s : SpanValue) (p : PositionValue) → Covers s p → IsFilled s
 covers_filled s p h = at_before s.start p s.«end» h.0 h.1
 
-both_true : (a b : Bool) → a && b ≡ true → (a ≡ true) × (b ≡ true)
-both_true true b e = (refl, e)
-both_true false b e = absurd cc
-
 nests_of : (s t : SpanValue) → nests s t ≡ true → Nests s t
 nests_of s t e =
-    let h = both_true (not (is_before s.start t.start)) (not (is_before t.«end» s.«end»)) e in
+    let h = both (not (is_before s.start t.start)) (not (is_before t.«end» s.«end»)) e in
     (before_false s.start t.start (not_true (is_before s.start t.start) h.0), before_false t.«end» s.«end» (not_true (is_before t.«end» s.«end») h.1))
 
 true_false : {X : Type 0} (b : Bool) → b ≡ true → b ≡ false → X

@@ -26,7 +26,7 @@ use Rattle.tables.specs.declared.slots.Part.TheVariants.{Dump, Tags}
 use Rattle.tables.specs.TableTrees.{format_tree}
 use Rattle.tables.proofs.Empty.{one_row, version_ordered, version_is}
 use Rattle.tables.proofs.Keeping.{from_map, to_map, number_is, which_part, same_int_is, same_int_itself}
-use Rattle.tables.proofs.PartRemoved.{truly}
+use Rattle.tables.proofs.PartRemoved.{truly, plainly_true}
 
 -- ---- the rows of a part that format 2 has besides
 
@@ -42,10 +42,6 @@ no_dump tags dump = let e = sym tags ∙ dump in cc
 dump_test : (id : ℤ) (q : List ℕ) (j : Part) → list_all (holds ([] ∷ slot_row id q j ∷ [])) dump_tests ≡ (is_eq (int_cmp (part_number j) (pos 1)) && true)
 unfolding binary
 dump_test id q j = rw (value_cmp-Int (part_number j) (pos 1), truly (is_eq (int_cmp (part_number j) (pos 1))))
-
-plainly_true : (b : Bool) → (b && true) ≡ true → b ≡ true
-plainly_true true h = refl
-plainly_true false h = h
 
 module _ (old new : Trees) (parts : Contents) (replies : Replies) (is : KeepsOne old parts replies) (up : WasUpgraded old new) (besides : HasBesides parts) where
   same : (t : Table) → Has schema_one.tables t → t.tree ≢ format_tree → new t.tree ≡ old t.tree

@@ -1,11 +1,12 @@
 -- What the rows of a part have after the id of its slot.
-use Rattle.std.specs.Prelude.{◌++◌, ◌==◌, ℕ, pos, List, [], ◌∷◌, map, Option, Some, None, if◌then◌else◌}
+use Rattle.std.specs.Prelude.{IsTrue, ◌++◌, ◌==◌, ℕ, pos, List, [], ◌∷◌, map, Option, Some, None, if◌then◌else◌}
 use Rattle.std.specs.List.{flat_map}
 use Rattle.sqlite_value.specs.declared.value.Value.{Value}
 use Rattle.sqlite_value.specs.declared.value.Value.TheVariants.{Int, Text, Null}
 use Rattle.sqlite_value.specs.Order.{Row}
 use Rattle.sqlite.specs.Values.{or_null}
-use Rattle.positions.specs.Position.{PositionValue, packed_of}
+use Rattle.positions.specs.Position.{PositionValue, IsPosition, packed_of}
+use Rattle.positions.specs.Span.{SpanValue, is_span}
 use Rattle.lsif.specs.declared.element.Profile.{Profile}
 use Rattle.serde_json.specs.Data.{array}
 use Rattle.serde_json.specs.View.{items_of}
@@ -24,6 +25,10 @@ optional = or_null number
 
 abbrev pub position : PositionValue → Value
 position p = number (packed_of p)
+
+-- a place that a row has begins and ends at positions, and doesn't end before it begins
+abbrev pub IsWritten : SpanValue → Type 0
+IsWritten span = IsPosition span.start × IsPosition span.«end» × IsTrue (is_span span.start span.«end»)
 
 abbrev pub document_columns : List ℕ → Row
 document_columns uri = Text uri ∷ []

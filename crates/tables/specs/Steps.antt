@@ -6,6 +6,7 @@ pub mod DumpEntries
 pub mod Inserts
 pub mod Kept
 pub mod Known
+pub mod Next
 pub mod Puts
 pub mod Queries
 pub mod Refusals

@@ -1,4 +1,5 @@
-//! The bearers of a moniker key in all projects, as they are selected, in order. `FindsBearers` in `specs/Selections`.
+//! The bearers of a moniker key in all projects, as they are selected, in order: by one join of
+//! `bearer`, `slot` and `more`, over the index of keys. `FindsBearers` in `specs/Selections`.
 ghost use Rattle.std.specs.Prelude.{◌≡◌, ◌↔◌, ◌∷◌, [], List, ℕ, Contains, map, string_bytes, IfOk, OnOk, IfErr};
 ghost use Rattle.std.specs.declared.cmp.Ordering.TheVariants.{Equal};
 ghost use Rattle.sqlite_value.specs.declared.value.Value.TheVariants.{Text};
@@ -29,14 +30,15 @@ use sqlite::{Alter, Connection, Row, params};
 use std::alloc::Global;
 use std::cmp::Ordering;
 
-/// A bearer of a key: a vertex of a project's dump that bears a moniker with the key itself.
+/// A bearer of a key: a vertex of a project's dump that has a moniker with the key itself.
 #[derive(Debug, PartialEq, Eq, Drop)]
 pub struct FoundBearer {
     pub project: String,
     /// The vertex's line in the dump, counted from 1.
     pub line: u32,
     pub kind: MonikerKind,
-    /// The numbers of its first results: of a definition, of references, of a hover, of a declaration and of an implementation.
+    /// The numbers of its first results: of a definition, of references, of a hover, of a
+    /// declaration and of an implementation.
     pub def: Option<u32>,
     pub refs: Option<u32>,
     pub hover: Option<u32>,
@@ -105,7 +107,8 @@ pub(crate) fn more_of<S: Alter>(
     }
 }
 
-/// The project that a slot is of: as it's named, where the slot is the one that was named last, or else found. It's the one that is named from then on.
+/// The project that a slot is of: as it's named, where the slot is the one that was named last, or
+/// else found. It's the one that is named from then on.
 pub(crate) fn slot_project<S: Alter>(
     alloc: Global,
     conn: &mut Connection<S>,
@@ -142,7 +145,8 @@ pub(crate) fn slot_project<S: Alter>(
     Ok(project)
 }
 
-/// The bearers of a key, each with its project, its declaration and its implementation, as the join finds them.
+/// The bearers of a key, each with its project, its declaration and its implementation, as the join
+/// finds them. A row whose slot isn't there has no project, which `read` refuses.
 fn select_bearers<S: Alter>(
     alloc: Global,
     conn: &mut Connection<S>,
@@ -155,7 +159,7 @@ fn select_bearers<S: Alter>(
     select_all(
         alloc,
         conn,
-        "SELECT slot.project, bearer.line, bearer.kind, bearer.def, bearer.refs, bearer.hover, more.decl, more.imp FROM bearer JOIN slot ON slot.id = bearer.slot LEFT JOIN more ON more.slot = bearer.slot AND more.line = bearer.line WHERE bearer.keytext = ?1",
+        "SELECT slot.project, bearer.line, bearer.kind, bearer.def, bearer.refs, bearer.hover, more.decl, more.imp FROM bearer LEFT JOIN slot ON slot.id = bearer.slot LEFT JOIN more ON more.slot = bearer.slot AND more.line = bearer.line WHERE bearer.keytext = ?1",
         params![key],
     )
 }
@@ -196,9 +200,9 @@ fn find_bearers<S: Alter>(
 }
 
 impl<S: Alter> Tables<S> {
-    /// The bearers of a key in the dumps of all projects: each once, by project (its bytes), line and kind. The key is as `flatten::key_text` makes it.
-    /// It's `Refused` where the store refuses, or where a row isn't one of this product's, and `Memory` where memory is refused, also to a database in
-    /// memory (`in_memory`).
+    /// The bearers of a key in the dumps of all projects: each once, by project (its bytes), line
+    /// and kind. The key is as `flatten::key_text` makes it. Errors: `Refused` and `Memory`
+    /// (`TablesFault`).
     pub fn bearers(&mut self, alloc: Global, key: &str) -> Result<Vec<FoundBearer>, TablesFault>
         ensures found { HasCleanDisk (state S.Store self.new) → (m : State) → Rests (state S.Store self.old) m
             → IfOk result (λ found. FindsBearers m key.now (map bearer_found found.items)) }

@@ -7,7 +7,7 @@ ghost use Rattle.sqlite.specs.State.{HasCleanDisk};
 ghost use Rattle.sqlite.specs.Held.{state};
 ghost use Rattle.positions.specs.Position.{IsPosition};
 ghost use Rattle.dump.specs.Places.{IsListing, place_cmp};
-ghost use Rattle.tables.specs.Columns.{position};
+ghost use Rattle.tables.specs.Columns.{position, IsWritten};
 ghost use Rattle.tables.specs.Contents.{HasSlot};
 ghost use Rattle.machine.specs.State.{State};
 ghost use Rattle.tables.specs.Fault.{IsStoreFault};
@@ -43,6 +43,8 @@ impl Listed for FoundItem {
     ghost columns = { λ item. Text (rc_str_bytes item.uri) ∷ position item.span.start ∷ position item.span.«end» ∷ [] };
 
     ghost is_sound = { λ item. IsPosition item.span.start × IsPosition item.span.«end» };
+
+    ghost is_own = { λ item. IsWritten item.span };
 
     fn read(row: &Row) -> Result<FoundItem, Refusal> {
         let span = span_of(column(row, 1)?, column(row, 2)?)?;

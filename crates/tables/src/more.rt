@@ -1,15 +1,19 @@
-//! The declarations and implementations of ranges and bearers, which format 2 keeps in a table of their own: put and selected.
-ghost use Rattle.std.specs.Prelude.{◌≡◌, ◌↔◌, ◌∷◌, [], ◌⊎◌, ◌≤◌, length, map, take, IsTrue, OnOk};
+//! The declarations and implementations of ranges and bearers, which format 2 keeps in a table of
+//! their own: put and selected.
+ghost use Rattle.std.specs.Prelude.{◌≡◌, ◌↔◌, ◌∷◌, [], ◌⊎◌, ◌≤◌, List, length, map, take, IsTrue, OnOk};
 ghost use Rattle.std.specs.List.{flat_map};
 ghost use Rattle.sqlite_value.specs.declared.value.Value.TheVariants.{Int};
 ghost use Rattle.sqlite_value.specs.Order.{Row as Columns};
 ghost use Rattle.sqlite_rules.specs.Lists.{Has};
 ghost use Rattle.sqlite.specs.State.{HasCleanDisk};
 ghost use Rattle.sqlite.specs.Held.{state};
+ghost use Rattle.flatten.specs.declared.rows.Rows.{Rows};
+ghost use Rattle.flatten.specs.declared.rows.BearerRow.{BearerRow};
 ghost use Rattle.flatten.specs.Rows.{range_value, bearer_value, rows_value};
 ghost use Rattle.tables.specs.Schema.{schema_two};
 ghost use Rattle.tables.specs.Databases.{Holds};
 ghost use Rattle.tables.specs.Columns.{number, optional, more_columns, more_rows, range_more, bearer_more};
+ghost use Rattle.tables.specs.Steps.Next.{IsNext};
 ghost use Rattle.tables.specs.Steps.Puts.{PutsAll, Steps};
 ghost use Rattle.tables.specs.Steps.Clauses.{CommitsNothing, Edits};
 ghost use Rattle.tables.specs.TableTrees.{more_tree};
@@ -80,18 +84,13 @@ fn has_same(bearer: &BearerRow, line: u32, decl: Option<u32>, imp: Option<u32>) 
     bearer.line == line && bearer.decl == decl && bearer.imp == imp
 }
 
-/// Whether what a bearer has of a declaration or an implementation is that of the bearer before it, or of a range.
-fn is_listed(rows: &Rows<'_>, at: usize, bearer: &BearerRow) -> bool
-    requires { at ≤ length rows.now.bearers.items }
-    ensures { IsTrue result → (row : Columns) → Has (bearer_more (bearer_value bearer.now)) row
-        → Has (flat_map (λ r. range_more (range_value r)) rows.now.ranges.items) row
-        ⊎ Has (flat_map (λ b. bearer_more (bearer_value b)) (take at rows.now.bearers.items)) row }
+/// Whether a range has the line, the declaration and the implementation of a bearer.
+fn is_of_range(rows: &Rows<'_>, bearer: &BearerRow) -> bool
+    ensures listed { IsTrue result → (row : Columns) → Has (bearer_more (bearer_value bearer.now)) row
+        → Has (flat_map (λ r. range_more (range_value r)) rows.now.ranges.items) row }
+    ensures each { (earlier : List BearerRow) → IsNext rows.now earlier bearer.now → (row : Columns) → Has (bearer_more (bearer_value bearer.now)) row
+        → Has (flat_map (λ r. range_more (range_value r)) rows.now.ranges.items) row → IsTrue result }
 {
-    if let Some(before) = rows.bearers[..at].last() {
-        if has_same(bearer, before.line, before.decl, before.imp) {
-            return true;
-        }
-    }
     match rows
         .ranges
         .binary_search_by(|range| range.line.cmp(&bearer.line))
@@ -102,6 +101,34 @@ fn is_listed(rows: &Rows<'_>, at: usize, bearer: &BearerRow) -> bool
         },
         Err(_) => false,
     }
+}
+
+/// Whether the last of these bearers has the line, the declaration and the implementation of the
+/// next one.
+fn is_of_last(earlier: &[BearerRow], bearer: &BearerRow) -> bool
+    ensures listed { IsTrue result → (row : Columns) → Has (bearer_more (bearer_value bearer.now)) row
+        → Has (flat_map (λ b. bearer_more (bearer_value b)) earlier.now) row }
+    ensures each { (rows : Rows) → IsNext rows earlier.now bearer.now → (row : Columns) → Has (bearer_more (bearer_value bearer.now)) row
+        → Has (flat_map (λ b. bearer_more (bearer_value b)) earlier.now) row → IsTrue result }
+{
+    match earlier.last() {
+        Some(before) => has_same(bearer, before.line, before.decl, before.imp),
+        None => false,
+    }
+}
+
+/// Whether what a bearer has of a declaration or an implementation is that of the bearer before it,
+/// or of a range.
+fn is_listed(rows: &Rows<'_>, at: usize, bearer: &BearerRow) -> bool
+    requires { at ≤ length rows.now.bearers.items }
+    ensures listed { IsTrue result → (row : Columns) → Has (bearer_more (bearer_value bearer.now)) row
+        → Has (flat_map (λ r. range_more (range_value r)) rows.now.ranges.items) row
+        ⊎ Has (flat_map (λ b. bearer_more (bearer_value b)) (take at rows.now.bearers.items)) row }
+    ensures each { IsNext rows.now (take at rows.now.bearers.items) bearer.now → (row : Columns) → Has (bearer_more (bearer_value bearer.now)) row
+        → Has (flat_map (λ r. range_more (range_value r)) rows.now.ranges.items) row
+        ⊎ Has (flat_map (λ b. bearer_more (bearer_value b)) (take at rows.now.bearers.items)) row → IsTrue result }
+{
+    is_of_last(&rows.bearers[..at], bearer) || is_of_range(rows, bearer)
 }
 
 /// Puts what a bearer has of a declaration or an implementation, where that isn't there yet.
@@ -129,7 +156,8 @@ fn insert_bearer<S: Alter>(
     insert_line(tx, slot, bearer.line, bearer.decl, bearer.imp)
 }
 
-/// Puts what the bearers have of declarations and implementations, where what the ranges have is there.
+/// Puts what the bearers have of declarations and implementations, where what the ranges have is
+/// there.
 fn insert_bearers<S: Alter>(
     tx: &mut Transaction<'_, S>,
     slot: i64,

@@ -47,7 +47,8 @@ pub(crate) struct ProjectSlot {
     pub(crate) id: i64,
 }
 
-/// The id of the slot of the project's dump, where it has one: of the one that is known, or else found. It's the one that is known from then on.
+/// The id of the slot of the project's dump, where it has one: of the one that is known, or else
+/// found. It's the one that is known from then on.
 pub(crate) fn dump_slot<S: Alter>(
     alloc: Global,
     conn: &mut Connection<S>,
@@ -114,8 +115,8 @@ fn find_profile<S: Alter>(
 }
 
 impl<S: Alter> Tables<S> {
-    /// The profile that the project's dump was read by, or none where it has no dump. It's `Refused` where the store refuses, or where a row isn't one
-    /// of this product's, and `Memory` where memory is refused, also to a database in memory (`in_memory`).
+    /// The profile that the project's dump was read by, or none where it has no dump. Errors:
+    /// `Refused` and `Memory` (`TablesFault`).
     pub fn profile(&mut self, project: &str) -> Result<Option<Profile>, TablesFault>
         ensures found { HasCleanDisk (state S.Store self.new) → (m : State) → Rests (state S.Store self.old) m
             → IfOk result (λ found. found ≡ option_map (λ d. d.profile) (m.dump project.now)) }

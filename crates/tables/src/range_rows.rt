@@ -2,7 +2,7 @@
 //! starts, and that of the parent of each.
 ghost use Rattle.std.specs.Prelude.{◌<◌, ◌∷◌, [], Some, IsTrue, IfOk};
 ghost use Rattle.positions.specs.Position.{IsPosition};
-ghost use Rattle.tables.specs.Columns.{number, optional, position};
+ghost use Rattle.tables.specs.Columns.{number, optional, position, IsWritten};
 ghost use Rattle.tables.specs.Steps.Climbs.{IsStart, IsNamed, weight};
 ghost use Rattle.tables.specs.Steps.Clauses.{OfDump, OnlyReads};
 
@@ -30,6 +30,8 @@ impl Listed for SlotRange {
         ∷ optional r.hover ∷ [] };
 
     ghost is_sound = { λ r. IsPosition r.span.start × IsPosition r.span.«end» };
+
+    ghost is_own = { λ r. IsWritten r.span };
 
     fn read(row: &Row) -> Result<SlotRange, Refusal> {
         let span = span_of(column(row, 1)?, column(row, 2)?)?;

@@ -9,6 +9,7 @@ ghost use Rattle.sqlite.specs.Held.{state};
 ghost use Rattle.tables.specs.Schema.{schema_two};
 ghost use Rattle.tables.specs.Steps.Selected.{IsQuery, AreColumns, AreRead, IsFirstRead};
 ghost use Rattle.tables.specs.Steps.Clauses.{OnlyReads};
+ghost use Rattle.tables.specs.Steps.Refusals.{RefusesNoRow};
 
 use crate::fault::Refusal;
 use sqlite::types::ValueRef;
@@ -23,10 +24,14 @@ pub(crate) trait Listed: Sized + Drop {
     /// What is true of each value that is read, beside its columns.
     ghost is_sound: { Self → Type 0 } = { λ _. ⊤ };
 
-    /// The value of a row. It's `Row` where the product writes no such row.
+    /// What is true of each value that the product writes, beside its columns.
+    ghost is_own: { Self → Type 0 } = { λ _. ⊤ };
+
+    /// The value of a row. It's `Row` only where the product writes no such row.
     fn read(row: &Row) -> Result<Self, Refusal>
         ensures columns { IfOk result (λ x. AreColumns 0 (columns x) row.now) }
-        ensures sound { IfOk result is_sound };
+        ensures sound { IfOk result is_sound }
+        ensures own { (x : Self) → is_own x → AreColumns 0 (columns x) row.now → RefusesNoRow result };
 
     /// The value as it's kept after the one of the row before, with which it may share memory.
     fn after(self, _before: Option<&Self>) -> Result<Self, AllocError>

@@ -1,4 +1,5 @@
-//! The slots, of which each part of a project has one, and the kept replies: put and removed. `specs/Parts` has the parts' numbers.
+//! The slots, of which each part of a project has one, and the kept replies: put and removed.
+//! `specs/Parts` has the parts' numbers.
 ghost use Rattle.std.specs.Prelude.{◌≡◌, ◌∷◌, [], ◌↔◌, None, IsTrue, IfOk, OnOk};
 ghost use Rattle.sqlite_value.specs.declared.value.Value.TheVariants.{Int, Text, Null};
 ghost use Rattle.sqlite.specs.State.{HasCleanDisk};
@@ -31,7 +32,7 @@ pub(crate) fn part_number(part: Part) -> i64
     }
 }
 
-/// Takes out the slot of a part, and with it the part's rows: and how many slots there were.
+/// Removes the slot of a part, and with it the part's rows, and returns how many slots there were.
 pub(crate) fn remove_slot<S: Alter>(
     tx: &mut Transaction<'_, S>,
     project: &str,

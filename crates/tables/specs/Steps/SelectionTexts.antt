@@ -23,7 +23,7 @@ abbrev pub select_project : List ℕ
 select_project = codes "SELECT project FROM slot WHERE id = ?1"
 
 abbrev pub select_bearers : List ℕ
-select_bearers = codes "SELECT slot.project, bearer.line, bearer.kind, bearer.def, bearer.refs, bearer.hover, more.decl, more.imp FROM bearer JOIN slot ON slot.id = bearer.slot LEFT JOIN more ON more.slot = bearer.slot AND more.line = bearer.line WHERE bearer.keytext = ?1"
+select_bearers = codes "SELECT slot.project, bearer.line, bearer.kind, bearer.def, bearer.refs, bearer.hover, more.decl, more.imp FROM bearer LEFT JOIN slot ON slot.id = bearer.slot LEFT JOIN more ON more.slot = bearer.slot AND more.line = bearer.line WHERE bearer.keytext = ?1"
 
 abbrev pub select_more : List ℕ
 select_more = codes "SELECT decl, imp FROM more WHERE slot = ?1 AND line = ?2"

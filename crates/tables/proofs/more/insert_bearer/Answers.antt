@@ -7,4 +7,4 @@ use Rattle.tables.proofs.more.insert_bearer.Goals as goal
 pub returns-then-is_listed-clause-put : goal.returns-then-is_listed-clause-put
 returns-then-is_listed-clause-put g c clean inside has ranges earlier =
     puts_held 24 _ (state g.S.Store c.args.tx.now.conn.now) has inside
-    (held_by 24 c.args.slot (bearer_more (bearer_value c.args.bearer.now)) _ _ (state g.S.Store c.args.tx.now.conn.now).now.trees (c.is_listed.ensures c.if-is_listed.true) ranges earlier)
+    (held_by 24 c.args.slot (bearer_more (bearer_value c.args.bearer.now)) _ _ (state g.S.Store c.args.tx.now.conn.now).now.trees (c.is_listed.ensures.listed c.if-is_listed.true) ranges earlier)
