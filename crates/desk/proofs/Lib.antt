@@ -3,6 +3,7 @@ pub mod CoverRows
 pub mod EdgeEnds
 pub mod Faultless
 pub mod Finding
+pub mod KeptReplies
 pub mod KeyBearers
 pub mod LeastRows
 pub mod ListedRows

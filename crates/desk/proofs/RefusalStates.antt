@@ -1,10 +1,10 @@
 -- What a refusal of an index is answered, and what it leaves of the machine's states.
-use Rattle.std.proofs.Common.{◌≡◌, ◌++◌, [], ◌∷◌, Bool, true, List, refl, sym, subst}
+use Rattle.std.proofs.Common.{◌≡◌, ◌++◌, [], ◌∷◌, Bool, true, ℕ, List, Some, inl, inr, refl, sym, subst}
 use Rattle.machine.specs.State.{State}
 use Rattle.machine.specs.Machine.{after}
 use Rattle.machine.specs.Reply.{ReplyValue}
 use Rattle.machine.specs.Requests.{CommandValue, RequestValue, command}
-use Rattle.machine.specs.Runs.{MayReply, no_memory, no_store, after_a_stop, moved}
+use Rattle.machine.specs.Runs.{KnowsReply, MayReply, no_memory, no_store, after_a_stop, moved}
 use Rattle.desk.specs.Steps.Indexes.{refused_by}
 use Rattle.desk.specs.declared.index.IndexFault.{IndexFault}
 use Rattle.desk.specs.declared.index.IndexFault.TheVariants.{Refused, Memory}
@@ -21,3 +21,8 @@ module _ (m : State) (c : CommandValue) (r : ReplyValue) where
 pub refused_reply : (s : Bool) (m : State) (q : RequestValue) (r : ReplyValue) (fault : IndexFault) → r ≡ refused_by fault → (fault ≡ Refused → s ≡ true) → MayReply s m q r
 refused_reply s m q r Refused is may = subst (MayReply s m q) (sym is) (no_store (may refl))
 refused_reply s m q r Memory is may = subst (MayReply s m q) (sym is) no_memory
+
+pub refused_known : (s : Bool) (m : State) (project key : List ℕ) (r : ReplyValue) (fault : IndexFault) → r ≡ refused_by fault → (fault ≡ Refused → s ≡ true)
+    → KnowsReply s m project key (Some r)
+refused_known s m project key r Refused is may = inr (inr (may refl, is))
+refused_known s m project key r Memory is may = inr (inl is)

@@ -1,5 +1,7 @@
-//! A desk over an index: commands, each served by the reply that is kept under its key or else by one change of the index, and queries. What the index
-//! is and where it keeps its rows isn't known here; the answers to queries are made in `rows`, the machine that is served stands in `specs/Machine`.
+//! A desk over an index: commands, each served by the reply that is kept under its key or else by
+//! one change of the index, and queries. What the index is and where it keeps its rows isn't known
+//! here. The answers to queries are made in `rows`; the machine that is served is `specs/Machine`
+//! of the crate `machine`.
 ghost use Rattle.std.specs.Prelude.{◌≡◌, ℕ, true, List, None, Err, IfErr};
 ghost use Rattle.machine.specs.State.{State};
 ghost use Rattle.machine.specs.Reply.{removed};
@@ -13,11 +15,13 @@ ghost use Rattle.desk.specs.declared.index.IndexFault.TheVariants.{Refused, Memo
 use crate::index::{Index, IndexFault};
 use crate::rows::queries::answer;
 use machine::{
-    Change, Code, Command, Desk, Query, Reply, Upload, dump_accepted, judge, removed, tags_accepted,
+    Change, Code, Command, Desk, Key, ProjectName, Query, Reply, Upload, dump_accepted, judge,
+    removed, tags_accepted,
 };
 use std::alloc::Global;
 
-/// The reply where an index refuses: S01 where its store refused, and S02 where memory was. It takes no memory.
+/// The reply where an index refuses: S01 where its store refused, and S02 where memory was. It
+/// takes no memory.
 fn refusal(fault: IndexFault) -> Reply
     ensures { result ≡ refused_by fault }
 {
@@ -29,7 +33,8 @@ fn refusal(fault: IndexFault) -> Reply
 
 // ---- commands
 
-/// Makes a change under a key that isn't kept. The reply is made before, so that no memory is asked for once the change is made.
+/// Makes a change under a key that isn't kept. The reply is made before, so that no memory is asked
+/// for once the change is made.
 fn accept<I: Index>(
     alloc: Global,
     index: &mut I,
@@ -60,7 +65,7 @@ fn accept<I: Index>(
     }
 }
 
-/// Answers a command of which this was said: by the kept reply, where its key is kept.
+/// Answers a command on whose body this is the verdict: by the kept reply, where its key is kept.
 fn conclude<I: Index>(
     alloc: Global,
     index: &mut I,
@@ -92,7 +97,8 @@ pub struct IndexDesk<I: Index> {
 }
 
 impl<I: Index> IndexDesk<I> {
-    /// A desk that stands for what the index stands for, and of which a stop leaves what it would leave of the index. It takes no memory.
+    /// A desk that represents what the index represents, and of which a crash leaves what it would
+    /// leave of the index. It takes no memory.
     pub(crate) fn over(alloc: Global, index: I) -> IndexDesk<I>
         ensures { result.index ≡ index }
     {
@@ -139,6 +145,14 @@ impl<I: Index> Desk for IndexDesk<I> {
         match self.serve(command) {
             Ok(reply) => reply,
             Err(fault) => refusal(fault),
+        }
+    }
+
+    fn kept_reply(&mut self, project: &ProjectName, key: &Key) -> Option<Reply> {
+        match self.index.kept_reply(project.as_str(), key.as_str()) {
+            Ok(Some(text)) => Some(Reply::made(200, text)),
+            Ok(None) => None,
+            Err(fault) => Some(refusal(fault)),
         }
     }
 

@@ -1,4 +1,5 @@
-//! The desk over a database in files in memory, which is new and empty. One over a file is made by the program (`codenav/src/database.rt`).
+//! The desk over a database in files in memory, which is new and empty. One over a file is made by
+//! the program (`codenav/src/database.rt`).
 ghost use Rattle.std.specs.Prelude.{◌≡◌, ◌∷◌, [], false, IfOk};
 ghost use Rattle.machine.specs.State.{nothing};
 
@@ -12,8 +13,9 @@ use tables::{MemoryDisk, Tables};
 /// A desk over a database in files in memory.
 pub type MemoryDesk = TableDesk<FileStore<MemoryDisk>>;
 
-/// A desk over new tables in a database that is in memory alone, where that is empty. Where its store returned what was written, it stands for the state
-/// of an empty index, and a stop leaves that state alone.
+/// A desk over new tables in a database that is in memory alone, where that is empty. Where its
+/// store returned what was written, it represents the state of an empty index, and a crash leaves
+/// that state alone.
 fn make_desk<S: Alter + Drop>(
     alloc: Global,
     conn: Connection<S>,
@@ -34,8 +36,9 @@ fn make_desk<S: Alter + Drop>(
 }
 
 impl TableDesk<FileStore<MemoryDisk>> {
-    /// A desk over a new database in memory, which stands for the state of an empty one and leaves that state alone. Such a database is nobody else's, so
-    /// each fault of it is for want of memory.
+    /// A desk over a new database in memory, which represents the state of an empty one, and of
+    /// which a crash leaves that alone. Nobody else has such a database, so each fault of it is
+    /// that memory was refused.
     pub fn open_in_memory(alloc: Global) -> Result<MemoryDesk, AllocError>
         ensures stands { IfOk result (λ desk. ⟦<IndexDesk<Tables<FileStore<MemoryDisk>>> as Desk>⟧.stands desk nothing) }
         ensures may_leave { IfOk result (λ desk. ⟦<IndexDesk<Tables<FileStore<MemoryDisk>>> as Desk>⟧.may_leave desk (nothing ∷ [])) }

@@ -1,15 +1,14 @@
 -- A head, and then its body.
-use Rattle.std.proofs.Common.{◌≡◌, ℕ, ◌+◌, ◌<◌, ◌≤◌, inl, inr, List, [], ◌++◌, length, take, drop, Option, Result, Ok, Err, IfOk, refl, sym, ◌∙◌, ap, arith, append_assoc, length-append}
+use Rattle.std.proofs.Common.{◌≡◌, ℕ, ◌+◌, ◌<◌, ◌≤◌, inl, inr, List, [], ◌++◌, length, take, drop, Option, refl, sym, ◌∙◌, ap, arith, append_assoc, length-append}
 use Rattle.std.proofs.lemmas.List.{take-append-le, drop-append-le, take_all, drop_all}
-use Rattle.std.specs.declared.alloc.AllocError.{AllocError}
 use Rattle.lsif.specs.Streams.{AtEnd}
 use Rattle.http_edge.specs.Heads.{request_head, SettlesHead}
 use Rattle.http_edge.specs.Messages.{IsUnended}
 use Rattle.http_edge.specs.Requests.{refused, message_of}
-use Rattle.http_edge.specs.Steps.Requests.{AsksAfter, Asks}
-use Rattle.http_edge.specs.Steps.Serving.{GivesHead, Gives, Says}
+use Rattle.http_edge.specs.Steps.Serving.{GivesHead, Gives, MessageAfter, Says}
+use Rattle.http_edge.specs.declared.reading.Message.{Message}
+use Rattle.http_edge.specs.declared.reading.Message.TheVariants.{Asked, Known, OutOfMemory}
 use Rattle.http_edge.specs.declared.refusal.Refusal.TheVariants.{BodyCut}
-use Rattle.http_edge.specs.declared.request.Asked.{Asked}
 use Rattle.http_edge.specs.declared.request.Asked.TheVariants.{Upload, Request, Refused}
 use Rattle.http_edge.proofs.RequestLemmas.{message_goes_on}
 use Rattle.http_edge.proofs.MessageLemmas.{head-append, head_some}
@@ -95,13 +94,9 @@ still_short held bytes more body pending rest len e f count some =
 -- ---- what is asked
 
 -- what was asked when all of the body had come
-pub said : (asked : Result Asked AllocError) (method target body : List ℕ) → AsksAfter asked method target body → Says asked (message_of method target body)
-said (Ok (Upload upload)) method target body a = (body, a.0, a.1 body)
-said (Ok (Request q)) method target body a = a body
-said (Ok (Refused refusal)) method target body a = a body
-said (Err e) method target body a = message_goes_on method target body
-
--- what is asked before any byte of the body came
-pub begun : (asked : Result Asked AllocError) (method target : List ℕ) → IfOk asked (λ a. Asks a method target) → AsksAfter asked method target []
-begun (Ok a) method target asks = asks
-begun (Err e) method target asks = tt
+pub said : (message : Message) (method target body : List ℕ) → MessageAfter message method target body → Says message (message_of method target body)
+said (Asked (Upload upload)) method target body a = (body, a.0, a.1 body)
+said (Asked (Request q)) method target body a = a body
+said (Asked (Refused refusal)) method target body a = a body
+said (Known upload reply) method target body a = (body, a body)
+said OutOfMemory method target body a = message_goes_on method target body

@@ -2,6 +2,7 @@ pub mod BodyLemmas
 pub mod Ends
 pub mod FieldLemmas
 pub mod HeadLemmas
+pub mod KnownReplies
 pub mod MessageLemmas
 pub mod MovedLemmas
 pub mod OneLists

@@ -1,27 +1,40 @@
-//! Reads the messages of a stream: a head, and then the body in pieces, which an upload takes as they come. `specs/Messages` says which messages a
-//! stream has.
+//! Reads the messages of a stream: a head, and then the body in pieces of at most 8,192 bytes. An
+//! upload takes each piece as it comes, so that no body is held whole. Where the desk knows the
+//! reply already, since the upload's key is kept, the body is read and dropped.
+//! `specs/Messages` says which messages a stream has.
 ghost use Rattle.std.specs.Prelude.{◌≡◌, ◌≢◌, ℕ, ◌+◌, ◌-◌, ◌^◌, ◌<◌, ◌≤◌, List, [], ◌++◌, drop, take, Option, Some, None, IfOk, IfSome, length};
 ghost use Rattle.httparse.specs.Spans.{span_bytes, IsWithin};
 ghost use Rattle.lsif.specs.Streams.{AtEnd, CountsFailure, Moves, Pulls};
+ghost use Rattle.machine.specs.State.{State};
 ghost use Rattle.http_edge.specs.Steps.Heads.{FitsIn};
 ghost use Rattle.http_edge.specs.Heads.{head_limit};
-ghost use Rattle.http_edge.specs.Steps.Requests.{AsksAfter};
+ghost use Rattle.http_edge.specs.Steps.Requests.{Asks};
 ghost use Rattle.http_edge.specs.Steps.Routes.{routes};
-ghost use Rattle.http_edge.specs.Steps.Serving.{NextHead, NextMessage, ReadsBody, Refills, TakesBody, TakesPiece};
+ghost use Rattle.http_edge.specs.Steps.Serving.{Knows, MessageAfter, NextHead, NextMessage, ReadsBody, Refills, Stays, TakesBody, TakesPiece, known_of};
 
 use crate::head::{HEAD_LIMIT, Head, RequestLine, first_head};
 use crate::refusal::Refusal;
 use crate::request::{Asked, read_request};
 use crate::route::{Route, router};
 use lsif::{Buffer, Failed, Source};
+use machine::{Desk, Reply, Upload};
 use matchit::{InsertError, Router};
 use std::alloc::{AllocError, Global};
 use std::marker::Model;
 
-/// What a message asks; or memory was refused before that was known.
-pub(crate) type Message<'b> = Result<Asked<'b>, AllocError>;
+/// What was read of a message.
+#[derive(Drop)]
+pub(crate) enum Message<'b> {
+    /// What it asks. An upload takes its body as it comes.
+    Asked(Asked<'b>),
+    /// An upload and its reply, which the desk knows before the body has come.
+    Known(Upload, Reply),
+    /// Memory was refused before it was known what is asked.
+    OutOfMemory,
+}
 
-/// What the next head says, and how many of the buffered bytes it takes. None at the end of the input.
+/// What the next head says, and how many of the buffered bytes it takes. None at the end of the
+/// input.
 fn next_head<R: Source>(r: &mut R, buffer: &mut Buffer) -> Result<Option<(Head, usize)>, Failed>
     requires count { R.failed r.old < 2 ^ 64 - 1 }
     requires room { head_limit ≤ buffer.old.capacity }
@@ -49,29 +62,48 @@ fn next_head<R: Source>(r: &mut R, buffer: &mut Buffer) -> Result<Option<(Head, 
     }
 }
 
-/// Hands the next bytes of a body on to what takes them: an upload. Otherwise they're dropped. An upload for which memory was refused
-/// drops them too.
-fn hand_on(message: &mut Message<'_>, piece: &[u8])
-    ensures { (method target body : List ℕ) → AsksAfter message.old method target body → AsksAfter message.new method target (body ++ piece.now) }
+/// The message of a head that asks this, before its body. A desk that has the upload's key kept
+/// knows the reply.
+fn begin<'b, D: Desk>(desk: &mut D, asked: Result<Asked<'b>, AllocError>) -> Message<'b>
+    ensures stays { Stays (D.stands desk.old) (D.stands desk.new) (D.may_leave desk.old) (D.may_leave desk.new) (D.is_reliable desk.old) (D.is_reliable desk.new) }
+    ensures known { D.is_reliable desk.new → (m : State) → D.stands desk.old m → Knows D.store_may_refuse m (known_of result) }
+    ensures asked { (method target : List ℕ) → IfOk asked.entry (λ a. Asks a method target) → MessageAfter result method target [] }
 {
-    if let Ok(Asked::Upload(upload)) = message {
+    match asked {
+        Ok(Asked::Upload(upload)) => match desk.kept_reply(&upload.project, &upload.key) {
+            Some(reply) => Message::Known(upload, reply),
+            None => Message::Asked(Asked::Upload(upload)),
+        },
+        Ok(asked) => Message::Asked(asked),
+        Err(_) => Message::OutOfMemory,
+    }
+}
+
+/// Passes the next bytes of a body to the upload that takes them. Without one they're dropped, and
+/// also where memory was refused for it.
+fn pass_on(message: &mut Message<'_>, piece: &[u8])
+    ensures asked { (method target body : List ℕ) → MessageAfter message.old method target body → MessageAfter message.new method target (body ++ piece.now) }
+    ensures known { known_of message.new ≡ known_of message.old }
+{
+    if let Message::Asked(Asked::Upload(upload)) = message {
         let _ = upload.piece(piece);
     }
 }
 
-/// Hands on what is buffered of a body, at most so many bytes, and says how many they were.
+/// Passes on what is buffered of a body, at most so many bytes, and says how many they were.
 fn take_piece(buffer: &mut Buffer, message: &mut Message<'_>, most: usize) -> usize
     ensures within { result ≤ most }
     ensures some { result ≡ 0 → most ≢ 0 → buffer.old.pending ≡ [] }
     ensures fits { result ≤ length buffer.old.pending }
     ensures pending { buffer.new.pending ≡ drop result buffer.old.pending }
-    ensures asked { (method target body : List ℕ) → AsksAfter message.old method target body
-        → AsksAfter message.new method target (body ++ take result buffer.old.pending) }
+    ensures asked { (method target body : List ℕ) → MessageAfter message.old method target body
+        → MessageAfter message.new method target (body ++ take result buffer.old.pending) }
+    ensures known { known_of message.new ≡ known_of message.old }
     ensures capacity { buffer.new.capacity ≡ buffer.old.capacity }
 {
     let pending = buffer.pending();
     let count = pending.len().min(most);
-    hand_on(message, &pending[..count]);
+    pass_on(message, &pending[..count]);
     buffer.advance(count);
     count
 }
@@ -93,8 +125,8 @@ fn refill<R: Source>(r: &mut R, buffer: &mut Buffer) -> Result<(), Failed>
     }
 }
 
-/// Hands on at most so many bytes of a body, which are read where none are buffered, and says how many they were: none only at
-/// the end of the input.
+/// Passes on at most so many bytes of a body, which are read where none are buffered, and says how
+/// many they were: none only at the end of the input.
 fn next_piece<R: Source>(
     r: &mut R,
     buffer: &mut Buffer,
@@ -114,7 +146,8 @@ fn next_piece<R: Source>(
     }
 }
 
-/// Reads a body of so many bytes and hands it on, piece by piece. Says whether so many came before the input ended.
+/// Reads a body of so many bytes and passes it on, piece by piece. Says whether so many came before
+/// the input ended.
 fn read_body<R: Source>(
     r: &mut R,
     buffer: &mut Buffer,
@@ -161,7 +194,8 @@ impl Model for MessageReader {
 impl MessageReader {
     ghost use Rattle.std.specs.Prelude.{[]};
 
-    /// A reader of a stream's messages, from its first byte on. The buffer and the router are made here.
+    /// A reader of a stream's messages, from its first byte on. The buffer and the router are made
+    /// here.
     pub(crate) fn new(alloc: Global) -> Result<MessageReader, InsertError>
         ensures { IfOk result (λ reader. reader ≡ []) }
     {
@@ -175,8 +209,9 @@ impl MessageReader {
     }
 
     /// The message of a head that is the first buffered bytes, whose body follows.
-    fn with_body<'b, R: Source>(
+    fn with_body<'b, D: Desk, R: Source>(
         &mut self,
+        desk: &mut D,
         r: &mut R,
         line: RequestLine,
         len: usize,
@@ -185,6 +220,8 @@ impl MessageReader {
         requires count { R.failed r.old < 2 ^ 64 - 1 }
         requires line { IsWithin (length self.old) line.method × IsWithin (length self.old) line.target }
         requires taken { taken ≤ length self.old }
+        ensures stays { Stays (D.stands desk.old) (D.stands desk.new) (D.may_leave desk.old) (D.may_leave desk.new) (D.is_reliable desk.old) (D.is_reliable desk.new) }
+        ensures known { D.is_reliable desk.new → (m : State) → D.stands desk.old m → IfOk result (λ message. Knows D.store_may_refuse m (known_of message)) }
         ensures message { TakesBody len (span_bytes self.old line.method) (span_bytes self.old line.target) (drop taken self.old) (R.left r.old) self.new
             (R.left r.new) result }
         ensures counted { CountsFailure (R.failed r.old) (R.failed r.new) result }
@@ -192,13 +229,14 @@ impl MessageReader {
         let held = self.buffer.pending();
         let method = line.method.of(held);
         let target = line.target.of(held);
-        let mut message = read_request(self.alloc, &self.router, method, target);
+        let asked = read_request(self.alloc, &self.router, method, target);
+        let mut message = begin(desk, asked);
         self.buffer.advance(taken);
         match read_body(r, &mut self.buffer, &mut message, len) {
             Ok(true) => Ok(message),
             Ok(false) => {
                 drop(message);
-                Ok(Ok(Asked::Refused(Refusal::BodyCut)))
+                Ok(Message::Asked(Asked::Refused(Refusal::BodyCut)))
             }
             Err(e) => {
                 drop(message);
@@ -207,9 +245,17 @@ impl MessageReader {
         }
     }
 
-    /// The next message: of the buffered bytes, and then of those that are read. None at the end of the input.
-    pub(crate) fn next<'b, R: Source>(&mut self, r: &mut R) -> Result<Option<Message<'b>>, Failed>
+    /// The next message: of the buffered bytes, and then of those that are read. None at the end of
+    /// the input. The desk is asked for kept replies alone.
+    pub(crate) fn next<'b, D: Desk, R: Source>(
+        &mut self,
+        desk: &mut D,
+        r: &mut R,
+    ) -> Result<Option<Message<'b>>, Failed>
         requires count { R.failed r.old < 2 ^ 64 - 1 }
+        ensures stays { Stays (D.stands desk.old) (D.stands desk.new) (D.may_leave desk.old) (D.may_leave desk.new) (D.is_reliable desk.old) (D.is_reliable desk.new) }
+        ensures known { D.is_reliable desk.new → (m : State) → D.stands desk.old m
+            → IfOk result (λ o. IfSome o (λ message. Knows D.store_may_refuse m (known_of message))) }
         ensures message { NextMessage self.old (R.left r.old) self.new (R.left r.new) result }
         ensures counted { CountsFailure (R.failed r.old) (R.failed r.new) result }
     {
@@ -217,10 +263,10 @@ impl MessageReader {
             Ok(None) => Ok(None),
             Ok(Some((Head::Refused(refusal), taken))) => {
                 self.buffer.advance(taken);
-                Ok(Some(Ok(Asked::Refused(refusal))))
+                Ok(Some(Message::Asked(Asked::Refused(refusal))))
             }
             Ok(Some((Head::Request(line, len), taken))) => {
-                match self.with_body(r, line, len, taken) {
+                match self.with_body(desk, r, line, len, taken) {
                     Ok(message) => Ok(Some(message)),
                     Err(e) => Err(e),
                 }

@@ -1,4 +1,5 @@
-//! What a request asks of the desk, by its method and its target.
+//! What a request asks of the desk, by its method and its target. It's read before the body comes,
+//! since an upload takes its body in pieces.
 ghost use Rattle.std.specs.Prelude.{◌≡◌, ℕ, List, [], Some, IfOk, IfSome, option_map};
 ghost use Rattle.std.specs.Str.{bytes_eq};
 ghost use Rattle.machine.specs.Requests.{command, command_value, position_query, query, query_value};
@@ -19,7 +20,8 @@ use matchit::Router;
 use std::alloc::{AllocError, Global};
 use std::str;
 
-/// What is asked: an upload, whose body follows, another request of the desk, or what is refused before it.
+/// What is asked: an upload, whose body follows, another request of the desk, or what is refused
+/// before it.
 #[derive(Drop)]
 pub(crate) enum Asked<'b> {
     Upload(Upload),
@@ -101,8 +103,8 @@ fn ask_at<'b>(
     Ok(asked_query(read_position_query(alloc, kind, project, parameters)?))
 }
 
-/// What a route asks with its project's name and its parameters. Refused where one of these is missing, there twice, or not of
-/// its form.
+/// What a route asks with its project's name and its parameters. Refused where one of these is
+/// missing, there twice, or not of its form.
 #[tactic(auto, unfolding(crate::specs::Requests::request_of))]
 fn read_route<'b>(
     alloc: Global,
@@ -127,7 +129,8 @@ fn read_route<'b>(
     }
 }
 
-/// What a method and a target ask: by the path's route, then its method, then the parameters. An upload's body hasn't come yet.
+/// What a method and a target ask: by the path's route, then its method, then the parameters. An
+/// upload's body hasn't come yet.
 pub(crate) fn read_request<'b>(
     alloc: Global,
     router: &Router<Route>,

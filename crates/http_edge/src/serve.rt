@@ -1,5 +1,5 @@
-//! Serves a stream by any desk: one message after the other is read, answered and written. Reading is in `reading.rt`, the text of answers in
-//! `reply.rt`. `specs/Serving`.
+//! Serves a stream by any desk: one message after the other is read, answered and written. Reading
+//! is in `reading.rt`, the text of answers in `reply.rt`. `specs/Serving`.
 ghost use Rattle.std.specs.Prelude.{◌≡◌, ◌≢◌, ℕ, ◌-◌, ◌^◌, ◌<◌, ◌≤◌, List, [], Err, length};
 ghost use Rattle.machine.specs.State.{State};
 ghost use Rattle.lsif.specs.Sending.{CountsSending, Sends};
@@ -9,7 +9,7 @@ ghost use Rattle.http_edge.specs.Replies.{AnswerValue, answer_text};
 ghost use Rattle.http_edge.specs.Steps.Replies.{answer_value};
 ghost use Rattle.http_edge.specs.Requests.{MessageValue};
 ghost use Rattle.http_edge.specs.Serving.{MayAnswer, answered, after_a_stop_of_answer, after_a_stop_of_answers, CountsRead, CountsWrite, Serves, session};
-ghost use Rattle.http_edge.specs.Steps.Serving.{Responds, Says};
+ghost use Rattle.http_edge.specs.Steps.Serving.{Knows, Responds, Says, known_of};
 ghost use Rattle.http_edge.specs.declared.serve.ServeFault.TheVariants.{Memory};
 
 use crate::joined::Joined;
@@ -59,19 +59,26 @@ impl From<InsertError> for ServeFault {
 /// Answers a message.
 fn answer<D: Desk>(desk: &mut D, message: Message<'_>) -> Answer
     ensures reliable { D.is_reliable desk.new → D.is_reliable desk.old }
-    ensures answer { D.is_reliable desk.new → (m : State) (asked : MessageValue) → D.stands desk.old m → Says message.entry asked
-        → MayAnswer D.store_may_refuse m asked (answer_value result) }
-    ensures state { D.is_reliable desk.new → (m : State) (asked : MessageValue) → D.stands desk.old m → Says message.entry asked
-        → D.stands desk.new (answered m asked (answer_value result)) }
+    ensures answer { D.is_reliable desk.new → (m : State) (asked : MessageValue) → D.stands desk.old m → Knows D.store_may_refuse m (known_of message.entry)
+        → Says message.entry asked → MayAnswer D.store_may_refuse m asked (answer_value result) }
+    ensures state { D.is_reliable desk.new → (m : State) (asked : MessageValue) → D.stands desk.old m → Knows D.store_may_refuse m (known_of message.entry)
+        → Says message.entry asked → D.stands desk.new (answered m asked (answer_value result)) }
     ensures left { D.is_reliable desk.new → (m : State) (states : List State) (asked : MessageValue) → D.stands desk.old m → D.may_leave desk.old states
-        → Says message.entry asked → D.may_leave desk.new (after_a_stop_of_answer m states asked (answer_value result)) }
+        → Knows D.store_may_refuse m (known_of message.entry) → Says message.entry asked
+        → D.may_leave desk.new (after_a_stop_of_answer m states asked (answer_value result)) }
 {
     match message {
-        Ok(Asked::Upload(upload)) => Answer::Reply(desk.finish_upload(upload)),
-        Ok(Asked::Request(Request::Command(command))) => Answer::Reply(desk.apply(&command)),
-        Ok(Asked::Request(Request::Query(query))) => Answer::Reply(desk.ask(&query)),
-        Ok(Asked::Refused(refusal)) => Answer::Refused(refusal),
-        Err(_) => Answer::Reply(Reply::out_of_memory()),
+        Message::Asked(Asked::Upload(upload)) => Answer::Reply(desk.finish_upload(upload)),
+        Message::Asked(Asked::Request(Request::Command(command))) => {
+            Answer::Reply(desk.apply(&command))
+        }
+        Message::Asked(Asked::Request(Request::Query(query))) => Answer::Reply(desk.ask(&query)),
+        Message::Asked(Asked::Refused(refusal)) => Answer::Refused(refusal),
+        Message::Known(upload, reply) => {
+            drop(upload);
+            Answer::Reply(reply)
+        }
+        Message::OutOfMemory => Answer::Reply(Reply::out_of_memory()),
     }
 }
 
@@ -96,7 +103,7 @@ fn ends(message: &Message<'_>) -> bool
     ensures { (asked : MessageValue) → Says message.now asked → result ≡ ends asked }
 {
     match message {
-        Ok(Asked::Refused(refusal)) => refusal.ends_stream(),
+        Message::Asked(Asked::Refused(refusal)) => refusal.ends_stream(),
         _ => false,
     }
 }
@@ -124,7 +131,7 @@ fn serve<D: Desk, R: Source, W: Sink>(
 {
     let mut count = 0;
     'serving: while count < limit {
-        let message = match reader.next(r) {
+        let message = match reader.next(desk, r) {
             Ok(Some(message)) => message,
             Ok(None) => return Ok(count),
             Err(_) => return Err(ServeFault::Read),
@@ -142,12 +149,15 @@ fn serve<D: Desk, R: Source, W: Sink>(
     Ok(count)
 }
 
-/// Serves the requests of a stream (HTTP/1.1, RFC 9112), one after the other and at most `limit` of them, and says how
-/// many replies were written. Stops at the end of the input, at the limit, and at a refusal that ends the stream.
+/// Serves the requests of a stream (HTTP/1.1, RFC 9112), one after the other and at most `limit` of
+/// them, and says how many replies were written. Stops at the end of the input, at the limit, and
+/// at a refusal that ends the stream.
 ///
-/// A head has at most 8,192 bytes, 34 lines and 32 fields, and a body at most 33,554,432 bytes. A body is never held whole: an upload
-/// takes it in pieces of at most 8,192 bytes, and nothing has an effect before all of it came. A reply of at most 64 KiB goes out by one write.
-/// The buffers and the router are made first: where memory for them is refused, nothing was read or written. What is buffered is served before more is read.
+/// A head has at most 8,192 bytes, 34 lines and 32 fields, and a body at most 33,554,432 bytes. A
+/// body is never held whole: an upload takes it in pieces of at most 8,192 bytes, and nothing has
+/// an effect before all of it came. A reply of at most 64 KiB goes out by one write. The buffers
+/// and the router are made first: where memory for them is refused, nothing was read or written.
+/// What is buffered is served before more is read.
 pub fn serve_stream<D: Desk, R: Source, W: Sink>(
     alloc: Global,
     desk: &mut D,

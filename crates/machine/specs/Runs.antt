@@ -1,9 +1,9 @@
 -- Runs of the machine, with refusals in between, because memory ran out or the store refused; and
 -- what a crash may leave.
-use Rattle.std.specs.Prelude.{◌≡◌, Bool, true, List, [], ◌∷◌, ◌++◌, if◌then◌else◌}
+use Rattle.std.specs.Prelude.{◌≡◌, ◌⊎◌, ℕ, Bool, true, List, [], ◌∷◌, ◌++◌, Option, Some, None, if◌then◌else◌}
 use Rattle.machine.specs.Answers.{Answers}
-use Rattle.machine.specs.Machine.{reply_to, after, is_new}
-use Rattle.machine.specs.State.{State}
+use Rattle.machine.specs.Machine.{reply_of, reply_to, after, is_new}
+use Rattle.machine.specs.State.{Accepted, State}
 use Rattle.machine.specs.Reply.{ReplyValue, out_of_memory, store_refused, is_refusal}
 use Rattle.machine.specs.Requests.{RequestValue, command, query}
 
@@ -31,6 +31,15 @@ Run store_may_refuse m [] [] n = n ≡ m
 Run store_may_refuse m (q ∷ qs) (r ∷ rs) n = MayReply store_may_refuse m q r × Run store_may_refuse (moved m q r) qs rs n
 Run store_may_refuse m [] (r ∷ rs) n = ⊥
 Run store_may_refuse m (q ∷ qs) [] n = ⊥
+
+-- ---- kept replies
+
+-- what is known of the reply to a project's commands with a key before a body has come: where one
+-- is kept, that, or a refusal in its place; nothing where none is kept
+abbrev pub KnowsReply : Bool → State → List ℕ → List ℕ → Option ReplyValue → Type 0
+KnowsReply store_may_refuse m project key None = m.kept project key ≡ None
+KnowsReply store_may_refuse m project key (Some r) =
+    ((kept : Accepted) × (m.kept project key ≡ Some kept) × (r ≡ reply_of kept)) ⊎ (r ≡ out_of_memory) ⊎ ((store_may_refuse ≡ true) × (r ≡ store_refused))
 
 -- ---- crashes
 

@@ -1,5 +1,5 @@
-//! Uploads, whose bodies come in pieces: they are judged line by line and never held whole. What takes the lines is in `line_reader.rt`.
-//! `specs/Uploads`.
+//! Uploads, whose bodies come in pieces: they are judged line by line and never held whole. What
+//! takes the lines is in `line_reader.rt`. `specs/Uploads`.
 ghost use Rattle.std.specs.Prelude.{◌≡◌, ◌≢◌, ◌<◌, ◌≤◌, ◌++◌, ℕ, List, [], IfOk, MatchResult, is_err, length, take, true, false};
 ghost use Rattle.machine.specs.Judging.{judged};
 ghost use Rattle.machine.specs.Steps.Changes.{said_value};
@@ -39,7 +39,8 @@ impl From<AllocError> for UploadFault {
     }
 }
 
-/// Reads a body that comes in pieces. Each line is judged when it has come, and of the bytes one line is kept.
+/// Reads a body that comes in pieces. Each line is judged when it has come, and of the bytes one
+/// line is kept.
 #[derive(Drop)]
 pub struct BodyReader {
     alloc: Global,
@@ -68,7 +69,8 @@ struct Taken {
     state: ReadingState,
 }
 
-/// Takes the beginning of a piece up to and with its first line feed, or all of it, where no line has had a fault.
+/// Takes the beginning of a piece up to and with its first line feed, or all of it, where no line
+/// has had a fault.
 fn take_line(alloc: Global, cutter: &mut Cutter, lines: &mut LineReader, piece: &[u8]) -> Taken
     requires running { HasState ReadingState.Running (taken lines.old) cutter.old }
     requires longest { cutter.old.longest ≡ longest_of (taken lines.old) }
@@ -158,7 +160,8 @@ impl BodyReader {
         BodyReader::new(alloc, LineReader::Tags(reader), LONGEST_TAG_LINE)
     }
 
-    /// Takes the beginning of a piece up to and with its first line feed, or all of it, and says how many bytes it took.
+    /// Takes the beginning of a piece up to and with its first line feed, or all of it, and says
+    /// how many bytes it took.
     fn take(&mut self, piece: &[u8]) -> usize
         ensures some { length piece.now ≢ 0 → 0 < result }
         ensures within { result ≤ length piece.now }
@@ -208,7 +211,7 @@ impl BodyReader {
         }
     }
 
-    /// What is said of the body: the change that its command makes, or its fault.
+    /// The verdict on the body: the change that its command makes, or its fault.
     pub fn finish(self) -> Result<Result<Change, Reply>, AllocError>
         ensures said { (body : List ℕ) → HasRead self body → IfOk result (λ answer. said_value answer ≡ judged (action_of self.lines body)) }
         ensures memory { self.is_out_of_memory ≡ true → is_err result ≡ true }
@@ -230,8 +233,8 @@ impl BodyReader {
     }
 }
 
-/// A dump or a tags file that is put in a project under a key. Its body comes in pieces: each line is judged when it has come, and
-/// of the bytes one line is kept. What is said of it comes at the end.
+/// A dump or a tags file that is put in a project under a key. Its body comes in pieces: each line
+/// is judged when it has come, and of the bytes one line is kept. The verdict comes at the end.
 #[derive(Drop)]
 pub struct Upload {
     pub project: ProjectName,
@@ -271,7 +274,8 @@ impl Upload {
         Ok(Upload { project, key, body })
     }
 
-    /// Takes the next piece of the body. The fault of a line waits for the end. Where memory is refused, that is the answer for good.
+    /// Takes the next piece of the body. The fault of a line waits for the end. Where memory is
+    /// refused, that is the answer for good.
     pub fn piece(&mut self, bytes: &[u8]) -> Result<(), UploadFault>
         ensures stands { (body : List ℕ) → HasRead self.old.body body → HasRead self.new.body (body ++ bytes.now) }
         ensures same { (body : List ℕ) → command_of self.new body ≡ command_of self.old body }
@@ -283,7 +287,8 @@ impl Upload {
         Ok(())
     }
 
-    /// How many bytes are held: those after the last line feed, at most 1,048,576 of a dump and 65,536 of a tags file.
+    /// How many bytes are held: those after the last line feed, at most 1,048,576 of a dump and
+    /// 65,536 of a tags file.
     pub fn held(&self) -> usize
         ensures value { result ≡ length self.now.body.last }
         ensures within { result ≤ longest_of self.now.body.lines }

@@ -6,12 +6,57 @@ use crate::asserts::expect_equal_text;
 use dump::RequestKind;
 use http_edge::serve_stream;
 use lsif::Counted;
-use machine::{Change, Command, Desk, DocUri, ProjectName, Query, Reply, Upload};
+use machine::{Change, Command, Desk, DocUri, Key, ProjectName, Query, Reply, Upload};
 use positions::Position;
 use samples::{Slow, parted, slow_writer};
 use std::alloc::{AllocError, Global};
 use std::process::Abort;
 use std::test::Fail;
+
+/// The request behind an upload.
+const NEXT: &str = "GET /projects HTTP/1.1\r\nContent-Length: 0\r\n\r\n";
+
+/// Uploads, the lengths of their bodies, of which 20,000 bytes come, and what is said to them and
+/// to the request behind them.
+const KEPT: &[(&str, usize, &str)] = &[
+    (
+        "PUT /projects/app/lsif?key=kept",
+        20_000,
+        "kept app; projects; ",
+    ),
+    (
+        "PUT /projects/b/lsif?key=kept&profile=2",
+        20_000,
+        "kept b; projects; ",
+    ),
+    (
+        "PUT /projects/app/tags?key=kept",
+        20_000,
+        "kept app; projects; ",
+    ),
+    (
+        "PUT /projects/app/lsif?key=kept&profile=3",
+        20_000,
+        "D03; projects; ",
+    ),
+    (
+        "PUT /projects/app/lsif?key=kept&key=kept",
+        20_000,
+        "D03; projects; ",
+    ),
+    ("PUT /projects/app/lsif?key=kept", 30_000, "H05; "),
+    ("PUT /projects/app/lsif?key=kept", 33_554_433, "H04; "),
+    (
+        "PUT /projects/app/lsif?key=kept2",
+        20_000,
+        "L02; projects; ",
+    ),
+    (
+        "PUT /projects/app/tags?key=kept2",
+        20_000,
+        "T04; projects; ",
+    ),
+];
 
 /// Queries and removals, and what is refused before the desk.
 const ASKED: &str = r#"
@@ -237,8 +282,8 @@ fn upload_text(alloc: Global, upload: Upload) -> Result<Reply, AllocError>
     Ok(Reply::made(200, text))
 }
 
-/// A desk that answers each request by what is asked, as tables write it. It keeps nothing, and
-/// promises nothing of what it represents.
+/// A desk that answers each request by what is asked, as tables write it. In each project it knows
+/// the reply to the key `kept` and to no other, and promises nothing of what it represents.
 #[derive(Drop)]
 struct Recorder {
     alloc: Global,
@@ -260,6 +305,16 @@ impl Desk for Recorder {
         match format!(in self.alloc; "remove {project} {key}") {
             Ok(text) => Reply::made(200, text),
             Err(_) => Reply::out_of_memory(),
+        }
+    }
+
+    fn kept_reply(&mut self, project: &ProjectName, key: &Key) -> Option<Reply> {
+        if key.as_str() != "kept" {
+            return None;
+        }
+        match format!(in self.alloc; "kept {}", project.as_str()) {
+            Ok(text) => Some(Reply::made(200, text)),
+            Err(_) => Some(Reply::out_of_memory()),
         }
     }
 
@@ -297,16 +352,42 @@ fn said(alloc: Global, reply: &str) -> Result<String, Fail> {
     }
 }
 
-/// What a request line without its version asks.
-fn asked(alloc: Global, line: &str) -> Result<String, Fail> {
-    let request = format!(in alloc; "{line} HTTP/1.1\r\nContent-Length: 0\r\n\r\n")?;
-    let mut reader = Counted::new(request.as_str().as_bytes());
+/// The replies to the requests of a stream, two at most.
+fn replies_to(alloc: Global, stream: &str) -> Result<String, Fail> {
+    let mut reader = Counted::new(stream.as_bytes());
     let mut writer = Counted::new(slow_writer(alloc, 1_000_000, 0));
     if serve_stream(alloc, &mut Recorder { alloc }, &mut reader, &mut writer, 2).is_err() {
         return Err("not served")?;
     }
     let Slow { taken, .. } = writer.into_inner();
-    said(alloc, str::from_utf8(&taken).unwrap_or("not UTF-8"))
+    let text = str::from_utf8(&taken).unwrap_or("not UTF-8");
+    Ok(String::from_str(alloc, text)?)
+}
+
+/// What a request line without its version asks.
+fn asked(alloc: Global, line: &str) -> Result<String, Fail> {
+    let request = format!(in alloc; "{line} HTTP/1.1\r\nContent-Length: 0\r\n\r\n")?;
+    let replies = replies_to(alloc, request.as_str())?;
+    said(alloc, replies.as_str())
+}
+
+/// What is said in turn to an upload of so many bytes, of which 20,000 come, and then to the
+/// request behind it.
+fn said_in_turn(alloc: Global, line: &str, length: usize) -> Result<String, Fail> {
+    let body = "x".repeat(alloc, 20_000)?;
+    let stream = format!(in alloc;
+        "{line} HTTP/1.1\r\nContent-Length: {length}\r\n\r\n{body}{NEXT}"
+    )?;
+    let replies = replies_to(alloc, stream.as_str())?;
+    let mut found = String::new(alloc);
+    for reply in replies.as_str().split("HTTP/1.1 ") {
+        if !reply.is_empty() {
+            let text = said(alloc, reply)?;
+            found.push_str(text.as_str())?;
+            found.push_str("; ")?;
+        }
+    }
+    Ok(found)
 }
 
 /// The same of a request line of three parts.
@@ -338,4 +419,16 @@ fn requests(rt: HostRuntime) -> Result<(), Fail> {
     expect_asked(&rt, "GET /names?", OF_TAGS, "")?;
     expect_asked(&rt, "", ROUTES, PARAMETERS)?;
     expect_asked(&rt, "POST ", METHODS, PARAMETERS)
+}
+
+/// Uploads whose key is kept have the kept reply, whatever body comes: it's read and dropped, and
+/// what follows it is the next request. Refusals of the head, of parameters and of a body that is
+/// cut go before.
+#[test]
+fn kept_keys(rt: HostRuntime) -> Result<(), Fail> {
+    for &(line, length, wanted) in KEPT {
+        let found = said_in_turn(rt.alloc(), line, length)?;
+        expect_equal_text(&rt, found.as_str(), wanted, line);
+    }
+    Ok(())
 }

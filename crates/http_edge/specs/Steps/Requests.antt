@@ -1,6 +1,5 @@
 -- What is asked as the program has it.
-use Rattle.std.specs.Prelude.{◌≡◌, ℕ, List, [], Option, Some, None, Result, Ok, Err, ⊤}
-use Rattle.std.specs.declared.alloc.AllocError.{AllocError}
+use Rattle.std.specs.Prelude.{◌≡◌, ℕ, List, [], Option, Some, None}
 use Rattle.machine.specs.Requests.{DocumentPositionValue, RequestValue, command, at_value, request_value}
 use Rattle.machine.specs.Uploads.{HasRead, UploadValue, command_of}
 use Rattle.http_edge.specs.declared.queries.DocumentPosition.{DocumentPosition}
@@ -23,14 +22,13 @@ AsksFor (Request q) asked = (body : List ℕ) → asked body ≡ Some (request_v
 AsksFor (Refused refusal) asked = (refusal ≡ BadParameter) × ((body : List ℕ) → asked body ≡ None)
 
 -- this is what the method and the target ask with each body, and an upload represents these bytes
--- of it; or memory was refused
-abbrev pub AsksAfter : Result Asked AllocError → List ℕ → List ℕ → List ℕ → Type 0
-AsksAfter (Ok (Upload upload)) method target body =
+-- of it
+abbrev pub AsksAfter : Asked → List ℕ → List ℕ → List ℕ → Type 0
+AsksAfter (Upload upload) method target body =
     HasRead upload.body body × ((whole : List ℕ) → message_of method target whole ≡ request (command (command_of upload whole)))
-AsksAfter (Ok (Request q)) method target body = (whole : List ℕ) → message_of method target whole ≡ request (request_value q)
-AsksAfter (Ok (Refused refusal)) method target body = (whole : List ℕ) → message_of method target whole ≡ refused refusal
-AsksAfter (Err e) method target body = ⊤
+AsksAfter (Request q) method target body = (whole : List ℕ) → message_of method target whole ≡ request (request_value q)
+AsksAfter (Refused refusal) method target body = (whole : List ℕ) → message_of method target whole ≡ refused refusal
 
 -- no byte of an upload's body has come
 abbrev pub Asks : Asked → List ℕ → List ℕ → Type 0
-Asks asked method target = AsksAfter (Ok asked) method target []
+Asks asked method target = AsksAfter asked method target []

@@ -19,4 +19,5 @@ returns-in-Ok-clause-piece g c =
           let empty = taken.some none (λ e. absurd (omega (arith, e, c.requires.most))) in
           (read.3 empty, taken.pending ∙ (rw empty (drop-nil count))),
       taken.asked,
+      taken.known,
     )

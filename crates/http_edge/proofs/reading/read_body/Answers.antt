@@ -11,6 +11,7 @@ reading-init g c = record {
   held = append-nil _;
   count = omega arith;
   asked = λ method target asks. asks;
+  known = refl;
   capacity = refl;
   failed = refl;
 }
@@ -26,6 +27,7 @@ reading-preserved g c =
       held = joined _ i.bytes p.0 i.body p.1 _ _ i.held p.3;
       count = let l = length-append i.body p.1 in omega (arith, i.count, p.4, p.5);
       asked = λ method target asks. p.7 method target i.body (i.asked method target asks);
+      known = p.8 ∙ i.known;
       capacity = c.next_piece.ensures.capacity ∙ i.capacity;
       failed = c.in-Ok.ensures.counted ∙ i.failed;
     }

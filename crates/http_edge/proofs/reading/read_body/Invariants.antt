@@ -1,6 +1,6 @@
 use Rattle.std.proofs.Common.{◌≡◌, ◌+◌, ◌++◌, ℕ, List, [], length}
 use Rattle.lsif.specs.Streams.{Moves}
-use Rattle.http_edge.specs.Steps.Requests.{AsksAfter}
+use Rattle.http_edge.specs.Steps.Serving.{MessageAfter, known_of}
 use Rattle.http_edge.proofs.reading.read_body.Given as goal
 
 abbrev pub invariant-reading : goal.invariant-reading
@@ -10,7 +10,8 @@ invariant-reading g l = record {
   moved : Moves (g.R.Source.left l.fn.r) (g.R.Source.left l.r) bytes;
   held : l.fn.buffer.pending ++ bytes ≡ body ++ l.buffer.pending;
   count : length body + l.rest ≡ l.len;
-  asked : (method target : List ℕ) → AsksAfter l.fn.message method target [] → AsksAfter l.message method target body;
+  asked : (method target : List ℕ) → MessageAfter l.fn.message method target [] → MessageAfter l.message method target body;
+  known : known_of l.message ≡ known_of l.fn.message;
   capacity : l.buffer.capacity ≡ l.fn.buffer.capacity;
   failed : g.R.Source.failed l.r ≡ g.R.Source.failed l.fn.r;
 }

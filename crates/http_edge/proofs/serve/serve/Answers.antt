@@ -46,13 +46,14 @@ returns-clause-served g c =
 pub returns-in-Ok-None-clause-served : goal.returns-in-Ok-None-clause-served
 returns-in-Ok-None-clause-served g c =
     let i = c.serving.invariant in
+    let stays = c.next.ensures.stays in
     let next = rw c.in-Ok-None.field-0-is at c.in-Ok-None.ensures.message in
     let chain = settled-append i.bytes i.messages c.serving.reader next.0 i.chain in
     let lt : length i.messages < c.args.limit = omega (arith, i.count, c.serving-test.true) in (
       i.messages,
       i.answers,
       λ k m s.
-          let run = i.run k m s in (
+          let run = i.run (stays.reliable k) m s in (
             run.0,
             (
               i.bytes ++ next.0,
@@ -62,14 +63,15 @@ returns-in-Ok-None-clause-served g c =
               run.1,
               i.written,
             ),
-            run.2,
-            run.3,
+            stays.state k run.0 run.2,
+            λ states h. stays.left k run.0 _ run.2 (run.3 states h),
           ),
     )
 
 pub returns-then-is_last-clause-served : goal.returns-then-is_last-clause-served
 returns-then-is_last-clause-served g c =
     let i = c.serving.invariant in
+    let stays = c.next.ensures.stays in
     let next = rw c.in-Ok-Some.field-0-is at c.in-Ok-Some.ensures.message in
     let said = c.in-Ok.ensures.sent in
     let message = next.1 in
@@ -79,24 +81,28 @@ returns-then-is_last-clause-served g c =
       i.messages ++ message ∷ [],
       i.answers ++ said.0 ∷ [],
       λ k m s.
-          let run = i.run (said.1.reliable k) m s in (
+          let read = said.1.reliable k in
+          let run = i.run (stays.reliable read) m s in
+          let here = stays.state read run.0 run.2 in
+          let known = rw c.in-Ok-Some.field-0-is at (c.in-Ok-Some.ensures.known read run.0 run.2) in (
             answered run.0 message said.0,
             (
               i.bytes ++ next.0,
               moves_more _ _ _ i.bytes next.0 i.moved next.2,
               stops-last c.args.limit _ i.messages _ message _ _ chain lt next.3 last,
               simp length-append (omega (arith, i.count)),
-              run-snoc _ m i.messages i.answers run.0 message said.0 run.1 (said.1.answer k run.0 message run.2 next.4),
+              run-snoc _ m i.messages i.answers run.0 message said.0 run.1 (said.1.answer k run.0 message here known next.4),
               rw (texts-snoc i.answers said.0) (writes_more _ _ _ _ _ i.written said.2),
             ),
-            said.1.state k run.0 message run.2 next.4,
-            λ states h. rw (left-snoc _ m states i.messages i.answers run.0 message said.0 run.1) (said.1.left k run.0 _ message run.2 (run.3 states h) next.4),
+            said.1.state k run.0 message here known next.4,
+            λ states h. rw (left-snoc _ m states i.messages i.answers run.0 message said.0 run.1) (said.1.left k run.0 _ message here (stays.left read run.0 _ run.2 (run.3 states h)) known next.4),
           ),
     )
 
 pub serving-preserved : goal.serving-preserved
 serving-preserved g c =
     let i = c.serving.invariant in
+    let stays = c.next.ensures.stays in
     let next = rw c.in-Ok-Some.field-0-is at c.in-Ok-Some.ensures.message in
     let said = c.in-Ok.ensures.sent in
     let message = next.1 in
@@ -111,13 +117,16 @@ serving-preserved g c =
       count = simp length-append (omega (arith, i.count));
       within = omega (arith, c.serving-test.true);
       answers = i.answers ++ said.0 ∷ [];
-      reliable = λ k. i.reliable (said.1.reliable k);
+      reliable = λ k. i.reliable (stays.reliable (said.1.reliable k));
       run = λ k m s.
-          let run = i.run (said.1.reliable k) m s in (
+          let read = said.1.reliable k in
+          let run = i.run (stays.reliable read) m s in
+          let here = stays.state read run.0 run.2 in
+          let known = rw c.in-Ok-Some.field-0-is at (c.in-Ok-Some.ensures.known read run.0 run.2) in (
             answered run.0 message said.0,
-            run-snoc _ m i.messages i.answers run.0 message said.0 run.1 (said.1.answer k run.0 message run.2 next.4),
-            said.1.state k run.0 message run.2 next.4,
-            λ states h. rw (left-snoc _ m states i.messages i.answers run.0 message said.0 run.1) (said.1.left k run.0 _ message run.2 (run.3 states h) next.4),
+            run-snoc _ m i.messages i.answers run.0 message said.0 run.1 (said.1.answer k run.0 message here known next.4),
+            said.1.state k run.0 message here known next.4,
+            λ states h. rw (left-snoc _ m states i.messages i.answers run.0 message said.0 run.1) (said.1.left k run.0 _ message here (stays.left read run.0 _ run.2 (run.3 states h)) known next.4),
           );
       written = rw (texts-snoc i.answers said.0) (writes_more _ _ _ _ _ i.written said.2);
       reads = c.in-Ok-Some.ensures.counted ∙ i.reads;
@@ -127,13 +136,14 @@ serving-preserved g c =
 pub returns-in-Err-clause-served : goal.returns-in-Err-clause-served
 returns-in-Err-clause-served g c =
     let i = c.serving.invariant in
+    let stays = c.next.ensures.stays in
     let next = c.in-Err.ensures.message in
     let chain = settled-append i.bytes i.messages c.serving.reader next.0 i.chain in
     let lt : length i.messages < c.args.limit = omega (arith, i.count, c.serving-test.true) in (
       i.messages,
       i.answers,
       λ k m s.
-          let run = i.run k m s in (
+          let run = i.run (stays.reliable k) m s in (
             run.0,
             (
               i.bytes ++ next.0,
@@ -142,14 +152,15 @@ returns-in-Err-clause-served g c =
               run.1,
               i.written,
             ),
-            run.2,
-            run.3,
+            stays.state k run.0 run.2,
+            λ states h. stays.left k run.0 _ run.2 (run.3 states h),
           ),
     )
 
 pub returns-in-Err-respond-clause-served : goal.returns-in-Err-respond-clause-served
 returns-in-Err-respond-clause-served g c =
     let i = c.serving.invariant in
+    let stays = c.next.ensures.stays in
     let next = rw c.in-Ok-Some.field-0-is at c.in-Ok-Some.ensures.message in
     let said = c.in-Err-respond.ensures.sent in
     let message = next.1 in
@@ -158,7 +169,10 @@ returns-in-Err-respond-clause-served g c =
       i.messages ++ message ∷ [],
       i.answers ++ said.0 ∷ [],
       λ k m s.
-          let run = i.run (said.1.reliable k) m s in (
+          let read = said.1.reliable k in
+          let run = i.run (stays.reliable read) m s in
+          let here = stays.state read run.0 run.2 in
+          let known = rw c.in-Ok-Some.field-0-is at (c.in-Ok-Some.ensures.known read run.0 run.2) in (
             answered run.0 message said.0,
             (
               i.bytes ++ next.0,
@@ -171,10 +185,10 @@ returns-in-Err-respond-clause-served g c =
               refl,
               said.2.2,
               said.2.3,
-              run-snoc _ m i.messages i.answers run.0 message said.0 run.1 (said.1.answer k run.0 message run.2 next.4),
+              run-snoc _ m i.messages i.answers run.0 message said.0 run.1 (said.1.answer k run.0 message here known next.4),
               writes_to_more _ _ _ _ _ i.written said.2.4,
             ),
-            said.1.state k run.0 message run.2 next.4,
-            λ states h. rw (left-snoc _ m states i.messages i.answers run.0 message said.0 run.1) (said.1.left k run.0 _ message run.2 (run.3 states h) next.4),
+            said.1.state k run.0 message here known next.4,
+            λ states h. rw (left-snoc _ m states i.messages i.answers run.0 message said.0 run.1) (said.1.left k run.0 _ message here (stays.left read run.0 _ run.2 (run.3 states h)) known next.4),
           ),
     )

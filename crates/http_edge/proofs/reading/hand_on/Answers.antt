@@ -1,9 +1,0 @@
-use Rattle.std.proofs.Common.{sym, ap, ◌∙◌}
-use Rattle.machine.specs.Requests.{command}
-use Rattle.http_edge.specs.Requests.{request}
-use Rattle.http_edge.proofs.reading.hand_on.Goals as goal
-
-pub returns-in-Ok-Upload : goal.returns-in-Ok-Upload
-returns-in-Ok-Upload c = λ method target body asked.
-    let asks = rw (c.in-Ok-Upload.is, c.in-Ok-Upload.field-0-is) at asked in
-    (c.piece.ensures.stands body asks.0, λ whole. asks.1 whole ∙ ap (λ k. request (command k)) (sym (c.piece.ensures.same whole)))
