@@ -3,52 +3,14 @@
 # size of a program that asks a desk over the tables of a file for them, less that of the same
 # program where it asks for one place, against the reply's bytes.
 # usage: bench/answers.sh [PLACES]      (default 40000)
-# It builds and proves a small program over the crates of this repository, in a copy beside /tmp,
-# which takes some minutes.
+# It builds and proves the crate `bench` first, which takes some minutes where that isn't done yet.
 set -eu
 places=${1:-40000}
 . "$(dirname "${BASH_SOURCE[0]}")/shared.sh"
 
-build_program answers "positions lsif desk tables sqlite" <<'EOP'
-//! Puts the dump `made` into the database `index.db`, where that file is there; else asks it for
-//! the references at the position of the file `asked`, and prints the status and the length of the
-//! body.
-#![tactic(auto)]
-use desk::{Command, Desk, DocUri, Key, ProjectName, Query, TableDesk};
-use lsif::Profile;
-use positions::Position;
-use sqlite::Connection;
-use std::process::ExitCode;
-use std::{fs, io};
-use tables::Tables;
+build_bench
 
-fn run(rt: &HostRuntime) -> io::Result<()> {
-    let alloc = rt.alloc();
-    let conn = Connection::open(rt, "index.db").map_err(|_| bad())?;
-    let Ok(tables) = Tables::open(conn) else {
-        return Err(bad());
-    };
-    let mut desk = TableDesk::new(alloc, tables);
-    let project = ProjectName::read(alloc, "app")?.ok_or(bad())?;
-    let reply = match fs::read(rt, "made") {
-        Ok(body) => {
-            let key = Key::read(alloc, "k")?.ok_or(bad())?;
-            desk.apply(&Command::PutDump { project, key, profile: Profile::One, body: &body })
-        }
-        Err(_) => {
-            let line = fs::read_to_string(rt, "asked")?.trim().parse::<u32>().map_err(|_| bad())?;
-            let uri = DocUri::read(alloc, "file:///w.ts")?.ok_or(bad())?;
-            let at = Position::new(line, 0).ok_or(bad())?;
-            desk.ask(&Query::References { project, uri, at, declaration: true })
-        }
-    };
-    println!(rt; "{} {}", reply.status(), reply.body().len())?;
-    Ok(())
-}
-EOP
-
-# A dump whose ranges each have a line of their own: all but the last are items of one result, which
-# the first has; the last has a result of its own.
+# A dump whose ranges each have a line of their own: all but the last are items of one result, which the first has; the last has a result of its own.
 awk -v places="$places" 'BEGIN {
     print "{\"id\":1,\"type\":\"vertex\",\"label\":\"metaData\",\"version\":\"0.6.0\",\"positionEncoding\":\"utf-16\"}"
     print "{\"id\":2,\"type\":\"vertex\",\"label\":\"document\",\"uri\":\"file:///w.ts\"}"
@@ -71,14 +33,14 @@ cat >"$folder/measure.py" <<'PY'
 import os, subprocess, sys
 
 program, places = sys.argv[1], int(sys.argv[2])
-subprocess.run([program], check=True, stdout=subprocess.DEVNULL)
+subprocess.run([program, "answers"], check=True, stdout=subprocess.DEVNULL)
 os.remove("made")
 
 
 def asked(line):
     with open("asked", "w") as file:
         file.write(str(line))
-    child = subprocess.Popen([program], stdout=subprocess.PIPE)
+    child = subprocess.Popen([program, "answers"], stdout=subprocess.PIPE)
     length = int(child.stdout.read().split()[1])
     _, status, usage = os.wait4(child.pid, 0)
     return usage.ru_maxrss, length

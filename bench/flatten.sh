@@ -6,77 +6,19 @@
 # still have a small dump whole and of a great one a part; and once more when something else was
 # read, so that dumps of all sizes come from memory.
 # usage: bench/flatten.sh [RUNS]      (default 9)
-# It builds and proves a small program over the crates of this repository, in a copy beside /tmp,
-# which takes some minutes.
+# It builds and proves the crate `bench` first, which takes some minutes where that isn't done yet.
 set -eu
 runs=${1:-9}
 . "$(dirname "${BASH_SOURCE[0]}")/shared.sh"
 . "$top/bench/dumps.sh"
 
-build_program flats "lsif dump flatten" "$program_check" <<'EOP'
-//! Checks each dump that the file `commands` names, flattens it, and once more when the caches
-//! hold something else, and prints the microseconds of the three and the number of ranges.
-#![tactic(auto)]
-use dump::{CheckedDump, Checker};
-use flatten::flatten;
-use lsif::{Profile, ReadFault, read_element};
-use std::alloc::Global;
-use std::process::ExitCode;
-use std::rt::{Clock, Files};
-use std::time::Instant;
-use std::{fs, io};
+build_bench
 
-/// More bytes than a processor's caches hold.
-const OTHERS: usize = 134217728;
-
-/// Reads other bytes into the caches, all of them 1.
-fn read_others(others: &[u8]) -> io::Result<()> {
-    if others.iter().step_by(64).any(|byte| *byte != 1) {
-        return Err(bad());
-    }
-    Ok(())
-}
-
-fn measure<R: Alloc<A = Global> + Files + Print + Clock>(
-    rt: &R,
-    name: &str,
-    others: &[u8],
-) -> io::Result<()> {
-    let body = fs::read(rt, name)?;
-    let start = Instant::now(rt)?;
-    let dump = check(rt.alloc(), &body)?;
-    let checked = start.elapsed(rt)?;
-    let start = Instant::now(rt)?;
-    let rows = flatten(rt.alloc(), &dump).map_err(|_| bad())?;
-    let flat = start.elapsed(rt)?;
-    let count = rows.ranges.len();
-    drop(rows);
-    read_others(others)?;
-    let start = Instant::now(rt)?;
-    let rows = flatten(rt.alloc(), &dump).map_err(|_| bad())?;
-    let again = start.elapsed(rt)?;
-    if rows.ranges.len() != count {
-        return Err(bad());
-    }
-    println!(rt; "{} {} {} {}", checked.as_nanos() / 1000, flat.as_nanos() / 1000, again.as_nanos() / 1000, count)?;
-    Ok(())
-}
-
-fn run<R: Alloc<A = Global> + Files + Print + Clock>(rt: &R) -> io::Result<()> {
-    let others = Vec::from_elem(rt.alloc(), 1, OTHERS)?;
-    let text = fs::read_to_string(rt, "commands")?;
-    for line in text.lines() {
-        measure(rt, line, &others)?;
-    }
-    Ok(())
-}
-EOP
-
-# Takes each of these dumps in turn, so many times, and prints a row for each: the least of the
-# times, and how they grew with the elements since the row before.
+# Takes each of these dumps in turn, so many times, and prints a row for each: the least of the times, and how they grew with the
+# elements since the row before.
 measure_dumps() {
     for _ in $(seq "$runs"); do printf '%s\n' "$@"; done >"$folder/commands"
-    (cd "$folder" && "$built") | paste -d' ' "$folder/commands" - >"$folder/times"
+    (cd "$folder" && "$built" flatten) | paste -d' ' "$folder/commands" - >"$folder/times"
     for name in "$@"; do
         elements=$(grep -c '' "$folder/$name")
         times="$(least 2 "$name") $(least 3 "$name") $(least 4 "$name")"
@@ -98,7 +40,7 @@ print_row() {
         { print "" }'
 }
 
-# The exponent by which this column of the times grew from 10,000 to 80,000 elements.
+# The exponent by which what stands in this column of the times grew from 10,000 to 80,000 elements.
 growth() {
     awk -v first="$(least "$1" documents-10000)" -v last="$(least "$1" documents-80000)" 'BEGIN { printf "%.2f", log(last / first) / log(8) }'
 }

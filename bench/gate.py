@@ -15,8 +15,8 @@ the processes of one crate, as it was seen last before each ended, looked at a f
 what no part has is the rest. The time by the clock is of a plan: each part takes one processor for
 as long as it cost, once the proofs of the crates below have ended; of those that can begin, the one
 with the longest way to the end does. Edits come behind the proof and the tests of their crate, one
-after the other or side by side. `rt ci` gives a part that has nothing beside it several processors,
-which the plan leaves out, and waits for memory, which it leaves out too.
+after the other or side by side. What the plan leaves out: `rt ci` waits for memory, and where
+RT_JOBS isn't set it gives a part that has nothing beside it several processors.
 """
 
 import os

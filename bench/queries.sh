@@ -8,109 +8,12 @@
 # in one another, of which the outermost alone has one; and the time where one result has 40,000
 # `item` edges to one range.
 # usage: bench/queries.sh [QUERIES]      (default 200 of each kind)
-# It builds and proves a small program over the crates of this repository, in a copy beside /tmp,
-# which takes some minutes.
+# It builds and proves the crate `bench` first, which takes some minutes where that isn't done yet.
 set -eu
 queries=${1:-200}
 . "$(dirname "${BASH_SOURCE[0]}")/shared.sh"
 
-build_program queries "positions lsif dump flatten tables desk sqlite" "$program_check" <<'EOP'
-//! Serves the puts and the queries of the file `commands`, a line each, over the database
-//! `index.db`, and prints the kind, the microseconds, the status and the body of each. Of `memory
-//! FILE` it prints how long a put into an empty database in memory takes, the check of the dump,
-//! and the replacement.
-#![tactic(auto)]
-use desk::{Command, Desk, DocUri, Key, ProjectName, Query, Reply, TableDesk};
-use dump::{CheckedDump, Checker, RequestKind};
-use flatten::flatten;
-use lsif::{Profile, ReadFault, read_element};
-use positions::Position;
-use sqlite::Connection;
-use std::alloc::Global;
-use std::process::ExitCode;
-use std::time::Instant;
-use std::{fs, io};
-use tables::Tables;
-
-fn number(text: &str) -> io::Result<u32> {
-    text.parse::<u32>().map_err(|_| bad())
-}
-
-fn query(alloc: Global, words: &[&str]) -> io::Result<Query> {
-    let [kind, project, uri, line, character] = words else {
-        return Ok(Query::Projects);
-    };
-    let project = ProjectName::read(alloc, project)?.ok_or(bad())?;
-    let uri = DocUri::read(alloc, uri)?.ok_or(bad())?;
-    let at = Position::new(number(line)?, number(character)?).ok_or(bad())?;
-    match *kind {
-        "definition" => Ok(Query::At { kind: RequestKind::Definition, project, uri, at }),
-        "references" => Ok(Query::References { project, uri, at, declaration: true }),
-        _ => Ok(Query::At { kind: RequestKind::Hover, project, uri, at }),
-    }
-}
-
-fn put<D: Desk>(alloc: Global, desk: &mut D, project: &str, body: &[u8]) -> io::Result<Reply> {
-    let project = ProjectName::read(alloc, project)?.ok_or(bad())?;
-    let key = Key::read(alloc, "k")?.ok_or(bad())?;
-    Ok(desk.apply(&Command::PutDump { project, key, profile: Profile::One, body }))
-}
-
-fn serve<D: Desk>(rt: &HostRuntime, desk: &mut D, words: &[&str]) -> io::Result<Reply> {
-    if let ["put", project, name] = words {
-        put(rt.alloc(), desk, project, &fs::read(rt, name)?)
-    } else {
-        let query = query(rt.alloc(), words)?;
-        Ok(desk.ask(&query))
-    }
-}
-
-fn in_memory(rt: &HostRuntime, name: &str) -> io::Result<()> {
-    let body = fs::read(rt, name)?;
-    let mut desk = TableDesk::open_in_memory(rt.alloc())?;
-    let start = Instant::now(rt)?;
-    let reply = put(rt.alloc(), &mut desk, "app", &body)?;
-    let time = start.elapsed(rt)?;
-    println!(rt; "memory {} {}", time.as_nanos() / 1000, reply.status())?;
-    let start = Instant::now(rt)?;
-    let dump = check(rt.alloc(), &body)?;
-    let time = start.elapsed(rt)?;
-    println!(rt; "check {} 200", time.as_nanos() / 1000)?;
-    let Ok(mut tables) = Tables::open(Connection::open_in_memory(rt.alloc())?) else {
-        return Err(bad());
-    };
-    let start = Instant::now(rt)?;
-    let rows = flatten(rt.alloc(), &dump).map_err(|_| bad())?;
-    tables.replace_dump("app", "k", reply.body(), &rows).map_err(|_| bad())?;
-    let time = start.elapsed(rt)?;
-    println!(rt; "replacement {} 200", time.as_nanos() / 1000)?;
-    Ok(())
-}
-
-fn run(rt: &HostRuntime) -> io::Result<()> {
-    let conn = Connection::open(rt, "index.db").map_err(|_| bad())?;
-    let Ok(tables) = Tables::open(conn) else {
-        return Err(bad());
-    };
-    let mut desk = TableDesk::new(rt.alloc(), tables);
-    let text = fs::read_to_string(rt, "commands")?;
-    for line in text.lines() {
-        if let Some(name) = line.strip_prefix("memory ") {
-            in_memory(rt, name)?;
-            continue;
-        }
-        let mut words = Vec::new(rt.alloc());
-        for word in line.split(' ') {
-            words.push(word)?;
-        }
-        let start = Instant::now(rt)?;
-        let reply = serve(rt, &mut desk, &words)?;
-        let time = start.elapsed(rt)?;
-        println!(rt; "{} {} {} {}", line.split(' ').next().unwrap_or(""), time.as_nanos() / 1000, reply.status(), reply.body())?;
-    }
-    Ok(())
-}
-EOP
+build_bench
 
 # The same queries by C SQLite.
 cat >"$folder/peer.py" <<'PY'
@@ -123,7 +26,7 @@ START = SHOWN + "uri = ?2 AND first <= ?3 AND last > first ORDER BY first DESC, 
 PARENT = SHOWN + "line = ?2 AND uri = ?3"
 BEARERS = (
     "SELECT slot.project, bearer.line, bearer.kind, bearer.def, bearer.refs, bearer.hover, more.decl, more.imp FROM bearer "
-    "JOIN slot ON slot.id = bearer.slot LEFT JOIN more ON more.slot = bearer.slot AND more.line = bearer.line "
+    "LEFT JOIN slot ON slot.id = bearer.slot LEFT JOIN more ON more.slot = bearer.slot AND more.line = bearer.line "
     "WHERE bearer.keytext = ?1"
 )
 IMPORT, EXPORT = 0, 1
@@ -218,9 +121,8 @@ for text in open("commands"):
     print(words[0], (time.perf_counter_ns() - start) // 1000, body)
 PY
 
-# A dump of documents with result sets, each named four times, each with a definition, references, a
-# hover and a moniker with a package; or, where it imports, without definitions and hovers. So many
-# result sets.
+# A dump of documents with result sets, each named four times, each with a definition, references, a hover and a moniker with a
+# package; or, where it imports, without definitions and hovers. So many result sets.
 make_dump() {
     awk -v name="$1" -v sets="$2" -v kind="$3" '
     function vertex(label, members) {
@@ -302,8 +204,7 @@ make_nested() {
     }'
 }
 
-# So many queries of each kind at positions of a project with so many result sets, and as many for
-# the projects.
+# So many queries of each kind at positions of a project with so many result sets, and as many for the projects.
 make_queries() {
     awk -v name="$1" -v sets="$2" -v count="$3" 'BEGIN {
         for (k = 0; k < count; k++) {
@@ -326,7 +227,7 @@ median() {
 measure() {
     local name=$1
     shift
-    (cd "$folder" && "$built" >own && python3 peer.py index.db >peer)
+    (cd "$folder" && "$built" queries >own && python3 peer.py index.db >peer)
     if ! cmp -s <(grep -v '^put \|^projects ' "$folder/own" | cut -d' ' -f1,4-) <(cut -d' ' -f1,3- "$folder/peer"); then
         echo "queries: the replies of $name differ" >&2
         exit 1
@@ -359,7 +260,7 @@ for count in 10 10000; do
 done
 rm -f "$folder"/index.db*
 { echo "put w wide.lsif"; for _ in $(seq 20); do echo "references w file:///w.ts 0 1"; done; echo "memory lib.lsif"; } >"$folder/commands"
-(cd "$folder" && "$built" >own)
+(cd "$folder" && "$built" queries >own)
 printf '%-14s %-12s %9.1f us\n' "40,000 items" references "$(median references "$folder/own")"
 awk '{ times[$1] = $2 } END {
     printf "put in memory %.1f ms, check %.1f ms, replacement %.1f ms, ratio %.2f\n", times["memory"] / 1000, times["check"] / 1000, times["replacement"] / 1000, times["memory"] / (times["check"] + times["replacement"])

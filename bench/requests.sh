@@ -7,8 +7,7 @@
 # 1,000,000 requests; and that of an upload of some 30 MB, beside that of `check-lsif` of the same
 # dump.
 # usage: bench/requests.sh [REQUESTS [CONNECTIONS]]      (default 100000 and 10000)
-# It builds and proves a small program over the crates of this repository, in a copy beside /tmp,
-# which takes some minutes.
+# It builds and proves the crate `bench` first, which takes some minutes where that isn't done yet.
 set -eu
 requests=${1:-100000}
 connections=${2:-10000}
@@ -16,55 +15,7 @@ connections=${2:-10000}
 "$top/codenav" --help >/dev/null
 program=$top/crates/codenav/out/codenav
 
-build_program asks "positions lsif dump desk" <<'EOP'
-//! Asks a desk that has the dump of the file `dump` for the projects and for a definition, as often
-//! as the file `count` says, and prints the nanoseconds of one query of each kind.
-#![tactic(auto)]
-use dump::RequestKind;
-use desk::{Command, Desk, DocUri, Key, ProjectName, Query, TableDesk};
-use lsif::Profile;
-use positions::Position;
-use std::alloc::Global;
-use std::process::ExitCode;
-use std::rt::{Clock, Files};
-use std::time::Instant;
-use std::{fs, io};
-
-fn project(alloc: Global) -> io::Result<ProjectName> {
-    ProjectName::read(alloc, "app")?.ok_or(bad())
-}
-
-fn definition(alloc: Global) -> io::Result<Query> {
-    let uri = DocUri::read(alloc, "file:///a.ts")?.ok_or(bad())?;
-    let at = Position::new(2, 1).ok_or(bad())?;
-    Ok(Query::At { kind: RequestKind::Definition, project: project(alloc)?, uri, at })
-}
-
-fn ask<R: Print + Clock, D: Desk>(rt: &R, desk: &mut D, query: &Query, name: &str, count: u32) -> io::Result<()> {
-    let start = Instant::now(rt)?;
-    for _ in 0..count {
-        if desk.ask(query).status() != 200 {
-            return Err(bad());
-        }
-    }
-    let time = start.elapsed(rt)?;
-    println!(rt; "{} {}", name, time.as_nanos() / u128::from(count.max(1)))?;
-    Ok(())
-}
-
-fn run<R: Alloc<A = Global> + Files + Print + Clock>(rt: &R) -> io::Result<()> {
-    let alloc = rt.alloc();
-    let count = fs::read_to_string(rt, "count")?;
-    let count = count.trim_end().parse::<u32>().map_err(|_| bad())?;
-    let body = fs::read(rt, "dump")?;
-    let key = Key::read(alloc, "k1")?.ok_or(bad())?;
-    let mut desk = TableDesk::open_in_memory(alloc)?;
-    desk.apply(&Command::PutDump { project: project(alloc)?, key, profile: Profile::One, body: &body });
-    let definition = definition(alloc)?;
-    ask(rt, &mut desk, &Query::Projects, "projects", count)?;
-    ask(rt, &mut desk, &definition, "definition", count)
-}
-EOP
+build_bench
 
 target_of() {
     case $1 in
@@ -88,10 +39,9 @@ cost_of() {
 
 cp "$top/demo/base.lsif" "$folder/dump"
 echo "$requests" >"$folder/count"
-(cd "$folder" && "$built") >"$folder/alone"
+(cd "$folder" && "$built" requests) >"$folder/alone"
 
-# The nanoseconds of one request beyond what a desk alone takes for it, and the system for a bare
-# connection.
+# The nanoseconds of one request beyond what a desk alone takes for it, and the system for a bare connection.
 report() {
     awk -v way="$1" -v kind="$2" -v count="$3" -v time="$4" -v bare="$5" '$1 == kind {
         printf "%-7s %-11s %8.1f microseconds each, a desk alone %6.1f, the system for a bare connection %6.1f, beyond both %6.1f\n",

@@ -6,124 +6,13 @@
 # run in turn, so that both see the machine's good and bad minutes.
 # usage: bench/tables.sh [ROUNDS]  (default 5 rounds, each of two replacements of each size and of
 #        200 of each selection)
-# It builds and proves a small program over the crates of this repository, in a copy beside /tmp,
-# which takes some minutes.
+# It builds and proves the crate `bench` first, which takes some minutes where that isn't done yet.
 set -eu
 rounds=${1:-5}
 . "$(dirname "${BASH_SOURCE[0]}")/shared.sh"
 . "$top/bench/dumps.sh"
 
-build_program rows "positions lsif dump flatten tags tables sqlite" "$program_check" <<'EOP'
-//! Puts the dump in the file `made` into the database `index.db` so many times, and one in memory,
-//! and prints the microseconds of each; then asks the database what the file `asked` says, a line
-//! each, and prints the kind and the nanoseconds.
-#![tactic(auto)]
-use dump::{CheckedDump, Checker, RequestKind, Role};
-use flatten::{Rows, flatten};
-use lsif::{Profile, ReadFault, read_element};
-use positions::Position;
-use sqlite::{Alter, Connection, Files, Options};
-use std::alloc::Global;
-use std::process::ExitCode;
-use std::time::Instant;
-use std::{fs, io};
-use tables::{Covering, MemoryDisk, Tables};
-use tags::read_tags;
-
-fn put<S: Alter>(rt: &HostRuntime, tables: &mut Tables<S>, kind: &str, key: &str, rows: &Rows<'_>) -> io::Result<()> {
-    let start = Instant::now(rt)?;
-    tables.replace_dump("app", key, "{}", rows).map_err(|_| bad())?;
-    let time = start.elapsed(rt)?;
-    println!(rt; "{kind} {}", time.as_nanos())?;
-    Ok(())
-}
-
-fn number(text: &str) -> io::Result<u32> {
-    text.parse::<u32>().map_err(|_| bad())
-}
-
-/// The ranges that cover a position, which is written as a uri, a line and a character.
-fn cover<S: Alter>(alloc: Global, tables: &mut Tables<S>, what: &str) -> io::Result<usize> {
-    let Some((uri, place)) = what.split_once(' ') else {
-        return Err(bad());
-    };
-    let Some((line, character)) = place.split_once(' ') else {
-        return Err(bad());
-    };
-    let Some(at) = Position::new(number(line)?, number(character)?) else {
-        return Err(bad());
-    };
-    match tables.covering(alloc, RequestKind::Definition, "app", uri, at).map_err(|_| bad())? {
-        Covering::Ranges(found) => Ok(found.len()),
-        Covering::NoDump | Covering::NoDocument => Err(bad()),
-    }
-}
-
-fn ask<S: Alter>(alloc: Global, tables: &mut Tables<S>, kind: &str, what: &str) -> io::Result<usize> {
-    match kind {
-        "hover" => Ok(tables.hover("app", number(what)?).map_err(|_| bad())?.is_some() as usize),
-        "marks" => Ok(tables.marks(alloc, "app", number(what)?).map_err(|_| bad())?.len()),
-        "items" => Ok(tables.items(alloc, "app", number(what)?, Role::Definitions).map_err(|_| bad())?.len()),
-        "covering" => cover(alloc, tables, what),
-        "bearers" => Ok(tables.bearers(alloc, what).map_err(|_| bad())?.len()),
-        "name" => Ok(tables.names_exact(alloc, what, None).map_err(|_| bad())?.len()),
-        "prefix" => Ok(tables.names_prefix(alloc, what, None).map_err(|_| bad())?.len()),
-        "kept" => Ok(tables.kept_reply("app", what).map_err(|_| bad())?.is_some() as usize),
-        "profile" => Ok(tables.profile("app").map_err(|_| bad())?.is_some() as usize),
-        "projects" => Ok(tables.projects(alloc).map_err(|_| bad())?.len()),
-        _ => Err(bad()),
-    }
-}
-
-fn ask_all<S: Alter>(rt: &HostRuntime, tables: &mut Tables<S>, text: &str) -> io::Result<()> {
-    for line in text.lines() {
-        let Some((kind, what)) = line.split_once(' ') else {
-            return Err(bad());
-        };
-        let start = Instant::now(rt)?;
-        let found = ask(rt.alloc(), tables, kind, what)?;
-        let time = start.elapsed(rt)?;
-        println!(rt; "{kind} {} {found}", time.as_nanos())?;
-    }
-    Ok(())
-}
-
-fn in_memory(rt: &HostRuntime, rows: &Rows<'_>) -> io::Result<()> {
-    let alloc = rt.alloc();
-    let files = Files { log: MemoryDisk::new(alloc), db: MemoryDisk::new(alloc) };
-    let Ok(conn) = Connection::open_files(alloc, files, Options::new(1)) else {
-        return Err(bad());
-    };
-    let Ok(mut tables) = Tables::open(conn) else {
-        return Err(bad());
-    };
-    for key in ["m1", "m2"] {
-        put(rt, &mut tables, "memory", key, rows)?;
-    }
-    Ok(())
-}
-
-fn run(rt: &HostRuntime) -> io::Result<()> {
-    let body = fs::read(rt, "made")?;
-    let dump = check(rt.alloc(), &body)?;
-    let rows = flatten(rt.alloc(), &dump).map_err(|_| bad())?;
-    let conn = Connection::open(rt, "index.db").map_err(|_| bad())?;
-    let Ok(mut tables) = Tables::open(conn) else {
-        return Err(bad());
-    };
-    put(rt, &mut tables, "first", "k", &rows)?;
-    for key in fs::read_to_string(rt, "keys")?.lines() {
-        put(rt, &mut tables, "replaced", key, &rows)?;
-    }
-    in_memory(rt, &rows)?;
-    let Ok(tags) = read_tags(rt.alloc(), &fs::read(rt, "tags")?) else {
-        return Err(bad());
-    };
-    tables.replace_tags(rt.alloc(), "app", "t", "{}", &tags).map_err(|_| bad())?;
-    ask_all(rt, &mut tables, &fs::read_to_string(rt, "asked")?)?;
-    tables.into_connection().close().map_err(|_| bad())
-}
-EOP
+build_bench
 
 # The same by C SQLite, over the rows that the program's database has.
 cat >"$folder/peer.py" <<'PY'
@@ -236,8 +125,7 @@ for line in open("asked"):
     print(kind, time.perf_counter_ns() - start, len(found))
 PY
 
-# A dump of so many elements in which each result set that a hover leaves has an exported moniker
-# of its own.
+# A dump of so many elements in which each result set that a hover leaves bears an exported moniker of its own.
 make_marked() {
     make_dump "$((($1 * 10) / 11))" | awk -v count="$1" '
         { print; last = NR }
@@ -258,8 +146,7 @@ make_tags() {
     awk 'BEGIN { for (n = 0; n < 80000; n++) printf "n%06d\tsrc/part.c\t%d;\"\tf\n", n, n + 1 }'
 }
 
-# What is asked: of results, ranges, positions, keys and names all over the dump in the file `made`
-# and the tags.
+# What is asked: of results, ranges, positions, keys and names all over the dump in the file `made` and the tags.
 ask_for() {
     awk -v count="$1" '
         /"label":"document"/ { match($0, /file:[^"]*/); uris[documents++] = substr($0, RSTART, RLENGTH) }
@@ -291,7 +178,7 @@ for count in 10000 20000 40000 80000; do
     rm -f "$folder"/*.times
     for _ in $(seq "$rounds"); do
         rm -f "$folder"/index.db* "$folder"/peer.db*
-        (cd "$folder" && "$built" >>own.times && python3 peer.py 2 index.db peer.db >>peer.times)
+        (cd "$folder" && "$built" tables >>own.times && python3 peer.py 2 index.db peer.db >>peer.times)
     done
     if ! cmp -s <(awk '$1 !~ /first|replaced|memory/ { print $1, $3 }' "$folder/own.times") <(awk '$1 !~ /first|replaced/ { print $1, $3 }' "$folder/peer.times"); then
         echo "tables: the answers differ" >&2

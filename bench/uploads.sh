@@ -8,97 +8,13 @@
 # its id is new and its ends are known, and write the same rows (taken from the program's database,
 # so that Python's flattening isn't in its time): the least time of each, in turn.
 # usage: bench/uploads.sh [RUNS [PROGRAM]]      (default 9 runs, and no whole put)
-# It builds and proves a small program over the crates of this repository, in a copy beside /tmp,
-# which takes some minutes.
+# It builds and proves the crate `bench` first, which takes some minutes where that isn't done yet.
 set -eu
 runs=${1:-9}
 whole_program=${2:+$(realpath "$2")}
 . "$(dirname "${BASH_SOURCE[0]}")/shared.sh"
 
-build_program uploads "lsif desk" <<'EOP'
-//! Uploads a body as each line of a file says: `time KIND FILE` prints the microseconds of one
-//! piece and of pieces of 8,192 bytes, of a body in memory; `pieces KIND FILE` uploads a file as
-//! it's read; `whole KIND FILE` reads it first.
-#![tactic(auto)]
-use desk::{Desk, Key, PlainDesk, ProjectName, Reply, Upload};
-use lsif::Profile;
-use std::alloc::Global;
-use std::fs::File;
-use std::io::Read;
-use std::process::ExitCode;
-use std::rt::{Clock, Files};
-use std::time::Instant;
-use std::{fs, io};
-
-fn begin(alloc: Global, kind: &str) -> io::Result<Upload> {
-    let project = ProjectName::read(alloc, "app")?.ok_or(bad())?;
-    let key = Key::read(alloc, "k")?.ok_or(bad())?;
-    let begun = if kind == "tags" {
-        Upload::tags(alloc, project, key)
-    } else {
-        Upload::dump(alloc, project, key, Profile::One)
-    };
-    begun.map_err(|_| bad())
-}
-
-fn upload(alloc: Global, kind: &str, body: &[u8], most: usize) -> io::Result<Reply> {
-    let mut upload = begin(alloc, kind)?;
-    for piece in body.chunks(most.max(1)) {
-        upload.piece(piece).map_err(|_| bad())?;
-    }
-    Ok(PlainDesk::new(alloc).finish_upload(upload))
-}
-
-fn upload_file<R: Alloc<A = Global> + Files>(rt: &R, kind: &str, name: &str) -> io::Result<Reply> {
-    let mut file = File::open(rt, name)?;
-    let mut buffer = Vec::from_elem(rt.alloc(), 0, 8192)?;
-    let mut upload = begin(rt.alloc(), kind)?;
-    for _ in 0..u64::MAX {
-        let count = file.read(&mut buffer)?;
-        if count == 0 {
-            break;
-        }
-        upload.piece(&buffer[..count]).map_err(|_| bad())?;
-    }
-    Ok(PlainDesk::new(rt.alloc()).finish_upload(upload))
-}
-
-fn act<R: Alloc<A = Global> + Files + Print + Clock>(rt: &R, words: &[&str]) -> io::Result<()> {
-    let [act, kind, name] = words else {
-        return Err(bad());
-    };
-    if *act == "pieces" {
-        let reply = upload_file(rt, kind, name)?;
-        println!(rt; "{} {}", act, reply.status())?;
-        return Ok(());
-    }
-    let body = fs::read(rt, name)?;
-    let start = Instant::now(rt)?;
-    let reply = upload(rt.alloc(), kind, &body, body.len())?;
-    let whole = start.elapsed(rt)?;
-    if *act == "whole" {
-        println!(rt; "{} {}", act, reply.status())?;
-        return Ok(());
-    }
-    let start = Instant::now(rt)?;
-    let again = upload(rt.alloc(), kind, &body, 8192)?;
-    let pieces = start.elapsed(rt)?;
-    println!(rt; "{} {} {} {}", act, again.status(), whole.as_nanos() / 1000, pieces.as_nanos() / 1000)?;
-    Ok(())
-}
-
-fn run<R: Alloc<A = Global> + Files + Print + Clock>(rt: &R) -> io::Result<()> {
-    let text = fs::read_to_string(rt, "commands")?;
-    for line in text.lines() {
-        let mut words = Vec::new(rt.alloc());
-        for word in line.split(' ') {
-            words.push(word)?;
-        }
-        act(rt, &words)?;
-    }
-    Ok(())
-}
-EOP
+build_bench
 
 # A dump of documents with result sets, each named four times, some 90,000 elements.
 awk '
@@ -141,19 +57,17 @@ awk '
     }'
 } >"$folder/tags"
 
-program=$built
-
 # The most memory in bytes while the command is done.
 memory_of() {
     echo "$*" >"$folder/commands"
-    (cd "$folder" && /usr/bin/time -f %M -o memory "$program") | grep -q ' 200$' || { echo "$*: refused" >&2; exit 1; }
+    (cd "$folder" && /usr/bin/time -f %M -o memory "$built" uploads) | grep -q ' 200$' || { echo "$*: refused" >&2; exit 1; }
     echo $(($(cat "$folder/memory") * 1024))
 }
 
 for kind in dump tags; do
     size=$(wc -c <"$folder/$kind")
     for _ in $(seq "$runs"); do echo "time $kind $kind"; done >"$folder/commands"
-    (cd "$folder" && "$program") | awk -v kind="$kind" -v size="$size" '
+    (cd "$folder" && "$built" uploads) | awk -v kind="$kind" -v size="$size" '
         $2 != 200 { exit 1 }
         whole == "" || $3 < whole { whole = $3 }
         pieces == "" || $4 < pieces { pieces = $4 }

@@ -1,10 +1,14 @@
-//! Connections to databases in memory and in files in memory that stop after so many calls: what
-//! the tests of tables, desks and streams share. What a connection must do is in functions over any
-//! store, since one over a store of files takes long to prove.
+//! Connections to databases in memory and in files in memory that stop after so many calls, and
+//! dumps and tags that are put into tables: what the tests of tables, desks and streams share.
+//! What a connection must do is in functions over any store, since one over a store of files
+//! takes long to prove.
 #![tactic(auto)]
+
+mod puts;
 
 ghost use Rattle.std.specs.Prelude.{◌≡◌, false, IfOk};
 
+pub use puts::{put_dump, put_tags, tags_of};
 use sqlite::{Alter, Connection, FileStore, Files, Options};
 use sqlite_disk::{Crash, Fuse, Memory};
 use std::alloc::Global;

@@ -1,4 +1,5 @@
-//! Asserts. An `assert_eq!` is proved where it stands, which takes seconds each time; a call of one of these isn't.
+//! Asserts. An `assert_eq!` is proved where it is, which takes seconds each time; a call of one
+//! of these isn't.
 use std::fmt::Debug;
 use std::process::Abort;
 

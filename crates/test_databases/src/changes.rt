@@ -1,15 +1,12 @@
 //! Parts replaced and removed: what the tables hold then. Where the store stops is in `stops.rt`.
-use dump::CheckedDump;
-use flatten::flatten;
 use lsif::Profile;
-use sample_stores::opened;
-use samples::{dump_of, text_of};
+use sample_stores::{opened, put_dump, put_tags};
+use samples::text_of;
 use sqlite::{Alter, Connection, MemStore};
 use std::alloc::Global;
 use std::process::Abort;
 use std::test::Fail;
 use tables::{Tables, TablesFault};
-use tags::{Tag, read_tags};
 
 /// A dump that has a row in each of its tables.
 const FULL: &str = r#"metaData 0.6.0
@@ -51,54 +48,6 @@ pub(crate) enum Step {
     Small(&'static str),
     Tags(&'static str, &'static str),
     Remove(&'static str),
-}
-
-/// The tags of this text, which has no fault.
-pub(crate) fn tags_of(alloc: Global, text: &str) -> Result<Vec<Tag>, Fail> {
-    match read_tags(alloc, text.as_bytes()) {
-        Ok(tags) => Ok(tags),
-        Err(_) => Err("a fault")?,
-    }
-}
-
-/// Puts this dump.
-fn put_checked<S: Alter>(
-    alloc: Global,
-    tables: &mut Tables<S>,
-    project: &str,
-    key: &str,
-    dump: &CheckedDump,
-) -> Result<Result<(), TablesFault>, Fail> {
-    let count = dump.elements().len();
-    let reply = format!(in alloc; "{{\"accepted\":\"lsif\",\"count\":{count}}}")?;
-    let rows = flatten(alloc, dump)?;
-    Ok(tables.replace_dump(project, key, &reply, &rows))
-}
-
-/// Puts the dump of this text.
-pub(crate) fn put_dump<S: Alter>(
-    alloc: Global,
-    tables: &mut Tables<S>,
-    project: &str,
-    key: &str,
-    profile: Profile,
-    text: &str,
-) -> Result<Result<(), TablesFault>, Fail> {
-    let dump = dump_of(alloc, profile, text)?;
-    put_checked(alloc, tables, project, key, &dump)
-}
-
-/// Puts the tags of this text.
-fn put_tags<S: Alter>(
-    alloc: Global,
-    tables: &mut Tables<S>,
-    project: &str,
-    key: &str,
-    text: &str,
-) -> Result<Result<(), TablesFault>, Fail> {
-    let tags = tags_of(alloc, text)?;
-    let reply = r#"{"accepted":"tags","count":2}"#;
-    Ok(tables.replace_tags(alloc, project, key, reply, &tags))
 }
 
 /// What the step answers: of a removal whether there was anything, and else true.

@@ -82,7 +82,8 @@ fn migrated(rt: HostRuntime) -> Result<(), Fail> {
     Ok(())
 }
 
-/// Indexes that stand in a database of format 1 already: those of format 2, in any order and on any columns, and the owner's.
+/// Indexes that stand in a database of format 1 already: those of format 2, in any order and on any
+/// columns, and the owner's.
 const STANDING: &[&str] = &[
     "CREATE INDEX range_by_start ON range_row (slot, uri, first, last DESC)",
     "CREATE INDEX bearer_by_key ON bearer (keytext, kind)",
@@ -118,7 +119,8 @@ fn migrated_by<S: Alter + Drop>(conn: Connection<S>) -> Lived<S> {
     }
 }
 
-/// The same where tables of format 1 with these parts are made first; no step where they can't be made.
+/// The same where tables of format 1 with these parts are made first; no step where they can't be
+/// made.
 pub(crate) fn made_and_migrated<S: Alter + Drop>(
     alloc: Global,
     mut conn: Connection<S>,

@@ -1,4 +1,5 @@
-//! Which fault the opening and the migration of a database answer, and that tables of other names don't count.
+//! Which fault the opening and the migration of a database answer, and that tables of other names
+//! don't count.
 use crate::asserts::{expect_equal, expect_equal_text};
 use sample_stores::opened;
 use sqlite::{Alter, Connection};

@@ -1,4 +1,5 @@
-//! Stores that stop at a call, in the midst of changes of the tables and of a migration: what is answered, and what a new start finds.
+//! Stores that stop at a call, in the midst of changes of the tables and of a migration: what is
+//! answered, and what a new start finds.
 use crate::changes::{ROWS, Step, TAGS, held, rows_after, take};
 use crate::migrated::{is_migrated, made_and_migrated};
 use sample_stores::{Lived, connected, files_of, fuses, opened, reopened};
@@ -59,8 +60,8 @@ fn refused<S: Alter>(alloc: Global, tables: &mut Tables<S>) -> Result<Option<Tab
     }
 }
 
-/// Opens the tables, of a database in memory or another, and makes these two calls: 2 steps where neither is refused, 1 where one is, and none where
-/// the tables aren't opened.
+/// Opens the tables, of a database in memory or another, and makes these two calls: 2 steps where
+/// neither is refused, 1 where one is, and none where the tables aren't opened.
 fn first_calls<S: Alter + Drop>(
     alloc: Global,
     conn: Connection<S>,
@@ -105,7 +106,8 @@ fn lived<S: Alter + Drop>(
     }
 }
 
-/// Whether a new connection shows what a life leaves that came so far. Of a database of format 1 that couldn't be made nothing is said, nor of the first calls.
+/// Whether a new connection shows what a life leaves that came so far. Of a database of format 1
+/// that couldn't be made nothing is said, nor of the first calls.
 fn is_whole<S: Alter + Drop>(
     alloc: Global,
     conn: Connection<S>,
@@ -143,13 +145,19 @@ fn is_recovered(
     is_whole(alloc, reopened(alloc, files)?, life, count)
 }
 
-/// Asserts of a life of so many steps, where each call of one of the files stops the store in turn: what is left is what was before the step that was
-/// refused, or what comes after it, and a step that was accepted isn't lost. What is refused answers that the store refused.
-fn expect_stops<R: AllocGlobal + Abort>(rt: &R, life: Life, steps: usize) -> Result<(), Fail> {
+/// Asserts of a life of so many steps, where one call in so many of one of the files stops the
+/// store in turn: what is left is what was before the step that was refused, or what comes after
+/// it, and a step that was accepted isn't lost. What is refused answers that the store refused.
+fn expect_stops<R: AllocGlobal + Abort>(
+    rt: &R,
+    life: Life,
+    steps: usize,
+    each: u64,
+) -> Result<(), Fail> {
     for &is_log in &[true, false] {
         let mut taken = 0;
-        for calls in 0..10000u64 {
-            let (log, db) = fuses(is_log, calls);
+        for turn in 0..10000u64 {
+            let (log, db) = fuses(is_log, turn.saturating_mul(each));
             let (count, fault, files) = stopped(rt.alloc(), life, log, db)?;
             assert!(rt; is_recovered(rt.alloc(), life, count, files)?);
             assert!(rt; fault.is_none() || fault == Some(TablesFault::Refused));
@@ -163,15 +171,21 @@ fn expect_stops<R: AllocGlobal + Abort>(rt: &R, life: Life, steps: usize) -> Res
     Ok(())
 }
 
-#[test]
-fn changes_stopped_at_each_call(rt: HostRuntime) -> Result<(), Fail> {
-    expect_stops(&rt, Life::Changes, ROWS.len())
-}
-
 /// A migration leaves tables of format 1, or those of format 2, whole.
 #[test]
-fn migration_stopped_at_each_call(rt: HostRuntime) -> Result<(), Fail> {
-    expect_stops(&rt, Life::Migration, 2)
+fn stopped_at_some_calls(rt: HostRuntime) -> Result<(), Fail> {
+    expect_stops(&rt, Life::Changes, ROWS.len(), 29)?;
+    expect_stops(&rt, Life::Migration, 2, 29)
+}
+
+#[test]
+fn great_changes_stopped_at_each_call(rt: HostRuntime) -> Result<(), Fail> {
+    expect_stops(&rt, Life::Changes, ROWS.len(), 1)
+}
+
+#[test]
+fn great_migration_stopped_at_each_call(rt: HostRuntime) -> Result<(), Fail> {
+    expect_stops(&rt, Life::Migration, 2, 1)
 }
 
 /// The faults that the first calls answer, for each number of calls after which the files stop.

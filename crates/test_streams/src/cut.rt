@@ -1,4 +1,5 @@
-//! Streams of requests that are cut, and readers and writers that fail: what is written, and which requests have their effect.
+//! Streams of requests that are cut, and readers and writers that fail: what is written, and which
+//! requests have their effect.
 use crate::asserts::{expect_equal, expect_equal_text};
 use crate::replies::{expect, replay_over};
 use desk::PlainDesk;
@@ -11,10 +12,12 @@ use std::alloc::Global;
 use std::process::Abort;
 use std::test::Fail;
 
-/// A command whose reply the writer fails to take, behind what is asked before it and before what is asked after it.
+/// A command whose reply the writer fails to take, behind what is asked before it and before what
+/// is asked after it.
 type Cut = (&'static str, &'static str, &'static str);
 
-/// What comes after shows that the command had its effect: another command under its key gets its reply, and changes nothing.
+/// What comes after shows that the command had its effect: another command under its key gets its
+/// reply, and changes nothing.
 const CUT: &[Cut] = &[
     (
         "",
@@ -80,8 +83,8 @@ fn cut_streams<R: AllocGlobal + Abort>(rt: &R) -> Result<(), Fail> {
     Ok(())
 }
 
-/// What is served over a desk of a stream whose bytes are read one at a time, where the reader fails at one read and the writer
-/// at one write.
+/// What is served over a desk of a stream whose bytes are read one at a time, where the reader
+/// fails at one read and the writer at one write.
 fn serve_over(
     alloc: Global,
     desk: &mut PlainDesk,
@@ -132,7 +135,8 @@ fn expect_over<R: AllocGlobal + Abort>(
     Ok(())
 }
 
-/// A writer that takes one byte at a time and fails behind so many bytes of the replies: it took what comes before.
+/// A writer that takes one byte at a time and fails behind so many bytes of the replies: it took
+/// what comes before.
 fn expect_taken<R: AllocGlobal + Abort>(
     rt: &R,
     desk: &mut PlainDesk,
@@ -152,7 +156,8 @@ fn expect_taken<R: AllocGlobal + Abort>(
     Ok(())
 }
 
-/// A writer that fails behind so many bytes of the reply to a command, and what is asked before it and after it.
+/// A writer that fails behind so many bytes of the reply to a command, and what is asked before it
+/// and after it.
 fn expect_effect<R: AllocGlobal + Abort>(
     rt: &R,
     desk: &mut PlainDesk,
@@ -165,7 +170,8 @@ fn expect_effect<R: AllocGlobal + Abort>(
     expect_over(rt, desk, after, row)
 }
 
-/// A writer that fails at the first byte of the reply to a command, or at a later one: the command has its effect.
+/// A writer that fails at the first byte of the reply to a command, or at a later one: the command
+/// has its effect.
 fn with_effect<R: AllocGlobal + Abort>(rt: &R) -> Result<(), Fail> {
     for &(before, row, after) in CUT {
         let (_, wanted) = exchange(rt.alloc(), row, 1)?;

@@ -1,6 +1,7 @@
-//! Heads, bodies, routes, methods and parameters that are refused, and of two refusals of one request the one that is tried first. In
-//! a table's row `|` stands for CR LF, `=>` comes before the names of the replies, and a row that begins with `#` says something
-//! of those below it. Each stream is of an index that is empty at first.
+//! Heads, bodies, routes, methods and parameters that are refused, and of two refusals of one
+//! request the one that is tried first. In a table's row `|` is CR LF, `=>` comes before
+//! the names of the replies, and a row that begins with `#` says something of those below it. Each
+//! stream is of an index that is empty at first.
 use crate::replies::expect;
 use http_edge::{phrase_law, requests_law, route_law, run_law};
 use samples::{parted, there};
@@ -127,7 +128,7 @@ const UPLOADS: &str = r#"
 /projects/App/lsif?key=a => D03
 "#;
 
-/// The reply of this name, as it stands in the table.
+/// The reply of this name, as the table has it.
 fn reply(name: &str) -> Option<&'static str> {
     for row in REPLIES.lines() {
         if let Some((found, text)) = row.split_once(" => ") {
@@ -151,7 +152,8 @@ fn expect_replies<R: AllocGlobal + Abort>(rt: &R, stream: &str, names: &str) -> 
     Ok(())
 }
 
-/// Asserts the replies to the stream of a row, which has these texts before and behind it. A remark has none.
+/// Asserts the replies to the stream of a row, which has these texts before and behind it. A remark
+/// has none.
 fn expect_row<R: AllocGlobal + Abort>(
     rt: &R,
     before: &str,
@@ -189,7 +191,7 @@ fn edge_refusals(rt: HostRuntime) -> Result<(), Fail> {
     expect_replies(&rt, line_feeds, "H01")
 }
 
-/// A stream in which a text stands so many times.
+/// A stream that has a text so many times.
 fn long_stream(
     alloc: Global,
     first: &str,
@@ -211,7 +213,8 @@ fn expect_long<R: AllocGlobal + Abort>(
     expect_replies(rt, stream.as_str(), names)
 }
 
-/// Long heads, and bodies that come in several pieces: an upload takes all of its body, and a query none.
+/// Long heads, and bodies that come in several pieces: an upload takes all of its body, and a query
+/// none.
 #[test]
 fn long_heads_and_bodies(rt: HostRuntime) -> Result<(), Fail> {
     let upload = "PUT /projects/app/tags?key=k1 HTTP/1.1\r\nContent-Length: 20000\r\n\r\n";

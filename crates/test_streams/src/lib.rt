@@ -1,4 +1,5 @@
-//! Tests of streams of requests over the whole way: `http_edge` over `desk` over `tables`, as `codenav replay` has them.
+//! Tests of streams of requests over the whole way: `http_edge` over `desk` over `tables`, as
+//! `codenav replay` has them.
 #![tactic(auto)]
 
 #[cfg(test)]
@@ -11,5 +12,3 @@ mod edge;
 mod malicious;
 #[cfg(test)]
 mod replies;
-#[cfg(test)]
-mod stops;

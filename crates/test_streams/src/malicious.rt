@@ -1,5 +1,6 @@
-//! Uploads that are deep, long or many: long lines and values in many arrays, many lines, long chains, ranges that lie in each other, a ring of results,
-//! a result of many edges, long ids, and long texts that many rows have.
+//! Uploads that are deep, long or many: long lines and values in many arrays, many lines, long
+//! chains, ranges that lie in each other, a ring of results, a result of many edges, long ids, and
+//! long texts that many rows have.
 mod shapes;
 
 use crate::replies::expect;
@@ -9,7 +10,8 @@ use std::alloc::Global;
 use std::process::Abort;
 use std::test::Fail;
 
-/// A request at the first position of `file:///a.ts`, and how many places it has: the first characters of so many lines of that document.
+/// A request at the first position of `file:///a.ts`, and how many places it has: the first
+/// characters of so many lines of that document.
 type Asked = (&'static str, u32);
 
 /// Dumps, the reply to the upload of each by either profile, and what is asked then, if anything.
@@ -161,7 +163,8 @@ fn uploads(alloc: Global, shape: &Shape) -> Result<String, Fail> {
     )?)
 }
 
-/// Asserts the replies to the uploads of a dump by both profiles, and the places of what is asked then.
+/// Asserts the replies to the uploads of a dump by both profiles, and the places of what is asked
+/// then.
 fn expect_row<R: AllocGlobal + Abort>(
     rt: &R,
     shape: &Shape,

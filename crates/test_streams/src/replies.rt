@@ -1,4 +1,5 @@
-//! The bytes that are written for streams of requests that come whole. Streams that are cut, and readers and writers that fail, are in `cut.rt`.
+//! The bytes that are written for streams of requests that come whole. Streams that are cut, and
+//! readers and writers that fail, are in `cut.rt`.
 ghost use Rattle.std.specs.Prelude.{◌-◌, ◌^◌, ◌<◌};
 ghost use Rattle.lsif.specs.Streams.{CanCount};
 
@@ -11,9 +12,10 @@ use std::alloc::Global;
 use std::process::Abort;
 use std::test::Fail;
 
-/// Streams, parted by empty lines, each over an index that is empty at first: what is asked, what is uploaded after ` < `,
-/// and after ` => ` the status and the body of the reply. A dump has its name, and after ` | ` each line that is another, as in
-/// the reports of dumps; in tags, `>` stands for a tab and ` | ` for the end of a line.
+/// Streams, split by empty lines, each over an index that is empty at first: what is asked, what
+/// is uploaded after ` < `, and after ` => ` the status and the body of the reply. A dump has its
+/// name, and after ` | ` each line that is another, as in the reports of dumps; in tags, `>` is
+/// a tab and ` | ` the end of a line.
 const FIRST: &str = r#"
 PUT /projects/app/lsif?key=k1 < base => 200 {"accepted":"lsif","count":11}
 GET /projects/app/definition?uri=file:///a.ts&line=2&character=1 => 200 {"places":[{"end":{"character":7,"line":0},"project":"app","start":{"character":4,"line":0},"uri":"file:///a.ts"}]}
@@ -47,7 +49,8 @@ GET /projects/app/definition?uri=file:///a.ts&line=2&character=1 => 200 {"places
 PUT /projects/app/lsif?key=k2 < base => 200 {"accepted":"lsif","count":11}
 "#;
 
-/// Further streams, written in the same way: references, joins between projects, hovers, names and profiles.
+/// Further streams, written in the same way: references, joins between projects, hovers, names and
+/// profiles.
 const FURTHER: &str = r#"
 PUT /projects/app/lsif?key=k1 < ring => 200 {"accepted":"lsif","count":13}
 GET /projects/app/references?uri=file:///c.ts&line=1&character=0&declaration=yes => 200 {"places":[{"end":{"character":1,"line":0},"project":"app","start":{"character":0,"line":0},"uri":"file:///c.ts"},{"end":{"character":1,"line":1},"project":"app","start":{"character":0,"line":1},"uri":"file:///c.ts"}]}
@@ -112,7 +115,7 @@ GET /projects => 200 {"projects":[]}
 "#;
 
 /// How many requests of a stream are answered at most.
-pub(crate) const MOST: u32 = 1_000_000;
+const MOST: u32 = 1_000_000;
 
 /// What is answered over a new database in memory.
 fn served<R: Source, W: Sink>(alloc: Global, r: &mut R, w: &mut W) -> Result<u32, ServeFault>
@@ -125,8 +128,9 @@ fn served<R: Source, W: Sink>(alloc: Global, r: &mut R, w: &mut W) -> Result<u32
     }
 }
 
-/// What is answered over a new database in memory and written over a reader, and how many bytes are left in the reader, where the writer takes so many bytes at a
-/// time and fails at the write of that number.
+/// What is answered over a new database in memory and written over a reader, and how many bytes are
+/// left in the reader, where the writer takes so many bytes at a time and fails at the write of
+/// that number.
 pub(crate) fn replay_over(
     alloc: Global,
     reader: Pieces<'_>,
@@ -141,7 +145,8 @@ pub(crate) fn replay_over(
     (answer, taken, bytes.len())
 }
 
-/// Asserts what is answered and written for a stream, whose bytes are read and written so many at a time.
+/// Asserts what is answered and written for a stream, whose bytes are read and written so many at a
+/// time.
 pub(crate) fn expect<R: AllocGlobal + Abort>(
     rt: &R,
     stream: &[u8],

@@ -1,4 +1,5 @@
-//! The texts of dumps that are deep, long or of many elements. Those that other tests have too are in `samples`.
+//! The texts of dumps that are deep, long or of many elements. Those that other tests have too are
+//! in `samples`.
 use samples::great::{contains, filled, long_chain, many_edges, padded, ring};
 use samples::named::META_DATA;
 use samples::{NUMBERS, parted, push_line, push_made, text_of};
@@ -78,7 +79,8 @@ fn nested(alloc: Global, is_falling: bool) -> Result<String, Fail> {
     Ok(text)
 }
 
-/// Each of the nested ranges has a `contains` edge of its own; and, where it is so, then comes one that overlaps some of them.
+/// Each of the nested ranges has a `contains` edge of its own; and, where it is so, then comes one
+/// that overlaps some of them.
 fn an_edge_each(alloc: Global, is_falling: bool, overlaps: bool) -> Result<String, Fail> {
     let mut text = nested(alloc, is_falling)?;
     for number in 3..20_003usize {

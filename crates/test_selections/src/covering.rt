@@ -1,11 +1,10 @@
 //! Which ranges cover a position, as rows of ranges say it, and which rows are refused.
 use crate::asserts::expect_equal;
-use crate::changes::put_dump;
 use crate::selections::filled;
 use dump::RequestKind;
 use lsif::Profile;
 use positions::Position;
-use sample_stores::opened;
+use sample_stores::{opened, put_dump};
 use samples::great::levels;
 use samples::there;
 use sqlite::{Connection, MemStore};
@@ -13,8 +12,9 @@ use std::alloc::Global;
 use std::test::Fail;
 use tables::{Covering, FoundRange, Tables, TablesFault};
 
-/// `n` has a range of 0:0 to 0:20, and in it one of 0:5 to 0:8; `u` a range up to 0:5, one from there, and an empty one at it; `b` a range of its line
-/// 0 and one of its line 2. `tagged` has tags alone.
+/// `n` has a range of 0:0 to 0:20, and in it one of 0:5 to 0:8; `u` a range up to 0:5, one from
+/// there, and an empty one at it; `b` a range of its line 0 and one of its line 2. `tagged` has
+/// tags alone.
 const PARTS: &str =
     "INSERT INTO slot (project, part) VALUES ('n', 1), ('u', 1), ('b', 1), ('tagged', 2);\
     INSERT INTO document (slot, uri) VALUES (1, 'n.ts'), (1, 'm.ts'), (2, 'u.ts'), (3, 'a.ts');\
@@ -23,8 +23,9 @@ const PARTS: &str =
     (3, 3, 'a.ts', 4, 7, NULL, 8, NULL, NULL), (3, 4, 'a.ts', 4294967296, 4294967299, NULL, 8, NULL, NULL);\
     INSERT INTO more (slot, line, decl, imp) VALUES (1, 3, 9, NULL), (1, 4, NULL, 10)";
 
-/// A position of a document, and of each range that covers it the line, the characters of its start and its end, and its result for the request; or what else
-/// is found. Declarations and implementations alone are looked for in `more`.
+/// A position of a document, and of each range that covers it the line, the characters of its start
+/// and its end, and its result for the request; or what else is found. Declarations and
+/// implementations alone are looked for in `more`.
 #[derive(Drop)]
 struct Row {
     /// A statement behind those of the parts.

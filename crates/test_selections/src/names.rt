@@ -1,7 +1,6 @@
 //! Which tags are found by their names.
 use crate::asserts::expect_equal_text;
-use crate::changes::tags_of;
-use sample_stores::opened;
+use sample_stores::{opened, put_tags, tags_of};
 use samples::there;
 use sqlite::{Connection, MemStore};
 use std::alloc::Global;
@@ -74,19 +73,6 @@ fn has_whole_tag(alloc: Global, tables: &mut Tables<MemStore>) -> Result<bool, F
     }
 }
 
-/// Puts the tags of a project.
-fn put(
-    alloc: Global,
-    tables: &mut Tables<MemStore>,
-    project: &str,
-    text: &str,
-) -> Result<(), Fail> {
-    let tags = tags_of(alloc, text)?;
-    let reply = r#"{"accepted":"tags","count":2}"#;
-    tables.replace_tags(alloc, project, project, reply, &tags)?;
-    Ok(())
-}
-
 /// The text of what a call finds.
 fn found(alloc: Global, tables: &mut Tables<MemStore>, ask: Ask) -> Result<String, Fail> {
     let found = answer(alloc, tables, ask)?;
@@ -96,7 +82,7 @@ fn found(alloc: Global, tables: &mut Tables<MemStore>, ask: Ask) -> Result<Strin
 /// Asserts what the calls find in these tables.
 fn expect_found<R: AllocGlobal + Abort>(rt: &R, tables: &mut Tables<MemStore>) -> Result<(), Fail> {
     for (project, text) in PROJECTS {
-        put(rt.alloc(), tables, project, text)?;
+        put_tags(rt.alloc(), tables, project, project, text)??;
     }
     for (ask, expected) in ROWS {
         let found = found(rt.alloc(), tables, *ask)?;

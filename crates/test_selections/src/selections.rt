@@ -9,7 +9,8 @@ use std::rc::RcStr;
 use std::test::Fail;
 use tables::{Tables, TablesFault};
 
-/// `app` has a dump of profile 2, `lib` a dump of profile 1 and tags, and `tagged` tags alone. A reply is kept for `old`.
+/// `app` has a dump of profile 2, `lib` a dump of profile 1 and tags, and `tagged` tags alone. A
+/// reply is kept for `old`.
 const PARTS: &str =
     "INSERT INTO slot (project, part) VALUES ('lib', 2), ('tagged', 2), ('app', 1), ('lib', 1);\
     INSERT INTO part_profile (slot, profile) VALUES (3, 2), (4, 1);\
@@ -32,7 +33,8 @@ enum Ask {
     Bearers(&'static str),
 }
 
-/// A statement behind those of the parts, a call, and the text of what it finds, or none where it is refused.
+/// A statement behind those of the parts, a call, and the text of what it finds, or none where it
+/// is refused.
 #[derive(Drop)]
 struct Row {
     change: &'static str,
@@ -184,7 +186,7 @@ const ROWS: &[Row] = &[
     Row {
         change: "DROP TABLE bearer;CREATE TABLE bearer (slot INTEGER, line INTEGER, keytext TEXT, kind INTEGER, def INTEGER, refs INTEGER, hover INTEGER) STRICT;INSERT INTO bearer (slot, line, keytext, kind) VALUES (9, 11, 'f', 1)",
         ask: Ask::Bearers("f"),
-        found: Some("[]"),
+        found: None,
     },
     Row {
         change: "DELETE FROM slot WHERE project = 'app'",

@@ -1,0 +1,52 @@
+//! Checks each dump that the file `commands` names, flattens it, and once more when the caches hold something else, and prints the microseconds of the three and
+//! the number of ranges.
+use crate::shared::{bad, checked, since};
+use dump::CheckedDump;
+use flatten::flatten;
+use std::time::Instant;
+use std::{fs, io};
+
+/// More bytes than a processor's caches hold.
+const OTHERS: usize = 134217728;
+
+/// Reads other bytes into the caches, all of them 1.
+fn read_others(others: &[u8]) -> io::Result<()> {
+    if others.iter().step_by(64).any(|byte| *byte != 1) {
+        return Err(bad());
+    }
+    Ok(())
+}
+
+/// The nanoseconds that the flattening of this dump takes, and the number of its ranges.
+fn flattened(rt: &HostRuntime, dump: &CheckedDump) -> io::Result<(u128, usize)> {
+    let start = Instant::now(rt)?;
+    let rows = flatten(rt.alloc(), dump).map_err(|_| bad())?;
+    Ok((since(rt, start)?, rows.ranges.len()))
+}
+
+fn measure(rt: &HostRuntime, name: &str, others: &[u8]) -> io::Result<()> {
+    let body = fs::read(rt, name)?;
+    let start = Instant::now(rt)?;
+    let dump = checked(rt.alloc(), &body)?;
+    let check = since(rt, start)?;
+    let (flat, count) = flattened(rt, &dump)?;
+    read_others(others)?;
+    let (again, _) = flattened(rt, &dump)?;
+    println!(rt;
+        "{} {} {} {}",
+        check / 1000,
+        flat / 1000,
+        again / 1000,
+        count
+    )?;
+    Ok(())
+}
+
+pub(crate) fn run(rt: &HostRuntime) -> io::Result<()> {
+    let others = Vec::from_elem(rt.alloc(), 1, OTHERS)?;
+    let text = fs::read_to_string(rt, "commands")?;
+    for line in text.lines() {
+        measure(rt, line, &others)?;
+    }
+    Ok(())
+}

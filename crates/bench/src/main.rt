@@ -1,0 +1,73 @@
+//! `bench NAME`: what the scripts of the folder bench/ measure or try over these crates. It reads its files in the folder that it's run in, and prints what the
+//! script reads: times, and what was found.
+#![tactic(auto)]
+
+mod answers;
+mod flat;
+mod queries;
+mod refusals;
+mod requests;
+mod rows;
+mod shared;
+mod uploads;
+
+use shared::bad;
+use sqlite::Connection;
+use std::process::ExitCode;
+use std::{env, io};
+use tables::Tables;
+
+const USAGE: &str =
+    "usage: bench answers|flatten|queries|refusals|requests|tables|uploads, in a folder with the files that the script of this name writes";
+
+fn main(rt: HostRuntime) -> ExitCode {
+    match run(&rt) {
+        Ok(()) => ExitCode::from(0),
+        Err(fault) => fail(&rt, &fault),
+    }
+}
+
+/// Says what went wrong.
+fn fail(rt: &HostRuntime, fault: &io::Error) -> ExitCode {
+    let _ = eprintln!(rt; "bench: {fault}");
+    ExitCode::from(2)
+}
+
+/// Does what the word behind the program's name says.
+fn run(rt: &HostRuntime) -> io::Result<()> {
+    let mut words = Vec::new(rt.alloc());
+    for word in env::args(rt)? {
+        words.push(word)?;
+    }
+    match words.get(1) {
+        Some(name) => measure(rt, name.as_str()),
+        None => Err(bad()),
+    }
+}
+
+/// Does what this word says.
+fn measure(rt: &HostRuntime, name: &str) -> io::Result<()> {
+    match name {
+        "--help" => println!(rt; "{USAGE}"),
+        "answers" | "queries" | "tables" => over_file(rt, name),
+        "flatten" => flat::run(rt),
+        "refusals" => refusals::run(rt),
+        "requests" => requests::run(rt),
+        "uploads" => uploads::run(rt),
+        _ => Err(bad()),
+    }
+}
+
+/// The same of what is measured over the tables of the database `index.db`, which is made where there is none.
+fn over_file(rt: &HostRuntime, name: &str) -> io::Result<()> {
+    let conn = Connection::open(rt, "index.db").map_err(|_| bad())?;
+    let Ok(tables) = Tables::open(conn) else {
+        return Err(bad());
+    };
+    let conn = match name {
+        "answers" => answers::run(rt, tables),
+        "queries" => queries::run(rt, tables),
+        _ => rows::run(rt, tables),
+    };
+    conn?.close().map_err(|_| bad())
+}

@@ -1,0 +1,114 @@
+//! Serves the puts and the queries of the file `commands`, a line each, and prints the kind, the microseconds, the status and the body of each. Of `memory FILE`
+//! it prints how long a put into an empty database in memory takes, the check of the dump, and the replacement.
+use crate::shared::{bad, checked, document, number, project, put, since, words};
+use desk::{Desk, Query, Reply, TableDesk};
+use dump::RequestKind;
+use flatten::flatten;
+use positions::Position;
+use sqlite::{Alter, Connection};
+use std::alloc::Global;
+use std::time::Instant;
+use std::{fs, io};
+use tables::Tables;
+
+/// The query of these words, or that for the projects where there are fewer.
+fn query(alloc: Global, words: &[&str]) -> io::Result<Query> {
+    let [kind, name, uri, line, character] = words else {
+        return Ok(Query::Projects);
+    };
+    let project = project(alloc, name)?;
+    let uri = document(alloc, uri)?;
+    let at = Position::new(number(line)?, number(character)?).ok_or(bad())?;
+    if *kind == "references" {
+        return Ok(Query::References {
+            project,
+            uri,
+            at,
+            declaration: true,
+        });
+    }
+    let kind = if *kind == "definition" {
+        RequestKind::Definition
+    } else {
+        RequestKind::Hover
+    };
+    Ok(Query::At {
+        kind,
+        project,
+        uri,
+        at,
+    })
+}
+
+fn reply<S: Alter>(rt: &HostRuntime, desk: &mut TableDesk<S>, words: &[&str]) -> io::Result<Reply> {
+    if let ["put", project, name] = words {
+        put(rt.alloc(), desk, project, &fs::read(rt, name)?)
+    } else {
+        let query = query(rt.alloc(), words)?;
+        Ok(desk.ask(&query))
+    }
+}
+
+/// Prints what a line takes.
+fn served<S: Alter>(rt: &HostRuntime, desk: &mut TableDesk<S>, line: &str) -> io::Result<()> {
+    let words = words(rt.alloc(), line)?;
+    let kind = line.split(' ').next().unwrap_or("");
+    let start = Instant::now(rt)?;
+    let reply = reply(rt, desk, &words)?;
+    let time = since(rt, start)?;
+    println!(rt;
+        "{kind} {} {} {}",
+        time / 1000,
+        reply.status(),
+        reply.body()
+    )?;
+    Ok(())
+}
+
+/// Prints how long a put of this dump into an empty database in memory takes.
+fn put_in_memory(rt: &HostRuntime, body: &[u8]) -> io::Result<()> {
+    let mut desk = TableDesk::open_in_memory(rt.alloc())?;
+    let start = Instant::now(rt)?;
+    let reply = put(rt.alloc(), &mut desk, "app", body)?;
+    let time = since(rt, start)?;
+    println!(rt; "memory {} {}", time / 1000, reply.status())?;
+    Ok(())
+}
+
+/// Prints how long its check takes, and the replacement of its rows.
+fn parts_in_memory(rt: &HostRuntime, body: &[u8]) -> io::Result<()> {
+    let mut tables = TableDesk::open_in_memory(rt.alloc())?.into_tables();
+    let start = Instant::now(rt)?;
+    let dump = checked(rt.alloc(), body)?;
+    println!(rt; "check {} 200", since(rt, start)? / 1000)?;
+    let start = Instant::now(rt)?;
+    let rows = flatten(rt.alloc(), &dump).map_err(|_| bad())?;
+    tables
+        .replace_dump("app", "k", "{}", &rows)
+        .map_err(|_| bad())?;
+    println!(rt; "replacement {} 200", since(rt, start)? / 1000)?;
+    Ok(())
+}
+
+fn serve_all<S: Alter>(rt: &HostRuntime, desk: &mut TableDesk<S>) -> io::Result<()> {
+    let text = fs::read_to_string(rt, "commands")?;
+    for line in text.lines() {
+        if let Some(name) = line.strip_prefix("memory ") {
+            let body = fs::read(rt, name)?;
+            put_in_memory(rt, &body)?;
+            parts_in_memory(rt, &body)?;
+        } else {
+            served(rt, desk, line)?;
+        }
+    }
+    Ok(())
+}
+
+pub(crate) fn run<S: Alter + Drop>(
+    rt: &HostRuntime,
+    tables: Tables<S>,
+) -> io::Result<Connection<S>> {
+    let mut desk = TableDesk::new(rt.alloc(), tables);
+    serve_all(rt, &mut desk)?;
+    Ok(desk.into_tables().into_connection())
+}

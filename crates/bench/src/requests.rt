@@ -1,0 +1,45 @@
+//! Asks a desk that has the dump of the file `dump` for the projects and for a definition, as often as the file `count` says, and prints the nanoseconds of one
+//! query of each kind.
+use crate::shared::{bad, document, number, project, put, since};
+use desk::{Desk, MemoryDesk, Query, TableDesk};
+use dump::RequestKind;
+use positions::Position;
+use std::alloc::Global;
+use std::time::Instant;
+use std::{fs, io};
+
+fn definition(alloc: Global) -> io::Result<Query> {
+    Ok(Query::At {
+        kind: RequestKind::Definition,
+        project: project(alloc, "app")?,
+        uri: document(alloc, "file:///a.ts")?,
+        at: Position::new(2, 1).ok_or(bad())?,
+    })
+}
+
+fn ask(
+    rt: &HostRuntime,
+    desk: &mut MemoryDesk,
+    query: &Query,
+    name: &str,
+    count: u32,
+) -> io::Result<()> {
+    let start = Instant::now(rt)?;
+    for _ in 0..count {
+        if desk.ask(query).status() != 200 {
+            return Err(bad());
+        }
+    }
+    let time = since(rt, start)?;
+    println!(rt; "{name} {}", time / u128::from(count.max(1)))?;
+    Ok(())
+}
+
+pub(crate) fn run(rt: &HostRuntime) -> io::Result<()> {
+    let count = number(fs::read_to_string(rt, "count")?.trim_end())?;
+    let mut desk = TableDesk::open_in_memory(rt.alloc())?;
+    put(rt.alloc(), &mut desk, "app", &fs::read(rt, "dump")?)?;
+    ask(rt, &mut desk, &Query::Projects, "projects", count)?;
+    let definition = definition(rt.alloc())?;
+    ask(rt, &mut desk, &definition, "definition", count)
+}
