@@ -1,34 +1,43 @@
-"""Compares projects over three servers behind nginx with the same projects on one server: see
+"""Compares projects over three servers behind the front with the same projects on one server: see
 bench/proxy.sh."""
 
 import json
+import os
 import sys
 import tempfile
-from urllib.parse import urlencode
+from contextlib import redirect_stderr, redirect_stdout
+from io import StringIO
+from typing import Any, Callable, Optional
+from urllib.parse import parse_qsl, urlencode
 
 from servers import ask, least_times, nginx
 
+from navtools import publish
+from navtools.questions import fetch_from
 from navtools.serving import Failed, ended, free_port, started
+from navtools.sets.ask import Asked as Index
+from tests.fronts import NOBODY, USER, Front, fronted, lacking
 
 PROJECTS = [f"project_{number}" for number in range(30)]
 SERVERS = 3
+SECONDS = 60
 TIMED = 400
-UPSTREAM = """
-    map $uri $project {{
-        "~^/projects/(?<name>[^/]+)" $name;
-        default $arg_project;
-    }}
-    upstream servers {{
-        hash $project consistent;
-        {servers}
-    }}
-"""
-LOCATIONS = """
-        location / {
-            proxy_pass http://servers;
-            proxy_next_upstream off;
-        }
-"""
+Asked = Callable[[str, str, Optional[bytes]], tuple[int, dict]]
+
+
+def by_port(port: int) -> Asked:
+    """How a server is asked."""
+    return lambda method, path, body: ask(port, method, path, body)
+
+
+def by_front(front: Front) -> Asked:
+    """How the front is asked."""
+
+    def asked(method: str, path: str, body: Optional[bytes]) -> tuple[int, dict]:
+        status, _, found = front.ask(method, path, body)
+        return status, json.loads(found)
+
+    return asked
 
 
 def dump(number: int) -> str:
@@ -103,12 +112,12 @@ def queries() -> list[tuple[str, str, str]]:
     ]
 
 
-def compare(one: int, proxy: int, home: dict[str, int]) -> None:
+def compare(one: Asked, proxy: Asked, home: dict[str, int]) -> None:
     """Asks both for each query, and prints how many answers are equal and how many joins are
     missed."""
     equal = missing = places = missed = hovers = 0
     for project, kind, path in queries():
-        whole, part = ask(one, "GET", path), ask(proxy, "GET", path)
+        whole, part = one("GET", path, None), proxy("GET", path, None)
         if kind == "hover":
             # the hover of an import is that of its exporter
             expected = whole
@@ -131,11 +140,11 @@ def compare(one: int, proxy: int, home: dict[str, int]) -> None:
     )
 
 
-def compare_names(one: int, proxy: int, ports: list[int]) -> None:
+def compare_names(one: Asked, proxy: Asked, ports: list[int]) -> None:
     """Asks both for the names of one project, and the servers in turn for those of all."""
     for project in PROJECTS:
         path = f"/names?name=run&project={project}"
-        if ask(one, "GET", path) != ask(proxy, "GET", path):
+        if one("GET", path, None) != proxy("GET", path, None):
             raise Failed(f"{path}: other names by the proxy")
     for path, member, key in (
         "/names?prefix=r",
@@ -145,21 +154,21 @@ def compare_names(one: int, proxy: int, ports: list[int]) -> None:
         merged = sorted(
             (found for port in ports for found in ask(port, "GET", path)[1][member]), key=key
         )
-        if merged != ask(one, "GET", path)[1][member]:
+        if merged != one("GET", path, None)[1][member]:
             raise Failed(f"{path}: merged otherwise")
     print(
         f"names of one project through the proxy: {len(PROJECTS)} equal; names and projects of all, merged from {len(ports)} servers: equal"
     )
 
 
-def put_all(one: int, proxy: int) -> None:
-    """Puts each project's dump and tags to both."""
+def put_all(one: Asked, proxy: Optional[Asked]) -> None:
+    """Puts each project's dump and tags to one server, and by a proxy where there is one."""
     for number, project in enumerate(PROJECTS):
         tags = f'run\tmain.rs\t/^fn run() {{ {project} }}$/;"\tf\n'
         for part, body in ("lsif", dump(number)), ("tags", tags):
             replies = [
-                ask(port, "PUT", f"/projects/{project}/{part}?key=k_{part}", body.encode())
-                for port in (one, proxy)
+                asked("PUT", f"/projects/{project}/{part}?key=k_{part}", body.encode())
+                for asked in (one, proxy or one)
             ]
             if replies[0] != replies[1] or replies[0][0] != 200:
                 raise Failed(f"{project}: {replies}")
@@ -178,33 +187,95 @@ def homes(ports: list[int]) -> dict[str, int]:
     return home
 
 
-def measure(one: int, proxy: int) -> None:
+def publish_all(front: Front, servers: list[str]) -> None:
+    """Publishes each project as a set, by the tool, with its surface on the other servers."""
+    folder = front.folder
+    os.environ["SSL_CERT_FILE"] = f"{folder}/codenav/certificate.pem"
+    os.environ["CODENAV_USER"] = USER
+    for number, project in enumerate(PROJECTS):
+        path = f"{folder}/{project}.lsif"
+        with open(path, "w", encoding="utf-8") as out:
+            out.write(dump(number))
+        words = ["--servers", ",".join(servers), "--no-tags", "--dump", path]
+        with redirect_stdout(StringIO()), redirect_stderr(StringIO()) as said:
+            status = publish.main([*words, front.url, project, folder])
+        if status != 0:
+            raise Failed(f"publish {project}: {said.getvalue()}")
+
+
+def as_set(found: Any) -> Any:
+    """What was found, where the order of places doesn't count."""
+    return sorted(map(str, found)) if isinstance(found, list) else found
+
+
+def compare_spread(one: Asked, front: Front, servers: list[str]) -> None:
+    """Publishes all to servers, asks one server for each query and the sets by the front, as the
+    tools ask them, and prints how many differ."""
+    publish_all(front, servers)
+    fetch, differ = fetch_from(front.url, SECONDS), {"hover": 0, "places": 0}
+    for project, kind, path in queries():
+        member = "contents" if kind == "hover" else "places"
+        parameters = dict(parse_qsl(path.partition("?")[2]))
+        found = Index(project, fetch).query(kind, parameters, member)
+        whole = one("GET", path, None)[1][member]
+        differ["hover" if kind == "hover" else "places"] += as_set(found) != as_set(whole)
+    print(
+        f"with surfaces: queries {len(queries())}: {differ['places']} differ in places, {differ['hover']} in hovers"
+    )
+    if sum(differ.values()):
+        raise Failed("with surfaces some answers differ")
+
+
+def measure(one: Asked, proxy: Asked, fixed: int) -> None:
     """Prints what one definition request after the other takes."""
     path = queries()[0][2]
     times = least_times(
         {
-            "one server": lambda: ask(one, "GET", path),
-            "through the proxy": lambda: ask(proxy, "GET", path),
-            "nginx, a fixed reply": lambda: ask(proxy, "GET", "/fixed"),
+            "one server": lambda: one("GET", path, None),
+            "through the front, with TLS": lambda: proxy("GET", path, None),
+            "nginx, a fixed reply": lambda: ask(fixed, "GET", "/fixed"),
         },
         TIMED,
     )
     for name, taken in times.items():
-        print(f"{name:22} {taken * 1e6:6.0f} microseconds a request")
+        print(f"{name:28} {taken * 1e6:6.0f} microseconds a request")
 
 
-def run(program: str, folder: str) -> None:
-    """Starts the servers and the proxy, and compares."""
-    ports, proxy, servers = [free_port() for _ in range(SERVERS + 1)], free_port(), []
-    upstream = UPSTREAM.format(servers=" ".join(f"server 127.0.0.1:{port};" for port in ports[1:]))
+def by_haproxy(program: str, folder: str) -> None:
+    """Starts other servers behind nginx and HAProxy, and compares the sets on these."""
+    ports, servers = [free_port() for _ in range(SERVERS + 1)], []
+    os.mkdir(f"{folder}/front")
+    places = [*(f"127.0.0.1:{port}" for port in ports[1:]), NOBODY]
     try:
         for port in ports:
             servers.append(started(program, port, 1_000_000))
-        with nginx(folder, proxy, upstream, LOCATIONS):
-            put_all(ports[0], proxy)
-            compare(ports[0], proxy, homes(ports[1:]))
-            compare_names(ports[0], proxy, ports[1:])
-            measure(ports[0], proxy)
+        with fronted("haproxy", f"{folder}/front", places) as front:
+            print("by nginx and HAProxy:")
+            put_all(by_port(ports[0]), None)
+            # nginx picks by the address of the HAProxy before each server
+            queues = [front.queue, *front.more_queues]
+            compare_spread(by_port(ports[0]), front, [f"http://127.0.0.1:{at}" for at in queues])
+    finally:
+        for server in servers:
+            ended(server)
+
+
+def run(program: str, folder: str) -> None:
+    """Starts the servers and the front, and compares."""
+    ports, plain, servers = [free_port() for _ in range(SERVERS + 1)], free_port(), []
+    # the last is the place for turns, which a front before several machines hasn't
+    places = [*(f"127.0.0.1:{port}" for port in ports[1:]), NOBODY]
+    os.mkdir(f"{folder}/front")
+    try:
+        for port in ports:
+            servers.append(started(program, port, 1_000_000))
+        with fronted("lua", f"{folder}/front", places) as front, nginx(folder, plain):
+            one, proxy = by_port(ports[0]), by_front(front)
+            put_all(one, proxy)
+            compare(one, proxy, homes(ports[1:]))
+            compare_names(one, proxy, ports[1:])
+            measure(one, proxy, plain)
+            compare_spread(one, front, [f"http://{place}" for place in places[:-1]])
     finally:
         for server in servers:
             ended(server)
@@ -213,8 +284,13 @@ def run(program: str, folder: str) -> None:
 def main() -> int:
     """Answers 0 where each answer was as it should be."""
     try:
-        with tempfile.TemporaryDirectory() as folder:
-            run(sys.argv[1], folder)
+        if why := lacking("lua"):
+            raise Failed(why)
+        if why := lacking("haproxy"):
+            raise Failed(why)
+        for part in run, by_haproxy:
+            with tempfile.TemporaryDirectory() as folder:
+                part(sys.argv[1], folder)
     except (Failed, OSError) as fault:
         print(f"proxy: {fault}", file=sys.stderr)
         return 1

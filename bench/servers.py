@@ -29,11 +29,9 @@ http {{
     uwsgi_temp_path {folder}/uwsgi;
     scgi_temp_path {folder}/scgi;
     client_max_body_size 33554432;
-    {upstream}
     server {{
         listen 127.0.0.1:{port};
         keepalive_timeout 0;
-        {locations}
         location = /fixed {{
             default_type application/json;
             return 200 '{{"projects":[]}}';
@@ -54,13 +52,10 @@ def ask(port: int, method: str, path: str, body: Optional[bytes] = None) -> tupl
 
 
 @contextmanager
-def nginx(folder: str, port: int, upstream: str = "", locations: str = "") -> Iterator[None]:
-    """An nginx on a port, which has at least the path `/fixed`, with a fixed reply."""
+def nginx(folder: str, port: int) -> Iterator[None]:
+    """An nginx on a port, which has the path `/fixed`, with a fixed reply."""
     config = pathlib.Path(folder, "nginx.conf")
-    config.write_text(
-        CONFIG.format(folder=folder, port=port, upstream=upstream, locations=locations),
-        encoding="utf-8",
-    )
+    config.write_text(CONFIG.format(folder=folder, port=port), encoding="utf-8")
     process = subprocess.Popen(
         ["/usr/sbin/nginx", "-p", folder, "-e", f"{folder}/error.log", "-c", str(config)]
     )

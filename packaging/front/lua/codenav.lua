@@ -1,0 +1,163 @@
+-- The front of codenav in nginx: a request is sent to the server until a whole reply is there;
+-- writes can be held while one server takes the place of another.
+local M = {}
+local LONGEST, PAUSE = 600, 0.2
+local METHODS = {
+    GET = ngx.HTTP_GET, HEAD = ngx.HTTP_HEAD, PUT = ngx.HTTP_PUT, DELETE = ngx.HTTP_DELETE,
+    POST = ngx.HTTP_POST, PATCH = ngx.HTTP_PATCH, OPTIONS = ngx.HTTP_OPTIONS, TRACE = ngx.HTTP_TRACE,
+}
+local shared = ngx.shared.codenav
+
+-- The side of the server that's in use, by the file in which codenav-supervise keeps it; called
+-- when nginx starts, and when it's reloaded.
+function M.begin(path)
+    local file = io.open(path)
+    local side = file and file:read("*l")
+    if file then file:close() end
+    shared:set("side", side == "b" and "b" or "a")
+end
+
+local function answer(status, text)
+    ngx.status = status
+    ngx.header["Content-Type"] = "application/json"
+    ngx.header["Content-Length"] = #text
+    ngx.print(text)
+end
+
+-- The name of the upstream that's in use.
+local function side_now()
+    return "codenav_" .. shared:get("side")
+end
+
+-- One try. A write counts as under way before it looks whether writes are held, so who holds them
+-- and then sees none under way knows that none begins.
+local function try(method, is_write)
+    if is_write then
+        shared:incr("writes", 1, 0)
+        if shared:get("held") then
+            shared:incr("writes", -1)
+            return nil
+        end
+    end
+    local options = {
+        method = method,
+        always_forward_body = true,
+        -- by which the server is picked where there are several; the path goes on by $request_uri
+        args = ngx.var.args or "",
+        vars = { codenav_side = side_now() },
+    }
+    shared:incr("asked", 1, 0)
+    local reply = ngx.location.capture("/-server-", options)
+    if is_write then shared:incr("writes", -1) end
+    return reply
+end
+
+-- Whether a reply is the server's own, and whole: nginx answers 502 and 504 where it has none. To
+-- HEAD there's a length without a body, which nginx calls cut.
+local function is_whole(reply, method)
+    if not reply or reply.status == 502 or reply.status == 504 then return false end
+    return not reply.truncated or method == ngx.HTTP_HEAD
+end
+
+-- The whole reply to this request, or nil where none came in so many seconds, or the client has
+-- gone; and the number of tries.
+local function reply_within(method, is_write, seconds)
+    local is_gone = false
+    ngx.on_abort(function() is_gone = true end)
+    local last, tries = ngx.now() + seconds, 0
+    repeat
+        local reply = try(method, is_write)
+        tries = tries + (reply and 1 or 0)
+        if is_whole(reply, method) then return reply, tries end
+        if tries == 1 and reply then
+            ngx.log(ngx.NOTICE, "codenav: no whole reply, so sent again: ", ngx.var.request_uri)
+        end
+        ngx.sleep(reply and PAUSE or PAUSE / 10)
+        ngx.update_time()
+    until is_gone or ngx.now() > last
+    return nil, tries
+end
+
+function M.serve()
+    ngx.req.read_body()
+    local name = ngx.req.get_method()
+    local method = METHODS[name]
+    if not method then return answer(405, '{"fault":"H07","text":"method not allowed"}') end
+    shared:incr("waiting", 1, 0)
+    local reply, tries = reply_within(method, name == "PUT" or name == "DELETE", LONGEST)
+    shared:incr("waiting", -1)
+    ngx.var.codenav_tries = tries
+    if tries > 1 then shared:incr("again", tries - 1, 0) end
+    if not reply then return ngx.exit(503) end
+    if reply.status == 503 then shared:incr("refused", 1, 0) end
+    ngx.status = reply.status
+    ngx.header["Content-Type"] = reply.header["Content-Type"]
+    ngx.header["Allow"] = reply.header["Allow"]
+    ngx.header["Content-Length"] = #reply.body
+    ngx.print(reply.body)
+end
+
+-- Whether the server answers now: /-projects- has a time limit of its own.
+function M.health()
+    shared:incr("asked", 1, 0)
+    local reply = ngx.location.capture("/-projects-", { vars = { codenav_side = side_now() } })
+    if reply.status == 200 then return answer(200, '{"health":"answers"}') end
+    return ngx.exit(503)
+end
+
+-- Counts a request that has been answered, by whoever did.
+function M.count()
+    local name = METHODS[ngx.req.get_method()] and ngx.req.get_method() or "other"
+    shared:incr("requests:" .. name .. ":" .. ngx.status, 1, 0)
+    shared:incr("seconds", tonumber(ngx.var.request_time) or 0, 0)
+end
+
+-- The counts, as Prometheus reads them.
+function M.metrics()
+    for _, key in ipairs(shared:get_keys(0)) do
+        local method, status = key:match("^requests:(%a+):(%d+)$")
+        if method then
+            local line = 'codenav_requests_total{method="%s",status="%s"} %d'
+            ngx.say(line:format(method, status, shared:get(key)))
+        end
+    end
+    ngx.say("codenav_request_seconds_total ", shared:get("seconds") or 0)
+    ngx.say("codenav_sent_again_total ", shared:get("again") or 0)
+    ngx.say("codenav_store_or_memory_refused_total ", shared:get("refused") or 0)
+    ngx.say("codenav_waiting ", shared:get("waiting") or 0)
+    ngx.say("codenav_writes_held ", shared:get("held") and 1 or 0)
+end
+
+-- What codenav-supervise asks for. /hold?seconds=N holds writes for so long. /turn?side=b goes to
+-- the other side and lets writes go on, where they were held until now, and else changes nothing
+-- (409). /use?side=b goes there whatever was before. Each answers what holds then.
+local COMMANDS = {
+    ["/state"] = function() return true end,
+    -- a hold of no length would never end
+    ["/hold"] = function()
+        local seconds = tonumber(ngx.var.arg_seconds) or 0
+        return seconds > 0 and shared:set("held", true, seconds)
+    end,
+    ["/release"] = function() shared:delete("held") return true end,
+    ["/use"] = function() return shared:set("side", ngx.var.arg_side) end,
+    ["/turn"] = function()
+        if not shared:get("held") then return false end
+        shared:set("side", ngx.var.arg_side)
+        shared:delete("held")
+        return true
+    end,
+}
+
+function M.command()
+    local command, side = COMMANDS[ngx.var.uri], ngx.var.arg_side
+    if not command or side and side ~= "a" and side ~= "b" or ngx.var.uri == "/use" and not side then
+        return answer(404, '{"fault":"front","text":"no such command"}')
+    end
+    local was_held = shared:get("held") == true
+    local status = command() and 200 or 409
+    answer(status, ('{"asked":%d,"held":%s,"side":"%s","was_held":%s,"writes":%d}'):format(
+        shared:get("asked") or 0, tostring(shared:get("held") == true), shared:get("side"),
+        tostring(was_held), shared:get("writes") or 0))
+end
+
+return M

@@ -1,0 +1,437 @@
+"""Tests of what keeps a server running, over real servers: starts, refusals, copies, a copy put
+back, turns, and each of them killed in between."""
+
+import os
+import signal
+import sqlite3
+import subprocess
+import sys
+import tempfile
+import threading
+import time
+import unittest
+from typing import Callable
+
+from navtools.client import address, request
+from navtools.serving import free_port
+from navtools.service.folder import Serving, database_at, side_of, serving_of
+from navtools.service.standing import state_of
+from tests.fronts import Front, fronted, lacking
+from tests.servers import TOP, program
+from tests.test_fronts import HOVER
+from tests.test_uploads import DUMP
+
+SECONDS = 30
+TICK = 0.02
+# Python reads it first: a copy of a file says that it begins, and waits, so that who copies is
+# killed in the midst of it.
+SLOW = """import os, time
+copy = os.copy_file_range
+def slow(*words):
+    open({path!r}, "w").close()
+    time.sleep(60)
+    return copy(*words)
+os.copy_file_range = slow
+"""
+
+
+class OnService(unittest.TestCase):
+    """A folder for a service of the built program, and how its tools are called."""
+
+    def setUp(self) -> None:
+        found = program()
+        if found is None:
+            self.skipTest("the program isn't built, and CODENAV_PROGRAM names none")
+        self.program = found
+        self.base = self.enterContext(tempfile.TemporaryDirectory())
+        self.folder, self.copies = f"{self.base}/service", f"{self.base}/copies"
+        os.mkdir(self.folder)
+        self.port, self.second = free_port(), free_port()
+        os.mkdir(f"{self.base}/slow")
+        with open(f"{self.base}/slow/sitecustomize.py", "w", encoding="utf-8") as script:
+            script.write(SLOW.format(path=f"{self.base}/copying"))
+
+    def launched(self, tool: str, *words: str, is_slow: bool = False) -> "subprocess.Popen[str]":
+        """A tool that's called as users do."""
+        process = subprocess.Popen(
+            [sys.executable, "-B", os.path.join(TOP, "tools", tool), *words],
+            env={**os.environ, **({"PYTHONPATH": f"{self.base}/slow"} if is_slow else {})},
+            stdin=subprocess.DEVNULL,
+            stdout=subprocess.PIPE,
+            stderr=subprocess.PIPE,
+            text=True,
+        )
+        self.addCleanup(self.over, process)
+        return process
+
+    def over(self, process: "subprocess.Popen[str]") -> None:
+        if process.poll() is None:
+            process.terminate()
+            process.wait(SECONDS)
+        for stream in process.stdout, process.stderr:
+            if stream is not None:
+                stream.close()
+
+    def called(self, tool: str, *words: str) -> tuple[int, str]:
+        """The status of a tool, and what it printed."""
+        done = self.launched(tool, *words)
+        said, warned = done.communicate(timeout=SECONDS)
+        return done.returncode, said + warned
+
+    def service(self, *words: str, is_slow: bool = False) -> "subprocess.Popen[str]":
+        """The service, which serves."""
+        process = self.supervised(*words, is_slow=is_slow)
+        self.until(lambda: process.poll() is not None or self.answers())
+        self.assertIsNone(process.poll())
+        return process
+
+    def supervised(self, *words: str, is_slow: bool = False) -> "subprocess.Popen[str]":
+        ports = ["--port", str(self.port), "--second-port", str(self.second)]
+        given = ["--program", self.program, *ports, *words, self.folder]
+        return self.launched("supervise", *given, is_slow=is_slow)
+
+    def until(self, is_so: Callable[[], bool]) -> None:
+        """Waits for something."""
+        stop = time.monotonic() + SECONDS
+        while not is_so():
+            self.assertLess(time.monotonic(), stop)
+            time.sleep(TICK)
+
+    def url(self) -> str:
+        return f"http://127.0.0.1:{self.second if side_of(self.folder) == 'b' else self.port}"
+
+    def answers(self) -> bool:
+        return request(f"{self.url()}/projects", seconds=5).status == 200
+
+    def put(self, text: str, key: str, url: str = "") -> bytes:
+        """What an upload of a dump whose hover says the text is answered."""
+        path = f"{self.base}/dump"
+        with open(path, "w", encoding="utf-8") as file:
+            file.write(DUMP % text)
+        with open(path, "rb") as body:
+            to = address(url or self.url(), "/projects/app/lsif", {"key": key})
+            return request(to, "PUT", body, seconds=SECONDS).body
+
+    def hover(self) -> bytes:
+        return request(f"{self.url()}{HOVER}", seconds=SECONDS).body
+
+    def ended(self, process: "subprocess.Popen[str]") -> tuple[int, str]:
+        """The status of a service, and what it said, when it has ended or is told to."""
+        process.terminate()
+        _, said = process.communicate(timeout=SECONDS)
+        return process.returncode, said
+
+    def known(self) -> Serving:
+        found = serving_of(self.folder)
+        assert found is not None
+        return found
+
+
+class Starts(OnService):
+    def test_a_service(self) -> None:
+        """It's started again after a kill, and at its end; what was accepted stays; it ends by
+        SIGTERM."""
+        process = self.service("--requests", "5")
+        self.assertIn(b"accepted", self.put("one", "k"))
+        server = self.known().server
+        os.kill(server, signal.SIGKILL)
+        self.until(lambda: self.known().server != server and self.answers())
+        server = self.known().server
+        self.until(lambda: self.answers() and self.known().server != server)
+        self.until(self.answers)
+        self.assertEqual(self.hover(), b'{"contents":"one"}')
+        status, said = self.ended(process)
+        self.assertEqual(status, 0)
+        self.assertIn("supervise: the server ended with status -9\n", said)
+        self.assertIn("supervise: the server ended with status 0\n", said)
+        self.assertIsNone(serving_of(self.folder))
+
+    def test_a_killed_service(self) -> None:
+        """Its server ends with it, so another service finds the port and the database free."""
+        process = self.service()
+        server = self.known().server
+        process.kill()
+        self.until(lambda: state_of(server) in ("", "Z"))
+        self.service()
+
+    def test_a_changed_file(self) -> None:
+        """One letter that was changed while no server ran is found; without the digest the file is
+        taken as it is."""
+        database = self.prepared("one")
+        self.assertEqual(self.ended(self.service())[0], 0)
+        at = self.flip(database)
+        status, said = self.refused()
+        self.assertEqual(status, 78)
+        self.assertIn(f"supervise: {database}: changed since its server ended", said)
+        self.flip(database, at)
+        self.assertEqual(self.ended(self.service())[0], 0)
+        self.flip(database)
+        os.unlink(f"{database}.digest")
+        self.assertNotIn("changed since", self.ended(self.supervised())[1])
+
+    def prepared(self, text: str) -> str:
+        """A database that has a dump whose hover says the text, all of it in the file itself."""
+        body, database = DUMP % text, database_at(self.folder, "a")
+        os.mkdir(os.path.dirname(database))
+        with open(f"{self.base}/stream", "w", encoding="utf-8") as stream:
+            stream.write(
+                f"PUT /projects/app/lsif?key=k HTTP/1.1\r\nContent-Length: {len(body)}\r\n"
+            )
+            stream.write(f"\r\n{body}")
+        words = [self.program, "replay", database, f"{self.base}/stream"]
+        self.assertIn(b"200 OK", subprocess.run(words, check=True, capture_output=True).stdout)
+        return database
+
+    def flip(self, path: str, at: int = -1) -> int:
+        """Changes one bit in a letter of a text of the database, or where it was changed before;
+        answers where."""
+        with open(path, "r+b") as file:
+            at = file.read().rfind(b"file:///a") if at < 0 else at
+            self.assertGreaterEqual(at, 0)
+            file.seek(at)
+            letter = file.read(1)
+            file.seek(at)
+            file.write(bytes([letter[0] ^ 1]))
+        return at
+
+    def refused(self) -> tuple[int, str]:
+        """How a service that ends by itself ended."""
+        process = self.supervised()
+        _, said = process.communicate(timeout=SECONDS)
+        return process.returncode, said
+
+    def test_refusals_for_good(self) -> None:
+        """A file that a person has to mend ends the service, which says what is to be done."""
+        os.mkdir(f"{self.folder}/a", 0o700)
+        database = database_at(self.folder, "a")
+        foreign = sqlite3.connect(database)
+        foreign.execute("CREATE TABLE document (own TEXT)")
+        foreign.commit()
+        foreign.close()
+        self.refuses("not a codenav database")
+        with open(database, "wb") as file:
+            file.write(b"no database, " * 1000)
+        self.refuses("is damaged: restore a backup")
+        os.link(database, f"{database}.second")
+        self.refuses("has a second name")
+        os.unlink(database)
+        os.mkdir(database)
+        self.refuses("is no file")
+
+    def refuses(self, is_said: str) -> None:
+        status, said = self.refused()
+        self.assertEqual((status, is_said in said), (78, True), said)
+
+    def test_refusals_that_pass(self) -> None:
+        """A port or a database that another program has is tried again, and is served when it's
+        free."""
+        process = self.service()
+        self.put("one", "k")
+        self.ended(process)
+        database = database_at(self.folder, "a")
+        for port, is_said in (free_port(), "is in use by process"), (self.port, "cannot listen"):
+            own = database if port != self.port else ":memory:"
+            words = [self.program, "serve", own, "--port", str(port), "--requests", "9"]
+            holder = subprocess.Popen(words, stdout=subprocess.PIPE)
+            assert holder.stdout is not None
+            holder.stdout.readline()
+            waiting = self.supervised()
+            self.says(waiting, is_said)
+            self.assertIsNone(waiting.poll())
+            holder.terminate()
+            holder.communicate()
+            self.until(lambda: self.answers() and serving_of(self.folder) is not None)
+            self.assertEqual(self.hover(), b'{"contents":"one"}')
+            status, said = self.ended(waiting)
+            self.assertEqual(status, 0, said)
+
+    def says(self, process: "subprocess.Popen[str]", text: str) -> None:
+        """Waits until a line of a service has a text."""
+        assert process.stderr is not None
+        late = threading.Timer(SECONDS, process.kill)
+        late.start()
+        lines: list[str] = []
+        while not lines or text not in lines[-1]:
+            lines.append(process.stderr.readline())
+            self.assertNotEqual(lines[-1], "", lines)
+        late.cancel()
+
+
+class Copies(OnService):
+    def backup(self, *words: str) -> tuple[int, str]:
+        return self.called("backup", "--program", self.program, *words, self.folder, self.copies)
+
+    def names(self) -> list[str]:
+        return sorted(os.listdir(self.copies)) if os.path.isdir(self.copies) else []
+
+    def test_a_backup_and_its_restore(self) -> None:
+        """A copy that was made while the server ran has what it had then, and is refused where it
+        was changed."""
+        process = self.service()
+        self.put("one", "k")
+        status, said = self.backup("--keep", "2")
+        self.assertEqual((status, len(self.copied())), (0, 1), said)
+        self.put("two", "l")
+        copy = f"{self.copies}/{self.copied()[0]}"
+        self.assertEqual(self.called("restore", copy, self.folder)[0], 2)
+        self.assertEqual(self.hover(), b'{"contents":"two"}')
+        self.assertEqual(self.ended(process)[0], 0)
+        self.assertEqual(self.called("restore", copy, self.folder)[0], 0)
+        process = self.service()
+        self.assertEqual(self.hover(), b'{"contents":"one"}')
+        self.ended(process)
+        with open(f"{copy}/index.db", "r+b") as file:
+            file.seek(5000)
+            file.write(b"!")
+        status, said = self.called("restore", copy, self.folder)
+        self.assertEqual((status, "the copy changed" in said), (2, True))
+
+    def copied(self) -> list[str]:
+        return [name for name in self.names() if name.endswith("Z")]
+
+    def test_old_copies(self) -> None:
+        self.ended(self.service())
+        for year in 2001, 2002, 2003:
+            os.makedirs(f"{self.copies}/{year}0101T000000Z")
+            with open(f"{self.copies}/{year}0101T000000Z/index.db", "wb"):
+                pass
+        os.makedirs(f"{self.copies}/of-another-Z")
+        self.assertEqual(self.backup("--keep", "2")[0], 0)
+        self.assertEqual(self.names()[0], "20030101T000000Z")
+        self.assertIn("of-another-Z", self.names())
+
+    def test_a_backup_that_is_killed(self) -> None:
+        """The server goes on, no copy is there, and the next backup is made."""
+        self.service()
+        self.put("one", "k")
+        words = ["--program", self.program, self.folder, self.copies]
+        copying = self.launched("backup", *words, is_slow=True)
+        self.until(self.stands)
+        copying.kill()
+        self.until(lambda: state_of(self.known().server) == "S")
+        self.assertEqual((self.hover(), self.copied()), (b'{"contents":"one"}', []))
+        self.assertEqual(self.backup()[0], 0)
+        self.assertEqual(len(self.copied()), 1)
+
+    def stands(self) -> bool:
+        return state_of(self.known().server) == "T"
+
+    def test_no_copy_that_is_refused(self) -> None:
+        """A damaged database isn't copied over the good copies."""
+        os.mkdir(f"{self.folder}/a")
+        with open(database_at(self.folder, "a"), "wb") as file:
+            file.write(b"no database" * 1000)
+        status, said = self.backup()
+        self.assertEqual((status, self.copied(), said.count("\n")), (2, [], 1))
+        self.assertIn("the copy is refused: codenav: store refused", said)
+
+    def test_a_restore_that_is_killed(self) -> None:
+        """The database is the old one until the copy is whole."""
+        process = self.service()
+        self.put("one", "k")
+        self.assertEqual(self.backup()[0], 0)
+        self.put("two", "l")
+        self.ended(process)
+        copy = f"{self.copies}/{self.copied()[0]}"
+        restoring = self.launched("restore", copy, self.folder, is_slow=True)
+        self.until(self.copies_now)
+        restoring.kill()
+        restoring.wait()
+        process = self.service()
+        self.assertEqual(self.hover(), b'{"contents":"two"}')
+        self.ended(process)
+        self.assertEqual(self.called("restore", copy, self.folder)[0], 0)
+        self.service()
+        self.assertEqual(self.hover(), b'{"contents":"one"}')
+
+    def copies_now(self) -> bool:
+        """Whether `cp` was called."""
+        return os.path.exists(f"{self.base}/copying")
+
+
+class Turns(OnService):
+    def setUp(self) -> None:
+        super().setUp()
+        why = lacking("lua")
+        if why:
+            self.skipTest(why)
+        servers = [f"127.0.0.1:{self.port}", f"127.0.0.1:{self.second}"]
+        os.mkdir(f"{self.base}/front")
+        self.front: Front = self.enterContext(fronted("lua", f"{self.base}/front", servers))
+        self.local = f"http://127.0.0.1:{self.front.local}"
+
+    def test_turns(self) -> None:
+        """Two turns while writes come: each is answered, and none is lost."""
+        self.service("--front", self.local)
+        answers: list[tuple[int, bytes]] = []
+        is_over = threading.Event()
+
+        def write() -> None:
+            while not is_over.is_set():
+                number = len(answers)
+                body = (DUMP % f"text {number}").encode()
+                path = f"/projects/p{number}/lsif?key=k"
+                status, _, found = self.front.ask("PUT", path, body)
+                answers.append((status, found))
+
+        writing = threading.Thread(target=write)
+        writing.start()
+        for side in "b", "a":
+            status, said = self.called("turn", self.folder)
+            self.assertEqual((status, side_of(self.folder)), (0, side), said)
+            self.assertFalse(os.path.exists(database_at(self.folder, "ab".replace(side, ""))))
+            count = len(answers)
+            self.until(lambda: len(answers) > count + 3)
+        is_over.set()
+        writing.join()
+        self.assertEqual(set(answers), {(200, b'{"accepted":"lsif","count":6}')})
+        for number in range(len(answers)):
+            found = self.front.ask("GET", HOVER.replace("/app/", f"/p{number}/"))[2]
+            self.assertEqual(found, f'{{"contents":"text {number}"}}'.encode())
+
+    def test_a_turn_before_the_requests_are_over(self) -> None:
+        """The last requests of a run come slowly enough that the service sees in time how many are
+        left. Where it begins to count late, on a busy machine, that's so of the next run."""
+        self.service("--front", self.local, "--requests", "100")
+        time.sleep(1.5)
+        for count in range(300):
+            self.assertEqual(self.front.ask("GET", "/projects")[0], 200)
+            if self.known().turns > 0:
+                break
+            if count > 80:
+                time.sleep(0.15)
+        self.assertEqual((self.known().turns, self.known().side), (1, "b"))
+
+    def test_a_turn_that_is_killed(self) -> None:
+        """Writes go on at the old side when the service is there again."""
+        process = self.service("--front", self.local, is_slow=True)
+        self.front.ask("PUT", "/projects/app/lsif?key=k", (DUMP % "one").encode())
+        os.kill(process.pid, signal.SIGHUP)
+        self.until(self.stands)
+        process.kill()
+        process.wait()
+        self.service("--front", self.local)
+        self.assertEqual(side_of(self.folder), "a")
+        self.assertEqual(
+            self.front.ask("PUT", "/projects/app/lsif?key=l", (DUMP % "two").encode())[0], 200
+        )
+        self.assertEqual(self.front.ask("GET", HOVER)[2], b'{"contents":"two"}')
+
+    def stands(self) -> bool:
+        return state_of(self.known().server) == "T"
+
+    def test_turns_that_are_not_taken(self) -> None:
+        """Without a front the server is started again. Where none runs, or the front is away,
+        nothing changes."""
+        status, said = self.called("turn", self.folder)
+        self.assertEqual((status, said.count("\n")), (2, 1))
+        process = self.service()
+        self.assertEqual(self.called("turn", self.folder)[0], 0)
+        self.ended(process)
+        self.service("--front", f"http://127.0.0.1:{free_port()}")
+        status, said = self.called("turn", self.folder)
+        self.assertEqual((status, "no turn: " in said, self.answers()), (1, True, True), said)
+
+
+if __name__ == "__main__":
+    unittest.main()
