@@ -32,6 +32,7 @@ SECONDS = 1500
 COUNTED = re.compile(r"(\d+) passed, (\d+) failed")
 RAN = re.compile(r"^Ran (\d+) tests? in ", re.M)
 NOT_PASSED = re.compile(r"(?:failures|errors|unexpected successes)=(\d+)")
+LUA_MODULE = "/usr/share/nginx/modules-available/mod-http-lua.conf"
 SKIPPED = re.compile(r"skipped=(\d+)")
 
 
@@ -47,6 +48,8 @@ class Part:
     waits: bool = False
     runs_alone: bool = False
     mounts: bool = False
+    # what some of its checks need: programs, or files by their whole paths
+    some_need: tuple[str, ...] = ()
 
 
 def parts(program: str) -> list[Part]:
@@ -57,7 +60,9 @@ def parts(program: str) -> list[Part]:
         Part(
             "tools",
             ("python3", "-B", "-m", "unittest", "discover", "-s", "tests", "-t", "."),
+            packages="nginx libnginx-mod-http-lua haproxy openssl",
             folder="tools",
+            some_need=("nginx", LUA_MODULE, "haproxy", "openssl"),
         ),
         Part(
             "refused",
@@ -67,12 +72,17 @@ def parts(program: str) -> list[Part]:
         ),
         Part("kills", ("bench/kills.sh", program, "40")),
         Part("disk", ("bench/full_disk.sh", program), mounts=True),
-        Part("neovim", ("tools/tests/neovim", program), ("nvim",), "neovim"),
+        Part(
+            "neovim",
+            ("tools/tests/neovim", program),
+            ("nvim", "rust-analyzer"),
+            "neovim rust-web-analyzer librust-syn-dev",
+        ),
         Part(
             "chromium",
             ("tools/tests/chromium", program),
             ("chromium", "chromedriver", "ctags", "rust-analyzer"),
-            "chromium chromium-driver universal-ctags rust-web-analyzer librust-memchr-dev",
+            "chromium chromium-driver universal-ctags rust-web-analyzer librust-memchr-dev librust-syn-dev",
             runs_alone=True,
         ),
     ]
@@ -88,11 +98,18 @@ def may_mount() -> bool:
         return False
 
 
+def missing_of(names: tuple[str, ...], part: Part) -> Optional[str]:
+    """Which of these aren't here, with the command that installs them, if one isn't."""
+    path = f"{os.environ['PATH']}:/usr/sbin:/sbin"
+    missing = [name for name in names if not shutil.which(name, os.F_OK, path)]
+    return f"{', '.join(missing)} not found: apt-get install {part.packages}" if missing else None
+
+
 def lacking(part: Part) -> Optional[str]:
     """Why a part is left out, if it is."""
-    missing = [name for name in part.needs if not shutil.which(name)]
+    missing = missing_of(part.needs, part)
     if missing:
-        return f"{', '.join(missing)} not found: apt-get install {part.packages}"
+        return missing
     if part.mounts and not may_mount():
         return "this user may not mount file systems: run it as root"
     return None
@@ -162,6 +179,8 @@ def main() -> int:
     if unknown:
         sys.exit(f"beside.py: no such part: {', '.join(sorted(unknown))}")
     os.environ["PATH"] = f"/usr/bin:{os.environ['PATH']}"
+    # the tests of the tools ask this program too
+    os.environ["CODENAV_PROGRAM"] = program
     chosen = [part for part in every if part.name in wanted]
     left_out = {part.name: why for part in chosen if (why := lacking(part)) is not None}
     chosen = [part for part in chosen if part.name not in left_out]
@@ -176,6 +195,9 @@ def main() -> int:
     results += [run(part) for part in chosen if part.runs_alone]
     for name, why in left_out.items():
         print(f"left out: {name}: {why}")
+    for part in chosen:
+        if why_some := missing_of(part.some_need, part):
+            print(f"left out: some of {part.name}: {why_some}")
     before = COUNTED.search(given.also)
     passed = sum(result.passed for result in results) + (int(before[1]) if before else 0)
     failed = sum(result.failed for result in results) + (int(before[2]) if before else 0)

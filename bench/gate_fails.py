@@ -87,9 +87,9 @@ CASES = [
     Case(
         "chromium",
         "chromium",
-        file="tools/navtools/browse_page/page.js",
-        old='mark.id = "word"',
-        new='mark.id = "world"',
+        file="tools/navtools/browsing/page/lines.js",
+        old='word.id = "word"',
+        new='word.id = "world"',
     ),
 ]
 

@@ -29,7 +29,8 @@ from typing import Callable, Iterator
 TOP = os.path.dirname(os.path.dirname(os.path.abspath(__file__)))
 sys.path.insert(0, os.path.join(TOP, "tools"))
 
-from navtools.moved.text_map import TextMap, lines_of_text
+from navtools.moved.sides import lines_of_text
+from navtools.moved.text_map import TextMap
 from navtools.moved.tokens import tokens_of
 from tests.made_edits import EDITS, edited
 
@@ -264,6 +265,9 @@ def texts() -> Iterator[tuple[str, str, str]]:
         line.replace("(", "( x, ").replace(" ", "  ") for line in lines
     )
     yield "20,000 lines, shuffled", "\n".join(lines), "\n".join(dice.sample(lines, len(lines)))
+    heads = [f"def f{at}(a):\n    b = a + {at}\n    c = b\n    return c\n" for at in range(5_000)]
+    yield "5,000 functions in the other order", "".join(heads), "".join(heads[::-1])
+    yield "5,000 functions, each twice", "".join(heads), "".join(2 * one for one in heads)
     yield "20,000 equal lines and one more", "f(b);\n" * 20_000, "f(b);\n" * 20_001
     yield "20,000 equal lines, each changed", "f(b);\n" * 20_000, "f(b, x);\n" * 20_000
     yield "20,000 lines of two kinds, at random", *(

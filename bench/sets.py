@@ -88,7 +88,7 @@ def most_used(flat: Flat) -> str:
 def flat_of(path: str) -> Flat:
     """The flat tables of a dump."""
     with open(path, "rb") as source:
-        return flattened(read_graph(source, path, "1", False))
+        return flattened(read_graph(source, path, "1", False, "split-lsif"))
 
 
 def asked(url: str, name: str, points: list[tuple[str, int, int]]) -> None:

@@ -2,6 +2,7 @@
 
 import os
 import pathlib
+import resource
 import statistics
 import subprocess
 import sys
@@ -47,16 +48,20 @@ def calls_at(url: str, others: list[str]) -> dict[str, Callable[[], object]]:
 def processor_seconds() -> float:
     """What this program and those that it called have used of processors, which a busy machine
     changes little."""
-    times = os.times()
-    return times.user + times.system + times.children_user + times.children_system
+    parts = [resource.getrusage(who) for who in (resource.RUSAGE_SELF, resource.RUSAGE_CHILDREN)]
+    return sum(part.ru_utime + part.ru_stime for part in parts)
 
 
 def main() -> int:
-    """Prints the median and the least time of each call, in turns."""
+    """Prints the median and the least time of each call, in turns, and `ask` as a share of those of
+    other states."""
     program, count = sys.argv[1], int(sys.argv[2]) if len(sys.argv) > 2 else CALLS
     walls: dict[str, list[float]] = {}
     used: dict[str, list[float]] = {}
     with tempfile.TemporaryDirectory() as folder, serving(program, quiet=True) as url:
+        # each tool is compiled once, as it is for its users
+        os.environ.pop("PYTHONDONTWRITEBYTECODE", None)
+        os.environ["PYTHONPYCACHEPREFIX"] = f"{folder}/compiled"
         dump = f"{folder}/dump"
         tools = TOP / "tools"
         made(sys.executable, f"{tools}/prepare-lsif", str(TOP / "demo/crate.raw.lsif"), dump)()
@@ -72,6 +77,12 @@ def main() -> int:
         middle, least = statistics.median(taken) * 1e3, min(taken) * 1e3
         own = statistics.median(used[name]) * 1e3
         print(f"{name:32} p50 {middle:7.2f} ms, least {least:7.2f} ms; processor p50 {own:7.2f} ms")
+    for other in sys.argv[3:]:
+        shares = [
+            statistics.median(times["ask"]) / statistics.median(times[f"ask of {other}"])
+            for times in (walls, used)
+        ]
+        print(f"ask takes {shares[0]:.2f} of that of {other}; of a processor {shares[1]:.2f}")
     return 0
 
 

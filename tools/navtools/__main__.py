@@ -1,4 +1,5 @@
-"""The tools by one command: `codenav-tools TOOL ..`, or `python3 -m navtools TOOL ..`. A tool's module is loaded when it's called."""
+"""The tools by one command: `codenav-tools TOOL ..`, or `python3 -m navtools TOOL ..`. A tool's
+module is loaded when it's called."""
 
 import importlib
 import sys
@@ -8,7 +9,8 @@ from navtools.words import BadCall, status_of
 
 
 class Tool(NamedTuple):
-    """A tool: its module, whose `main` is called, with what stands before the words, and what it does."""
+    """A tool: its module, whose `main` is called, with what stands before the words, and what it
+    does."""
 
     module: str
     text: str
@@ -20,6 +22,7 @@ TOOLS = {
     "publish": Tool("publish", "from a checkout to answers: index, prepare, check, upload"),
     "prepare-lsif": Tool("prepare", "make a dump that the server accepts of an indexer's"),
     "scip-to-lsif": Tool("scip_to_lsif", "make a dump of a SCIP index"),
+    "surface-lsif": Tool("surfaces.surface", "make of a dump what other servers need of it"),
     "split-lsif": Tool("sets.split", "split a dump that is too large into parts"),
     "publish-set": Tool("sets.publish", "put a split dump on a server"),
     "upload-lsif": Tool("upload", "upload a dump", ("lsif",)),
@@ -31,6 +34,10 @@ TOOLS = {
     "browse": Tool("browse", "show a folder's files as web pages with answers"),
     "explain-fault": Tool("explain", "say what is wrong with a dump that is refused"),
     "why": Tool("why", "say of a dump why an answer is what it is"),
+    "supervise": Tool("service.supervise", "keep a server running over a folder"),
+    "turn": Tool("service.turn", "start a service's server anew, with no request lost"),
+    "backup": Tool("service.backup", "copy a service's database while it runs"),
+    "restore": Tool("service.restore", "put a copy in the place of a service's database"),
     "try-it": Tool("try_it", "try the whole way, in a clone"),
 }
 

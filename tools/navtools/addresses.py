@@ -1,5 +1,6 @@
-"""The one spelling of documents' addresses. Indexers and editors write the same file in several ways, as `file:///c%3A/x`, `file:///C:/x` and
-`file:///c:/x`, which are three documents to the server. So the tools write and ask for each in one: percent-encoded where it has to be, with the
+"""The one spelling of documents' addresses. Indexers and editors write the same file in several
+ways, as `file:///c%3A/x`, `file:///C:/x` and `file:///c:/x`, which are three documents to the
+server. So the tools write and ask for each in one: percent-encoded where it has to be, with the
 hexadecimal digits in upper case, and with the letter of a drive in lower case.
 """
 
@@ -17,7 +18,8 @@ UNSEEN = "\t\n\r"
 
 
 def spelled(uri: str) -> str:
-    """An address in the one spelling; of other addresses than files' only the digits of `%c3` change, since what `%2F` is there isn't known."""
+    """An address in the one spelling; of other addresses than files' only the digits of `%c3`
+    change, since what `%2F` is there isn't known."""
     found = FILE.fullmatch(uri)
     if found is None:
         return DIGITS.sub(lambda digits: digits[0].upper(), uri)
@@ -48,13 +50,15 @@ def is_address(uri: object) -> bool:
 
 
 def below(root: str, uri: str) -> Optional[str]:
-    """The rest of an address below another, or None where it isn't below; both in the one spelling."""
+    """The rest of an address below another, or None where it isn't below; both in the one
+    spelling."""
     root = root.rstrip("/")
     return uri[len(root) + 1 :] if uri.startswith(root + "/") else None
 
 
 def serialized(uri: str) -> str:
-    """Nearly the text that the URL Standard makes of a uri: enough to find two of which it makes one."""
+    """Nearly the text that the URL Standard makes of a uri: enough to find two of which it makes
+    one."""
     parts = urlsplit(
         re.sub(r"[\t\n\r]", "", uri).strip("".join(map(chr, range(33)))).replace("\\", "/")
     )

@@ -22,7 +22,7 @@ from navtools.places import (
 from navtools.questions import Questions, Reply, fetch_from, name_of
 from navtools.sets.ask import Asked as Index
 from navtools.tags import folders_of, places_of
-from navtools.words import add_server, parsed, server_of, status_of
+from navtools.words import Help, add_server, parsed, server_of, status_of
 
 KINDS = {
     "definition": "where it's defined",
@@ -65,7 +65,8 @@ def warn(line: str) -> None:
 
 
 def reply_at(call: argparse.Namespace, maps: Maps) -> Reply:
-    """What is found at the place that a call names; empty, with a line, where the place is new. Raises NoReply."""
+    """What is found at the place that a call names; empty, with a line, where the place is new.
+    Raises NoReply."""
     sources = sources_of(call.revision, call.indexed, call.project, os.curdir)
     questions = Questions(call.project, fetch_from(call.url, SECONDS), Indexed(sources, maps, warn))
     character = character_at(call.file, call.line, call.column, call.utf16)
@@ -106,7 +107,7 @@ def found_lines(call: argparse.Namespace, maps: Maps, folders: dict[str, str]) -
 
 def words_parser() -> argparse.ArgumentParser:
     """What the command line may be."""
-    parser = argparse.ArgumentParser(prog="ask", description=__doc__)
+    parser = argparse.ArgumentParser(prog="ask", description=__doc__, formatter_class=Help)
     parser.add_argument(
         "--map",
         action="append",
@@ -133,7 +134,9 @@ def words_parser() -> argparse.ArgumentParser:
         dest="what", metavar="WHAT", required=True, help="what to ask for; each has --help"
     )
     for kind, text in KINDS.items():
-        one = kinds.add_parser(kind, help=text, description=f"At a place: {text}.")
+        one = kinds.add_parser(
+            kind, help=text, description=f"At a place: {text}.", formatter_class=Help
+        )
         if kind == "references":
             one.add_argument(
                 "--no-declaration", action="store_true", help="without the declaration itself"
@@ -145,6 +148,7 @@ def words_parser() -> argparse.ArgumentParser:
         "names",
         help="the tags of a name",
         description="The tags of a name, or those whose names begin with a text.",
+        formatter_class=Help,
     )
     one.add_argument(
         "--all-projects",

@@ -1,6 +1,7 @@
-"""Shows the files of a folder as web pages on 127.0.0.1, and asks the server at their words: a click goes to the definition, `r` lists the
-references, hovering says what the index says, `f` finds files and `/` names as one types, and `?` lists all keys. `#L12C4` in an address is line
-12, character 4, from 1.
+"""Shows the files of a folder as web pages on 127.0.0.1, and asks the server at their words: a
+click goes to the definition, `r` lists the references, hovering says what the index says, `f` finds
+files and `/` names as one types, and `?` lists all keys. `#L12C4` in an address is line 12,
+character 4, from 1.
 """
 
 import argparse
@@ -73,7 +74,8 @@ def browser_of(call: argparse.Namespace) -> Browser:
 
 
 def main(words: Optional[list[str]] = None) -> int:
-    """Reads the command line and serves until it's interrupted; answers 0 then, and 2 at a fault."""
+    """Reads the command line and serves until it's interrupted; answers 0 then, and 2 at a
+    fault."""
     call = parsed(words_parser(), words)
     try:
         pages = Pages(browser_of(call), call.port)

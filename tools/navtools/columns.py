@@ -1,4 +1,5 @@
-"""Characters of a document as UTF-16 code units, where its indexer counted bytes or code points: its text is needed then."""
+"""Characters of a document as UTF-16 code units, where its indexer counted bytes or code points:
+its text is needed then."""
 
 from array import array
 from bisect import bisect_left
@@ -19,7 +20,8 @@ class Columns:
         self.tables: dict[int, tuple["array[int]", "array[int]"]] = {}
 
     def units(self, line: int, character: int) -> Optional[int]:
-        """The UTF-16 code units before a character of a line; None where the line has no such character."""
+        """The UTF-16 code units before a character of a line; None where the line has no such
+        character."""
         if self.encoding == UTF_16:
             return character
         if line >= len(self.lines):
@@ -35,7 +37,8 @@ class Columns:
 
 
 def table(text: str, encoding: int) -> tuple["array[int]", "array[int]"]:
-    """Where each character of a line begins, and where the last one ends, with the UTF-16 code units before it."""
+    """Where each character of a line begins, and where the last one ends, with the UTF-16 code
+    units before it."""
     counted, before = array("i", [0]), array("i", [0])
     at = unit = 0
     for character in text:

@@ -1,5 +1,6 @@
-"""Explains the fault that `codenav check-lsif` named of a dump: its element, the earlier ones that it conflicts with, and what an
-indexer should have written. Lines count from 1; positions are those of the dump, which count from 0.
+"""Explains the fault that `codenav check-lsif` named of a dump: its element, the earlier ones that
+it conflicts with, and what an indexer should have written. Lines count from 1; positions are those
+of the dump, which count from 0.
 """
 
 import argparse
@@ -13,6 +14,7 @@ from typing import Any, BinaryIO, Callable, Iterator, Optional, Union
 
 from navtools.addresses import serialized
 from navtools.lsif import (
+    MOST_ELEMENT_BYTES,
     Element,
     Id,
     NotADump,
@@ -26,6 +28,7 @@ from navtools.lsif import (
 from navtools.sentences import sentence
 
 REPORT = re.compile(r"line ([1-9][0-9]{0,11}): ((?:L(?!00)[01][0-9]|L20|E01|E02)(?: .*)?)")
+PIECE = 1 << 20
 WHOLE = {"L01", "L02", "L03", "L05", "L20"}
 FITTING = {
     "L07": ("vertex", None),
@@ -54,27 +57,43 @@ class NoFault(Exception):
 
 @dataclass(frozen=True)
 class Fault:
-    """A line of a dump, and what is wrong there: the code, and the code with its text as they were reported."""
+    """A line of a dump, and what is wrong there: the code, and the code with its text as they were
+    reported."""
 
     line: int
     code: str
     report: str
 
 
+def lines_of(file: BinaryIO) -> Iterator[tuple[int, bytes]]:
+    """The length of each line, and the line; of one over the limit of an element its beginning, so
+    that it takes no memory."""
+    while body := file.readline(MOST_ELEMENT_BYTES + 1):
+        length, piece = len(body), body
+        while not piece.endswith(b"\n") and (piece := file.readline(PIECE)):
+            length += len(piece)
+        yield length, body
+
+
 class Dump:
-    """The lines of a dump, which stay in the file, and on which of them each id, and each label, comes."""
+    """The lines of a dump, which stay in the file, and on which of them each id, and each label,
+    comes."""
 
     def __init__(self, name: str, given: Union[bytes, BinaryIO], sound: Optional[int]) -> None:
-        """Lines before `sound`, or all where that is None, must be elements: a fault is named only where they are."""
+        """Lines before `sound`, or all where that is None, must be elements: a fault is named only
+        where they are."""
         self.name = name
         self.file: BinaryIO = io.BytesIO(given) if isinstance(given, bytes) else given
         self.begins = array("q", [0])
         self.first: dict[Id, int] = {}
         self.labels: dict[tuple[str, str], "array[int]"] = {}
         self.file.seek(0)
-        for line, body in enumerate(self.file, 1):
-            self.begins.append(self.begins[-1] + len(body))
+        for line, (length, body) in enumerate(lines_of(self.file), 1):
+            self.begins.append(self.begins[-1] + length)
             try:
+                if length > MOST_ELEMENT_BYTES:
+                    limit = f"longer than {MOST_ELEMENT_BYTES} bytes, the limit of an element"
+                    raise NotADump(f"{name}, line {line}: {limit}")
                 element = element_of(body.removesuffix(b"\n"), f"{name}, line {line}")
             except NotADump:
                 if sound is None or line < sound:
@@ -85,9 +104,11 @@ class Dump:
         self.count = len(self.begins) - 1
 
     def body(self, line: int) -> bytes:
-        """The bytes of a line, without its end."""
+        """The bytes of a line, without its end; of one over the limit of an element its
+        beginning."""
         self.file.seek(self.begins[line - 1])
-        return self.file.read(self.begins[line] - self.begins[line - 1]).removesuffix(b"\n")
+        length = min(self.begins[line] - self.begins[line - 1], MOST_ELEMENT_BYTES)
+        return self.file.read(length).removesuffix(b"\n")
 
     def at(self, line: int) -> Element:
         """The element of a line."""
@@ -102,10 +123,11 @@ class Dump:
     def shown(self, line: int) -> str:
         """A line as it's printed: a long one is cut."""
         body = self.body(line)
+        size = max(self.begins[line] - self.begins[line - 1] - 1, len(body))
         text = body[: MOST_SHOWN * 4].decode(errors="replace").strip()
         text = "".join(character if character.isprintable() else "\ufffd" for character in text)
-        if len(text) > MOST_SHOWN or len(body) > MOST_SHOWN * 4:
-            text = f"{text[:MOST_SHOWN]} .. ({len(body)} bytes)"
+        if len(text) > MOST_SHOWN or size > MOST_SHOWN * 4:
+            text = f"{text[:MOST_SHOWN]} .. ({size} bytes)"
         return f"{self.name}:{line}: {text}"
 
     def named(self, own: Any, line: int) -> str:
@@ -138,7 +160,8 @@ def ends(edge: Element) -> list[Id]:
 
 
 def contained(dump: Dump, line: int) -> dict[Id, tuple[int, Id]]:
-    """What `contains` edges before a line name: the first such edge's line, and where it goes out from."""
+    """What `contains` edges before a line name: the first such edge's line, and where it goes out
+    from."""
     result: dict[Id, tuple[int, Id]] = {}
     for number, edge in dump.before(line, "edge", "contains"):
         for own in targets(edge):
@@ -207,7 +230,8 @@ def contained_before(dump: Dump, line: int, element: Element) -> list[str]:
 
 
 def crossing(spans: dict[Any, Span]) -> Iterator[tuple[Any, Any]]:
-    """Pairs of ranges that are equal, or overlap and aren't nested: one for each range that must go so that no such pair is left, which comes second."""
+    """Pairs of ranges that are equal, or overlap and aren't nested: one for each range that must go
+    so that no such pair is left, which comes second."""
     covering: list[Any] = []
     first: dict[Span, Any] = {}
     for own in sorted(
@@ -271,7 +295,8 @@ def event_before(dump: Dump, line: int, element: Element) -> list[str]:
 
 
 def ended_before(dump: Dump, line: int, element: Element) -> list[str]:
-    """L18: the end of the document and, where a range of it is named, that range and the edge that contains it."""
+    """L18: the end of the document and, where a range of it is named, that range and the edge that
+    contains it."""
     over = {
         event["data"]: number for number, event in events(dump, line) if event.get("kind") == "end"
     }
@@ -307,7 +332,8 @@ def in_no_document(dump: Dump, line: int, element: Element) -> list[str]:
 
 
 def elsewhere(dump: Dump, line: int, element: Element) -> list[str]:
-    """E02: the ranges that aren't in the shard, with the documents that they're in, and the shard."""
+    """E02: the ranges that aren't in the shard, with the documents that they're in, and the
+    shard."""
     homes, shard = contained(dump, dump.count + 1), shard_of(element)
     away = [
         own for own in dict.fromkeys(targets(element)) if own in homes and homes[own][1] != shard
@@ -351,7 +377,8 @@ def fault_of(text: str) -> Fault:
 
 
 def conflicts(dump: Dump, fault: Fault, element: Element) -> list[str]:
-    """What an element conflicts with; nothing where it can't have the fault, as where the report is of another dump."""
+    """What an element conflicts with; nothing where it can't have the fault, as where the report is
+    of another dump."""
     kind, label = FITTING.get(fault.code, (None, None))
     if element["type"] != (kind or element["type"]) or element["label"] != (
         label or element["label"]

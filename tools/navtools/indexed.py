@@ -1,15 +1,16 @@
-"""What a project's index speaks of, the texts that were indexed, and where their places are in the files of today.
+"""What a project's index speaks of, the texts that were indexed, and where their places are in the
+files of today.
 
-A source has the texts: a git revision, or a folder. A question's place is mapped back to the text that was indexed, and each place of the answer forward.
-What isn't there is said, and never answered by what stands nearest.
+A source has the texts: a git revision, or a folder. A question's place is mapped back to the text
+that was indexed, and each place of the answer forward. What isn't there is said, and never answered
+by what stands nearest.
 """
 
 from __future__ import annotations
 
 import argparse
 import os
-from dataclasses import dataclass, field
-from typing import TYPE_CHECKING, Any, Callable, Optional, Protocol
+from typing import TYPE_CHECKING, Any, Callable, NamedTuple, Optional, Protocol
 
 from navtools.places import Maps, path_of, shown, uri_of
 from navtools.words import BadCall, project_of
@@ -85,7 +86,8 @@ class Checkout:
         self.faults: dict[str, str] = {}
 
     def of(self, path: str) -> Revision:
-        """The revision of the work tree that a file is in. Raises BadCall where it's in none, or that has no such revision."""
+        """The revision of the work tree that a file is in. Raises BadCall where it's in none, or
+        that has no such revision."""
         folder = os.path.dirname(os.path.realpath(path))
         while not os.path.isdir(folder):
             folder = os.path.dirname(folder)
@@ -157,7 +159,8 @@ def add_indexed(parser: argparse.ArgumentParser) -> None:
 def sources_of(
     revisions: list[str], indexed: Optional[str], project: str, today: str
 ) -> dict[str, Source]:
-    """The source of each project, by the words `REV`, of the project that is asked, or `PROJECT=REV`, and a folder of the texts of that project."""
+    """The source of each project, by the words `REV`, of the project that is asked, or
+    `PROJECT=REV`, and a folder of the texts of that project."""
     sources: dict[str, Source] = {}
     for word in revisions:
         other, mark, revision = word.rpartition("=")
@@ -169,9 +172,9 @@ def sources_of(
     return sources
 
 
-@dataclass(frozen=True)
-class Asked:
-    """What the index knows a place by: the document, the line and the character; and how the indexed text is called, where today's differs."""
+class Asked(NamedTuple):
+    """What the index knows a place by: the document, the line and the character; and how the
+    indexed text is called, where today's differs."""
 
     uri: str
     line: int
@@ -179,10 +182,9 @@ class Asked:
     of: str
 
 
-@dataclass(frozen=True)
-class FileMap:
-    """The path of a document's file today, or None where it's no file or is gone, and the map to its text; why there is none; and how the indexed text is
-    called, where there is one.
+class FileMap(NamedTuple):
+    """The path of a document's file today, or None where it's no file or is gone, and the map to
+    its text; why there is none; and how the indexed text is called, where there is one.
     """
 
     path: Optional[str]
@@ -221,21 +223,26 @@ def no_source(project: str, path: str) -> Optional[Source]:
     return None
 
 
-@dataclass
 class Indexed:
     """Maps places between the index of projects and the files of today.
 
-    `today` reads a file, as an editor has it; `say` is called with a line about a file whose places can't be mapped, once for each line. `others` knows
-    the sources of projects that `sources` doesn't have, by a project and the path of a file.
+    `today` reads a file, as an editor has it; `say` is called with a line about a file whose places
+    can't be mapped, once for each line. `others` knows the sources of projects that `sources`
+    doesn't have, by a project and the path of a file.
     """
 
-    sources: dict[str, Source]
-    maps: Maps
-    say: Callable[[str], None]
-    today: Callable[[str], str] = text_of
-    others: Callable[[str, str], Optional[Source]] = no_source
-    kept: dict[str, tuple[str, str, TextMap]] = field(default_factory=dict)
-    said: set[str] = field(default_factory=set)
+    def __init__(
+        self,
+        sources: dict[str, Source],
+        maps: Maps,
+        say: Callable[[str], None],
+        today: Callable[[str], str] = text_of,
+        others: Callable[[str, str], Optional[Source]] = no_source,
+    ) -> None:
+        self.sources, self.maps, self.say = sources, maps, say
+        self.today, self.others = today, others
+        self.kept: dict[str, tuple[str, str, TextMap]] = {}
+        self.said: set[str] = set()
 
     def tell(self, line: str) -> None:
         """Says a line, once."""
@@ -244,7 +251,8 @@ class Indexed:
             self.say(line)
 
     def map_of(self, project: str, path: str) -> tuple[str, Optional[TextMap], str]:
-        """The path that a file of today had, the map to its text, and how the indexed text is called; without a map places are as in the index.
+        """The path that a file of today had, the map to its text, and how the indexed text is
+        called; without a map places are as in the index.
 
         Raises BadCall where there is no such file.
         """
@@ -260,7 +268,8 @@ class Indexed:
         return old, self.kept_map(path, text, self.today(path)), source.label
 
     def kept_map(self, path: str, text: str, today: str) -> TextMap:
-        """The map from the indexed text of a file to that of today; those that were used last are kept."""
+        """The map from the indexed text of a file to that of today; those that were used last are
+        kept."""
         kept = self.kept.pop(path, None)
         if kept is None or kept[:2] != (text, today):
             from navtools.moved.text_map import TextMap  # here, as above
@@ -272,7 +281,8 @@ class Indexed:
         return kept[2]
 
     def asked(self, project: str, path: str, line: int, character: int) -> Asked:
-        """What the index knows a place by, of a file of today, or of a document by its address, which isn't mapped.
+        """What the index knows a place by, of a file of today, or of a document by its address,
+        which isn't mapped.
 
         Raises NotThere where the place is new, and BadCall where there is no such file.
         """
@@ -287,9 +297,11 @@ class Indexed:
         return Asked(uri_of(old, self.maps), *place, "" if is_same else label)
 
     def places(self, found: list[dict[str, Any]]) -> list[dict[str, Any]]:
-        """The places of an answer as they are today, each with the member `path`, which is None of a document that is no file.
+        """The places of an answer as they are today, each with the member `path`, which is None of
+        a document that is no file.
 
-        Those that are no more are left out, and it's said how many. Of a place that several projects have, one that can be mapped counts.
+        Those that are no more are left out, and it's said how many. Of a place that several
+        projects have, one that can be mapped counts.
         """
         rows = []
         last, file_map = ("", ""), FileMap(None, None)

@@ -14,7 +14,8 @@ POLL_SECONDS = 0.1
 
 
 class Indexer(NamedTuple):
-    """An indexer: the files at the top of a checkout that it's chosen by, and the line of a shell by which it's called there.
+    """An indexer: the files at the top of a checkout that it's chosen by, and the line of a shell
+    by which it's called there.
 
     It writes LSIF or SCIP onto its standard output, or into the file that the variable OUT names.
     """
@@ -68,7 +69,8 @@ def named(name: str) -> Indexer:
 
 
 def fitting(folder: str) -> Optional[Indexer]:
-    """The first known indexer of which the checkout has a mark and this machine the program; None where no mark is there."""
+    """The first known indexer of which the checkout has a mark and this machine the program; None
+    where no mark is there."""
     missing = []
     for indexer in INDEXERS:
         if any(os.path.isfile(os.path.join(folder, mark)) for mark in indexer.marks):
@@ -88,7 +90,8 @@ def tail_of(path: str) -> str:
 
 
 def indexed(line: str, folder: str, project: str, work: str, stage: Stage) -> str:
-    """Calls an indexer in a checkout by a line of the shell; answers the file with what it wrote. Its own words stay in `index.log`."""
+    """Calls an indexer in a checkout by a line of the shell; answers the file with what it wrote.
+    Its own words stay in `index.log`."""
     out, printed, log = (
         os.path.join(work, name) for name in ("index.out", "index.raw", "index.log")
     )
@@ -123,7 +126,8 @@ def indexed(line: str, folder: str, project: str, work: str, stage: Stage) -> st
 
 
 def is_scip(path: str) -> bool:
-    """Whether a file is a SCIP index and no LSIF dump: its first byte is the tag of the field `metadata`, and no object or array follows."""
+    """Whether a file is a SCIP index and no LSIF dump: its first byte is the tag of the field
+    `metadata`, and no object or array follows."""
     with open(path, "rb") as file:
         head = file.read(4096)
     text = head.lstrip()

@@ -1,8 +1,11 @@
-"""What ranges at one place mean together, and vertices with two edges where one may be: all of them are asked, by a joint result set.
+"""What ranges at one place mean together, and vertices with two edges where one may be: all of them
+are asked, by a joint result set.
 
-Of the vertices that are joined, the heads, the joint result set has each one's definitions, implementations and declarations, and a reference result that
-leads to each one's. `next` edges lead from it to the first head, over a helper for each further head that has monikers. The helper has these monikers and
-that head's own results alone: so a project that asks by such a moniker gets nothing of the other heads, as it would from the joint result set.
+Of the vertices that are joined, the heads, the joint result set has each one's definitions,
+implementations and declarations, and a reference result that leads to each one's. `next` edges lead
+from it to the first head, over a helper for each further head that has monikers. The helper has
+these monikers and that head's own results alone: so a project that asks by such a moniker gets
+nothing of the other heads, as it would from the joint result set.
 """
 
 from typing import Iterator
@@ -94,7 +97,8 @@ class Joints:
             plan.set("next", first, self.joint(heads))
 
     def head(self, own: int) -> int:
-        """What has a range's meaning: the vertex that its `next` edge leads to, or itself where it has more than that edge."""
+        """What has a range's meaning: the vertex that its `next` edge leads to, or itself where it
+        has more than that edge."""
         final = self.plan.final
         if own in self.monikers or any(final[label][own] != NONE for label in RESULT_OF):
             return own
@@ -165,7 +169,8 @@ class Joints:
         return own
 
     def helper(self, head: int, along: int) -> int:
-        """A result set with the monikers and the results of a head alone, before another in the chain; that one where the head has no moniker."""
+        """A result set with the monikers and the results of a head alone, before another in the
+        chain; that one where the head has no moniker."""
         plan, borne = self.plan, self.borne(head)
         if not borne:
             return along
@@ -196,7 +201,8 @@ class Joints:
         return other
 
     def result(self, kind: int, results: list[int]) -> int:
-        """One result for several: with the places of each, or of references one that leads to each."""
+        """One result for several: with the places of each, or of references one that leads to
+        each."""
         results = list(dict.fromkeys(results))
         if len(results) == 1:
             return results[0]
@@ -230,7 +236,8 @@ class Joints:
 
 
 def bind_own_exports(plan: Plan) -> None:
-    """Gives what is imported in a dump that exports it itself, and has no definition there, the definition of the export."""
+    """Gives what is imported in a dump that exports it itself, and has no definition there, the
+    definition of the export."""
     keys, groups = plan.survey.keys, attached(plan)
     exports: dict[bytes, int] = {}
     imports: dict[bytes, dict[int, int]] = {}

@@ -1,4 +1,5 @@
-"""Messages of JSON-RPC 2.0, each behind the head that the Language Server Protocol 3.17 gives it ("Base Protocol")."""
+"""Messages of JSON-RPC 2.0, each behind the head that the Language Server Protocol 3.17 gives it
+("Base Protocol")."""
 
 import json
 import re
@@ -19,7 +20,8 @@ Message = dict[str, Any]
 
 
 class Fault(Exception):
-    """A message that is answered by an error: the error's code, what is wrong, and the id of the request, where it can be known."""
+    """A message that is answered by an error: the error's code, what is wrong, and the id of the
+    request, where it can be known."""
 
     def __init__(self, code: int, text: str, own: Union[int, str, None] = None) -> None:
         super().__init__(text)
@@ -28,7 +30,8 @@ class Fault(Exception):
 
 
 def read_body(source: BinaryIO) -> Optional[bytes]:
-    """The next message's content; None at the end of the input. Raises Fault where the head doesn't say how long it is."""
+    """The next message's content; None at the end of the input. Raises Fault where the head doesn't
+    say how long it is."""
     length = None
     while line := source.readline():
         if line in (b"\r\n", b"\n"):
@@ -42,7 +45,8 @@ def read_body(source: BinaryIO) -> Optional[bytes]:
 
 
 def message_of(body: bytes) -> Message:
-    """The request, the notification or the response that a content is; raises Fault where it's none."""
+    """The request, the notification or the response that a content is; raises Fault where it's
+    none."""
     try:
         message = json.loads(body)
     except (ValueError, RecursionError):
@@ -79,7 +83,8 @@ def is_exit(message: Message) -> bool:
 
 
 class Inbox:
-    """The messages that come, in order. They're read ahead, so that a request can be cancelled while it waits for its turn."""
+    """The messages that come, in order. They're read ahead, so that a request can be cancelled
+    while it waits for its turn."""
 
     def __init__(self, source: BinaryIO, log: Callable[[str, bytes], None]) -> None:
         self.source = source
@@ -119,7 +124,8 @@ class Inbox:
                 self.waiting[own] = True
 
     def next(self) -> Optional[Message]:
-        """The next message; None at the end of the input. Raises Fault for one that is answered by an error, a cancelled request among them."""
+        """The next message; None at the end of the input. Raises Fault for one that is answered by
+        an error, a cancelled request among them."""
         message = self.messages.get()
         if isinstance(message, Fault):
             raise message

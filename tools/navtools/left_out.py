@@ -1,4 +1,5 @@
-"""What was left out on the way from a checkout to the server, and why, as a table: by what the tools say of it."""
+"""What was left out on the way from a checkout to the server, and why, as a table: by what the
+tools say of it."""
 
 import re
 from typing import Iterable, Iterator, NamedTuple, Optional

@@ -1,5 +1,6 @@
-"""Reads dumps in LSIF as people have them: an element a line or one JSON array, plain or packed by gzip or zstd, in UTF-8 or UTF-16, with or without
-a byte order mark and empty lines. One element is held at a time, so a dump of any size is read in little memory.
+"""Reads dumps in LSIF as people have them: an element a line or one JSON array, plain or packed by
+gzip or zstd, in UTF-8 or UTF-16, with or without a byte order mark and empty lines. One element is
+held at a time, so a dump of any size is read in little memory.
 """
 
 import codecs
@@ -41,7 +42,8 @@ class NotADump(Exception):
 
 
 class Row(NamedTuple):
-    """An element with the line that it begins on, from 1, and its text: None where that can't stand as a line of its own."""
+    """An element with the line that it begins on, from 1, and its text: None where that can't stand
+    as a line of its own."""
 
     line: int
     text: Optional[bytes]
@@ -54,7 +56,8 @@ def refuse_constant(text: str) -> None:
 
 
 def finite(text: str) -> float:
-    """A number with a fraction or an exponent; one beyond all that a double holds isn't read by the server either."""
+    """A number with a fraction or an exponent; one beyond all that a double holds isn't read by the
+    server either."""
     number = float(text)
     if number in (float("inf"), float("-inf")):
         raise ValueError(text)
@@ -111,7 +114,8 @@ def levels(value: Any) -> int:
 
 
 def text_of(element: Element) -> bytes:
-    """The text of an element, compact; a half of a surrogate pair, which UTF-8 can't have, is written as U+FFFD."""
+    """The text of an element, compact; a half of a surrogate pair, which UTF-8 can't have, is
+    written as U+FFFD."""
     text = json.dumps(element, ensure_ascii=False, separators=(",", ":"))
     try:
         return text.encode("utf-8")
@@ -135,7 +139,8 @@ def checked(value: Any, text: str, place: str) -> Element:
 
 
 def element_of(line: bytes, place: str) -> Element:
-    """The element of a line; `place` begins the message where there is none. Each element has an id here, as the server asks for one."""
+    """The element of a line; `place` begins the message where there is none. Each element has an id
+    here, as the server asks for one."""
     try:
         text = line.decode("utf-8")
         value = DECODER.decode(text)
@@ -410,7 +415,8 @@ def skipped(text: str, at: int, line: int) -> tuple[int, int]:
 
 @contextmanager
 def opened(path: str) -> Iterator[BinaryIO]:
-    """A file, or the standard input for `-`, to be read more than once: what can't be is copied to a temporary file first."""
+    """A file, or the standard input for `-`, to be read more than once: what can't be is copied to
+    a temporary file first."""
     if os.path.isdir(path):
         raise IsADirectoryError(EISDIR, os.strerror(EISDIR), path)
     with open(0 if path == "-" else path, "rb", closefd=path != "-") as file:
@@ -425,7 +431,8 @@ def opened(path: str) -> Iterator[BinaryIO]:
 
 @contextmanager
 def plain(file: BinaryIO, name: str) -> Iterator[BinaryIO]:
-    """A dump with an element a line, in UTF-8: the file itself where it's so, else a temporary one, in which lines count the elements."""
+    """A dump with an element a line, in UTF-8: the file itself where it's so, else a temporary one,
+    in which lines count the elements."""
     source = Source(file, name)
     with tempfile.TemporaryFile() as copy:
         for row in source.rows():

@@ -1,7 +1,9 @@
-"""A language server for every editor: speaks the Language Server Protocol 3.17 on its standard input and output, and asks `codenav serve` for the answers.
+"""A language server for every editor: speaks the Language Server Protocol 3.17 on its standard
+input and output, and asks `codenav serve` for the answers.
 
-The project of a file is that of the command line, or that of a file `.codenav.toml` above it. Where it's known which texts were indexed, positions are
-mapped between these and the texts in the editor; else they are those of the indexed files.
+The project of a file is that of the command line, or that of a file `.codenav.toml` above it. Where
+it's known which texts were indexed, positions are mapped between these and the texts in the editor;
+else they are those of the indexed files.
 """
 
 import argparse
@@ -109,7 +111,8 @@ class Bridge:
         self.send({"method": method, "params": {"type": kind, "message": f"codenav: {text}"}})
 
     def take(self, message: Message) -> None:
-        """Takes a request, a notification or a response. Notifications that aren't known, and bad ones, have no effect."""
+        """Takes a request, a notification or a response. Notifications that aren't known, and bad
+        ones, have no effect."""
         method, params = message.get("method"), message.get("params")
         if "method" in message and "id" in message:
             try:
@@ -187,7 +190,8 @@ class Bridge:
         self.tell("window/logMessage", INFO, text)
 
     def compare(self, uri: str, of: str) -> None:
-        """Says that the text in the editor isn't that of the file, or, where that's known, that it isn't the indexed one: once, up to when it's that again."""
+        """Says that the text in the editor isn't that of the file, or, where that's known, that it
+        isn't the indexed one: once, up to when it's that again."""
         text, path = self.texts.get(uri), path_of(uri, [])
         is_edited = bool(of)
         if text is not None and not of:
@@ -204,7 +208,8 @@ class Bridge:
         (self.edited.add if is_edited else self.edited.discard)(uri)
 
     def ask(self, what: str, params: Any, **more: str) -> Any:
-        """What a query at a position found, or None; a refusal is shown once, up to the next answer."""
+        """What a query at a position found, or None; a refusal is shown once, up to the next
+        answer."""
         uri = member(params, "textDocument.uri", str)
         line = member(params, "position.line", int)
         character = member(params, "position.character", int)
@@ -267,7 +272,8 @@ class Bridge:
         return None if contents is None else {"contents": contents}
 
     def symbols(self, params: Any) -> list[Message]:
-        """The tags whose names begin with a text, of the projects of the editor's files; an empty text finds nothing."""
+        """The tags whose names begin with a text, of the projects of the editor's files; an empty
+        text finds nothing."""
         prefix = member(params, "query", str)
         if not prefix or self.workspace is None:
             return []
@@ -319,7 +325,8 @@ NOTIFICATIONS = {
 
 
 def serve(bridge: Bridge, inbox: Inbox) -> int:
-    """Serves up to `exit` or the end of the input; answers 0 where the editor shut the server down before."""
+    """Serves up to `exit` or the end of the input; answers 0 where the editor shut the server down
+    before."""
     while True:
         try:
             message = inbox.next()
@@ -373,7 +380,8 @@ def words_parser() -> argparse.ArgumentParser:
 
 
 def settings_given(call: argparse.Namespace) -> Optional[Settings]:
-    """What the command line says of the editor's files; nothing where it names no project. Raises BadCall."""
+    """What the command line says of the editor's files; nothing where it names no project. Raises
+    BadCall."""
     if call.project is None:
         if call.url not in (None, os.environ.get("CODENAV_URL")):
             raise BadCall(f"no project, of the server {call.url}")
@@ -391,7 +399,8 @@ def settings_given(call: argparse.Namespace) -> Optional[Settings]:
 
 
 def main(words: Optional[list[str]] = None) -> int:
-    """Reads the command line and serves; answers 0 after `shutdown` and `exit`, 1 after an end without, and 2 where the call can't be carried out."""
+    """Reads the command line and serves; answers 0 after `shutdown` and `exit`, 1 after an end
+    without, and 2 where the call can't be carried out."""
     call = parsed(words_parser(), words)
     try:
         given = settings_given(call)

@@ -1,7 +1,9 @@
-"""What `prepare-lsif` does across the elements of a dump, once all are known: which ranges stay, which edges go, and what is written besides.
+"""What `prepare-lsif` does across the elements of a dump, once all are known: which ranges stay,
+which edges go, and what is written besides.
 
-All of it is in numbers (navtools/survey.py). An edge of a label that leaves a vertex once stands in `final` at the vertex's number; it's written
-where it's still so, and edges that were set here are written at the end.
+All of it is in numbers (navtools/survey.py). An edge of a label that leaves a vertex once stands in
+`final` at the vertex's number; it's written where it's still so, and edges that were set here are
+written at the end.
 """
 
 import fnmatch
@@ -212,7 +214,8 @@ class Plan:
                 self.silence(outcome.around)
 
     def silence(self, own: int) -> None:
-        """Leaves out what a range over a whole file would answer at each word that has nothing of its own."""
+        """Leaves out what a range over a whole file would answer at each word that has nothing of
+        its own."""
         line = self.survey.numbers.lines[own]
         self.notes.mend("range over a whole file, which stays as a place and isn't asked", line)
         self.mute.add(own)

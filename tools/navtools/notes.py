@@ -1,4 +1,5 @@
-"""What a tool changed or left out, for its report: how often each kind came, and where it came first."""
+"""What a tool changed or left out, for its report: how often each kind came, and where it came
+first."""
 
 from dataclasses import dataclass, field
 
@@ -13,7 +14,8 @@ class Kind:
 
 @dataclass
 class Notes:
-    """Kinds by their texts: what was mended, and what had to be left out, which makes the status 1 unless that's taken."""
+    """Kinds by their texts: what was mended, and what had to be left out, which makes the status 1
+    unless that's taken."""
 
     mended: dict[str, Kind] = field(default_factory=dict)
     left_out: dict[str, Kind] = field(default_factory=dict)

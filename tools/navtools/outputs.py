@@ -1,4 +1,5 @@
-"""What the tools write: files that are there whole or not at all, and the limits of the server for a dump."""
+"""What the tools write: files that are there whole or not at all, and the limits of the server for
+a dump."""
 
 import os
 import sys
@@ -12,8 +13,9 @@ MOST_LINE_BYTES = 1_048_576
 
 @contextmanager
 def whole_file(target: str) -> Iterator[BinaryIO]:
-    """A file to write: a new one beside the target, which takes its place when it's whole, so that no half of it is ever there. The standard output,
-    for `-`, and a target that is no file, as a pipe, are written themselves."""
+    """A file to write: a new one beside the target, which takes its place when it's whole, so that
+    no half of it is ever there. The standard output, for `-`, and a target that is no file, as a
+    pipe, are written themselves."""
     if target == "-":
         yield sys.stdout.buffer
         return
@@ -47,7 +49,8 @@ def excesses(elements: int, body_bytes: int, longest_line: int) -> list[str]:
 
 
 class Early:
-    """Says once, as soon as it's known, that more elements will be written than the server takes."""
+    """Says once, as soon as it's known, that more elements will be written than the server
+    takes."""
 
     def __init__(self, tool: str, advice: str) -> None:
         self.tool, self.advice, self.is_said = tool, advice, False
@@ -64,7 +67,8 @@ class Early:
 
 
 class Progress:
-    """A progress line on a terminal, by Debian's python3-tqdm, for what takes over two seconds; without that or elsewhere there is none."""
+    """A progress line on a terminal, by Debian's python3-tqdm, for what takes over two seconds;
+    without that or elsewhere there is none."""
 
     def __init__(self, stage: str, total: int) -> None:
         self.bar: Any = None

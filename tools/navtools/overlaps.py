@@ -1,4 +1,5 @@
-"""Which ranges of a document stay: equal ones are one place, and of two that overlap and aren't nested the smaller stays."""
+"""Which ranges of a document stay: equal ones are one place, and of two that overlap and aren't
+nested the smaller stays."""
 
 from typing import Any, Callable, Iterable, Iterator, NamedTuple, Optional, Sequence
 
@@ -6,7 +7,8 @@ Place = tuple[int, int]
 
 
 class Outcome(NamedTuple):
-    """The ranges that are equal to an earlier one, with that; those that have to go; and the one that lies around all others, if it's so."""
+    """The ranges that are equal to an earlier one, with that; those that have to go; and the one
+    that lies around all others, if it's so."""
 
     equal: dict[int, int]
     crossing: list[int]
@@ -14,7 +16,8 @@ class Outcome(NamedTuple):
 
 
 def sorted_out(ranges: Sequence[int], place_of: Callable[[int], Place]) -> Outcome:
-    """What becomes of the ranges of a document, of which the earlier stand first. `place_of` is a range's start and end, packed by `line << 31 | character`."""
+    """What becomes of the ranges of a document, of which the earlier stand first. `place_of` is a
+    range's start and end, packed by `line << 31 | character`."""
     equal: dict[int, int] = {}
     first: dict[Place, int] = {}
     for own in ranges:
@@ -29,7 +32,8 @@ def sorted_out(ranges: Sequence[int], place_of: Callable[[int], Place]) -> Outco
 
 
 def is_around(places: Sequence[Place]) -> bool:
-    """Whether the first place begins where the document does, goes over lines, and ends behind all others."""
+    """Whether the first place begins where the document does, goes over lines, and ends behind all
+    others."""
     start, end = places[0]
     return start == 0 and end >> 31 > 0 and end == max(place[1] for place in places)
 
@@ -55,10 +59,12 @@ def size(place: Place) -> Place:
 
 
 def crossed(places: Sequence[Place]) -> Iterator[Place]:
-    """The places that go: taken from the smallest to the largest, one stays unless it crosses one that stays.
+    """The places that go: taken from the smallest to the largest, one stays unless it crosses one
+    that stays.
 
-    For each start the furthest end of what stays is kept in a tree of greatest values, and for each end the least start: so it takes
-    a logarithm of their number to see whether what stays begins within a place and ends behind it, or ends within it and begins before.
+    For each start the furthest end of what stays is kept in a tree of greatest values, and for each
+    end the least start: so it takes a logarithm of their number to see whether what stays begins
+    within a place and ends behind it, or ends within it and begins before.
     """
     real = [place for place in places if place[0] < place[1]]
     bounds = {bound: at for at, bound in enumerate(sorted({b for place in real for b in place}))}
@@ -73,7 +79,8 @@ def crossed(places: Sequence[Place]) -> Iterator[Place]:
 
 
 class Greatest:
-    """A table of numbers of which the greatest in a part is found in steps that grow as a logarithm: a segment tree."""
+    """A table of numbers of which the greatest in a part is found in steps that grow as a
+    logarithm: a segment tree."""
 
     def __init__(self, size: int) -> None:
         self.size = size
@@ -87,7 +94,8 @@ class Greatest:
             at >>= 1
 
     def within(self, start: int, end: int) -> int:
-        """The greatest number from one place to before another; far below zero where there is none."""
+        """The greatest number from one place to before another; far below zero where there is
+        none."""
         found, low, high = -(1 << 62), start + self.size, end + self.size
         while low < high:
             if low & 1:

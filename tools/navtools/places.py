@@ -17,7 +17,8 @@ def units(text: str) -> int:
 
 
 def characters(text: str, count: int) -> int:
-    """How many whole characters the first `count` UTF-16 code units of a line have; beyond its end units count as such."""
+    """How many whole characters the first `count` UTF-16 code units of a line have; beyond its end
+    units count as such."""
     for index, character in enumerate(text):
         if count <= 0:
             return index
@@ -26,7 +27,8 @@ def characters(text: str, count: int) -> int:
 
 
 def lines_of(path: str) -> list[str]:
-    """The lines of a file without their ends; the last one is empty where a line feed ends the file."""
+    """The lines of a file without their ends; the last one is empty where a line feed ends the
+    file."""
     with open(path, encoding="utf-8", newline="\n") as text:
         try:
             return [line.removesuffix("\r") for line in text.read().split("\n")]
@@ -35,7 +37,8 @@ def lines_of(path: str) -> list[str]:
 
 
 def character_at(path: str, line: int, column: int, utf16: bool) -> int:
-    """The UTF-16 code units before a column of a file's line, both from 1; with `utf16` the column counts such."""
+    """The UTF-16 code units before a column of a file's line, both from 1; with `utf16` the column
+    counts such."""
     lines = lines_of(path)
     text = lines[line - 1] if 1 <= line <= len(lines) else None
     if text is None or not 1 <= column <= (units(text) if utf16 else len(text)) + 1:
@@ -57,7 +60,8 @@ def maps_of(texts: list[str]) -> Maps:
 
 
 def link_map(folder: str) -> Maps:
-    """What a folder that is reached by a symbolic link is a map for: indexers know its files by their real paths. Nothing of another folder."""
+    """What a folder that is reached by a symbolic link is a map for: indexers know its files by
+    their real paths. Nothing of another folder."""
     folder, real = os.path.abspath(folder), os.path.realpath(folder)
     return [] if folder == real else [(uri_of(real, []), folder)]
 
@@ -73,12 +77,14 @@ def is_inside(inside: str) -> bool:
 
 
 def asked_path(path: str, maps: Maps) -> str:
-    """The whole path by which a file is asked for: as it's given where a map's folder has it, else without symbolic links."""
+    """The whole path by which a file is asked for: as it's given where a map's folder has it, else
+    without symbolic links."""
     return os.path.abspath(path) if is_mapped(path, maps) else os.path.realpath(path)
 
 
 def uri_of(path: str, maps: Maps) -> str:
-    """The document's address, in the one spelling: that of the first map whose folder has the file, else the file's own."""
+    """The document's address, in the one spelling: that of the first map whose folder has the file,
+    else the file's own."""
     path = os.path.abspath(path)
     for root, folder in maps:
         inside = os.path.relpath(path, folder)
@@ -103,13 +109,15 @@ def plain(part: str) -> str:
 
 
 def shown(path: str) -> str:
-    """A path as it's printed: from the folder that the call was made in where the file lies there."""
+    """A path as it's printed: from the folder that the call was made in where the file lies
+    there."""
     inside = os.path.relpath(path)
     return inside if is_inside(inside) else path
 
 
 class Place(NamedTuple):
-    """A place in a file, or in a document that is no file; the line and the character count from 0, the character in UTF-16 code units."""
+    """A place in a file, or in a document that is no file; the line and the character count from 0,
+    the character in UTF-16 code units."""
 
     name: str
     line: int
@@ -126,7 +134,8 @@ def place_of(found: dict[str, Any], maps: Maps) -> Place:
 
 
 def place_line(place: Place, utf16: bool) -> str:
-    """`path:line:column` of a place, from 1; with `utf16`, or where its file can't be read, in UTF-16 code units, else in characters."""
+    """`path:line:column` of a place, from 1; with `utf16`, or where its file can't be read, in
+    UTF-16 code units, else in characters."""
     column = place.character
     if not utf16:
         try:

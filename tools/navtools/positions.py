@@ -1,4 +1,5 @@
-"""Positions of a dump that counts bytes or code points, as UTF-16 code units, by the files that were indexed."""
+"""Positions of a dump that counts bytes or code points, as UTF-16 code units, by the files that
+were indexed."""
 
 import os
 from typing import Optional

@@ -114,7 +114,8 @@ def summary(plan: Plan, written: int) -> str:
 
 
 def report(plan: Plan, profile: str) -> list[str]:
-    """Which ranges were merged, and which labels have no effect in the profile; lines and characters count from 0."""
+    """Which ranges were merged, and which labels have no effect in the profile; lines and
+    characters count from 0."""
     survey, lines = plan.survey, []
     ids = survey.numbers.ids()
     for own, kept in plan.moved.items():
@@ -140,7 +141,8 @@ def shape_lines(source: Source) -> list[str]:
 
 
 def prepare(source: Source, call: argparse.Namespace) -> int:
-    """Prepares a dump into the file `call.output`, or onto the standard output where that is `-`; answers the exit status."""
+    """Prepares a dump into the file `call.output`, or onto the standard output where that is `-`;
+    answers the exit status."""
     notes = Notes()
     plan = plan_of(survey_dump(source, call, notes), call)
     counter = rows.RowCounter(call.profile) if call.report else None
@@ -221,7 +223,8 @@ def parser_of_words() -> argparse.ArgumentParser:
 
 
 def main(words: Optional[list[str]] = None) -> int:
-    """Reads the command line; answers 0, 1 where something was left out or is over a limit of the server, and 2 where nothing is written."""
+    """Reads the command line; answers 0, 1 where something was left out or is over a limit of the
+    server, and 2 where nothing is written."""
     call = parser_of_words().parse_args(words)
     name = "standard input" if call.input == "-" else call.input
     try:

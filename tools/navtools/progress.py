@@ -1,4 +1,5 @@
-"""How far a stage of a long call is: a bar on a terminal where Debian's python3-tqdm is there, and a line when the stage has ended."""
+"""How far a stage of a long call is: a bar on a terminal where Debian's python3-tqdm is there, and
+a line when the stage has ended."""
 
 import io
 import sys
@@ -22,6 +23,8 @@ class Stage:
             return self
         # `disable`: no bar but on a terminal.
         look: dict[str, Any] = {"unit": "B", "unit_scale": True, "delay": 1, "disable": None}
+        if self.total is None:
+            look["bar_format"] = "{desc}: {n_fmt}{unit} in {elapsed}"
         self.bar = tqdm(desc=self.what, total=self.total, leave=False, file=sys.stderr, **look)
         return self
 

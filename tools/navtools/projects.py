@@ -9,7 +9,8 @@ from navtools.words import add_server, parsed, server_of, status_of
 
 
 def listed(server: str) -> list[dict[str, Any]]:
-    """The projects of a server, in the order of their names: each with its `name`, and whether it has a `dump` and `tags`."""
+    """The projects of a server, in the order of their names: each with its `name`, and whether it
+    has a `dump` and `tags`."""
     found = found_in(request(address(server, "/projects", {})), "projects")
     if not isinstance(found, list) or not all(
         isinstance(project, dict) and isinstance(project.get("name"), str) for project in found

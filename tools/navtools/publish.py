@@ -1,8 +1,11 @@
-"""From a checkout to answers by one call: indexes FOLDER, prepares the dump, has ctags make its tags, checks both, and uploads them.
+"""From a checkout to answers by one call: indexes FOLDER, prepares the dump, has ctags make its
+tags, checks both, and uploads them.
 
-Each stage is a line on the standard error, and on a terminal a bar where Debian's python3-tqdm is there. Nothing is uploaded before all is
-made and checked. What was uploaded is printed, and then what was left out, and why. A dump that is too large for one project becomes a set of
-parts, which is asked by PROJECT too; `NAME@BRANCH` is one beside that of NAME.
+Each stage is a line on the standard error, and on a terminal a bar where Debian's python3-tqdm is
+there. Nothing is uploaded before all is made and checked. What was uploaded is printed, and then
+what was left out, and why. A dump that is too large for one project becomes a set of parts, which
+is asked by PROJECT too; `NAME@BRANCH` is one beside that of NAME. With several servers it's always
+a set, which goes to its home, and its surface to the others.
 """
 
 import argparse
@@ -23,13 +26,16 @@ from navtools.left_out import Row, rows_of, table
 from navtools.lsif import NotADump
 from navtools.places import uri_of
 from navtools.progress import Heard, Stage, Watched
-from navtools.revisions import git, line_of
+from navtools.revisions import indexed_at
 from navtools.sets import split
 from navtools.sets.manifest import set_name, shown_name
 from navtools.sets.publish import Publish, Store, fetch_cuts, remove_set
 from navtools.tagging import LEFT_OUT, tagged
 from navtools.upload import fresh_key, put, upload_url
+from navtools.surfaces.homes import home_of, named_in_front, servers_of
+from navtools.surfaces.spread import Spread, made_surface, surface_name
 from navtools.words import BadCall, add_server, parsed, project_of, server_of, status_of
+from navtools.workspace import FILE, found_in_file
 
 TOOL = "publish"
 OVER = "over the limits"
@@ -42,7 +48,8 @@ class Refused(Exception):
 
 
 class Body(NamedTuple):
-    """What is uploaded: to which project, as which part, from which file, and in which profile where it's a dump."""
+    """What is uploaded: to which project, as which part, from which file, and in which profile
+    where it's a dump."""
 
     project: str
     part: str
@@ -59,7 +66,8 @@ def made_by(tool: Callable[[list[str]], int], words: list[str]) -> tuple[int, li
 
 
 def program_of(given: Optional[str]) -> Optional[str]:
-    """The program `codenav`, where it's at hand: the one that's named, that of this clone, or the one on the path."""
+    """The program `codenav`, where it's at hand: the one that's named, that of this clone, or the
+    one on the path."""
     given = given or os.environ.get("CODENAV_PROGRAM")
     if given:
         if not shutil.which(given):
@@ -69,7 +77,8 @@ def program_of(given: Optional[str]) -> Optional[str]:
 
 
 def raw_dump(call: argparse.Namespace, work: str) -> Optional[str]:
-    """The file with the dump or the index of the checkout, which was given or is written now; None where there's none to be had."""
+    """The file with the dump or the index of the checkout, which was given or is written now; None
+    where there's none to be had."""
     if call.dump is not None or call.no_index:
         return None if call.no_index else str(call.dump)
     line = call.index
@@ -87,8 +96,8 @@ def raw_dump(call: argparse.Namespace, work: str) -> Optional[str]:
 def prepared(
     raw: str, out: str, folder: str, profile: str, without: list[str]
 ) -> tuple[list[str], bool]:
-    """Writes the dump that the server takes of a dump or an index, without the documents of these patterns; answers what the tool said, and
-    whether the dump is too large for one project."""
+    """Writes the dump that the server takes of a dump or an index, without the documents of these
+    patterns; answers what the tool said, and whether the dump is too large for one project."""
     if is_scip(raw):
         if without:
             raise BadCall("--without is for dumps, and this is a SCIP index")
@@ -129,12 +138,13 @@ def check(program: str, part: str, path: str, profile: str) -> str:
     raise Refused(f"the server would refuse this {part}: {said}")
 
 
-def made_tags(call: argparse.Namespace, out: str) -> list[Row]:
-    """Writes the tags file of the checkout; answers what was left out."""
+def made_tags(call: argparse.Namespace, out: str) -> tuple[int, list[Row]]:
+    """Writes the tags file of the checkout; answers how many tags it has, and what was left out."""
     with Stage(TOOL, "tags by ctags") as stage:
         count, left_out = tagged(call.folder, out, call.set)
         stage.detail = f"{count} tags"
-    return [Row("tags", number, LEFT_OUT[code]) for code, number in sorted(left_out.items())]
+    rows = [Row("tags", number, LEFT_OUT[code]) for code, number in sorted(left_out.items())]
+    return count, rows
 
 
 def send(server: str, body: Body) -> str:
@@ -144,7 +154,9 @@ def send(server: str, body: Body) -> str:
     with Stage(TOOL, f"uploaded {body.part}", size) as stage:
         with BufferedReader(Watched(body.path, stage), 1 << 16) as file:
             answer, over = put(url, body.part, file, body.path, body.profile or "1", True)
-        if answer.status != 200 or reply_in(answer) is None:
+        if reply_in(answer) is None:
+            raise BadCall(refusal_of(answer))
+        if answer.status != 200:
             raise Refused("\n".join([refusal_of(answer), *over]))
         stage.detail = f"{size} bytes"
     count = found_in(answer, "count")
@@ -155,7 +167,8 @@ def send(server: str, body: Body) -> str:
 
 @contextmanager
 def work_folder(kept: Optional[str]) -> Iterator[str]:
-    """The folder that files are made in: the one that is named, which stays, or one that goes with the context."""
+    """The folder that files are made in: the one that is named, which stays, or one that goes with
+    the context."""
     if kept is not None:
         os.makedirs(kept, exist_ok=True)
         yield kept
@@ -170,25 +183,42 @@ def made(call: argparse.Namespace, work: str) -> tuple[list[Body], list[Row]]:
     left_out: list[Row] = []
     raw = raw_dump(call, work)
     if raw is not None:
-        dump = os.path.join(work, "dump.lsif")
-        lines, is_over = prepared(raw, dump, call.folder, call.profile, call.without)
+        dump, lines = made_dump(call, raw, work)
         left_out += rows_of(lines, call.profile)
-        call.set = call.set or is_over
         bodies.append(Body(call.project, "lsif", dump, call.profile))
+    elif not call.no_index:
+        left_out.append(Row("dump", None, "no indexer is known for what is here (--index)"))
     if not call.no_tags and shutil.which("ctags"):
         tags = os.path.join(work, "tags")
-        left_out += made_tags(call, tags)
-        bodies.append(Body(call.project, "tags", tags, None))
+        count, rows = made_tags(call, tags)
+        left_out += rows
+        if count or raw is not None or call.no_index:
+            bodies.append(Body(call.project, "tags", tags, None))
     elif not call.no_tags:
         left_out.append(Row("tags", None, "ctags isn't installed (Debian's universal-ctags)"))
     if not bodies:
-        raise BadCall(f"{call.folder}: no indexer is known for what is here, and no tags are made")
+        raise BadCall(f"{call.folder}: no indexer is known for what is here, and there are no tags")
     if call.set and raw is None:
         raise BadCall("a set is made of a dump: there is none")
     if call.set:
-        bodies = parts_of(call, bodies, set_folder(work))
+        bodies, lines = parts_of(call, bodies, set_folder(work))
+        left_out = [*rows_of(lines, call.profile), *left_out]
     check_all(call, bodies)
     return bodies, left_out
+
+
+def made_dump(call: argparse.Namespace, raw: str, work: str) -> tuple[str, list[str]]:
+    """Prepares the dump that is uploaded, and notes where it's too large for one project; answers
+    its file, and what the tool said. An index that becomes a set is split itself, but where a surface
+    is made of the dump too."""
+    dump = os.path.join(work, "dump.lsif")
+    is_split = is_scip(raw) and not call.servers
+    if not (call.set and is_split and not call.without):
+        lines, is_over = prepared(raw, dump, call.folder, call.profile, call.without)
+        call.set = call.set or is_over
+        if not (is_over and is_split):
+            return dump, lines
+    return raw, []
 
 
 def check_all(call: argparse.Namespace, bodies: list[Body]) -> None:
@@ -209,64 +239,142 @@ def set_folder(work: str) -> str:
     return os.path.join(work, "set")
 
 
-def parts_of(call: argparse.Namespace, bodies: list[Body], folder: str) -> list[Body]:
-    """Splits a dump and the tags into the parts of a set, which keeps the cuts of the set on the server."""
+def parts_of(
+    call: argparse.Namespace, bodies: list[Body], folder: str
+) -> tuple[list[Body], list[str]]:
+    """Splits a dump or an index and the tags into the parts of a set, which keeps the cuts of the
+    set on the server; answers what the tool said too."""
     name, where = set_name(call.project), uri_of(call.folder, [])
     if not call.dry_run:
-        fetch_cuts(Store(server_of(call.url)), name, folder)
+        fetch_cuts(Store(call.home), name, folder)
     words = ["--name", name, "--profile", call.profile, "--map", f"{where}={call.folder}"]
-    words += ["--revision", revision_of(call.folder)]
+    words += ["--revision", call.commit]
     for body in bodies:
         if body.part == "tags":
             words += ["--tags", body.path, "--tags-folder", call.folder]
+    if is_scip(bodies[0].path):
+        words += ["--source", call.folder]
     with Stage(TOOL, "split-lsif") as stage:
         status, lines = made_by(split.main, [*words, bodies[0].path, folder])
-        if status != 0:
+        if status == 2:
             raise Refused("\n".join(lines))
         stage.detail = lines[-1]
-    return [
+    parts = [
         Body(project, part, path, call.profile if part == "lsif" else None)
         for project, files in Publish(Store(""), folder).files.items()
         for part, path in files.items()
     ]
+    if call.servers:
+        parts += surface_of(call, bodies[0].path, name, folder)
+    return parts, lines
 
 
-def revision_of(folder: str) -> str:
-    """The revision of git that a checkout has without changes, or nothing."""
-    changes = git(folder, "status", "--porcelain", "--untracked-files=no")
-    return "" if changes is None or changes else line_of(git(folder, "rev-parse", "HEAD"))
+def surface_of(call: argparse.Namespace, dump: str, name: str, folder: str) -> list[Body]:
+    """Makes the surface of a dump, in a folder of its own beside its parts; answers its parts."""
+    own = os.path.join(folder, "surface")
+    with Stage(TOOL, "surface-lsif") as stage:
+        heard = Heard()
+        try:
+            with redirect_stderr(heard):
+                call.surface = made_surface(dump, name, call.profile, own)
+        except BadCall as fault:
+            said = [str(fault), *heard.getvalue().splitlines()[-1:]]
+            raise BadCall(": ".join(said)) from None
+        stage.detail = f"elements {sum(part.elements for part in call.surface.parts)}"
+    return [
+        Body(part.project, "lsif", os.path.join(own, f"{part.project}.lsif"), call.profile)
+        for part in call.surface.parts
+    ]
 
 
-def send_set(server: str, folder: str) -> str:
-    """Publishes the parts of a set, in the place of a project of its name; answers what was done."""
-    publish = Publish(Store(server), folder, in_place_of_project=True)
+def publish_of(call: argparse.Namespace, folder: str) -> Publish:
+    """What publishes a set: at the one server, or at its home and with its surface elsewhere."""
+    home = Store(call.home)
+    if not call.servers:
+        return Publish(home, folder, in_place_of_project=True)
+    server = server_of(call.url)
+    is_front = named_in_front(server) not in map(named_in_front, call.servers)
+    spread = Spread(
+        home,
+        folder,
+        in_place_of_project=True,
+        others=[Store(other) for other in call.servers if other != call.home],
+        surface=os.path.join(folder, "surface"),
+        front=Store(server) if is_front else None,
+        only_joined=call.servers_that_join,
+    )
+    made = call.surface
+    spread.head = spread.head._replace(surface=made.parts, packages=made.packages)
+    return spread
+
+
+def send_set(call: argparse.Namespace, folder: str) -> str:
+    """Publishes the parts of a set, in the place of a project of its name; answers what was
+    done."""
+    publish = publish_of(call, folder)
     with Stage(TOOL, "published parts") as stage:
         stage.detail = publish.run().line()
-    return f"{shown_name(publish.head.name)}: a set, {publish.report.line()}"
+    name, where = shown_name(publish.head.name), ""
+    if isinstance(publish, Spread):
+        where = f" at {call.home}"
+        for other in publish.lacking:
+            print(
+                f"{TOOL}: publish {shown_name(other)} again: it's joined to {name}, and its surface isn't at {call.home}",
+                file=sys.stderr,
+            )
+    return f"{name}: a set{where}, {publish.report.line()}"
 
 
-def send_all(call: argparse.Namespace, server: str, bodies: list[Body], work: str) -> list[str]:
-    """Uploads what was made, and removes a set that was there of a project that has become small enough; answers what was uploaded."""
+def send_all(call: argparse.Namespace, bodies: list[Body], work: str) -> list[str]:
+    """Uploads what was made, and removes a set that was there of a project that has become small
+    enough; answers what was uploaded."""
     if call.set:
-        return [send_set(server, set_folder(work))]
-    sent = [send(server, body) for body in bodies]
-    count = remove_set(Store(server), call.project)
+        return [send_set(call, set_folder(work))]
+    sent = [send(call.home, body) for body in bodies]
+    count = remove_set(Store(call.home), call.project)
     return [*sent, f"{call.project}: and removed its set of {count} parts"] if count else sent
+
+
+def revision_line(commit: str, is_set: bool) -> str:
+    """What is said of the revision that was indexed: a set keeps it, and a project doesn't."""
+    how = "which the set keeps" if is_set else f"where files changed ask with --revision {commit}"
+    return f"the index is of revision {commit}: {how}"
+
+
+def servers_in(call: argparse.Namespace) -> list[str]:
+    """The servers that a set is published to, by the command line or by the settings in FOLDER;
+    none where it goes to one."""
+    path = os.path.join(call.folder, FILE)
+    if call.servers is not None:
+        return servers_of(call.servers.split(","))
+    found = found_in_file(path).get("servers", []) if os.path.isfile(path) else []
+    return servers_of(found) if found else []
 
 
 def published(call: argparse.Namespace) -> int:
     """Goes from the checkout to the server; answers the status."""
-    server, call.set = server_of(call.url), call.set or "@" in call.project
-    set_name(call.project) if call.set else project_of(call.project)
+    call.home, call.set = server_of(call.url), call.set or "@" in call.project
     call.folder = os.path.realpath(call.folder)
     if not os.path.isdir(call.folder):
         raise BadCall(f"{call.folder}: not a folder")
+    call.servers = servers_in(call)
+    if call.servers_that_join and not call.servers:
+        raise BadCall("--servers-that-join takes --servers, or `servers` in the settings")
+    if call.servers:
+        call.set, name = True, set_name(call.project)
+        surface_name(name)
+        call.home = home_of(call.servers, name)
+    set_name(call.project) if call.set else project_of(call.project)
+    call.commit, fault = indexed_at(call.folder, call.revision)
+    if fault:
+        print(f"{TOOL}: {fault}", file=sys.stderr)
     if not call.dry_run:
-        found_in(request_again(address(server, "/projects", {}), "GET"), "projects")
+        for server in call.servers or [call.home]:
+            found_in(request_again(address(server, "/projects", {}), "GET"), "projects")
     try:
         with work_folder(call.keep) as work:
             bodies, left_out = made(call, work)
-            sent = [] if call.dry_run else send_all(call, server, bodies, work)
+            sent = [] if call.dry_run else send_all(call, bodies, work)
     except Refused as fault:
         for line in str(fault).splitlines():
             print(f"{TOOL}: {line}", file=sys.stderr)
@@ -276,6 +384,8 @@ def published(call: argparse.Namespace) -> int:
     if sent and bodies[0].part == "lsif":
         where = uri_of(call.folder, [])
         print(f"documents are below {where}: elsewhere ask with --map {where}=FOLDER")
+        if call.commit:
+            print(revision_line(call.commit, call.set))
     for line in table(left_out):
         print(line)
     return 0
@@ -328,6 +438,22 @@ def words_parser() -> argparse.ArgumentParser:
         action="store_true",
         help="make a set of parts, as is done by itself of a dump that is too large for one project",
     )
+    parser.add_argument(
+        "--servers",
+        metavar="URL,URL..",
+        help="all servers of a front that spreads projects, spelled as in its configuration: the set goes to the one that the front picks, and its "
+        f"surface to the others; without it `servers` of FOLDER's {FILE}. URL is the front then, or one of them",
+    )
+    parser.add_argument(
+        "--servers-that-join",
+        action="store_true",
+        help="the surface goes to those of the servers alone that have a set which imports or exports something of one of its packages",
+    )
+    parser.add_argument(
+        "--revision",
+        metavar="REV",
+        help="the git revision that is indexed; without it the one that FOLDER has checked out, where no file that git has is changed",
+    )
     parser.add_argument("--keep", metavar="FOLDER", help="keep the files that are made, in FOLDER")
     parser.add_argument(
         "--dry-run", action="store_true", help="make and check all, and upload nothing"
@@ -341,6 +467,7 @@ def words_parser() -> argparse.ArgumentParser:
 
 
 def main(words: Optional[list[str]] = None) -> int:
-    """Reads the command line and publishes; answers 0, 1 where it's refused, and 2 where it can't be carried out."""
+    """Reads the command line and publishes; answers 0, 1 where it's refused, and 2 where it can't
+    be carried out."""
     call = parsed(words_parser(), words)
     return status_of(TOOL, lambda: published(call))

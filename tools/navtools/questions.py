@@ -1,8 +1,8 @@
-"""Asks a project or a set at places of the files as they are today, and answers with places of today."""
+"""Asks a project or a set at places of the files as they are today, and answers with places of
+today."""
 
 import os
-from dataclasses import dataclass
-from typing import Any, Callable
+from typing import Any, Callable, NamedTuple
 
 from navtools.client import NoReply, address, found_in, request
 from navtools.indexed import Asked, Checkout, Indexed
@@ -69,9 +69,9 @@ def is_tag(value: Any) -> bool:
 SHAPES: dict[str, Callable[[Any], bool]] = {"places": is_place, "tags": is_tag}
 
 
-@dataclass(frozen=True)
-class Reply:
-    """What was found, places as they are today or the contents of a hover, and how the indexed text is called where that of today differs."""
+class Reply(NamedTuple):
+    """What was found, places as they are today or the contents of a hover, and how the indexed text
+    is called where that of today differs."""
 
     found: Any
     of: str
@@ -80,7 +80,8 @@ class Reply:
 class Questions:
     """Asks one project or set.
 
-    The revision of a set is that of its manifest, unless the call names one: so the first question to a set may be asked twice.
+    The revision of a set is that of its manifest, unless the call names one: so the first question
+    to a set may be asked twice.
     """
 
     def __init__(self, name: str, fetch: Fetch, indexed: Indexed) -> None:
@@ -88,7 +89,8 @@ class Questions:
         self.index = Index(name, fetch)
 
     def ask(self, what: str, path: str, line: int, character: int, **more: str) -> Reply:
-        """What is found at a place of a file. Raises NotThere where the place is new, and NoReply."""
+        """What is found at a place of a file. Raises NotThere where the place is new, and
+        NoReply."""
         place = self.indexed.asked(self.name, path, line, character)
         try:
             found = self.found(what, place, more)
@@ -106,7 +108,8 @@ class Questions:
         return Reply(found if what == "hover" else self.indexed.places(found), place.of)
 
     def told(self, fault: NoReply, place: Asked, path: str) -> NoReply:
-        """A fault with the address that was asked, and of a document that isn't there with what can be done."""
+        """A fault with the address that was asked, and of a document that isn't there with what can
+        be done."""
         text = f"{fault}: {place.uri}"
         if str(fault) != "D02 no such document":
             return NoReply(text)
@@ -122,7 +125,8 @@ class Questions:
         return self.index.query(what, {**at, **more}, MEMBERS.get(what, "places"))
 
     def learns_revision(self) -> bool:
-        """Whether the manifest of the set, which was read meanwhile, says of which revision it is, and nothing else did."""
+        """Whether the manifest of the set, which was read meanwhile, says of which revision it is,
+        and nothing else did."""
         head = self.index.sets.heads.get(self.index.name)
         if head is None or not head.revision or self.name in self.indexed.sources:
             return False

@@ -1,4 +1,5 @@
-"""Removes a project: its dump and its tags. Each call has a key of its own, which all its retries share, so it acts once."""
+"""Removes a project: its dump and its tags. Each call has a key of its own, which all its retries
+share, so it acts once."""
 
 import argparse
 from typing import Optional
@@ -25,7 +26,8 @@ def made(call: argparse.Namespace) -> int:
 
 
 def main(words: Optional[list[str]] = None) -> int:
-    """Answers 0 where something was removed, 1 where there was nothing to remove, and 2 at a fault."""
+    """Answers 0 where something was removed, 1 where there was nothing to remove, and 2 at a
+    fault."""
     parser = argparse.ArgumentParser(prog="remove", description=__doc__)
     add_retry(parser)
     parser.add_argument("--json", action="store_true", help="print the reply as the server has it")

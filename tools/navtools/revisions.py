@@ -1,7 +1,8 @@
 """The texts of a git revision, the names that files had there, and the names that they have today.
 
-A repository is asked by one `git cat-file --batch` for texts, and by one more for the names of their blobs; git reads and writes nothing elsewhere,
-takes no lock, and fetches nothing of a partial clone.
+A repository is asked by one `git cat-file --batch` for texts, and by one more for the names of
+their blobs; git reads and writes nothing elsewhere, takes no lock, and fetches nothing of a partial
+clone.
 """
 
 import os
@@ -44,30 +45,57 @@ def top_of(folder: str) -> str:
     return line_of(git(folder, "rev-parse", "--show-toplevel"))
 
 
+def found_in(top: str, name: str) -> str:
+    """The object of a name in a work tree's repository; empty where it has none."""
+    words = ["rev-parse", "--verify", "--quiet", "--end-of-options", name]
+    return line_of(git(top, *words))
+
+
 def commit_of(top: str, revision: str) -> str:
-    """The commit that a revision is in a work tree; of a submodule, the one that its repository had at the revision. Raises BadCall."""
+    """The commit that a revision is in a work tree; of a submodule, the one that its repository had
+    at the revision. Raises BadCall.
+
+    What the repository around a submodule doesn't know may be a revision of the submodule's own.
+    """
     above = line_of(git(top, "rev-parse", "--show-superproject-working-tree"))
-    wanted = f"{revision}^{{commit}}"
-    if above:
-        inside = os.path.relpath(top, os.path.realpath(above))
-        wanted = f"{commit_of(above, revision)}:{inside}"
-    commit = line_of(
-        git(
-            top if not above else above,
-            "rev-parse",
-            "--verify",
-            "--quiet",
-            "--end-of-options",
-            wanted,
-        )
-    )
-    if not commit and above:
-        raise BadCall(f"{top}: a submodule that {revision} of {above} doesn't have")
-    if above and git(top, "cat-file", "-e", f"{commit}^{{commit}}") is None:
-        raise BadCall(f"{top}: a submodule without {commit}: `git fetch origin {commit}` gets it")
-    if not commit:
+    own = found_in(top, f"{revision}^{{commit}}")
+    if not above and own:
+        return own
+    if not above:
         raise BadCall(no_revision(top, revision))
+    try:
+        outer = commit_of(above, revision)
+    except BadCall:
+        if own:
+            return own
+        raise
+    commit = found_in(above, f"{outer}:{os.path.relpath(top, os.path.realpath(above))}")
+    if not commit:
+        raise BadCall(f"{top}: a submodule that {revision} of {above} doesn't have")
+    if git(top, "cat-file", "-e", f"{commit}^{{commit}}") is None:
+        raise BadCall(f"{top}: a submodule without {commit}: `git fetch origin {commit}` gets it")
     return commit
+
+
+def indexed_at(folder: str, given: Optional[str]) -> tuple[str, str]:
+    """The commit that a folder's index is of, and a line to say where it can't be known or the
+    files differ from it. Raises BadCall.
+
+    It's the one that is given, else the one that is checked out, where no file that git has differs
+    from it.
+    """
+    top = top_of(folder)
+    if not top and given:
+        raise BadCall(f"{folder}: not in a checkout of git, so {given} can't be looked up")
+    commit = commit_of(top, given) if given else found_in(folder, "HEAD^{commit}")
+    if not commit or git(top, "diff", "--quiet", "--ignore-submodules", commit, "--") is not None:
+        return commit, ""
+    if given:
+        return (
+            commit,
+            f"{folder} has files that differ from {given}, of which the index is said to be",
+        )
+    return "", f"{folder} has changes that aren't committed, so the index is of no revision"
 
 
 def no_revision(top: str, revision: str) -> str:
@@ -91,9 +119,11 @@ class Batch:
         )
 
     def asked(self, line: str) -> bytes:
-        """What it prints of an object, up to what it says of one that can't be there, which is asked for next.
+        """What it prints of an object, up to what it says of one that can't be there, which is
+        asked for next.
 
-        The size that git prints isn't how much comes: it's that of the stored text, before the filters.
+        The size that git prints isn't how much comes: it's that of the stored text, before the
+        filters.
         """
         assert self.process.stdin is not None and self.process.stdout is not None
         if "\n" in line:
@@ -146,7 +176,8 @@ class Revision:
         return self.base(path, name) + self.new_name(name)
 
     def base(self, path: str, name: str) -> str:
-        """The top of the work tree as a path names it; without links, where there are such behind it."""
+        """The top of the work tree as a path names it; without links, where there are such behind
+        it."""
         is_plain = path.endswith(os.sep + name)
         return path[: -len(name)] if is_plain else self.top + os.sep
 
@@ -156,7 +187,8 @@ class Revision:
         return words[0].decode() if words[1:2] == [b"blob"] else ""
 
     def text(self, name: str) -> str:
-        """The text of a file of the revision, as a checkout writes it. Raises BadCall where there is none in UTF-8."""
+        """The text of a file of the revision, as a checkout writes it. Raises BadCall where there
+        is none in UTF-8."""
         blob = self.blob(name)
         found = self.blobs.asked(f"{blob} {name}") if blob else b""
         _, mark, body = found.partition(b"\n")
@@ -203,7 +235,8 @@ class Revision:
         self.listed = time.monotonic()
 
     def changes(self) -> bytes:
-        """What git says of the files that changed since the revision, by a copy of its index to which new files are added."""
+        """What git says of the files that changed since the revision, by a copy of its index to
+        which new files are added."""
         index = line_of(git(self.top, "rev-parse", "--git-path", "index"))
         with tempfile.TemporaryDirectory() as folder:
             copy = os.path.join(folder, "index")

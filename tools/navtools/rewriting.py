@@ -1,7 +1,9 @@
-"""The second reading of a dump for `prepare-lsif`: each element is written as the plan has it, as it stands where it can.
+"""The second reading of a dump for `prepare-lsif`: each element is written as the plan has it, as
+it stands where it can.
 
-The order that the server asks for, a vertex before each edge that names it, is looked after once more here, of what is written: `state`
-has what was written already, and an edge to anything else ends the call.
+The order that the server asks for, a vertex before each edge that names it, is looked after once
+more here, of what is written: `state` has what was written already, and an edge to anything else
+ends the call.
 """
 
 from typing import Any, BinaryIO, Callable, Iterator, Optional
@@ -95,7 +97,8 @@ class Rewriting:
         )
 
     def run(self, rows: Callable[[], Iterator[Row]]) -> None:
-        """Writes the elements in their order where that's the server's, else the vertices and then the edges; and then what the dump didn't have."""
+        """Writes the elements in their order where that's the server's, else the vertices and then
+        the edges; and then what the dump didn't have."""
         head = self.survey.metadata
         if head is None:
             return
@@ -160,7 +163,8 @@ class Rewriting:
         )
 
     def put(self, row: Row, element: Element) -> None:
-        """Writes an element of the input as it is now, with the CR before the line end that it had."""
+        """Writes an element of the input as it is now, with the CR before the line end that it
+        had."""
         text = row.text
         if element is not row.element or text is None:
             text = text_of(element) + (b"\r" if text is not None and text.endswith(b"\r") else b"")
@@ -197,7 +201,8 @@ class Rewriting:
             self.other(row)
 
     def again(self, row: Row, changes: Element, is_first: bool = True) -> None:
-        """Writes an edge with changed members, of which those that are None go. Only the first of several edges that it becomes has its id."""
+        """Writes an edge with changed members, of which those that are None go. Only the first of
+        several edges that it becomes has its id."""
         if not (is_first and self.survey.are_edges_sound) or self.renumbers:
             changes["id"] = self.fresh()
         if self.renumbers and "outV" not in changes:
@@ -313,7 +318,8 @@ class Rewriting:
         )
 
     def role_of(self, kind: int, given: Any, line: int) -> Any:
-        """The property that an `item` edge out of a vertex is written with; REFUSED where it isn't written."""
+        """The property that an `item` edge out of a vertex is written with; REFUSED where it isn't
+        written."""
         if kind == REFERENCE:
             if given in ROLES[1:]:
                 return given
@@ -334,7 +340,8 @@ class Rewriting:
         return REFUSED
 
     def is_fitting(self, row: Row, role: Optional[str], place: int) -> bool:
-        """Whether the targets of an `item` edge can stay as they are: ranges of the document that it names, or of a project's documents, or results."""
+        """Whether the targets of an `item` edge can stay as they are: ranges of the document that
+        it names, or of a project's documents, or results."""
         number, state, home, kinds = self.number, self.state, self.home, self.kinds
         targets = row.element.get("inVs")
         if not isinstance(targets, list):

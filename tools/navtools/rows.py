@@ -1,4 +1,5 @@
-"""Counts the rows that the server makes of a dump, as its tables keep them, and says which kind has too many.
+"""Counts the rows that the server makes of a dump, as its tables keep them, and says which kind has
+too many.
 
 Rows are counted as the server counts them: before those that are there twice are left out.
 """
@@ -18,7 +19,8 @@ RESULTS["2"] = RESULTS["1"] | {"declarationResult", "implementationResult"}
 
 @dataclass
 class Tally:
-    """How many rows there are, and what counts for the limit: each row, and one more for each 128 bytes of its text."""
+    """How many rows there are, and what counts for the limit: each row, and one more for each 128
+    bytes of its text."""
 
     rows: int = 0
     counted: int = 0
@@ -163,7 +165,8 @@ class RowCounter:
         return total
 
     def items_of_results(self) -> tuple[Tally, int]:
-        """The items of all results, their own and those of the results that they lead to; and how many pairs the walks to these go over."""
+        """The items of all results, their own and those of the results that they lead to; and how
+        many pairs the walks to these go over."""
         own = {}
         for result, targets in self.items.items():
             own[result] = Tally()
@@ -201,7 +204,8 @@ class RowCounter:
 
 
 def walk(pairs: Mapping[Id, list[Id]], start: Id, most: int) -> tuple[Iterable[Id], int]:
-    """What the pairs lead to from a start, in no step or more, and how many pairs were gone over. It ends early where they are more than so many."""
+    """What the pairs lead to from a start, in no step or more, and how many pairs were gone over.
+    It ends early where they are more than so many."""
     found = {start: None}
     rest, gone = [start], 0
     while rest and gone <= most:

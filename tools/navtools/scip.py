@@ -1,5 +1,6 @@
-"""Reads a SCIP index one document at a time. Only the fields of the outermost message are cut here, so that an index of any size is read in little
-memory; each document is then a message that Debian's python3-protobuf reads, by scip.proto.
+"""Reads a SCIP index one document at a time. Only the fields of the outermost message are cut here,
+so that an index of any size is read in little memory; each document is then a message that Debian's
+python3-protobuf reads, by scip.proto.
 """
 
 import os
@@ -26,7 +27,8 @@ class NotAnIndex(Exception):
 
 
 def varint(body: bytes, at: int) -> tuple[int, int]:
-    """The number that begins at a byte, and where the next thing begins; raises IndexError where the bytes end before it does."""
+    """The number that begins at a byte, and where the next thing begins; raises IndexError where
+    the bytes end before it does."""
     number = shift = 0
     while True:
         byte = body[at]
@@ -40,7 +42,8 @@ def varint(body: bytes, at: int) -> tuple[int, int]:
 
 
 def messages(file: BinaryIO, name: str) -> Iterator[tuple[int, Piece]]:
-    """The number of each field of an index, with where its message begins and how many bytes it has."""
+    """The number of each field of an index, with where its message begins and how many bytes it
+    has."""
     size, at = file.seek(0, 2), 0
     while at < size:
         file.seek(at)
@@ -89,7 +92,8 @@ class IndexFile:
             raise NotAnIndex(f"{name}: no SCIP index: it has no metadata")
 
     def read(self, pieces: list[Piece], form: type[Read]) -> Read:
-        """The message whose bytes are those pieces, one after the other: so a document that comes in several messages is one."""
+        """The message whose bytes are those pieces, one after the other: so a document that comes
+        in several messages is one."""
         found = form()
         for begin, length in pieces:
             self.file.seek(begin)
@@ -104,8 +108,8 @@ class IndexFile:
         return found
 
     def survey(self, path_of: Callable[[str, int], str]) -> Iterator[tuple[str, Document]]:
-        """The messages of documents in their order, the first time, each with the path that it's filed under; without one, which `path_of` answers by an
-        empty text, it's left out."""
+        """The messages of documents in their order, the first time, each with the path that it's
+        filed under; without one, which `path_of` answers by an empty text, it's left out."""
         for number, piece in messages(self.file, self.name):
             self.watch(piece[0])
             if number == EXTERNAL_FIELD:

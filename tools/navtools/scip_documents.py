@@ -1,4 +1,5 @@
-"""Where the documents of a SCIP index are, and their texts. A document that can't be placed or read is left out, and noted."""
+"""Where the documents of a SCIP index are, and their texts. A document that can't be placed or read
+is left out, and noted."""
 
 import fnmatch
 import os
@@ -75,7 +76,8 @@ class Texts:
         self.read = self.unread = 0
 
     def columns(self, uri: str, document: Document) -> Optional[Columns]:
-        """The columns of a document; None where its text can't be read. Raises BadCall where the call has to say more."""
+        """The columns of a document; None where its text can't be read. Raises BadCall where the
+        call has to say more."""
         path = self.documents.paths[uri]
         encoding: int = document.position_encoding or ENCODINGS.get(self.encoding or "", 0)
         if encoding not in ENCODINGS.values():

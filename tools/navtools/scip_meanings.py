@@ -1,13 +1,15 @@
-"""What the symbols of a SCIP index lead to: their resultSets, results and monikers, which are written when they're first needed.
+"""What the symbols of a SCIP index lead to: their resultSets, results and monikers, which are
+written when they're first needed.
 
-Symbols that occur at one place have a joint resultSet. It has the definitions, the declarations and the implementations of each, and a reference result that
-leads to each one's. `next` edges lead from it, over a helper for each further symbol that has a moniker, to the resultSet of the
-first one of which something is said. A helper has the moniker and the results of its symbol alone, so that other projects, which ask by monikers,
-get that symbol's places and no other's.
+Symbols that occur at one place have a joint resultSet. It has the definitions, the declarations and
+the implementations of each, and a reference result that leads to each one's. `next` edges lead from
+it, over a helper for each further symbol that has a moniker, to the resultSet of the first one of
+which something is said. A helper has the moniker and the results of its symbol alone, so that other
+projects, which ask by monikers, get that symbol's places and no other's.
 """
 
 from json import dumps
-from typing import Any, BinaryIO
+from typing import Any, BinaryIO, Protocol
 
 from navtools.scip import NotAnIndex
 from navtools.scip_survey import (
@@ -27,8 +29,31 @@ LAST = 0x7FFFFFFF
 MOST_STEPS = 20_000_000
 
 
+class Elements(Protocol):
+    """What takes the elements of a conversion: a `Writer`, or what makes tables of them. `elements`
+    counts them."""
+
+    elements: int
+
+    def vertex(self, label: str, **members: Any) -> int:
+        """Takes a vertex and answers its id."""
+
+    def range(self, start: int, end: int) -> int:
+        """Takes a range, whose ends are packed, and answers its id."""
+
+    def edge(self, label: str, source: int, target: int) -> None:
+        """Takes an edge to one vertex."""
+
+    def edges(self, label: str, source: int, targets: list[int], *more: str) -> None:
+        """Takes an edge to several vertices."""
+
+    def items(self, result: int, places: list[int], shard: int, role: str = "") -> None:
+        """Takes the places of a result in a document, or the results that it leads to."""
+
+
 class Writer:
-    """Writes elements, whose ids are their lines, and counts them and their bytes. Most of them have nothing but numbers and labels, and need no escapes."""
+    """Writes elements, whose ids are their lines, and counts them and their bytes. Most of them
+    have nothing but numbers and labels, and need no escapes."""
 
     def __init__(self, out: BinaryIO) -> None:
         self.out = out
@@ -78,7 +103,7 @@ class Writer:
 class Meanings:
     """What was written of symbols. Those that are local are forgotten with their document."""
 
-    def __init__(self, writer: Writer, survey: Survey) -> None:
+    def __init__(self, writer: Elements, survey: Survey) -> None:
         self.writer, self.survey = writer, survey
         self.packages: dict[tuple[str, ...], int] = {}
         self.empties: dict[str, int] = {}
@@ -117,14 +142,16 @@ class Meanings:
         return self.look(key).bits & USED > 0
 
     def of(self, key: str) -> Known:
-        """What is known of a symbol, with a vertex that has its results: a resultSet where there is none yet."""
+        """What is known of a symbol, with a vertex that has its results: a resultSet where there is
+        none yet."""
         known = self.look(key)
         if not known.vertex:
             self.bind(key, known, self.writer.vertex("resultSet"))
         return known
 
     def bind(self, key: str, known: Known, vertex: int) -> None:
-        """Gives a symbol a vertex, with the moniker of a symbol that has a package: an export where the index defines it, else an import."""
+        """Gives a symbol a vertex, with the moniker of a symbol that has a package: an export where
+        the index defines it, else an import."""
         self.written += 1
         known.vertex = vertex
         name = None if is_local(key) else name_of(key)
@@ -175,7 +202,8 @@ class Meanings:
         return known.own
 
     def targets(self, key: str, request: str) -> list[int]:
-        """The results that get a symbol's places for a request: its own, and those of the joints that it's of."""
+        """The results that get a symbol's places for a request: its own, and those of the joints
+        that it's of."""
         found = [self.result(key, request)]
         for table in (self.survey.joints_of, self.joints_of):
             for keys in table.get(key, ()):
@@ -234,7 +262,8 @@ class Meanings:
         self.writer.items(own, parts, self.shard, "referenceResults")
 
     def helper(self, key: str, keys: Joint, along: int) -> int:
-        """A resultSet with a symbol's moniker and results alone, before another in the chain of a joint."""
+        """A resultSet with a symbol's moniker and results alone, before another in the chain of a
+        joint."""
         writer = self.writer
         results = {}
         for request in ("references", *LISTED):

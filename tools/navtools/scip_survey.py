@@ -1,6 +1,8 @@
-"""The first reading of a SCIP index: which global symbols occur and are defined, how they're related, and which of them occur at one place together.
+"""The first reading of a SCIP index: which global symbols occur and are defined, how they're
+related, and which of them occur at one place together.
 
-A local symbol is one of its document alone, and is forgotten with it, unless a relationship names it.
+A local symbol is one of its document alone, and is forgotten with it, unless a relationship names
+it.
 """
 
 from dataclasses import dataclass, field
@@ -28,9 +30,11 @@ RESULTS = {
 
 
 class Known:
-    """What is known of a symbol, or of several at one place: whether it's used, defined, declared forward, used at several places, or something is said
-    of it; and what was written of it, 0 where nothing was: the vertex that has its results, its moniker, the reference result of its own places
-    where others' places belong to its references besides, its hover, and the result for each request.
+    """What is known of a symbol, or of several at one place: whether it's used, defined, declared
+    forward, used at several places, or something is said of it; and what was written of it, 0 where
+    nothing was: the vertex that has its results, its moniker, the reference result of its own
+    places where others' places belong to its references besides, its hover, and the result for each
+    request.
     """
 
     __slots__ = ("bits", "vertex", "moniker", "own", "hover", *RESULTS)
@@ -46,7 +50,8 @@ def key_of(symbol: str, uri: str) -> str:
 
 
 def place_of(occurrence: Occurrence) -> Optional[Places]:
-    """The start and the end of an occurrence, whose range has three numbers where it ends in its first line, else four; None where it has no such range."""
+    """The start and the end of an occurrence, whose range has three numbers where it ends in its
+    first line, else four; None where it has no such range."""
     found: tuple[int, ...] = tuple(occurrence.range)
     if len(found) == 3:
         found = (found[0], found[1], found[0], found[2])
@@ -62,8 +67,9 @@ def add(related: dict[str, dict[str, None]], one: str, other: str) -> None:
 
 @dataclass
 class Survey:
-    """What the first reading learns. `defined_by` has for a symbol those that are defined where it is, besides itself, `implemented` those that it
-    implements, and `referenced` those whose references are each other's."""
+    """What the first reading learns. `defined_by` has for a symbol those that are defined where it
+    is, besides itself, `implemented` those that it implements, and `referenced` those whose
+    references are each other's."""
 
     notes: Notes
     known: dict[str, Known] = field(default_factory=dict)
@@ -105,7 +111,8 @@ class Survey:
             self.join(tuple(key for key in keys if is_local(key) or key in known))
 
     def inform(self, information: SymbolInformation, uri: str) -> None:
-        """Adds what is said of a symbol: whether there is a text, and how it's related to others."""
+        """Adds what is said of a symbol: whether there is a text, and how it's related to
+        others."""
         key = key_of(information.symbol, uri)
         own = self.known.get(key)
         if own is None and (information.relationships or not is_local(key)):

@@ -1,6 +1,8 @@
-"""Writes the dump of a SCIP index, for the server: a document for each of its documents, a range for each place where a symbol occurs, and
-for each symbol its definitions, declarations, implementations, references, hover and moniker. The index is read twice, one document at a time, so memory
-grows with the global symbols and the largest document. Declarations and implementations have an effect in profile 2 alone.
+"""Writes the dump of a SCIP index, for the server: a document for each of its documents, a range
+for each place where a symbol occurs, and for each symbol its definitions, declarations,
+implementations, references, hover and moniker. The index is read twice, one document at a time, so
+memory grows with the global symbols and the largest document. Declarations and implementations have
+an effect in profile 2 alone.
 
 An occurrence or a document with a flaw is left out, counted and named, and the status is 1 then.
 """
@@ -12,15 +14,12 @@ from typing import Optional
 from navtools.columns import ENCODINGS
 
 
-def parser_of_words() -> argparse.ArgumentParser:
-    """What the command line may be."""
-    parser = argparse.ArgumentParser(
-        prog="scip-to-lsif",
-        description=__doc__,
-        formatter_class=argparse.RawDescriptionHelpFormatter,
-        epilog="status: 0; 1 where something was left out for a flaw, or what was written is over a limit of the server; "
-        "2 where the index can't be read, and then nothing is written",
-    )
+TOOL = "scip-to-lsif"
+NEEDED = "it needs Debian's package python3-protobuf"
+
+
+def add_reading(parser: "argparse._ActionsContainer") -> None:
+    """Adds how an index is read."""
     parser.add_argument(
         "--source",
         metavar="FOLDER",
@@ -48,22 +47,41 @@ def parser_of_words() -> argparse.ArgumentParser:
         action="store_true",
         help="have ranges over whole files answer for each word that has nothing of its own",
     )
+
+
+def parser_of_words() -> argparse.ArgumentParser:
+    """What the command line may be."""
+    parser = argparse.ArgumentParser(
+        prog=TOOL,
+        description=__doc__,
+        formatter_class=argparse.RawDescriptionHelpFormatter,
+        epilog="status: 0; 1 where something was left out for a flaw, or what was written is over a limit of the server; "
+        "2 where the index can't be read, and then nothing is written",
+    )
+    add_reading(parser)
     parser.add_argument(
         "--lenient", action="store_true", help="end with 0 where something was left out for a flaw"
     )
     parser.add_argument("index", metavar="INDEX")
     parser.add_argument("output", metavar="OUT", help="the dump, or - for the standard output")
+    parser.set_defaults(tool=TOOL)
     return parser
 
 
+def is_without_protobuf(fault: ModuleNotFoundError) -> bool:
+    """Whether what reads the messages of an index isn't installed."""
+    return (fault.name or "").partition(".")[0] == "google"
+
+
 def main(words: Optional[list[str]] = None) -> int:
-    """Reads the command line; answers the status of the conversion, and 2 where Debian's python3-protobuf isn't there."""
+    """Reads the command line; answers the status of the conversion, and 2 where Debian's
+    python3-protobuf isn't there."""
     call = parser_of_words().parse_args(words)
     try:
         from navtools import scip_conversion
     except ModuleNotFoundError as fault:
-        if (fault.name or "").partition(".")[0] != "google":
+        if not is_without_protobuf(fault):
             raise
-        print("scip-to-lsif: it needs Debian's package python3-protobuf", file=sys.stderr)
+        print(f"{TOOL}: {NEEDED}", file=sys.stderr)
         return 2
     return scip_conversion.run(call)

@@ -1,7 +1,8 @@
 """The second reading of a SCIP index: writes its elements document by document.
 
-A symbol has a resultSet, or where it occurs once the range itself has its results. Symbols that occur at one place together have a joint resultSet, with
-the definitions of each and a reference result that leads to each one's; docs/DECISIONS.md says how it's chained.
+A symbol has a resultSet, or where it occurs once the range itself has its results. Symbols that
+occur at one place together have a joint resultSet, with the definitions of each and a reference
+result that leads to each one's; docs/DECISIONS.md says how it's chained.
 """
 
 from collections import Counter
@@ -10,7 +11,7 @@ from typing import Optional
 from navtools.columns import Columns
 from navtools.overlaps import sorted_out
 from navtools.scip_documents import Documents, Texts
-from navtools.scip_meanings import Meanings, Writer
+from navtools.scip_meanings import Elements, Meanings
 from navtools.scip_pb2 import Document, SymbolInformation
 from navtools.scip_survey import (
     DEFINED,
@@ -36,7 +37,7 @@ class Conversion:
     """Writes the dump of an index, document by document."""
 
     def __init__(
-        self, writer: Writer, survey: Survey, documents: Documents, texts: Texts, keeps: bool
+        self, writer: Elements, survey: Survey, documents: Documents, texts: Texts, keeps: bool
     ) -> None:
         self.writer, self.survey, self.notes = writer, survey, survey.notes
         self.documents, self.texts, self.keeps_file_ranges = documents, texts, keeps
@@ -80,7 +81,8 @@ class Conversion:
     def occurrences(
         self, uri: str, document: Document, columns: Columns
     ) -> list[tuple[Span, str, str, str]]:
-        """The occurrences of a document: the place, the symbol, its role and what is said of it just there."""
+        """The occurrences of a document: the place, the symbol, its role and what is said of it
+        just there."""
         found = []
         for occurrence in document.occurrences:
             symbol = occurrence.symbol
@@ -125,7 +127,8 @@ class Conversion:
         symbols: dict[Span, dict[str, None]],
         home: int,
     ) -> None:
-        """Begins a document: marks what its local symbols are, and the symbols that occur at one place."""
+        """Begins a document: marks what its local symbols are, and the symbols that occur at one
+        place."""
         meanings = self.meanings
         self.hovers = {}
         shared = [tuple(keys) for keys in symbols.values() if len(keys) > 1]
@@ -143,7 +146,8 @@ class Conversion:
     def ranges(
         self, found: list[tuple[Span, str, str, str]], symbols: dict[Span, dict[str, None]]
     ) -> dict[Span, int]:
-        """Writes the ranges of a document, and where each leads. One around the whole document is a place, and isn't asked."""
+        """Writes the ranges of a document, and where each leads. One around the whole document is a
+        place, and isn't asked."""
         spans = list(symbols)
         outcome = sorted_out(range(len(spans)), spans.__getitem__)
         gone = {spans[at] for at in outcome.crossing}
@@ -162,7 +166,8 @@ class Conversion:
         return ranges
 
     def lead(self, own: int, keys: tuple[str, ...], said: str) -> None:
-        """Writes where a range leads: to the vertex of its symbol, which it is itself where the symbol occurs just here, or to a joint one."""
+        """Writes where a range leads: to the vertex of its symbol, which it is itself where the
+        symbol occurs just here, or to a joint one."""
         meanings = self.meanings
         if len(keys) > 1:
             self.writer.edge("next", own, meanings.joint(keys))
@@ -176,7 +181,8 @@ class Conversion:
             self.hover(own, said)
 
     def items(self, key: str, places: dict[str, list[int]], home: int) -> None:
-        """Writes what the ranges of a symbol in a document add to its results, and to those of the symbols that it's related to."""
+        """Writes what the ranges of a symbol in a document add to its results, and to those of the
+        symbols that it's related to."""
         meanings, survey = self.meanings, self.survey
         definitions, declarations, references = (places[role] for role in ROLES)
         own = meanings.own_references(key)
@@ -213,7 +219,8 @@ class Conversion:
             known.hover = self.hover(known.vertex, text)
 
     def hover(self, source: int, text: str) -> int:
-        """Binds hover contents to a range or a resultSet; those of one text in a document are written once."""
+        """Binds hover contents to a range or a resultSet; those of one text in a document are
+        written once."""
         own = self.hovers.get(text)
         if own is None:
             own = self.hovers[text] = self.writer.vertex(

@@ -1,4 +1,5 @@
-"""What an indexer should have written in place of a faulty element: one sentence for each code, or for each of its labels."""
+"""What an indexer should have written in place of a faulty element: one sentence for each code, or
+for each of its labels."""
 
 from navtools.lsif import Element
 

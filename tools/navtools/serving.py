@@ -1,4 +1,5 @@
-"""A server of the built program on a free port of this machine, for what tries the tools against a real one."""
+"""A server of the built program on a free port of this machine, for what tries the tools against a
+real one."""
 
 import os
 import shlex
@@ -25,7 +26,8 @@ def free_port() -> int:
 def started(
     program: str, port: int, requests: int, database: str = ":memory:", quiet: bool = False
 ) -> subprocess.Popen[bytes]:
-    """A server over a database that has said that it listens; it ends by itself after so many requests."""
+    """A server over a database that has said that it listens; it ends by itself after so many
+    requests."""
     words = [program, "serve", database, "--port", str(port), "--requests", str(requests)]
     if not quiet:
         print(f"$ {shlex.join(words)} &", flush=True)
@@ -63,5 +65,6 @@ def serving(
 
 
 def built_program(top: str) -> str:
-    """The program that CODENAV_PROGRAM names; without it the one of a clone, which is built first where it isn't yet."""
+    """The program that CODENAV_PROGRAM names; without it the one of a clone, which is built first
+    where it isn't yet."""
     return os.path.abspath(os.environ.get("CODENAV_PROGRAM") or os.path.join(top, "codenav"))

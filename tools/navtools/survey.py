@@ -1,6 +1,8 @@
-"""The first reading of a dump for `prepare-lsif`: its vertices and edges as numbers in arrays, so that memory grows with the ids alone.
+"""The first reading of a dump for `prepare-lsif`: its vertices and edges as numbers in arrays, so
+that memory grows with the ids alone.
 
-Each id gets a number when it's first named, also by an edge that stands before its vertex. Numbers of edges' ids aren't kept: nothing names an edge.
+Each id gets a number when it's first named, also by an edge that stands before its vertex. Numbers
+of edges' ids aren't kept: nothing names an edge.
 """
 
 from array import array
@@ -80,7 +82,8 @@ class Pairs:
 
 
 class Numbers:
-    """The numbers of ids, and of each number what its vertex is. Arrays grow by blocks, and have room for at least each number."""
+    """The numbers of ids, and of each number what its vertex is. Arrays grow by blocks, and have
+    room for at least each number."""
 
     def __init__(self) -> None:
         self.of: dict[Id, int] = {}

@@ -10,7 +10,8 @@ PART = re.compile(r"((?:[^ ]|  )*) ")
 
 
 class Name(NamedTuple):
-    """What a global symbol's text says: the scheme, the package's manager, name and version, each empty where nothing is said, and the descriptors."""
+    """What a global symbol's text says: the scheme, the package's manager, name and version, each
+    empty where nothing is said, and the descriptors."""
 
     scheme: str
     manager: str
@@ -26,7 +27,8 @@ def is_local(symbol: str) -> bool:
 
 @lru_cache(maxsize=1024)
 def name_of(symbol: str) -> Optional[Name]:
-    """The parts of a global symbol; None where it's no symbol with a scheme, a package and descriptors."""
+    """The parts of a global symbol; None where it's no symbol with a scheme, a package and
+    descriptors."""
     found, at = [], 0
     for _ in range(4):
         part = PART.match(symbol, at)

@@ -24,7 +24,8 @@ LEFT_OUT = {
 
 
 def files_of(folder: str) -> Iterator[bytes]:
-    """The files of a checkout, from its top on: those that git knows, and without git all whose folders' names don't begin with a dot."""
+    """The files of a checkout, from its top on: those that git knows, and without git all whose
+    folders' names don't begin with a dot."""
     listed = None
     if shutil.which("git"):
         listed = subprocess.run(
@@ -49,7 +50,8 @@ def walked(folder: bytes) -> Iterator[bytes]:
 
 
 def fault_of(line: bytes, number: int, written: int) -> Optional[str]:
-    """The code for which the server refuses a line that would be written as this number after so many bytes; None where there is none."""
+    """The code for which the server refuses a line that would be written as this number after so
+    many bytes; None where there is none."""
     if len(line) > MOST_LINE_BYTES:
         return "T01"
     try:
@@ -67,8 +69,8 @@ def fault_of(line: bytes, number: int, written: int) -> Optional[str]:
 
 
 def tagged(folder: str, path: str, is_cut: bool = False) -> tuple[int, Counter[str]]:
-    """Writes the tags file of a checkout; answers how many lines it has, and how many were left out, by the server's codes. One that's cut
-    afterwards may be larger than what the server takes.
+    """Writes the tags file of a checkout; answers how many lines it has, and how many were left
+    out, by the server's codes. One that's cut afterwards may be larger than what the server takes.
 
     The list of the files stands beside it meanwhile.
     """

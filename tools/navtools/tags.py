@@ -22,7 +22,8 @@ def folders_of(texts: list[str]) -> dict[str, str]:
 
 
 def line_by(pattern: str, lines: list[str], first: int, backwards: bool) -> Optional[int]:
-    """The line that a pattern finds, from a line on, or from the end back: `^` at its beginning and `$` at its end alone are more than themselves."""
+    """The line that a pattern finds, from a line on, or from the end back: `^` at its beginning and
+    `$` at its end alone are more than themselves."""
     at_end = re.search(r"(?<!\\)(\\\\)*\$$", pattern) is not None
     text = re.sub(r"\\(.)", r"\1", pattern.removeprefix("^")[: -1 if at_end else None])
     order: Iterable[int] = (
@@ -40,7 +41,8 @@ def line_by(pattern: str, lines: list[str], first: int, backwards: bool) -> Opti
 
 
 def line_at(tag: dict[str, Any], lines: list[str]) -> Optional[int]:
-    """The line of a tag in its file, from 0: by the address, else by the field `line`; None where neither says it."""
+    """The line of a tag in its file, from 0: by the address, else by the field `line`; None where
+    neither says it."""
     parts = ADDRESS.fullmatch(tag["address"])
     first = int(parts["line"]) - 1 if parts and parts["line"] else None
     if parts and parts["mark"]:
@@ -56,10 +58,12 @@ def line_at(tag: dict[str, Any], lines: list[str]) -> Optional[int]:
 def places_of(
     tags: list[dict[str, Any]], folder_of: Callable[[str], Optional[str]]
 ) -> Iterator[tuple[dict[str, Any], Place]]:
-    """Tags with the places of their names, without those of a project that has no folder; files are named from the folder of the project.
+    """Tags with the places of their names, without those of a project that has no folder; files are
+    named from the folder of the project.
 
-    Where a name isn't on its line, the place is the beginning of the line. Where nothing says the line any more, it's the top of the file, and a
-    tag whose file isn't there either is left out: the folder is another one, or the file was removed.
+    Where a name isn't on its line, the place is the beginning of the line. Where nothing says the
+    line any more, it's the top of the file, and a tag whose file isn't there either is left out:
+    the folder is another one, or the file was removed.
     """
 
     @functools.cache

@@ -1,6 +1,7 @@
-"""Tries the whole way from a dump to an answer: prepares the dump of the demo crate, starts a server, uploads twice, asks for a
-definition, references and a hover, uploads tags and asks for a name, removes it all, and uploads the dump again; and replays a
-request for each route. It prints each call with its output.
+"""Tries the whole way from a dump to an answer: prepares the dump of the demo crate, starts a
+server, uploads twice, asks for a definition, references and a hover, uploads tags and asks for a
+name, removes it all, and uploads the dump again; and replays a request for each route. It prints
+each call with its output.
 """
 
 import argparse
@@ -34,15 +35,17 @@ pub fn fahrenheit(celsius: i32) -> i32
 Degrees Fahrenheit of degrees Celsius, rounded towards zero."""
 FOLDER = "temperature=demo/crate"
 TAG = "demo/crate/src/lib.rs:17:8: is_warm"
+NO_DUMP = "D01 project has no dump: file:///src/tr/crate/src/lib.rs"
 
 
 @dataclass(frozen=True)
 class Step:
-    """A call of one request, and the output and the status that it should have."""
+    """A call, the output and the status that it should have, and how many requests it makes."""
 
     words: list[str]
     output: str
     status: int = 0
+    requests: int = 1
 
 
 def steps(url: str, dump: str) -> list[Step]:
@@ -64,9 +67,8 @@ def steps(url: str, dump: str) -> list[Step]:
         Step(["tools/ask", "--tags", FOLDER, *project, "names", "is_warm"], TAG),
         Step(["tools/list", url], "temperature: dump and tags"),
         Step(["tools/remove", *project], "temperature: removed"),
-        Step(
-            [*ask, *DEFINITION], "ask: D01 project has no dump: file:///src/tr/crate/src/lib.rs", 2
-        ),
+        # where there's no such project it asks for a set of that name too
+        Step([*ask, *DEFINITION], f"ask: {NO_DUMP}", 2, requests=2),
         Step(upload, accepted),
         Step([*ask, *DEFINITION], at_definition),
     ]
@@ -84,7 +86,8 @@ def run(words: list[str]) -> tuple[str, int]:
 
 
 def trial(program: str, folder: str) -> int:
-    """The calls from the first to the last; answers the number of those that answered as they should."""
+    """The calls from the first to the last; answers the number of those that answered as they
+    should."""
     with open(os.path.join(TOP, REPLIES), encoding="utf-8", newline="") as replies:
         if run([program, "replay", ":memory:", REQUESTS]) != (replies.read(), 0):
             raise Failed(f"the replies should have been those of {REPLIES}")
@@ -94,7 +97,7 @@ def trial(program: str, folder: str) -> int:
         raise Failed(f"prepare-lsif ended with status {status}")
     port = free_port()
     todo = steps(f"http://127.0.0.1:{port}", dump)
-    server = started(program, port, len(todo))
+    server = started(program, port, sum(step.requests for step in todo))
     try:
         for step in todo:
             output, status = run(step.words)

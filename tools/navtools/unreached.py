@@ -1,4 +1,5 @@
-"""What a dump has no use for once documents were left out: vertices that nothing which stays leads to."""
+"""What a dump has no use for once documents were left out: vertices that nothing which stays leads
+to."""
 
 from array import array
 from itertools import chain
@@ -37,7 +38,8 @@ def drop_unreached(plan: Plan) -> None:
 
 
 def pairs(plan: Plan) -> Iterator[tuple[int, int]]:
-    """The edges along which what stays needs something else: all but those to places; those between monikers both ways."""
+    """The edges along which what stays needs something else: all but those to places; those between
+    monikers both ways."""
     edges = plan.survey.edges
     for label in (*SINGLE, "moniker", "other"):
         yield from zip(edges[label].sources, edges[label].targets)

@@ -1,9 +1,10 @@
 """Uploads a dump or a tags file, and prints the server's reply.
 
-The server keeps the key of each upload with its reply: the same key again gets that reply, and nothing changes. So each call has a key of
-its own, which all its retries share: sent again, an upload acts once. With `--once` the key is made of the body, its kind and its profile,
-so that calls with one body act once too. That is a trap where the project changed meanwhile: after A, B and A again, or after a removal, the
-kept reply comes back and B, or nothing, stays.
+The server keeps the key of each upload with its reply: the same key again gets that reply, and
+nothing changes. So each call has a key of its own, which all its retries share: sent again, an
+upload acts once. With `--once` the key is made of the body, its kind and its profile, so that calls
+with one body act once too. That is a trap where the project changed meanwhile: after A, B and A
+again, or after a removal, the kept reply comes back and B, or nothing, stays.
 """
 
 import argparse
@@ -18,6 +19,7 @@ from typing import IO, BinaryIO, Iterator, Optional, cast
 from navtools import rows
 from navtools.client import Answer, address, refusal_of, reply_in, request_again
 from navtools.lsif import NotADump, Source
+from navtools.revisions import indexed_at
 from navtools.words import (
     BadCall,
     add_retry,
@@ -40,7 +42,8 @@ def fresh_key(kind: str) -> str:
 
 
 def once_key(part: str, body: IO[bytes], profile: str) -> str:
-    """The key that each upload of a body as this part and in this profile has: they, and 128 bits of the body's SHA-256."""
+    """The key that each upload of a body as this part and in this profile has: they, and 128 bits
+    of the body's SHA-256."""
     digest = hashlib.sha256()
     body.seek(0)
     for piece in iter(lambda: body.read(PIECE), b""):
@@ -51,7 +54,8 @@ def once_key(part: str, body: IO[bytes], profile: str) -> str:
 
 @contextmanager
 def body_of(path: str) -> Iterator[IO[bytes]]:
-    """A file to upload, which can be read again from its beginning: what can't, as a pipe or the standard input for `-`, is copied first."""
+    """A file to upload, which can be read again from its beginning: what can't, as a pipe or the
+    standard input for `-`, is copied first."""
     with sys.stdin.buffer if path == "-" else open(path, "rb") as given:
         if path != "-" and given.seekable():
             yield given
@@ -74,7 +78,8 @@ def is_want_of_memory(answer: Answer) -> bool:
 
 
 def excesses(body: IO[bytes], name: str, profile: str) -> list[str]:
-    """The limits of rows that a dump goes over, for which the server refuses it as for want of memory however often it's sent."""
+    """The limits of rows that a dump goes over, for which the server refuses it as for want of
+    memory however often it's sent."""
     counter = rows.RowCounter(profile)
     try:
         for row in Source(cast(BinaryIO, body), name).rows():
@@ -87,7 +92,8 @@ def excesses(body: IO[bytes], name: str, profile: str) -> list[str]:
 def put(
     url: str, part: str, body: IO[bytes], name: str, profile: str, retry: bool
 ) -> tuple[Answer, list[str]]:
-    """Uploads a body; answers what came, and the limits for which it can never be accepted. A dump over these isn't sent again."""
+    """Uploads a body; answers what came, and the limits for which it can never be accepted. A dump
+    over these isn't sent again."""
     over: list[str] = []
 
     def is_final(answer: Answer) -> bool:
@@ -100,8 +106,10 @@ def put(
 
 
 def uploaded(call: argparse.Namespace, part: str) -> int:
-    """Uploads a file and prints the reply; answers 0 where it was accepted, and 1 at a fault of the server's."""
+    """Uploads a file and prints the reply; answers 0 where it was accepted, and 1 at a fault of the
+    server's."""
     server, project, profile = server_of(call.url), project_of(call.project), call.profile or "1"
+    commit, fault = indexed_at(os.curdir, call.revision) if call.revision else ("", "")
     with body_of(call.file) as body:
         if call.key is not None:
             key = key_of(call.key)
@@ -116,6 +124,12 @@ def uploaded(call: argparse.Namespace, part: str) -> int:
         print(f"upload-{part}: {line}: it can't be accepted", file=sys.stderr)
     if answer.status == 503 and not over:
         print(f"upload-{part}: {refusal_of(answer)}", file=sys.stderr)
+    if answer.status == 200 and commit:
+        line = (
+            f"the index is of revision {commit}: where files changed ask with --revision {commit}"
+        )
+        for said in (line, fault) if fault else (line,):
+            print(f"upload-{part}: {said}", file=sys.stderr)
     return 0 if answer.status == 200 else 1
 
 
@@ -140,7 +154,12 @@ def words_parser(part: str) -> argparse.ArgumentParser:
             choices=["1", "2"],
             help="how the dump is read, 1 without it; 2 has declarations and implementations too",
         )
-    parser.set_defaults(profile=None)
+        parser.add_argument(
+            "--revision",
+            metavar="REV",
+            help="the git revision that was indexed, in the checkout of the call: its commit is said, by which to ask where files changed since",
+        )
+    parser.set_defaults(profile=None, revision=None)
     add_server(parser)
     parser.add_argument("project", metavar="PROJECT")
     parser.add_argument("file", metavar="FILE", help="the body, or - for the standard input")
@@ -148,6 +167,7 @@ def words_parser(part: str) -> argparse.ArgumentParser:
 
 
 def main(part: str, words: Optional[list[str]] = None) -> int:
-    """Uploads the part `lsif` or `tags`; answers 0 at a reply 200, 1 at another, and 2 where there is none."""
+    """Uploads the part `lsif` or `tags`; answers 0 at a reply 200, 1 at another, and 2 where there
+    is none."""
     call = parsed(words_parser(part), words)
     return status_of(f"upload-{part}", lambda: uploaded(call, part))

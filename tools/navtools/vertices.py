@@ -1,4 +1,5 @@
-"""Mends the members of single vertices as the server asks for them. What can't be mended isn't a vertex of its label: it's left out."""
+"""Mends the members of single vertices as the server asks for them. What can't be mended isn't a
+vertex of its label: it's left out."""
 
 from dataclasses import dataclass
 from typing import Any, Callable, Optional
@@ -18,7 +19,8 @@ RESULT_MEMBERS = ("definitions", "references", "referenceResults", "declarations
 
 @dataclass
 class Mender:
-    """Mends vertices one by one, and notes it. `root` is the address that documents without a scheme are below."""
+    """Mends vertices one by one, and notes it. `root` is the address that documents without a
+    scheme are below."""
 
     notes: Notes
     strip: bool = False
@@ -26,7 +28,8 @@ class Mender:
     root: str = ""
 
     def mended(self, vertex: Element, line: int, size: int) -> Optional[Element]:
-        """The vertex as it can be written, the same object where nothing changes; None where it's left out."""
+        """The vertex as it can be written, the same object where nothing changes; None where it's
+        left out."""
         mend = MENDERS.get(vertex["label"])
         return vertex if mend is None else mend(self, vertex, line, size)
 
@@ -75,7 +78,8 @@ class Mender:
         return self.without_text(kept, "tag", line, size)
 
     def without_text(self, vertex: Element, member: str, line: int, size: int) -> Element:
-        """A vertex without a member that has no effect, where the line is too long for the server, or where all such go."""
+        """A vertex without a member that has no effect, where the line is too long for the server,
+        or where all such go."""
         if member not in vertex or not (self.strip or size > MOST_TEXT_BYTES):
             return vertex
         self.notes.mend(f"`{member}` of a {vertex['label']}, which has no effect, dropped", line)
@@ -124,7 +128,8 @@ class Mender:
         return {**vertex, "result": {"contents": read}}
 
     def result(self, vertex: Element, line: int, size: int) -> Element:
-        """A result's places are `item` edges; those within it, as in early versions, are read by `inline`."""
+        """A result's places are `item` edges; those within it, as in early versions, are read by
+        `inline`."""
         if vertex["label"] != "referenceResult" and "result" not in vertex:
             return vertex
         members = [member for member in ("result", *RESULT_MEMBERS) if member in vertex]
@@ -187,7 +192,8 @@ def whole_numbers(vertex: Element) -> Element:
 
 
 def contents_of(contents: Any) -> Any:
-    """Hover contents in a form that the server reads, the same where they are in one; None where there are none."""
+    """Hover contents in a form that the server reads, the same where they are in one; None where
+    there are none."""
     if isinstance(contents, list):
         parts = [part_of(part) for part in contents]
         return [part for part in parts if part is not None]

@@ -1,6 +1,8 @@
-"""Says of a dump alone why a request at a place is answered as it is: each range there, the innermost first, with whether it speaks and by
-which edges, the result and its items, and the keys that other projects are asked by; or what is missing. Numbers of lines are those of the
-dump, from 1, and positions count from 0 as there. LINE and COLUMN count from 1, COLUMN in characters where FILE can be read.
+"""Says of a dump alone why a request at a place is answered as it is: each range there, the
+innermost first, with whether it speaks and by which edges, the result and its items, and the keys
+that other projects are asked by; or what is missing. Numbers of lines are those of the dump, from
+1, and positions count from 0 as there. LINE and COLUMN count from 1, COLUMN in characters where
+FILE can be read.
 """
 
 import argparse
@@ -23,7 +25,8 @@ Found = dict[str, Any]
 
 @dataclass(frozen=True)
 class Request:
-    """What a request follows: an edge to a result, the properties of `item` edges to places, and the kinds of monikers that ask and answer."""
+    """What a request follows: an edge to a result, the properties of `item` edges to places, and
+    the kinds of monikers that ask and answer."""
 
     edge: str
     result: str
@@ -56,7 +59,8 @@ FOLLOWED = (
 
 @dataclass(frozen=True)
 class Moniker:
-    """A moniker that a range has: its line, that of the edge that names it, its kind, and its key, by which projects are joined."""
+    """A moniker that a range has: its line, that of the edge that names it, its kind, and its key,
+    by which projects are joined."""
 
     line: int
     edge: int
@@ -66,7 +70,8 @@ class Moniker:
 
 @dataclass(frozen=True)
 class Trail:
-    """Where a request goes from a range: the lines of the `next` edges, then that of the edge to the result, and the monikers."""
+    """Where a request goes from a range: the lines of the `next` edges, then that of the edge to
+    the result, and the monikers."""
 
     line: int
     span: Span
@@ -82,7 +87,8 @@ class Trail:
 
 
 class Graph:
-    """The edges of a dump that requests follow, by label and source, each as its line. An edge without the ends that it should have is left out."""
+    """The edges of a dump that requests follow, by label and source, each as its line. An edge
+    without the ends that it should have is left out."""
 
     def __init__(self, dump: Dump) -> None:
         self.dump = dump
@@ -101,7 +107,8 @@ class Graph:
                         self.edges.setdefault((label, own), []).append(line)
 
     def out(self, label: str, own: Id) -> Iterator[tuple[int, Element]]:
-        """The edges of a label out of a vertex, each with its line; of `attach` those into it too."""
+        """The edges of a label out of a vertex, each with its line; of `attach` those into it
+        too."""
         return ((line, self.dump.at(line)) for line in self.edges.get((label, own), []))
 
     def vertex(self, own: Id) -> Element:
@@ -109,7 +116,8 @@ class Graph:
         return self.dump.at(self.dump.first[own])
 
     def chain(self, own: Id) -> dict[Id, int]:
-        """A vertex and those that `next` edges lead to from it, each with the line of the edge; 0 for the vertex itself."""
+        """A vertex and those that `next` edges lead to from it, each with the line of the edge; 0
+        for the vertex itself."""
         chain, step = {own: 0}, next(self.out("next", own), None)
         while step is not None and step[1]["inV"] not in chain:
             own = step[1]["inV"]
@@ -128,7 +136,8 @@ class Graph:
         return f"scheme {str(moniker.get('scheme'))!r}, identifier {str(moniker.get('identifier'))!r}, {package}"
 
     def monikers(self, chain: dict[Id, int]) -> list[Moniker]:
-        """The monikers of the vertices of a chain and those that `attach` edges lead to from these, each once."""
+        """The monikers of the vertices of a chain and those that `attach` edges lead to from these,
+        each once."""
         todo = [(line, edge["inV"]) for own in chain for line, edge in self.out("moniker", own)]
         found: dict[Id, Moniker] = {}
         while todo:
@@ -215,7 +224,8 @@ class Graph:
 
 
 def document_of(graph: Graph, path: str, maps: Maps) -> int:
-    """The line of the document of a file, or of the one document whose uri is `path` or ends with it; raises BadCall."""
+    """The line of the document of a file, or of the one document whose uri is `path` or ends with
+    it; raises BadCall."""
     uri, end = serialized(uri_of(path, maps)), "/" + quote(os.path.normpath(path), safe=KEPT)
     own = [line for line, known in graph.documents.items() if serialized(known) == uri]
     near = [line for line, known in graph.documents.items() if known == path or known.endswith(end)]
@@ -250,7 +260,8 @@ def contents(graph: Graph, trail: Optional[Trail], request: Request) -> Optional
 
 
 def reason(trail: Trail, request: Request) -> str:
-    """Why a request is asked of the range of a trail where no smaller range speaks, or why it isn't."""
+    """Why a request is asked of the range of a trail where no smaller range speaks, or why it
+    isn't."""
     article = "an" if request.result[0] in "aeiou" else "a"
     if trail.bound is not None:
         return f"asked, for it has {article} {request.result}"
@@ -338,7 +349,8 @@ def position_of(call: argparse.Namespace) -> tuple[int, int]:
 
 
 def told(graph: Graph, call: argparse.Namespace, maps: Maps) -> int:
-    """Prints what there is at the position that is asked for; answers whether a range is asked, as the status."""
+    """Prints what there is at the position that is asked for; answers whether a range is asked, as
+    the status."""
     request = REQUESTS[call.request]
     document = document_of(graph, call.file, maps)
     position = position_of(call)

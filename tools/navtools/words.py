@@ -1,4 +1,5 @@
-"""What command lines have in common: the address of a server, the names of projects and keys, and how a call that can't be carried out ends."""
+"""What command lines have in common: the address of a server, the names of projects and keys, and
+how a call that can't be carried out ends."""
 
 import argparse
 import os
@@ -10,6 +11,18 @@ from urllib.parse import urlsplit
 PROJECT = re.compile(r"[a-z0-9_-]{1,64}")
 KEY = re.compile(r"[A-Za-z0-9_-]{1,64}")
 CLOSED_PIPE = 141
+
+
+class Help(argparse.HelpFormatter):
+    """Lays out help as argparse does, which loads `shutil` at each argument for the width of the
+    terminal; that takes longer than a question."""
+
+    def __init__(self, prog: str) -> None:
+        try:
+            columns = int(os.environ.get("COLUMNS") or 0) or os.get_terminal_size(1).columns
+        except (OSError, ValueError):
+            columns = 80
+        super().__init__(prog, width=columns - 2)
 
 
 class BadCall(Exception):
@@ -80,7 +93,8 @@ def first_place(parser: argparse.ArgumentParser, words: list[str]) -> int:
 
 
 def parsed(parser: argparse.ArgumentParser, words: Optional[list[str]]) -> argparse.Namespace:
-    """What a command line says. The server's address is that of CODENAV_URL where a project's name, or nothing, stands in its place."""
+    """What a command line says. The server's address is that of CODENAV_URL where a project's name,
+    or nothing, stands in its place."""
     words = sys.argv[1:] if words is None else words
     url, at = os.environ.get("CODENAV_URL"), first_place(parser, words)
     if url and (at == len(words) or PROJECT.fullmatch(words[at])):
@@ -89,8 +103,9 @@ def parsed(parser: argparse.ArgumentParser, words: Optional[list[str]]) -> argpa
 
 
 def status_of(tool: str, call: Callable[[], int]) -> int:
-    """Makes the call of a tool and answers its status. What can't be carried out is one line on the standard error and status 2; where
-    nobody reads the standard output any more the call ends without a word, with the status of a program that SIGPIPE ended.
+    """Makes the call of a tool and answers its status. What can't be carried out is one line on the
+    standard error and status 2; where nobody reads the standard output any more the call ends
+    without a word, with the status of a program that SIGPIPE ended.
     """
     try:
         status = call()

@@ -1,7 +1,8 @@
-"""Which project or set the files of an editor are of: by the command line, by the file `.codenav.toml` at the top of a checkout, and by the projects
-that answers name.
+"""Which project or set the files of an editor are of: by the command line, by the file
+`.codenav.toml` at the top of a checkout, and by the projects that answers name.
 
-A checkout's own file is found upwards from each file, so that an editor over several checkouts asks each of its project, and needs no command line.
+A checkout's own file is found upwards from each file, so that an editor over several checkouts asks
+each of its project, and needs no command line.
 """
 
 import os
@@ -25,7 +26,10 @@ KEYS = {
     "revision": str,
     "revisions": dict,
     "indexed": str,
+    "servers": list,
 }
+CALLED = {dict: "table", list: "list", str: "text"}
+"""How the kinds of values are called."""
 SECONDS = 30
 UNKNOWN = ("D01 ", "D02 ")
 """How faults begin of a project that has no dump, or not the document."""
@@ -33,8 +37,8 @@ UNKNOWN = ("D01 ", "D02 ")
 
 @dataclass(frozen=True)
 class Settings:
-    """What is known of the files below a folder: the server, the project or set, where its documents and the tags files of projects are on this machine,
-    and which texts were indexed.
+    """What is known of the files below a folder: the server, the project or set, where its
+    documents and the tags files of projects are on this machine, and which texts were indexed.
     """
 
     server: str
@@ -46,7 +50,8 @@ class Settings:
     indexed: Optional[str] = None
 
     def tags_folder(self, project: str) -> Optional[str]:
-        """The folder in which a project's tags file was made: its own, where none is named, at the top of the files."""
+        """The folder in which a project's tags file was made: its own, where none is named, at the
+        top of the files."""
         return self.tags.get(project, self.folder if project == self.project else None)
 
     def projects(self) -> list[str]:
@@ -54,9 +59,8 @@ class Settings:
         return list(dict.fromkeys([self.project, *self.tags]))
 
 
-def settings_in(path: str) -> Settings:
-    """What a file `.codenav.toml` says; folders are named from its own folder. Raises BadCall."""
-    folder = os.path.dirname(path)
+def found_in_file(path: str) -> dict[str, Any]:
+    """The keys of a file `.codenav.toml`, each with a value of its kind. Raises BadCall."""
     try:
         with open(path, "rb") as file:
             found = tomllib.load(file)
@@ -68,12 +72,20 @@ def settings_in(path: str) -> Settings:
         if key not in KEYS:
             raise BadCall(f"{path}: no key {key!r}: there are {', '.join(KEYS)}")
         if type(value) is not KEYS[key]:
-            raise BadCall(f"{path}: {key} isn't a {'table' if KEYS[key] is dict else 'text'}")
+            raise BadCall(f"{path}: {key} isn't a {CALLED[KEYS[key]]}")
+    if not all(type(server) is str for server in found.get("servers", [])):
+        raise BadCall(f"{path}: the values of servers are texts")
     for key in ("map", "tags", "revisions"):
         if not all(type(value) is str and value for value in found.get(key, {}).values()):
             raise BadCall(f"{path}: the values of {key} are texts, and not empty")
+    return found
+
+
+def settings_in(path: str) -> Settings:
+    """What a file `.codenav.toml` says; folders are named from its own folder. Raises BadCall."""
+    found = found_in_file(path)
     try:
-        return settings_of(found, folder)
+        return settings_of(found, os.path.dirname(path))
     except BadCall as fault:
         raise BadCall(f"{path}: {fault}") from None
 
@@ -124,8 +136,9 @@ def folders_above(folder: str) -> Iterator[str]:
 class Workspace:
     """The files of an editor, of which each is asked of its own project.
 
-    `given` is what the command line says, for the files below the editor's folder, `root`, and for those that nothing else is known of. `say` is called
-    with a line for the user, `today` reads a file as the editor has it.
+    `given` is what the command line says, for the files below the editor's folder, `root`, and for
+    those that nothing else is known of. `say` is called with a line for the user, `today` reads a
+    file as the editor has it.
     """
 
     def __init__(
@@ -142,7 +155,8 @@ class Workspace:
         self.holders: dict[str, list[str]] = {}
 
     def settings(self, path: str) -> Optional[Settings]:
-        """What is known of a file: by the nearest `.codenav.toml` above it, unless it's the editor's folder's own and the command line says it."""
+        """What is known of a file: by the nearest `.codenav.toml` above it, unless it's the
+        editor's folder's own and the command line says it."""
         for folder in folders_above(os.path.dirname(path)):
             if self.given and folder in folders_above(self.root) and is_below(path, self.root):
                 break
@@ -152,7 +166,8 @@ class Workspace:
         return self.given
 
     def read_in(self, folder: str) -> Optional[Settings]:
-        """The settings of a folder that has a file of such, which is read once; a bad one is said."""
+        """The settings of a folder that has a file of such, which is read once; a bad one is
+        said."""
         if folder not in self.read:
             path = os.path.join(folder, FILE)
             self.read[folder] = None
@@ -179,16 +194,19 @@ class Workspace:
         return self.asking[key]
 
     def source(self, project: str, path: str) -> Optional[Source]:
-        """The texts that were indexed of a file of another project, where the file's own settings name that project and say so."""
+        """The texts that were indexed of a file of another project, where the file's own settings
+        name that project and say so."""
         settings = self.settings(path)
         if settings is None or settings.project != project:
             return None
         return self.questions(settings, project).indexed.sources.get(project)
 
     def projects(self, settings: Settings, path: str) -> list[str]:
-        """The projects that a file's questions go to, one after the other up to the first that has the document.
+        """The projects that a file's questions go to, one after the other up to the first that has
+        the document.
 
-        A file below the settings' folder is of its project first, any other of those that an answer named.
+        A file below the settings' folder is of its project first, any other of those that an answer
+        named.
         """
         named = self.holders.get(path, [])
         own = [settings.project]
@@ -196,7 +214,8 @@ class Workspace:
         return list(dict.fromkeys([*own, *named] if is_own else [*named, *own]))
 
     def ask(self, what: str, path: str, line: int, character: int, **more: str) -> Reply:
-        """What is found at a place of a file, or of a document by its address. Raises NotThere, and BadCall where nothing answers."""
+        """What is found at a place of a file, or of a document by its address. Raises NotThere, and
+        BadCall where nothing answers."""
         settings = self.settings(path) if os.path.isabs(path) else self.given
         if settings is None:
             raise BadCall(
@@ -216,7 +235,8 @@ class Workspace:
         raise AssertionError("there is a project")
 
     def learn(self, asked: str, places: list[dict[str, Any]]) -> None:
-        """Notes which projects have the files that an answer leads to: the one that was asked before others."""
+        """Notes which projects have the files that an answer leads to: the one that was asked
+        before others."""
         found: dict[str, set[str]] = {}
         for place in places:
             if place["path"]:
@@ -239,7 +259,8 @@ class Workspace:
     def names(
         self, prefix: str, paths: list[str]
     ) -> Iterator[tuple[Settings, list[dict[str, Any]]]]:
-        """The tags whose names begin with a text, of the projects of the editor's folder and of files. Raises NoReply."""
+        """The tags whose names begin with a text, of the projects of the editor's folder and of
+        files. Raises NoReply."""
         for settings in self.all_settings(paths):
             for project in settings.projects():
                 yield settings, self.questions(settings, project).index.names(

@@ -1,4 +1,5 @@
-"""Whether the server accepts a dump, said again in Python from docs/DEFINITIONS.md, plainly and slowly: what the tests hold the tools' output to."""
+"""Whether the server accepts a dump, said again in Python from docs/DEFINITIONS.md, plainly and
+slowly: what the tests hold the tools' output to."""
 
 import json
 import re
@@ -327,7 +328,8 @@ def depth(value: Any) -> int:
 
 
 def fault(body: bytes, profile: str) -> Optional[str]:
-    """The first fault of a dump as `line N: CODE`, or None where the server accepts it in a profile."""
+    """The first fault of a dump as `line N: CODE`, or None where the server accepts it in a
+    profile."""
     checker, number = Checker(profile), 0
     for number, text in enumerate(body.removesuffix(b"\n").split(b"\n") if body else [], 1):
         code = checker.line(number, text)

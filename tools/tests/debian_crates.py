@@ -1,4 +1,5 @@
-"""Copies of crates that Debian's librust-*-dev packages have, and what rust-analyzer of Debian's rust-web-analyzer writes of them."""
+"""Copies of crates that Debian's librust-*-dev packages have, and what rust-analyzer of Debian's
+rust-web-analyzer writes of them."""
 
 import os
 import re
@@ -22,7 +23,8 @@ DEV_DEPENDENCIES = re.compile(
 
 @contextmanager
 def copied(crate: str) -> Iterator[str]:
-    """The folder of a copy of a crate, without what only its tests need; beside it is room for other files. It goes with the context."""
+    """The folder of a copy of a crate, without what only its tests need; beside it is room for
+    other files. It goes with the context."""
     with tempfile.TemporaryDirectory() as folder:
         home = os.path.join(folder, crate)
         shutil.copytree(os.path.join(REGISTRY, crate), home)

@@ -1,4 +1,5 @@
-"""A real server with the dumps of both demo crates and the tags of one, for the scripts that are run by hand."""
+"""A real server with the dumps of both demo crates and the tags of one, for the scripts that are
+run by hand."""
 
 import os
 import sys
@@ -33,7 +34,8 @@ def demo_server(program: str) -> Iterator[str]:
 
 
 def program_of(words: list[str]) -> str:
-    """The built program that the command line names; without it the one of this clone, which is built first where it isn't yet."""
+    """The built program that the command line names; without it the one of this clone, which is
+    built first where it isn't yet."""
     if len(words) > 1:
         sys.exit("usage: [PROGRAM]")
     return os.path.abspath(words[0]) if words else built_program(TOP)

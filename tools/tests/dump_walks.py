@@ -1,4 +1,5 @@
-"""Answers of whole dumps by a walk over their elements, as docs/DEFINITIONS.md says them, for tests that need no server; and random dumps to walk.
+"""Answers of whole dumps by a walk over their elements, as docs/DEFINITIONS.md says them, for tests
+that need no server; and random dumps to walk.
 
 It's written for being read, and searches all elements at each step.
 """
@@ -170,7 +171,8 @@ class Walk:
 
 
 def answered(projects: dict[str, Walk], project: str, question: Question) -> Any:
-    """The answer of projects to a question that is asked of one: a set of places, or the contents of a hover."""
+    """The answer of projects to a question that is asked of one: a set of places, or the contents
+    of a hover."""
     own = projects[project]
     at, request = own.pick(question), question.request
     if at is None:
@@ -337,7 +339,8 @@ class Maker:
                 self.edge("moniker", self.rng.choice(ranges), own)
 
     def numbered(self) -> list[Element]:
-        """The elements in a random order in which vertices stand before the edges that name them."""
+        """The elements in a random order in which vertices stand before the edges that name
+        them."""
         order = self.rng.sample(range(len(self.vertices)), len(self.vertices))
         own = {vertex: number for number, vertex in enumerate(order, 1)}
         elements: list[Element] = [

@@ -1,7 +1,8 @@
-"""Edits of a text that know what became of each word: 26 kinds, as people make them and as formatters, renames and merges do.
+"""Edits of a text that know what became of each word: 26 kinds, as people make them and as
+formatters, renames and merges do.
 
-A text is a list of lines, a line a list of items, words, signs and white space, each with an identity that it keeps through an edit. What is written anew,
-a copy too, has a new identity.
+A text is a list of lines, a line a list of items, words, signs and white space, each with an
+identity that it keeps through an edit. What is written anew, a copy too, has a new identity.
 """
 
 import re
@@ -83,7 +84,8 @@ def names(lines: Lines) -> list[str]:
 
 
 def blocks(lines: Lines) -> list[tuple[int, int]]:
-    """Where functions begin and end, about: from a line that heads one to the last that is deeper, or closes it."""
+    """Where functions begin and end, about: from a line that heads one to the last that is deeper,
+    or closes it."""
     found, at = [], 0
     while at < len(lines):
         end = at + 1

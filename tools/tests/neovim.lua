@@ -1,4 +1,5 @@
--- Asks the bridge as a user of Neovim does, and prints what is shown: `WHAT TEXT`, a line each.
+-- Asks the bridge as a user of Neovim does, at the line and the column that CODENAV_AT says, and prints what is shown: `WHAT TEXT`, a line each.
+-- Names, an edited file and a file that isn't in the dump are asked where CODENAV_MORE is set.
 
 local function show(what, text)
   io.stdout:write(what .. " " .. text .. "\n")
@@ -34,9 +35,11 @@ local client = vim.lsp.start_client({ name = "codenav", cmd = vim.fn.json_decode
 vim.lsp.buf_attach_client(buffer, client)
 wait_for("initialize", function() return vim.lsp.buf_get_clients(buffer)[client] ~= nil end)
 
+local line, column = vim.env.CODENAV_AT:match("(%d+):(%d+)")
+
 local function at_call()
   vim.cmd("buffer " .. buffer)
-  vim.api.nvim_win_set_cursor(0, { 5, 24 })
+  vim.api.nvim_win_set_cursor(0, { tonumber(line), tonumber(column) - 1 })
 end
 
 at_call()
@@ -60,6 +63,8 @@ for _, window in ipairs(vim.api.nvim_list_wins()) do
     vim.api.nvim_win_close(window, true)
   end
 end
+
+if not vim.env.CODENAV_MORE then vim.cmd("qall!") end
 
 vim.lsp.buf.workspace_symbol("is_w")
 show_list("symbol")

@@ -1,4 +1,5 @@
-"""Debian's packages that some tests need: without one they're skipped, with a line that names it."""
+"""Debian's packages that some tests need: without one they're skipped, with a line that names
+it."""
 
 import unittest
 from importlib.util import find_spec

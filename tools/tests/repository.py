@@ -1,4 +1,5 @@
-"""Git repositories for tests: one with a commit of some files, and the demo crates as two checkouts."""
+"""Git repositories for tests: one with a commit of some files, and the demo crates as two
+checkouts."""
 
 import os
 import shutil
@@ -25,7 +26,8 @@ def git_in(top: str, *words: str) -> str:
 
 
 def checkouts(home: str, url: str) -> dict[str, str]:
-    """Makes a checkout of each demo crate below a folder, with a `.codenav.toml` that isn't committed, and answers their commits."""
+    """Makes a checkout of each demo crate below a folder, with a `.codenav.toml` that isn't
+    committed, and answers their commits."""
     commits = {}
     maps = "".join(f'"file:///src/tr/{name}" = "../{name}"\n' for name in ("crate", "user"))
     for name, project in ("crate", "temperature"), ("user", "kettle"):

@@ -6,15 +6,18 @@ import threading
 import unittest
 from typing import Callable, Optional
 
-from navtools.serving import serving
+from navtools.serving import ended, free_port, started
 
 TOP = os.path.dirname(os.path.dirname(os.path.dirname(os.path.abspath(__file__))))
 SECONDS = 10
+REQUESTS = 1_000_000
+NOT_BUILT = "the program isn't built, and CODENAV_PROGRAM names none"
 BUILT = os.path.join(TOP, "crates", "codenav", "out", "codenav")
 
 
 def program() -> Optional[str]:
-    """The program that CODENAV_PROGRAM names, or the one that this clone has built; None where it hasn't."""
+    """The program that CODENAV_PROGRAM names, or the one that this clone has built; None where it
+    hasn't."""
     named = os.environ.get("CODENAV_PROGRAM")
     if named:
         return os.path.abspath(named)
@@ -22,22 +25,36 @@ def program() -> Optional[str]:
 
 
 class OnServer(unittest.TestCase):
-    """Tests that ask a server of the built program, which each test has for itself, empty and in memory."""
+    """Tests that ask a server of the built program, which each test has for itself, empty at first;
+    they may kill it and start it again."""
 
     program: str
     url: str
+    database = ":memory:"
 
     def setUp(self) -> None:
         found = program()
         if found is None:
-            self.skipTest("the program isn't built, and CODENAV_PROGRAM names none")
-        self.program = found
-        self.url = self.enterContext(serving(self.program, quiet=True))
+            self.skipTest(NOT_BUILT)
+        self.program, self.port = found, free_port()
+        self.url = f"http://127.0.0.1:{self.port}"
+        self.start()
+        self.addCleanup(lambda: ended(self.server))
+
+    def start(self) -> None:
+        """Starts the server."""
+        self.server = started(self.program, self.port, REQUESTS, self.database, quiet=True)
+
+    def kill(self) -> None:
+        """Kills the server."""
+        self.server.kill()
+        self.server.wait()
+        ended(self.server)
 
 
 class Relay:
-    """Hands requests on to a server, and its replies back but for the first ones: these are lost, and the connection is cut, when the
-    server has acted and `meanwhile` has been called."""
+    """Hands requests on to a server, and its replies back but for the first ones: these are lost,
+    and the connection is cut, when the server has acted and `meanwhile` has been called."""
 
     def __init__(self, url: str, lost: int, meanwhile: Callable[[], object] = lambda: None) -> None:
         self.port = int(url.rpartition(":")[2])
@@ -73,7 +90,8 @@ class Relay:
                     self.meanwhile()
 
     def reply_to(self, client: socket.socket) -> bytes:
-        """What the server answers to what a client sends; the client's side isn't read any more then."""
+        """What the server answers to what a client sends; the client's side isn't read any more
+        then."""
         with socket.create_connection(("127.0.0.1", self.port), SECONDS) as server:
             onward = threading.Thread(target=self.hand_on, args=(client, server), daemon=True)
             onward.start()

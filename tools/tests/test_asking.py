@@ -1,4 +1,5 @@
-"""Tests of what `ask` says over a real server: of documents that aren't there, of symbolic links, of tags elsewhere, and of a pipe that is closed."""
+"""Tests of what `ask` says over a real server: of documents that aren't there, of symbolic links,
+of tags elsewhere, and of a pipe that is closed."""
 
 import io
 import os
@@ -80,7 +81,8 @@ class Asking(OnServer):
             self.assertEqual(os.path.abspath(said.rstrip("\n")), f"{place}:4:8")
 
     def test_tags_elsewhere(self) -> None:
-        """A tag whose file isn't in the folder has no line, and isn't shown as if it were on the first."""
+        """A tag whose file isn't in the folder has no line, and isn't shown as if it were on the
+        first."""
         words = [self.url, "app", "names", "is_warm"]
         here = self.asked("--tags", f"app={CRATE}", *words)
         self.assertEqual(

@@ -1,4 +1,5 @@
-"""Tests of input that is none: each tool says in one line what is wrong and where, ends with status 2, and leaves no half of a file."""
+"""Tests of input that is none: each tool says in one line what is wrong and where, ends with status
+2, and leaves no half of a file."""
 
 import io
 import os
@@ -9,6 +10,7 @@ from typing import Callable, Optional
 
 from navtools import ask, explain, prepare, projects, publish, remove, scip_to_lsif, upload, why
 from navtools.sets import split
+from navtools.surfaces import surface
 from tests.servers import TOP
 from tests.test_client import FOUND, Peer, environment, head_of, sends, status
 
@@ -44,7 +46,8 @@ class Files(unittest.TestCase):
         return path
 
     def refused(self, main: Main, words: list[str], line: str) -> None:
-        """A call that ends with status 2 and this line alone, which a pattern has, and writes nothing."""
+        """A call that ends with status 2 and this line alone, which a pattern has, and writes
+        nothing."""
         before = sorted(os.listdir(self.folder))
         status, said, warned = called(main, *words)
         self.assertEqual((status, said, warned.count("\n")), (2, "", 1), warned)
@@ -69,6 +72,7 @@ class Files(unittest.TestCase):
             ("binary", bytes(range(128, 256)) * 20, "line 1: not UTF-8"),
             ("folder", None, "Is a directory"),
             ("nothing", raw + lost, f"line {number + 1}: no vertex has the id 6"),
+            ("twice", raw + raw.splitlines()[1], f"line {number + 1}: the id 1 again"),
             ("cycle", b"\n".join(ring), "line 5: a `next` edge that closes a cycle"),
             ("utf8", raw.replace(b"temperature", b"\xff"), "line [0-9]+: not UTF-8"),
             ("page", HTML.encode(), "line 1: not JSON"),
@@ -86,6 +90,7 @@ class Files(unittest.TestCase):
                     self.refused(main, words, f"^{tool}: .*{path}.*{line}")
             for tool, main, words in (
                 ("split-lsif", split.main, [path, out]),
+                ("surface-lsif", surface.main, [path, out]),
                 ("why", why.main, [path, "src/lib.rs", "18", "12"]),
                 ("explain-fault", explain.main, [path, "line 1000: L07 bad member"]),
             ):
@@ -150,7 +155,8 @@ class Files(unittest.TestCase):
 
 class Servers(unittest.TestCase):
     def test_what_is_no_server(self) -> None:
-        """What comes in place of codenav's reply, to each tool that asks: one line with the address."""
+        """What comes in place of codenav's reply, to each tool that asks: one line with the
+        address."""
         answers = {
             "not a reply of codenav, status 200$": status("200 OK", body=HTML),
             "status 401, a login is asked for: CODENAV_TOKEN": status(
@@ -171,12 +177,25 @@ class Servers(unittest.TestCase):
                 ("list", projects.main, []),
                 ("remove", remove.main, ["app"]),
                 ("upload-lsif", lambda words: upload.main("lsif", words), ["app", RAW]),
+                ("upload-tags", lambda words: upload.main("tags", words), ["app", RAW]),
             ):
                 with self.subTest(tool, said=said), environment(), Peer(act) as peer:
                     server = f"http://127.0.0.1:{peer.port}"
                     found = called(main, server, *words)
                 self.assertEqual((found[0], found[1], found[2].count("\n")), (2, "", 1), found)
                 self.assertRegex(found[2], f"^{tool}: {server}: .*{said.rstrip(' ').rstrip('$')}")
+
+    def test_a_proxy_before_publish(self) -> None:
+        """What it refuses of an upload is its line too, behind those of the stages."""
+        projects_there = status("200 OK", body='{"projects":[]}')
+        refusal = status("413 Too Large", body=HTML)
+        words = ["--no-tags", "--dump", RAW]
+        with environment(PATH="/no"), Peer(projects_there, refusal) as peer:
+            server = f"http://127.0.0.1:{peer.port}"
+            found = called(publish.main, *words, server, "app", CRATE)
+        self.assertEqual(found[:2], (2, ""), found)
+        last = found[2].splitlines()[-1]
+        self.assertRegex(last, f"^publish: {server}: .*status 413, the proxy takes no body")
 
 
 if __name__ == "__main__":

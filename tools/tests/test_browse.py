@@ -1,4 +1,5 @@
-"""Tests of `browse`: what is served and to whom, what is refused, and that names, texts and answers of the index are put in as texts."""
+"""Tests of `browse`: what is served and to whom, what is refused, and that names, texts and answers
+of the index are put in as texts."""
 
 import http.client
 import io
@@ -81,7 +82,8 @@ class Served:
         return response.status, body, dict(response.getheaders())
 
     def asked(self, path: str, reply: Any, status: int = 200) -> tuple[int, Any, Optional[str]]:
-        """The status and the answer to a question that the server answers so, and the address that the server was asked by."""
+        """The status and the answer to a question that the server answers so, and the address that
+        the server was asked by."""
         answer = Answer("http://127.0.0.1:1", status, json.dumps(reply).encode())
         with mock.patch.object(questions, "request", return_value=answer) as request:
             code, body, _ = self.got(path)
@@ -365,7 +367,8 @@ class Browse(Served, unittest.TestCase):
                 self.see_nodes(tree_of(text))
 
     def see_nodes(self, nodes: list[Any], depth: int = 0) -> None:
-        """Sees that nodes are texts, or known elements with no attributes but links to web pages and the kinds of code."""
+        """Sees that nodes are texts, or known elements with no attributes but links to web pages
+        and the kinds of code."""
         self.assertLess(depth, 60)
         for node in nodes:
             if isinstance(node, str):

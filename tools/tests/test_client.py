@@ -1,4 +1,5 @@
-"""Tests of requests over real sockets: what comes in place of a reply, logins, proxies and TLS. Each peer is a thread that acts out one row."""
+"""Tests of requests over real sockets: what comes in place of a reply, logins, proxies and TLS.
+Each peer is a thread that acts out one row."""
 
 import base64
 import io
@@ -55,7 +56,8 @@ def reset(peer: socket.socket) -> None:
 
 
 class Peer:
-    """Takes connections, one after the other, and plays for each the next act; it keeps the heads that it was sent."""
+    """Takes connections, one after the other, and plays for each the next act; it keeps the heads
+    that it was sent."""
 
     def __init__(self, *acts: Act, tls: Optional[ssl.SSLContext] = None) -> None:
         self.acts, self.tls = acts, tls
@@ -94,7 +96,8 @@ class Peer:
 
 @contextmanager
 def environment(**variables: str) -> Iterator[None]:
-    """An environment with these variables, and without those that a login or a proxy is taken from."""
+    """An environment with these variables, and without those that a login or a proxy is taken
+    from."""
     kept = {
         name: value
         for name, value in os.environ.items()
@@ -264,6 +267,15 @@ class Logins(unittest.TestCase):
                 with self.subTest(at, variables=variables):
                     self.assertEqual(self.sent(at, **variables), wanted)
 
+    def test_a_login_that_is_not_taken(self) -> None:
+        with Peer(status("401 Unauthorized")) as peer, environment(CODENAV_TOKEN="t"):
+            server = f"http://127.0.0.1:{peer.port}"
+            said = refusal_of(request(f"{server}/projects"))
+        self.assertEqual(
+            said,
+            f"{server}: not a reply of codenav, status 401, the login that was sent isn't taken",
+        )
+
     def test_logins_that_are_none(self) -> None:
         with tempfile.NamedTemporaryFile("w") as netrc:
             netrc.write("machine h nothing\n")
@@ -286,7 +298,8 @@ class Logins(unittest.TestCase):
 
 class Ways(unittest.TestCase):
     def test_proxies(self) -> None:
-        """A server elsewhere is asked by way of the proxy, one that no_proxy names isn't, and one on this machine never is."""
+        """A server elsewhere is asked by way of the proxy, one that no_proxy names isn't, and one
+        on this machine never is."""
         with Peer(sends(FOUND)) as peer, environment(
             http_proxy=f"http://u:p@127.0.0.1:{peer.port}"
         ):

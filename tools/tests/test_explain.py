@@ -8,6 +8,7 @@ import tempfile
 import unittest
 from contextlib import redirect_stderr, redirect_stdout
 from typing import Any, NamedTuple, Union
+from unittest import mock
 
 from navtools import explain, sentences
 
@@ -70,7 +71,8 @@ CYCLE = [
 
 
 def base(**lines: Union[str, None]) -> list[str]:
-    """The base dump with other lines, `_4="..."`, or without them, `_11=None`, or with one more at its end."""
+    """The base dump with other lines, `_4="..."`, or without them, `_11=None`, or with one more at
+    its end."""
     after = [lines.get(f"_{number}", line) for number, line in enumerate(BASE, 1)]
     return [line for line in [*after, lines.get("_12")] if line is not None]
 
@@ -312,6 +314,21 @@ class Explain(unittest.TestCase):
         )
         self.assertIn(".. (5004 bytes)", said)
         self.assertTrue(len(said) < 600 and "\x1b" not in said)
+
+    def test_a_line_over_the_limit_of_an_element(self) -> None:
+        """It's explained by its beginning, and is the fault where one is said to be behind it."""
+        body = b"\n".join([META.encode(), b"x" * 5_000, META.encode()])
+        with mock.patch.object(explain, "MOST_ELEMENT_BYTES", 200):
+            status, said, _ = self.explained(body, "line 2: L01 line too long")
+            self.assertEqual((status, ".. (5000 bytes)" in said), (0, True), said)
+            self.assertEqual(
+                self.explained(body, "line 3: L06 metaData missing, wrong or repeated"),
+                (
+                    2,
+                    "",
+                    "explain-fault: FILE, line 2: longer than 200 bytes, the limit of an element\n",
+                ),
+            )
 
     def test_carriage_returns_and_ids_as_texts(self) -> None:
         dump = [

@@ -1,4 +1,5 @@
-"""Tests of places that are mapped between an index and today's files: the texts and names of a git revision, and what is said where there is none."""
+"""Tests of places that are mapped between an index and today's files: the texts and names of a git
+revision, and what is said where there is none."""
 
 import os
 from typing import Any, Optional

@@ -1,5 +1,5 @@
-"""What people hold: a dump in each form that it's read in, and each input that is no dump, which is one line on the standard error with status 2 and leaves
-no file."""
+"""What people hold: a dump in each form that it's read in, and each input that is no dump, which is
+one line on the standard error with status 2 and leaves no file."""
 
 import gzip
 import io
@@ -46,7 +46,8 @@ class Input(unittest.TestCase):
     def called(
         self, tool: Any, body: Optional[bytes], *words: str
     ) -> tuple[int, Optional[bytes], str]:
-        """The status of a tool that reads IN and writes OUT, what it wrote, and what it said; IN is a folder where there is no body."""
+        """The status of a tool that reads IN and writes OUT, what it wrote, and what it said; IN is
+        a folder where there is no body."""
         with tempfile.TemporaryDirectory() as folder, redirect_stderr(io.StringIO()) as said:
             source, out = os.path.join(folder, "in"), os.path.join(folder, "out")
             if body is None:
@@ -275,7 +276,8 @@ class Input(unittest.TestCase):
         )
 
     def test_long_lines(self) -> None:
-        """What has no effect is dropped where it makes a line too long, and an edge to many ranges is several."""
+        """What has no effect is dropped where it makes a line too long, and an edge to many ranges
+        is several."""
         many = [
             vertex(
                 f"range-{number:0100d}",

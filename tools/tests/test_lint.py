@@ -1,4 +1,5 @@
-"""The tools' types, their layout and what a linter finds, by Debian's mypy, black and flake8. Where one isn't installed its test is skipped."""
+"""The tools' types, their layout and what a linter finds, by Debian's mypy, black and flake8. Where
+one isn't installed its test is skipped."""
 
 import os
 import shutil
@@ -7,7 +8,8 @@ import unittest
 
 from tests.servers import TOP
 
-CHECKED = ["tools/navtools", "tools/tests", "bench"]
+TYPED = ["tools/navtools", "tools/wheel"]
+CHECKED = [*TYPED, "tools/tests", "bench", "packaging/stage"]
 BLACK = "23."
 
 
@@ -29,7 +31,7 @@ class Lint(unittest.TestCase):
         return done.stdout if done.returncode != 0 else ""
 
     def test_types(self) -> None:
-        words = ["--strict", "--cache-dir", os.devnull, "--no-error-summary", "tools/navtools"]
+        words = ["--strict", "--cache-dir", os.devnull, "--no-error-summary", *TYPED]
         self.assertEqual(self.said_by("mypy", *words), "")
 
     def test_layout(self) -> None:
@@ -42,7 +44,8 @@ class Lint(unittest.TestCase):
         self.assertEqual(self.said_by("black", "--check", "--quiet", "--diff", *CHECKED), "")
 
     def test_linter(self) -> None:
-        """Names that aren't there or aren't used, and what isn't Python; not of what protoc wrote."""
+        """Names that aren't there or aren't used, and what isn't Python; not of what protoc
+        wrote."""
         words = ["--isolated", "--select=F,E9,W6", "--exclude=*_pb2.py", *CHECKED]
         self.assertEqual(self.said_by("flake8", *words), "")
 

@@ -1,4 +1,5 @@
-"""Tests of the language server bridge, over pipes, against a small server on this machine that gives stored replies."""
+"""Tests of the language server bridge, over pipes, against a small server on this machine that
+gives stored replies."""
 
 import json
 import os
@@ -28,7 +29,8 @@ TAG = {
 
 
 class Replies(BaseHTTPRequestHandler):
-    """Answers each GET by the stored status and body, and keeps the paths and parameters that were asked."""
+    """Answers each GET by the stored status and body, and keeps the paths and parameters that were
+    asked."""
 
     status, body = 200, b"{}"
     asked: list[tuple[str, dict[str, str]]] = []
@@ -96,7 +98,8 @@ class Editor:
         return message
 
     def call(self, method: str, params: Any = None) -> tuple[Any, list[tuple[str, int, str]]]:
-        """What a request is answered, and the messages to the user before that: their methods, types and texts."""
+        """What a request is answered, and the messages to the user before that: their methods,
+        types and texts."""
         own, told = self.ask(method, params), []
         while "id" not in (message := self.read()):
             told.append(
@@ -106,7 +109,8 @@ class Editor:
         return message["error"]["code"] if "error" in message else message["result"], told
 
     def end(self, *methods: str) -> tuple[int, bytes]:
-        """The status and what was printed as an error, after requests and `exit` or, with none, the input's end."""
+        """The status and what was printed as an error, after requests and `exit` or, with none, the
+        input's end."""
         for method in methods:
             (self.notify if method == "exit" else self.call)(method)
         self.run.stdin.close()  # type: ignore[union-attr]
@@ -214,7 +218,8 @@ class Lsp(unittest.TestCase):
         editor.end("shutdown", "exit")
 
     def test_symbols(self) -> None:
-        """Of a project of which the folder isn't there nothing is shown; where a file changed since, its top is."""
+        """Of a project of which the folder isn't there nothing is shown; where a file changed
+        since, its top is."""
 
         def symbol(project: str, folder: str, line: int, character: int) -> dict[str, Any]:
             at = {"line": line, "character": character}
@@ -255,7 +260,8 @@ class Lsp(unittest.TestCase):
         editor.end("shutdown", "exit")
 
     def test_a_folder_that_is_a_link(self) -> None:
-        """An editor that opened a folder by a symbolic link has the files by that; the index has them by their real paths."""
+        """An editor that opened a folder by a symbolic link has the files by that; the index has
+        them by their real paths."""
         link = f"{self.folder}-link"
         os.symlink(self.folder, link)
         self.addCleanup(os.unlink, link)

@@ -1,4 +1,5 @@
-"""Tests of the map between an old text and a new one: words whose way is known, rules one by one, and that the way back leads to where it began."""
+"""Tests of the map between an old text and a new one: words whose way is known, rules one by one,
+and that the way back leads to where it began."""
 
 import os
 import unittest
@@ -18,6 +19,9 @@ HARD = {"formatted", "several", "tabs", "sorted_imports", "indented"}
 UNKNOWABLE = {"changed_copy_in_place", "rewritten_elsewhere", "several"}
 """Kinds of edits after which a text says nothing of what is a copy."""
 MARK = "¦"
+LONG = "def long(a):\n    b = a + 1\n    c = b * 2\n    d = c - 3\n    e = d / 4\n    return e\n"
+SHORT = "def short(x):\n    y = x\n    return [y]\n"
+NEW_NAME = LONG.replace("long", "newly")
 FUNCTIONS = "def one(a):\n    b = a\n    return b\n\ndef two(a):\n    c = a\n    return c\n"
 RULES = [
     # the word is there, on lines that are equal, indented, changed beside it
@@ -47,6 +51,30 @@ RULES = [
     (
         FUNCTIONS.replace("b = a", "b = ¦a"),
         "def two(a):\n    c = a\n    return c\n\ndef one(a):\n    b = ¦a\n    return b\n",
+    ),
+    # a function that moved, changed in one line, is the function; half of its lines elsewhere
+    # aren't, however the two changed places
+    (
+        LONG.replace("d = c", "d = ¦c") + "\n" + SHORT,
+        SHORT + "\n" + LONG.replace("b = a + 1", "b = f(a)").replace("d = c", "d = ¦c"),
+    ),
+    (
+        LONG.replace("b = a", "b = ¦a") + "\n" + SHORT,
+        SHORT + "\nstart()\ndef long(a):\n    b = a + 1\n    return e\n",
+    ),
+    (
+        SHORT + "\n" + LONG.replace("b = a", "b = ¦a"),
+        "def long(a):\n    b = a + 1\n    c = b * 2\n\n" + SHORT,
+    ),
+    # of a function that stands twice, each of them changed, nobody knows which it is; one more with
+    # a new name is a new one
+    (
+        LONG.replace("c = b", "c = ¦b"),
+        LONG.replace("a + 1", "a + 9") + "\n" + LONG.replace("d / 4", "d / 9"),
+    ),
+    (
+        "# first\n" + SHORT.replace("y = x", "y = ¦x") + "\n" + LONG,
+        "# first\n" + SHORT.replace("y = x", "y = ¦x") + "\n" + LONG + "\n" + NEW_NAME,
     ),
     # an equal line of another function isn't the line
     (

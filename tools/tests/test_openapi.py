@@ -1,4 +1,5 @@
-"""Tests that docs/openapi.json, docs/API.md and the stored replies in demo/ say the same of routes, methods, parameters, replies and faults."""
+"""Tests that docs/openapi.json, docs/API.md and the stored replies in demo/ say the same of routes,
+methods, parameters, replies and faults."""
 
 import json
 import os
@@ -83,7 +84,8 @@ def is_valid(value: Any, schema: dict[str, Any]) -> bool:
 
 
 class Operation(NamedTuple):
-    """What a description says of a method of a path: its parameters and whether each must be there, the reply, and the faults by their statuses."""
+    """What a description says of a method of a path: its parameters and whether each must be there,
+    the reply, and the faults by their statuses."""
 
     parameters: dict[str, bool]
     reply: str

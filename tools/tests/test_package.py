@@ -13,7 +13,7 @@ import venv
 from contextlib import redirect_stderr, redirect_stdout
 
 from navtools.__main__ import TOOLS, main
-from tests.servers import TOP
+from tests.servers import TOP, OnServer
 
 
 def files_of(folder: str) -> set[str]:
@@ -56,52 +56,83 @@ class OneCommand(unittest.TestCase):
         self.assertEqual((done.returncode, done.stderr.count(b"\n")), (2, 1))
 
 
-class Installed(unittest.TestCase):
-    def test_an_install_without_a_network(self) -> None:
-        """`pip install` of a copy of the clone into a fresh environment, out of which nothing is fetched; then the tools run from it."""
-        for module, package in (
-            ("pip", "python3-pip"),
-            ("setuptools", "python3-setuptools"),
-            ("wheel", "python3-wheel"),
-        ):
-            if importlib.util.find_spec(module) is None:
-                self.skipTest(f"{module} isn't installed (Debian's {package})")
-        folder = self.enterContext(tempfile.TemporaryDirectory())
-        source, home = os.path.join(folder, "source"), os.path.join(folder, "home")
-        os.mkdir(source)
+class Installed(OnServer):
+    """The package in a fresh environment, which has nothing but pip; nothing is fetched."""
+
+    def setUp(self) -> None:
+        if importlib.util.find_spec("ensurepip") is None:
+            self.skipTest("ensurepip isn't installed (Debian's python3-venv)")
+        super().setUp()
+        self.folder = os.path.realpath(self.enterContext(tempfile.TemporaryDirectory()))
+        self.home = os.path.join(self.folder, "home")
+        source = os.path.join(self.folder, "source")
+        for name in ("navtools", "wheel"):
+            shutil.copytree(
+                os.path.join(TOP, "tools", name),
+                os.path.join(source, "tools", name),
+                ignore=shutil.ignore_patterns("__pycache__"),
+            )
         shutil.copy(os.path.join(TOP, "pyproject.toml"), source)
-        shutil.copytree(
-            os.path.join(TOP, "tools", "navtools"),
-            os.path.join(source, "tools", "navtools"),
-            ignore=shutil.ignore_patterns("__pycache__"),
+        venv.create(self.home, with_pip=True, symlinks=True)
+        for words, status in (
+            (["pip", "install", "--quiet", "--no-index", source], 0),
+            (["python3", "-c", "import wheel"], 1),
+        ):
+            done = self.run_there(*words)
+            self.assertEqual(done.returncode, status, done.stderr)
+
+    def run_there(self, program: str, *words: str) -> subprocess.CompletedProcess[str]:
+        """Runs a program of the environment, without what variables say to pip and of modules
+        elsewhere."""
+        kept = {
+            name: value
+            for name, value in os.environ.items()
+            if not name.startswith(("PIP_", "PYTHON", "CODENAV_"))
+        }
+        return subprocess.run(
+            [os.path.join(self.home, "bin", program), *words],
+            cwd=self.folder,
+            env={**kept, "PIP_CONFIG_FILE": os.devnull},
+            stdin=subprocess.DEVNULL,
+            capture_output=True,
+            text=True,
+            check=False,
         )
-        venv.create(home, system_site_packages=True, symlinks=True)
-        python = os.path.join(home, "bin", "python3")
-        pip = ["install", "--quiet", "--no-index", "--no-build-isolation", "--no-deps", source]
-        done = subprocess.run(
-            [python, "-m", "pip", *pip], capture_output=True, text=True, check=False
-        )
-        self.assertEqual(done.returncode, 0, done.stderr)
-        tool = os.path.join(home, "bin", "codenav-tools")
+
+    def test_the_way_from_a_dump_to_an_answer(self) -> None:
+        """The tools run from there; each file of the package is there, and pip takes them all away
+        again."""
+        (copy,) = glob.glob(os.path.join(self.home, "lib", "*", "site-packages", "navtools"))
+        self.assertEqual(files_of(copy), files_of(os.path.join(TOP, "tools", "navtools")))
+        crate, raw = (os.path.join(TOP, "demo", name) for name in ("crate", "crate.raw.lsif"))
+        place = [os.path.join(crate, "src", "lib.rs"), "18", "12"]
         for words, status, said in (
             (["--help"], 0, "usage: codenav-tools TOOL"),
-            (["list", "http://127.0.0.1:1"], 2, "list: http://127.0.0.1:1: Connection refused"),
             (["browse", "--help"], 0, "usage: browse"),
+            (["list", "http://127.0.0.1:1"], 2, "list: http://127.0.0.1:1: Connection refused"),
+            (["prepare-lsif", raw, "dump"], 0, "prepare-lsif: version 0.5.0 -> 0.6.0"),
+            (["upload-lsif", self.url, "app", "dump"], 0, '{"accepted":"lsif"'),
+            (["list", self.url], 0, "app: dump\n"),
+            (
+                ["ask", "--map", f"file:///src/tr/crate={crate}", self.url, "app", "hover", *place],
+                0,
+                "\n```rust\ntemperature::scale\n```",
+            ),
+            (["remove", self.url, "app"], 0, "app: removed\n"),
+            (
+                ["scip-to-lsif", raw, "out"],
+                2,
+                "scip-to-lsif: it needs Debian's package python3-protobuf",
+            ),
             (["try-it"], 1, "try-it: runs in a clone of the repository"),
         ):
-            done = subprocess.run(
-                [tool, *words],
-                cwd=folder,
-                stdin=subprocess.DEVNULL,
-                capture_output=True,
-                text=True,
-                check=False,
-            )
-            self.assertEqual(
-                (done.returncode, (done.stdout + done.stderr)[: len(said)]), (status, said)
-            )
-        (copy,) = glob.glob(os.path.join(home, "lib", "*", "site-packages", "navtools"))
-        self.assertEqual(files_of(copy), files_of(os.path.join(TOP, "tools", "navtools")))
+            with self.subTest(words):
+                done = self.run_there("codenav-tools", *words)
+                self.assertEqual(
+                    (done.returncode, (done.stdout + done.stderr)[: len(said)]), (status, said)
+                )
+        done = self.run_there("pip", "uninstall", "--quiet", "--yes", "codenav-tools")
+        self.assertEqual((done.returncode, os.path.exists(copy)), (0, False), done.stderr)
 
 
 if __name__ == "__main__":

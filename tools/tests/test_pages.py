@@ -1,7 +1,8 @@
-"""Tests of the pages: their lines, their links, the files that they name, their examples, and that each tool has its row.
+"""Tests of the pages: their lines, their links, the files that they name, their examples, and that
+each tool has its row.
 
-The examples need the built program, that of this clone or of CODENAV_PROGRAM, and the programs that they call. They are left out,
-and said to be, where one of these isn't there.
+The examples need the built program, that of this clone or of CODENAV_PROGRAM, and the programs that
+they call. They are left out, and said to be, where one of these isn't there.
 """
 
 import functools
@@ -17,10 +18,9 @@ from dataclasses import dataclass, field
 from typing import Iterator
 
 from navtools.serving import free_port
+from tests.servers import NOT_BUILT, TOP, program
 
-TOP = os.path.dirname(os.path.dirname(os.path.dirname(os.path.abspath(__file__))))
 PAGES = sorted(glob.glob("*.md", root_dir=TOP)) + sorted(glob.glob("docs/*.md", root_dir=TOP))
-BUILT = os.path.join(TOP, "crates", "codenav", "out", "codenav")
 LONGEST_LINE = 100
 MOST_LINES = 120
 LINK = re.compile(r"\]\(([^)\s]*)\)")
@@ -42,7 +42,8 @@ ELSEWHERE = {
 
 SESSIONS = [["README.md", "docs/TOOLS.md"], ["docs/API.md"]]
 NEEDED = {"rust-analyzer": "rust-web-analyzer", "ctags": "universal-ctags", "curl": "curl"}
-# What an indexer writes of a crate depends on what else is installed, so how much it is isn't compared.
+# What an indexer writes of a crate depends on what else is installed, so how much it is isn't
+# compared.
 COUNTED = re.compile(r'^(?:prepare-lsif: |\{"accepted":"lsif")')
 SECONDS = 600
 # It compiles the whole program, which takes minutes; the gate runs the program that it built.
@@ -87,7 +88,8 @@ def files() -> list[str]:
 
 @functools.lru_cache(maxsize=None)
 def is_there(name: str) -> bool:
-    """Whether the path of a file or a folder ends so, an edit's without its suffix; NAME, PATH and FUNCTION are any."""
+    """Whether the path of a file or a folder ends so, an edit's without its suffix; NAME, PATH and
+    FUNCTION are any."""
     ending = re.sub("NAME|PATH|FUNCTION", "[^/]+", re.escape(name.strip("/")))
     wanted = re.compile(rf"(?:.*/)?{ending}(?:/.*|\.\w+)?")
     return any(wanted.fullmatch(path) for path in files())
@@ -132,7 +134,8 @@ def examples(page: str) -> list[Example]:
 
 
 def is_shown(found: list[str], shown: list[str]) -> bool:
-    """Whether these lines are those that a page shows, which leaves some out where it has three dots."""
+    """Whether these lines are those that a page shows, which leaves some out where it has three
+    dots."""
     if LEFT_OUT not in shown:
         return found == shown
     begin = shown.index(LEFT_OUT)
@@ -145,7 +148,8 @@ def is_shown(found: list[str], shown: list[str]) -> bool:
 
 
 class Session:
-    """A folder with the tools and the demo, in which examples run one after the other, on ports of their own."""
+    """A folder with the tools and the demo, in which examples run one after the other, on ports of
+    their own."""
 
     def __init__(self, program: str, folder: str) -> None:
         self.folder = folder
@@ -165,7 +169,8 @@ class Session:
         return re.sub(r"\b808[01]\b", lambda found: self.ports[found[0]], text)
 
     def is_counted(self, command: str) -> bool:
-        """Whether the command is of a dump that an indexer made in this run; what it writes is such a dump too."""
+        """Whether the command is of a dump that an indexer made in this run; what it writes is such
+        a dump too."""
         dumps = re.findall(r"[\w./-]+\.lsif", command)
         is_made = "rust-analyzer" in command or any(name in self.made for name in dumps[:1])
         change = self.made.update if is_made else self.made.difference_update
@@ -193,7 +198,8 @@ class Session:
         return [process.stdout.readline().decode().rstrip("\n") for _ in example.shown]
 
     def differs(self, example: Example) -> str:
-        """How what a command prints differs from what its page shows; an empty text where it doesn't."""
+        """How what a command prints differs from what its page shows; an empty text where it
+        doesn't."""
         shown = [self.put_ports(line) for line in example.shown]
         is_counted = self.is_counted(example.command)
         found = self.output(example)
@@ -272,15 +278,15 @@ class Pages(unittest.TestCase):
         self.assertEqual(ELSEWHERE - {name for _, _, name in names}, set())
 
     def test_examples(self) -> None:
-        program = os.environ.get("CODENAV_PROGRAM") or BUILT
-        if not os.path.exists(program):
-            self.skipTest("the examples need the built program, which CODENAV_PROGRAM names")
+        built = program()
+        if built is None:
+            self.skipTest(NOT_BUILT)
         missing = [package for name, package in NEEDED.items() if not shutil.which(name)]
         if missing:
             self.skipTest(f"the examples need: apt-get install {' '.join(missing)}")
         for pages in SESSIONS:
             with tempfile.TemporaryDirectory() as folder:
-                session = Session(program, folder)
+                session = Session(built, folder)
                 try:
                     for example in (found for page in pages for found in examples(page)):
                         if example.command.startswith(COMPILES):

@@ -1,4 +1,5 @@
-"""Property tests of `prepare-lsif`: whatever is done to a dump, what it writes with status 0 is accepted in both profiles; anything else is refused by one line."""
+"""Property tests of `prepare-lsif`: whatever is done to a dump, what it writes with status 0 is
+accepted in both profiles; anything else is refused by one line."""
 
 import glob
 import io
@@ -13,10 +14,9 @@ from typing import Any, Optional
 
 from navtools import prepare
 from tests.accepted import fault
+from tests.servers import TOP, program
 
-TOP = os.path.dirname(os.path.dirname(os.path.dirname(os.path.abspath(__file__))))
 SAMPLES = os.path.join(TOP, "tools", "tests", "samples")
-PROGRAM = os.environ.get("CODENAV_PROGRAM", "")
 ROUNDS = int(os.environ.get("CODENAV_ROUNDS", "6"))
 Element = dict[str, Any]
 
@@ -139,14 +139,16 @@ class Mutated(unittest.TestCase):
                 return status, file.read(), said.getvalue()
 
     def check(self, body: bytes, profile: str) -> Optional[str]:
-        """What refuses a dump: the definitions in Python, and the built program where there is one."""
+        """What refuses a dump: the definitions in Python, and the built program where there is
+        one."""
         found = fault(body, profile)
-        if found is None and PROGRAM:
+        built = program()
+        if found is None and built is not None:
             with tempfile.NamedTemporaryFile() as file:
                 file.write(body)
                 file.flush()
                 ran = subprocess.run(
-                    [PROGRAM, "check-lsif", file.name, "--profile", profile],
+                    [built, "check-lsif", file.name, "--profile", profile],
                     capture_output=True,
                     text=True,
                 )

@@ -1,4 +1,5 @@
-"""Tests of `publish` and of the examples in docs/CI.md, over a real server. The indexer stands in for rust-analyzer: it prints what that wrote."""
+"""Tests of `publish` and of the examples in docs/CI.md, over a real server. The indexer stands in
+for rust-analyzer: it prints what that wrote."""
 
 import io
 import os
@@ -13,10 +14,11 @@ from contextlib import redirect_stderr, redirect_stdout
 from typing import Optional
 from unittest import mock
 
-from navtools import ask, publish
+from navtools import ask, outputs, publish
 from navtools.indexers import INDEXERS, is_scip
 from navtools.left_out import Row, rows_of, table
 from navtools.projects import listed
+from tests.repository import git_in
 from tests.servers import TOP, OnServer
 from tests.test_set_service import asked_at
 
@@ -36,7 +38,8 @@ def script(path: str, *lines: str) -> str:
 
 
 class OnCheckout(OnServer):
-    """Tests in a checkout of the demo crate, with a path on which the tools and the stand-in of an indexer are."""
+    """Tests in a checkout of the demo crate, with a path on which the tools and the stand-in of an
+    indexer are."""
 
     def setUp(self) -> None:
         super().setUp()
@@ -103,6 +106,64 @@ class Publish(OnCheckout):
             ],
         )
 
+    def committed(self) -> str:
+        """Makes the checkout one of git; answers its commit."""
+        git_in(self.checkout, "init", "-q")
+        git_in(self.checkout, "add", "-A")
+        git_in(self.checkout, "commit", "-qm", "x")
+        return git_in(self.checkout, "rev-parse", "HEAD")
+
+    def change(self) -> str:
+        """Adds two lines before all others of a file; answers its path."""
+        path = os.path.join(self.checkout, "src", "lib.rs")
+        with open(path, encoding="utf-8") as file:
+            text = file.read()
+        with open(path, "w", encoding="utf-8") as file:
+            file.write("// one\n// two\n" + text)
+        return path
+
+    def test_the_revision_of_a_project(self) -> None:
+        """What is checked out where nothing is changed, or what is named; a project keeps none, so
+        it's said how to ask."""
+        commit = self.committed()
+        line = (
+            f"the index is of revision {commit}: where files changed ask with --revision {commit}"
+        )
+        call = ["--no-tags", "--dump", RAW, "app", self.checkout]
+        status, said, stages = self.published(*call)
+        self.assertEqual((status, said[2], "revision" in stages), (0, line, False))
+        self.change()
+        status, said, stages = self.published(*call)
+        self.assertEqual((status, "revision" in "".join(said)), (0, False))
+        fault = "has changes that aren't committed, so the index is of no revision"
+        self.assertEqual(stages.splitlines()[0], f"publish: {self.checkout} {fault}")
+        status, said, stages = self.published("--revision", "HEAD", *call)
+        self.assertEqual((status, said[2]), (0, line))
+        fault = "has files that differ from HEAD, of which the index is said to be"
+        self.assertEqual(stages.splitlines()[0], f"publish: {self.checkout} {fault}")
+        status, said, stages = self.published("--revision", "none", *call)
+        line = f"publish: {self.checkout}: git knows no revision none\n"
+        self.assertEqual((status, said, stages), (2, [], line))
+        shutil.rmtree(os.path.join(self.checkout, ".git"))
+        status, said, stages = self.published("--revision", "HEAD", *call)
+        line = f"publish: {self.checkout}: not in a checkout of git, so HEAD can't be looked up\n"
+        self.assertEqual((status, said, stages), (2, [], line))
+
+    def test_the_revision_of_a_set(self) -> None:
+        """A set keeps it, so that a question about a file that changed needs no option."""
+        commit = self.committed()
+        status, said, _ = self.published("--set", "--no-tags", "--dump", RAW, "app", self.checkout)
+        self.assertEqual(status, 0)
+        self.assertIn(f"the index is of revision {commit}: which the set keeps", said)
+        path = self.change()
+        maps = ["--map", f"file:///src/tr/crate={self.checkout}"]
+        with redirect_stdout(io.StringIO()) as out, redirect_stderr(io.StringIO()) as warned:
+            ask.main([*maps, self.url, "app", "definition", path, "20", "12"])
+        scale = os.path.join(self.checkout, "src", "scale.rs")
+        self.assertEqual(out.getvalue(), f"{scale}:4:8\n")
+        line = f"ask: {path} changed since: the answer is of {commit}\n"
+        self.assertEqual(warned.getvalue(), line)
+
     def test_ways_to_a_dump(self) -> None:
         for words in (
             ["--index", f"cat {RAW}"],
@@ -132,6 +193,25 @@ class Publish(OnCheckout):
         )
         self.assertEqual(listed(self.url), [{"dump": False, "name": "app", "tags": True}])
 
+    def test_without_an_indexer(self) -> None:
+        """That there's no dump is told; with no tags either nothing is uploaded."""
+        other = os.path.join(self.home, "c")
+        os.mkdir(other)
+        nothing = "no indexer is known for what is here, and there are no tags"
+        status, said, stages = self.published("app", other)
+        self.assertEqual(
+            (status, said, stages.splitlines()[-1], listed(self.url)),
+            (2, [], f"publish: {os.path.realpath(other)}: {nothing}", []),
+        )
+        with open(os.path.join(other, "main.c"), "w", encoding="utf-8") as file:
+            file.write("int main(void) { return 0; }\n")
+        status, said, _ = self.published("app", other)
+        self.assertEqual((status, said[0]), (0, "uploaded app: 1 tags"))
+        self.assertEqual(
+            [line.split() for line in said[2:]],
+            [["dump", *"no indexer is known for what is here (--index)".split()]],
+        )
+
     def test_a_dry_run(self) -> None:
         kept = os.path.join(self.home, "kept")
         status, said, _ = self.published(
@@ -141,7 +221,8 @@ class Publish(OnCheckout):
         self.assertLessEqual({"dump.lsif", "tags"}, set(os.listdir(kept)))
 
     def test_what_is_refused(self) -> None:
-        """Nothing is uploaded, and one line, or the server's own lines of a faulty dump, say why."""
+        """Nothing is uploaded, and one line, or the server's own lines of a faulty dump, say
+        why."""
         raw = os.path.join(self.home, "raw")
         with open(RAW, "rb") as file:
             lines = file.read().splitlines()
@@ -198,7 +279,8 @@ class Publish(OnCheckout):
         return [f"{place['project']} {place['uri']} {place['start']['line']}" for place in found]
 
     def test_a_set(self) -> None:
-        """A dump that is too large for one project, or any with --set, becomes a set in the project's place, and back."""
+        """A dump that is too large for one project, or any with --set, becomes a set in the
+        project's place, and back."""
         raw = os.path.join(self.home, "many")
         with open(RAW, "rb") as file:
             body = file.read()
@@ -225,6 +307,21 @@ class Publish(OnCheckout):
             self.assertEqual((words, found), (words, expected))
             names = {project["name"] for project in listed(self.url)}
             self.assertEqual(("app" in names, len(names)), (not is_set, 3 if is_set else 1))
+
+    def test_a_set_of_an_index(self) -> None:
+        """A SCIP index becomes a set by itself, without a dump of it, by --set or where its dump
+        would be too large."""
+        kept = os.path.join(self.home, "kept")
+        for words, most in ((["--set", "--keep", kept], 100_000), ([], 100)):
+            with mock.patch.object(outputs, "MOST_ELEMENTS", most):
+                status, printed, stages = self.published(
+                    *words, "--no-tags", "--dump", SCIP, "app", self.checkout
+                )
+            self.assertEqual(status, 0, stages)
+            self.assertIn("app: a set, parts 1, kept ", printed[0])
+            found = self.places("file:///src/tr/crate/src/lib.rs", 17, 11)
+            self.assertEqual(found, ["app file:///src/tr/crate/src/scale.rs 3"])
+        self.assertEqual(os.listdir(kept), ["set"])
 
     def test_what_cannot_be_carried_out(self) -> None:
         os.remove(os.path.join(self.bin, "rust-analyzer"))
@@ -316,7 +413,8 @@ def mapping(text: str, name: str) -> dict[str, str]:
 
 
 class Examples(OnCheckout):
-    """Each example of docs/CI.md, by a shell as its job has it, with the address of the server in the place of the page's."""
+    """Each example of docs/CI.md, by a shell as its job has it, with the address of the server in
+    the place of the page's."""
 
     def setUp(self) -> None:
         super().setUp()
@@ -370,7 +468,8 @@ class Examples(OnCheckout):
         self.assertEqual([one["name"] for one in listed(self.url)], ["team-my-crate"])
 
     def test_a_hook(self) -> None:
-        """Two pushes to a bare repository, the second of which takes away a file: what is there is what was pushed last."""
+        """Two pushes to a bare repository, the second of which takes away a file: what is there is
+        what was pushed last."""
         (text,) = blocks("sh")
         bare = os.path.join(self.home, "bare.git")
         subprocess.run(["git", "clone", "--quiet", "--bare", self.checkout, bare], check=True)

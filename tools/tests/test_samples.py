@@ -1,5 +1,6 @@
-"""The samples in tools/tests/samples go through the tools: each is prepared, accepted in both profiles, and what is asked of it is answered as it was
-written down from its sources. With a built program they're uploaded to a server, and asked there.
+"""The samples in tools/tests/samples go through the tools: each is prepared, accepted in both
+profiles, and what is asked of it is answered as it was written down from its sources. With a built
+program they're uploaded to a server, and asked there.
 """
 
 import io
@@ -20,7 +21,7 @@ from navtools import ask, prepare, scip_to_lsif, upload
 from navtools.scip_pb2 import Index
 from navtools.serving import serving
 from tests.accepted import fault
-from tests.servers import program
+from tests.servers import NOT_BUILT, program
 
 TOP = os.path.dirname(os.path.dirname(os.path.dirname(os.path.abspath(__file__))))
 SAMPLES = os.path.join(TOP, "tools", "tests", "samples")
@@ -79,7 +80,7 @@ class Samples(unittest.TestCase):
     def test_the_answers_of_a_server(self) -> None:
         built = program()
         if built is None:
-            self.skipTest("the program isn't built, and CODENAV_PROGRAM names none")
+            self.skipTest(NOT_BUILT)
         for group in groups():
             with tempfile.TemporaryDirectory() as folder, serving(built, quiet=True) as url:
                 for sample in group:

@@ -1,4 +1,5 @@
-"""Tests of `scip-to-lsif`, over indexes that they write themselves in the wire format of protocol buffers, and the demo crate's."""
+"""Tests of `scip-to-lsif`, over indexes that they write themselves in the wire format of protocol
+buffers, and the demo crate's."""
 
 import io
 import json
@@ -69,7 +70,8 @@ def information(
     signature: bytes = b"",
     related: Optional[dict[str, int]] = None,
 ) -> bytes:
-    """What is said of a symbol, as a field of a document or of the index; `related` has the number of the member that is set of each relationship."""
+    """What is said of a symbol, as a field of a document or of the index; `related` has the number
+    of the member that is set of each relationship."""
     relations = b"".join(
         field(4, field(1, other) + field(member, 1)) for other, member in (related or {}).items()
     )
@@ -140,6 +142,30 @@ def place_list(graph: why.Graph) -> list[list[Any]]:
         [place["uri"], *place["start"].values(), *place["end"].values()]
         for place in map(graph.place, graph.homes)
     ]
+
+
+def random_index(chance: random.Random) -> bytes:
+    """An index of a few documents, with any symbols at any places, related in any way."""
+    symbols = [APP + "a#", APP + "b#", LIB + "c#", "s . . . d#", "local 0", "local 1", "bad", ""]
+    index = Index()
+    index.ParseFromString(metadata())
+    for number in range(chance.randrange(1, 4)):
+        own = index.documents.add(relative_path=f"{number}.ts", position_encoding=UTF_16)
+        for _ in range(chance.randrange(12)):
+            line, start = chance.randrange(2), chance.randrange(4)
+            own.occurrences.add(
+                range=[line, start, line + chance.randrange(2), start + chance.randrange(4)],
+                symbol=chance.choice(symbols),
+                symbol_roles=chance.choice([0, 0, 1, 1, 64, 8]),
+                override_documentation=["x"] if chance.random() < 0.1 else [],
+            )
+        for symbol in chance.sample(symbols[:6], chance.randrange(5)):
+            one = own.symbols.add(symbol=symbol, documentation=chance.choice([[], ["text"]]))
+            for other in chance.sample(symbols[:6], chance.randrange(3)):
+                relation = chance.choice(["is_reference", "is_implementation", "is_definition"])
+                one.relationships.add(symbol=other, **{relation: True})
+    serialized: bytes = index.SerializeToString()
+    return serialized
 
 
 class Scip(unittest.TestCase):
@@ -284,7 +310,8 @@ class Scip(unittest.TestCase):
             self.assertEqual(found, key)
 
     def test_relationships(self) -> None:
-        """Fields 2 and 5 of a relationship: a symbol is referenced where another is, and defined where another is."""
+        """Fields 2 and 5 of a relationship: a symbol is referenced where another is, and defined
+        where another is."""
         first = document(
             "a.ts",
             occurrence([0, 0, 1], APP + "Dog#sound().", DEFINITION),
@@ -502,52 +529,18 @@ class Scip(unittest.TestCase):
 
     def test_any_index(self) -> None:
         """Whatever an index has at which places, its dump is accepted in both profiles."""
-        symbols = [
-            APP + "a#",
-            APP + "b#",
-            LIB + "c#",
-            "s . . . d#",
-            "local 0",
-            "local 1",
-            "bad",
-            "",
-        ]
         for seed in range(ROUNDS):
             chance = random.Random(seed)
-            index = Index()
-            index.ParseFromString(metadata())
-            for number in range(chance.randrange(1, 4)):
-                own = index.documents.add(relative_path=f"{number}.ts", position_encoding=UTF_16)
-                for _ in range(chance.randrange(12)):
-                    line, start = chance.randrange(2), chance.randrange(4)
-                    own.occurrences.add(
-                        range=[
-                            line,
-                            start,
-                            line + chance.randrange(2),
-                            start + chance.randrange(4),
-                        ],
-                        symbol=chance.choice(symbols),
-                        symbol_roles=chance.choice([0, 0, 1, 1, 64, 8]),
-                        override_documentation=["x"] if chance.random() < 0.1 else [],
-                    )
-                for symbol in chance.sample(symbols[:6], chance.randrange(5)):
-                    one = own.symbols.add(
-                        symbol=symbol, documentation=chance.choice([[], ["text"]])
-                    )
-                    for other in chance.sample(symbols[:6], chance.randrange(3)):
-                        relation = chance.choice(
-                            ["is_reference", "is_implementation", "is_definition"]
-                        )
-                        one.relationships.add(symbol=other, **{relation: True})
+            index = random_index(chance)
             words = ["--keep-file-ranges"] if chance.random() < 0.5 else []
-            status, body, said = self.converted(index.SerializeToString(), "--lenient", *words)
+            status, body, said = self.converted(index, "--lenient", *words)
             self.assertEqual(status, 0, f"{seed}: {said}")
             for profile in ("1", "2"):
                 self.assertIsNone(fault(body or b"", profile), seed)
 
     def test_the_bytes_of_the_standard(self) -> None:
-        """What protobuf reads of the samples is what was written here by hand, in the wire format."""
+        """What protobuf reads of the samples is what was written here by hand, in the wire
+        format."""
         index = Index()
         index.ParseFromString(SAMPLE)
         shapes, user = index.documents
@@ -588,7 +581,8 @@ class Scip(unittest.TestCase):
             )
 
     def test_the_demo_crate(self) -> None:
-        """At each place of the index's ranges the definitions are those of the dump that rust-analyzer wrote, as a server answered them."""
+        """At each place of the index's ranges the definitions are those of the dump that
+        rust-analyzer wrote, as a server answered them."""
         with open(os.path.join(TOP, "demo", "crate.scip"), "rb") as index:
             graph = self.graph(index.read(), "--source", os.path.join(TOP, "demo", "crate"))
         with open(ANSWERS, encoding="utf-8") as file:

@@ -1,11 +1,11 @@
-"""Tests of sets on a server: that they are published, asked and switched, and that what breaks off leaves the old set answering or the new one."""
+"""Tests of sets on a server: that they are published, asked and switched, and that what breaks off
+leaves the old set answering or the new one."""
 
 import io
 import json
 import multiprocessing
 import os
 import tempfile
-import unittest
 from contextlib import redirect_stderr, redirect_stdout
 from typing import Any, Callable
 from unittest import mock
@@ -17,18 +17,18 @@ from navtools.sets import publish, split
 from navtools.sets.ask import Asked
 from navtools.sets.manifest import NotAManifest
 from navtools.sets.publish import Late, Publish, Store
-from navtools.serving import ended, free_port, started
+from navtools.words import BadCall
 from tests.dump_walks import OF_PROFILE, Question, Walk, answered, questions
 from tests.test_lsp import Editor
-from tests.test_sets import PROGRAM, TOP
+from tests.servers import TOP, OnServer
 
 NAME = "code"
 MOST_STEPS = 40
-REQUESTS = 1_000_000
 
 
 def revision(number: int) -> bytes:
-    """A revision of the demo crate: from the first on one of its files has a line more at its top."""
+    """A revision of the demo crate: from the first on one of its files has a line more at its
+    top."""
     with tempfile.TemporaryDirectory() as folder, redirect_stderr(io.StringIO()):
         path = os.path.join(folder, "dump")
         prepare.main([os.path.join(TOP, "demo", "crate.raw.lsif"), path])
@@ -129,27 +129,13 @@ def publish_and_die(url: str, folder: str, at: int, is_made: bool) -> None:
     os._exit(0)
 
 
-@unittest.skipUnless(os.path.exists(PROGRAM), "the program isn't built")
-class OnServer(unittest.TestCase):
-    """Tests that ask a server over a database in a file, which they may kill and start again."""
+class OnFile(OnServer):
+    """Tests that ask a server over a database in a file."""
 
     def setUp(self) -> None:
         self.folder = self.enterContext(tempfile.TemporaryDirectory())
-        self.port = free_port()
-        self.url = f"http://127.0.0.1:{self.port}"
-        self.start()
-        self.addCleanup(lambda: ended(self.server))
-
-    def start(self) -> None:
-        """Starts the server."""
-        database = os.path.join(self.folder, "index.db")
-        self.server = started(PROGRAM, self.port, REQUESTS, database, quiet=True)
-
-    def kill(self) -> None:
-        """Kills the server."""
-        self.server.kill()
-        self.server.wait()
-        ended(self.server)
+        self.database = os.path.join(self.folder, "index.db")
+        super().setUp()
 
     def publish(self, folder: str) -> str:
         """Publishes a set; answers the report."""
@@ -160,9 +146,10 @@ class OnServer(unittest.TestCase):
         return set(Store(self.url).projects())
 
 
-class Published(OnServer):
+class Published(OnFile):
     def test_switch(self) -> None:
-        """A set is published, published again, switched to another revision and back; a part that didn't change is kept."""
+        """A set is published, published again, switched to another revision and back; a part that
+        didn't change is kept."""
         both = Revisions(self.folder)
         self.assertEqual(self.publish(both.folders[0]), "parts 2, kept 0, new 2, removed 0")
         self.assertEqual(both.answering(self.url), 0)
@@ -176,7 +163,8 @@ class Published(OnServer):
             self.assertEqual(len(self.projects()), 4)
 
     def test_asked_over_a_switch(self) -> None:
-        """What a tool has read of manifests is read again where it has to be: the same one asks before, in the midst of and after a switch."""
+        """What a tool has read of manifests is read again where it has to be: the same one asks
+        before, in the midst of and after a switch."""
         both = Revisions(self.folder)
         self.publish(both.folders[0])
         asked = asked_at(self.url, NAME)
@@ -193,7 +181,8 @@ class Published(OnServer):
         self.assertEqual(set(found), {0, 1})
 
     def test_killed_at_each_step(self) -> None:
-        """A publish is killed before and after each change: the old set answers or the new one, and the next publish cleans up."""
+        """A publish is killed before and after each change: the old set answers or the new one, and
+        the next publish cleans up."""
         both = Revisions(self.folder)
         self.publish(both.folders[0])
         switched = []
@@ -247,7 +236,8 @@ class Published(OnServer):
             self.publish(folder)
 
     def test_two_at_once(self) -> None:
-        """While one publish goes on another is refused; one that was taken over is refused too, and never a mixture."""
+        """While one publish goes on another is refused; one that was taken over is refused too, and
+        never a mixture."""
         both = Revisions(self.folder)
         self.publish(both.folders[0])
         late: list[str] = []
@@ -276,7 +266,8 @@ class Published(OnServer):
         self.assertGreater(store.at, 0)
 
     def test_removed_by_hand(self) -> None:
-        """A part that was removed by hand is one plain line for who asks, and the next publish puts it back."""
+        """A part that was removed by hand is one plain line for who asks, and the next publish puts
+        it back."""
         both = Revisions(self.folder)
         self.publish(both.folders[0])
         part = sorted(self.projects())[0]
@@ -292,6 +283,15 @@ class Published(OnServer):
             Store(self.url).remove(project)
         self.assertEqual(self.publish(both.folders[0]), "parts 2, kept 0, new 2, removed 0")
         self.assertEqual(both.answering(self.url), 0)
+
+    def test_a_project_of_the_name(self) -> None:
+        """Where a project has the set's name, which is asked in its place, nothing is published,
+        and that is one line."""
+        both = Revisions(self.folder)
+        Store(self.url).put(NAME, "tags", b"x\ta.c\t1\n", "k")
+        with self.assertRaisesRegex(BadCall, f"^a project {NAME} is on the server"):
+            self.publish(both.folders[0])
+        self.assertEqual(self.projects(), {NAME, f"{NAME}-claim"})
 
     def test_no_manifest(self) -> None:
         """A manifest that somebody else wrote is refused in one line, and stays."""
@@ -332,7 +332,8 @@ class Published(OnServer):
             asked_at(self.url, NAME).query("definition", parameters, "places")
 
     def test_branch(self) -> None:
-        """A branch beside its set: each is asked by its own name, and a third project that is joined to both shows the set alone."""
+        """A branch beside its set: each is asked by its own name, and a third project that is
+        joined to both shows the set alone."""
         both = Revisions(self.folder)
         self.publish(both.folders[0])
         branch = os.path.join(self.folder, "branch")
@@ -364,7 +365,8 @@ class Published(OnServer):
             self.assertIn(("kettle", (4, 24)), shown[own])
 
     def test_tags(self) -> None:
-        """Tags of a part are shown as the set's, and those of parts that aren't the set's any more aren't."""
+        """Tags of a part are shown as the set's, and those of parts that aren't the set's any more
+        aren't."""
         both = Revisions(self.folder)
         self.publish(both.folders[0])
         part = next(
@@ -388,7 +390,7 @@ MAP = ["--map", f"file:///src/tr/crate={CRATE}"]
 LIB, SCALE = (os.path.join(CRATE, "src", name) for name in ("lib.rs", "scale.rs"))
 
 
-class Tools(OnServer):
+class Tools(OnFile):
     """The tools that ask, where they're given a set's name."""
 
     def setUp(self) -> None:

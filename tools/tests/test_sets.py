@@ -1,4 +1,5 @@
-"""Tests of sets: that the parts of a dump answer as the whole dump does, by walks over both, and by the program where it's built."""
+"""Tests of sets: that the parts of a dump answer as the whole dump does, by walks over both, and by
+the program where it's built."""
 
 import io
 import json
@@ -20,11 +21,8 @@ from navtools.sets.crossing import Cut, Shared
 from navtools.sets.flat import Flat, flattened
 from navtools.sets.write import Lines, Part
 from tests.dump_walks import OF_PROFILE, Maker, Question, Walk, answered, body_of, questions
+from tests.servers import NOT_BUILT, TOP, program
 
-TOP = os.path.dirname(os.path.dirname(os.path.dirname(os.path.abspath(__file__))))
-PROGRAM = os.environ.get(
-    "CODENAV_PROGRAM", os.path.join(TOP, "crates", "codenav", "out", "codenav")
-)
 URIS = ["file:///a/x", "file:///a/y", "file:///b/x", "file:///b/y", "file:///c"]
 SEEDS = range(40)
 Bodies = dict[str, bytes]
@@ -33,7 +31,7 @@ Bodies = dict[str, bytes]
 def flat_of(path: str, profile: str) -> Flat:
     """The flat tables of a dump's file."""
     with open(path, "rb") as source:
-        return flattened(graph.read_graph(source, path, profile, False))
+        return flattened(graph.read_graph(source, path, profile, False, "split-lsif"))
 
 
 def bodies_of(cut: Cut, path: str) -> list[bytes]:
@@ -50,7 +48,8 @@ def bodies_of(cut: Cut, path: str) -> list[bytes]:
 def parts_of(
     path: str, profile: str, at: Optional[list[int]] = None
 ) -> tuple[Bodies, dict[str, str], set[Any]]:
-    """The parts of a dump cut at some documents, or between all; the part of each document; and the hidden keys."""
+    """The parts of a dump cut at some documents, or between all; the part of each document; and the
+    hidden keys."""
     flat = flat_of(path, profile)
     shared = Shared(flat, graph.ASKED[profile])
     count = len(flat.uris)
@@ -100,7 +99,8 @@ class Case:
         self.parts = {**parts, **self.others}
 
     def asked(self) -> Iterator[tuple[str, str, Question]]:
-        """Each question with the project that it's asked of where the dump is whole, and where it's in parts."""
+        """Each question with the project that it's asked of where the dump is whole, and where it's
+        in parts."""
         every = walks(self.whole, self.profiles, self.profile)
         for question in questions(every["set"], OF_PROFILE[self.profile]):
             yield "set", self.holder[question.uri], question
@@ -141,7 +141,9 @@ def replayed(requests: list[bytes], folder: str) -> list[Any]:
     path = os.path.join(folder, "requests")
     with open(path, "wb") as out:
         out.write(b"".join(requests))
-    done = subprocess.run([PROGRAM, "replay", ":memory:", path], capture_output=True, check=True)
+    done = subprocess.run(
+        [str(program()), "replay", ":memory:", path], capture_output=True, check=True
+    )
     found, at = [], 0
     while at < len(done.stdout):
         begin = done.stdout.index(b"\r\n\r\n", at)
@@ -190,13 +192,14 @@ class EqualAnswers(unittest.TestCase):
         self.folder = folder.name
 
     def test_random_dumps(self) -> None:
-        """Every request at every range of random dumps, of both profiles, and of other projects that are joined to them."""
+        """Every request at every range of random dumps, of both profiles, and of other projects
+        that are joined to them."""
         for seed in SEEDS:
             case = Case(seed, self.folder)
             for question, one, other in unequal(case):
                 self.assertEqual(one, other, f"seed {seed}, profile {case.profile}, {question}")
 
-    @unittest.skipUnless(os.path.exists(PROGRAM), "the program isn't built")
+    @unittest.skipUnless(program(), NOT_BUILT)
     def test_random_dumps_in_the_program(self) -> None:
         """The same, answered by the program."""
         for seed in SEEDS[:20]:
@@ -236,7 +239,7 @@ class EqualAnswers(unittest.TestCase):
         self.assertGreater(len(parts), 1)
         self.assertGreater(len(asked), 200)
 
-    @unittest.skipUnless(os.path.exists(PROGRAM), "the program isn't built")
+    @unittest.skipUnless(program(), NOT_BUILT)
     def test_a_crate_in_the_program(self) -> None:
         """The demo crate by the program."""
         path, asked = self.demo()
@@ -301,7 +304,7 @@ FAULTS: dict[str, tuple[Any, str, Any]] = {
     "results that results lead to are left out": (
         flat_tables,
         "reached_from",
-        lambda graph, result, most: ([], False),
+        lambda graph, result, most: ([], False, 0),
     ),
     "every moniker stands with the results": (Part, "is_shown", lambda part, firsts, mark: True),
 }

@@ -11,6 +11,7 @@ from unittest import mock
 from navtools import why
 from navtools.sets import flat, manifest, split
 from tests.dump_walks import body_of
+from tests.hostile_dumps import SHAPES
 
 Element = dict[str, Any]
 META = '{"id":0,"type":"vertex","label":"metaData","version":"0.6.0"}'
@@ -19,7 +20,8 @@ DOCUMENT = '{"id":1,"type":"vertex","label":"document","uri":"file:///a"}'
 
 
 def made(documents: dict[str, int], shared: bool = True) -> list[Element]:
-    """A dump of documents with so many ranges each, a line apart, which all refer to the first range of the first document."""
+    """A dump of documents with so many ranges each, a line apart, which all refer to the first
+    range of the first document."""
     elements: list[Element] = [{"type": "vertex", "label": "metaData", "version": "0.6.0"}]
 
     def add(kind: str, label: str, **more: Any) -> int:
@@ -148,7 +150,8 @@ class Split(unittest.TestCase):
                 self.assertFalse(os.path.exists(os.path.join(self.out, "manifest.tags")))
 
     def test_names(self) -> None:
-        """A name is that of the folder, or one of 47 characters at most; a branch stands behind its set."""
+        """A name is that of the folder, or one of 47 characters at most; a branch stands behind its
+        set."""
         body = body_of(made({"file:///a": 2}))
         self.assertEqual(self.split(body)[0], 0)
         self.assertEqual(self.head().name, "code")
@@ -172,7 +175,8 @@ class Split(unittest.TestCase):
         self.assertEqual(self.head().documents, 2)
 
     def test_cuts_are_kept(self) -> None:
-        """A document that grows changes its own part alone, and one that comes goes to the part around it."""
+        """A document that grows changes its own part alone, and one that comes goes to the part
+        around it."""
         uris = {f"file:///{folder}/{file}": 20 for folder in "abcd" for file in range(6)}
         self.assertEqual(self.split(body_of(made(uris, shared=False)), "--elements", "200")[0], 0)
         before, firsts = set(self.head().projects()), self.firsts()
@@ -196,7 +200,8 @@ class Split(unittest.TestCase):
         self.assertGreaterEqual(sum(elements), 0.5 * 300 * (len(elements) - 1))
 
     def test_lists(self) -> None:
-        """Where documents are too many for one tags file they stand in lists, in the order of their addresses."""
+        """Where documents are too many for one tags file they stand in lists, in the order of their
+        addresses."""
         uris = {f"file:///{number:03d}": 1 for number in range(50)}
         with mock.patch.object(manifest, "MOST_LINES", 20), mock.patch.object(
             manifest, "LIST_LINES", 15
@@ -213,7 +218,8 @@ class Split(unittest.TestCase):
         )
 
     def test_texts(self) -> None:
-        """The manifest has a digest of each document's text, the revision and the folder, with characters that are escaped."""
+        """The manifest has a digest of each document's text, the revision and the folder, with
+        characters that are escaped."""
         text = os.path.join(self.folder, "a")
         with open(text, "wb") as file:
             file.write(b"text\n")
@@ -254,6 +260,20 @@ class Split(unittest.TestCase):
             self.assertEqual(status, 0)
             self.assertRegex(said, "referenceResults too deep: [0-9]+ results have not all places")
 
+    def test_hostile_shapes(self) -> None:
+        """Dumps of shapes that could take long are split, or refused in one line, within few steps
+        for each element."""
+        flattened = flat.flattened
+        for name, (make, size, refusal) in SHAPES.items():
+            with self.subTest(name), mock.patch.object(
+                split, "flattened", lambda graph, without: flattened(graph, without, 1000)
+            ), mock.patch.multiple(flat, MOST_STEPS=4000, MOST_MARKS=1000):
+                self.out = os.path.join(self.folder, str(len(os.listdir(self.folder))))
+                status, said = self.split(body_of([*make(size // 100)]), "--elements", "1000")
+                refusal = refusal.replace("120000", "1200")
+                self.assertEqual((status, refusal in said), (2 if refusal else 0, True), said)
+                self.assertEqual((said.count("\n"), os.path.exists(self.out)), (1, not refusal))
+
     def test_profile(self) -> None:
         """A part that is read in another profile is another one."""
         body = body_of(made({"file:///a": 2}))
@@ -264,7 +284,8 @@ class Split(unittest.TestCase):
         self.assertNotEqual(*names)
 
     def test_tags(self) -> None:
-        """Tags are cut as documents are, with those of other files at the part around them; their part changes with them."""
+        """Tags are cut as documents are, with those of other files at the part around them; their
+        part changes with them."""
         body = body_of(made({"file:///src/a": 30, "file:///src/b": 30}))
         tags = os.path.join(self.folder, "tags")
         lines = [

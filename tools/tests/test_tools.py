@@ -65,8 +65,8 @@ class Prepare(unittest.TestCase):
         self.assertEqual((status, body), (0, "\r\n".join(rows[:3] + rows[4:]).encode() + b"\n"))
 
     def test_equal_ranges(self) -> None:
-        """Two meanings of one name, as in `extern crate x` and `S { x }`, each with its own result set: items that name the second range, the first
-        and the second, or both in one edge."""
+        """Two meanings of one name, as in `extern crate x` and `S { x }`, each with its own result
+        set: items that name the second range, the first and the second, or both in one edge."""
         form = (
             '{"id":%d,"type":"edge","label":"item","outV":%d,"inVs":%s,"shard":2,"property":"%s"}'
         )
@@ -192,7 +192,8 @@ class Prepare(unittest.TestCase):
             )
 
     def test_rows(self) -> None:
-        """Rows of results that lead to each other, of ranges on one result set, and of a moniker to which another is attached twice."""
+        """Rows of results that lead to each other, of ranges on one result set, and of a moniker to
+        which another is attached twice."""
         file, span = (
             '{"type":"vertex","label":"document","uri":"file:///%s"}',
             '{"type":"vertex","label":"range"}',
@@ -526,7 +527,8 @@ class Upload(unittest.TestCase):
     def uploaded(
         self, words: list[str], *answers: Answer, part: str = "tags"
     ) -> tuple[int, list[tuple[Any, ...]], list[float]]:
-        """The status of an upload of `abc` whose requests are answered so; the requests, and the waits."""
+        """The status of an upload of `abc` whose requests are answered so; the requests, and the
+        waits."""
         with tempfile.NamedTemporaryFile() as file, mock.patch.object(
             client, "request", side_effect=answers
         ) as request, mock.patch("time.sleep") as sleep, redirect_stdout(

@@ -1,5 +1,7 @@
-"""Tests of uploads, removals and lists over a real server: what stays after dumps come back, and that a call acts once however often it's sent."""
+"""Tests of uploads, removals and lists over a real server: what stays after dumps come back, and
+that a call acts once however often it's sent."""
 
+import contextlib
 import functools
 import io
 import json
@@ -14,6 +16,7 @@ from unittest import mock
 from navtools import projects, remove, upload
 from navtools.client import address, found_in, request
 from navtools.serving import serving
+from tests.repository import git_in
 from tests.servers import TOP, OnServer, Relay
 from tests.test_explain import DOCUMENT, META, edge, vertex
 
@@ -55,7 +58,8 @@ class Uploads(OnServer):
         return path
 
     def make(self, call: str, *words: str, url: str = "") -> None:
-        """Uploads the dump or the tags file of a name, or for `-` removes the project, and expects that it succeeds."""
+        """Uploads the dump or the tags file of a name, or for `-` removes the project, and expects
+        that it succeeds."""
         url = url or self.url
         if call == "-":
             self.assertEqual(called(remove.main, *words, url, "app"), (0, "app: removed\n", ""))
@@ -65,7 +69,8 @@ class Uploads(OnServer):
         self.assertEqual((status, json.loads(said)["accepted"]), (0, part))
 
     def there(self, url: str = "") -> tuple[str, str]:
-        """What a server has: the text of the dump's hover, or the fault, and the names of the tags."""
+        """What a server has: the text of the dump's hover, or the fault, and the names of the
+        tags."""
         url = url or self.url
         asked = {"uri": "file:///a", "line": 0, "character": 0}
         hover = json.loads(request(address(url, "/projects/app/hover", asked)).body)
@@ -75,7 +80,8 @@ class Uploads(OnServer):
         )
 
     def test_what_comes_back(self) -> None:
-        """What is there after calls: a name uploads, `-` removes. With `--once` what came after the first upload stays: that's its trap."""
+        """What is there after calls: a name uploads, `-` removes. With `--once` what came after the
+        first upload stays: that's its trap."""
         for calls, words, wanted in (
             (["A", "B", "A"], [], ("A", "")),
             (["A", "-", "A"], [], ("A", "")),
@@ -91,6 +97,29 @@ class Uploads(OnServer):
                     self.make(call, *words, url=url)
                 self.assertEqual(self.there(url), wanted)
 
+    def test_the_revision_of_a_dump(self) -> None:
+        """The commit that a revision of the checkout is, is said where the dump was accepted."""
+        git_in(self.folder, "init", "-q")
+        git_in(self.folder, "add", "A", "B")
+        git_in(self.folder, "commit", "-qm", "x")
+        commit = git_in(self.folder, "rev-parse", "HEAD")
+        line = f"upload-lsif: the index is of revision {commit}: where files changed ask with --revision {commit}\n"
+        differ = (
+            "upload-lsif: . has files that differ from HEAD, of which the index is said to be\n"
+        )
+        none = f"upload-lsif: {os.path.realpath(self.folder)}: git knows no revision none\n"
+        for text, revision, name, wanted in (
+            (DUMP % "A", "HEAD", "A", (0, line)),
+            ("", "HEAD", "B", (0, line + differ)),
+            ("", "HEAD", "A", (1, "")),
+            ("", "none", "B", (2, none)),
+        ):
+            with self.subTest(revision, text=text), contextlib.chdir(self.folder):
+                self.written("A", text)
+                words = ["--revision", revision, self.url, "app", name]
+                status, _, warned = called(MAINS["lsif"], *words)
+                self.assertEqual((status, warned), wanted)
+
     def test_once_after_a_removal(self) -> None:
         self.make("A", "--once")
         self.make("-")
@@ -98,7 +127,8 @@ class Uploads(OnServer):
         self.assertEqual(self.there(), ("D01", ""))
 
     def test_one_body_as_a_dump_and_as_tags(self) -> None:
-        """A key that is made of a body has its kind and its profile, so the one's reply isn't the other's."""
+        """A key that is made of a body has its kind and its profile, so the one's reply isn't the
+        other's."""
         self.make("A", "--once")
         status, said, _ = called(MAINS["tags"], "--once", self.url, "app", self.files["A"])
         self.assertEqual((status, json.loads(said)["fault"]), (1, "T04"))
@@ -107,7 +137,8 @@ class Uploads(OnServer):
         self.assertEqual(profile, 2)
 
     def test_an_answer_that_was_lost(self) -> None:
-        """The server acted, its answer is lost, and somebody else uploads before the call is sent again: it has acted once, so that stays."""
+        """The server acted, its answer is lost, and somebody else uploads before the call is sent
+        again: it has acted once, so that stays."""
         for first, call, wanted in (
             ("C", "A", ("B", "")),
             ("C", "-", ("B", "")),

@@ -1,4 +1,5 @@
-"""Tests of `why`: what it finds in the demo dumps is what a server answered, and what it says of small dumps."""
+"""Tests of `why`: what it finds in the demo dumps is what a server answered, and what it says of
+small dumps."""
 
 import io
 import json

@@ -1,5 +1,6 @@
-"""Tests of an editor over several checkouts: what `.codenav.toml` may say, which project is asked, and, over a real server, that answers about edited,
-renamed and unsaved files are those about the indexed ones.
+"""Tests of an editor over several checkouts: what `.codenav.toml` may say, which project is asked,
+and, over a real server, that answers about edited, renamed and unsaved files are those about the
+indexed ones.
 """
 
 import io
@@ -145,7 +146,8 @@ class OnCheckouts(OnServer, InRepository):
         self.assertEqual(editor.end("shutdown", "exit"), (0, b""))
 
     def named(self, texts: dict[str, str], path: str, line: int, character: int) -> Place:
-        """What a place is, however the text moved: the file, the word, and how many such words stand before it; at the top it's the file itself."""
+        """What a place is, however the text moved: the file, the word, and how many such words
+        stand before it; at the top it's the file itself."""
         name = os.path.basename(path).replace("scales", "scale")
         if (line, character) == (0, 0):
             return name, "", 0
@@ -157,7 +159,8 @@ class OnCheckouts(OnServer, InRepository):
         return name, word, len(before)
 
     def survey(self, editor: Editor, texts: dict[str, str]) -> dict[tuple[Place, str], list[Place]]:
-        """The definition at each word, and in one file the references, in an editor that shows these texts."""
+        """The definition at each word, and in one file the references, in an editor that shows
+        these texts."""
         found = {}
         for path, text in texts.items():
             for _, line, character in words(text):

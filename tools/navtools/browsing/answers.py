@@ -1,4 +1,5 @@
-"""What the pages ask for: definitions, references and hovers at a place, names, files, outlines and addresses that stay."""
+"""What the pages ask for: definitions, references and hovers at a place, names, files, outlines and
+addresses that stay."""
 
 import os
 import threading
@@ -67,7 +68,8 @@ class Browser:
         return answer
 
     def places(self, view: View, found: Any, path: str, what: str) -> dict[str, Any]:
-        """Places, as they're listed: by files, each with the line that stands there. Those that aren't in the folder have no address."""
+        """Places, as they're listed: by files, each with the line that stands there. Those that
+        aren't in the folder have no address."""
         if what == "definition" and len(found) == 1 and is_whole_file(found[0], path):
             whole = "Nothing but a range over the whole file covers this place."
             return {"places": [], "said": whole}
@@ -86,7 +88,8 @@ class Browser:
             row["is_definition"] = tuple(row.pop("where")) in found
 
     def row(self, view: View, place: dict[str, Any]) -> dict[str, Any]:
-        """A place as it's listed: its file, its line, the text there, and which part of the text it is."""
+        """A place as it's listed: its file, its line, the text there, and which part of the text it
+        is."""
         name, line, character = where(place)
         row = {
             "where": (name, line, character),
@@ -245,7 +248,8 @@ def counted(what: str, count: int, files: int) -> str:
 
 
 def said(*texts: str) -> str:
-    """What is said, the last of which is how the indexed text is called, where that of the file differs."""
+    """What is said, the last of which is how the indexed text is called, where that of the file
+    differs."""
     *first, of = texts
     return "; ".join(
         [text for text in first if text] + ([f"of {of}, the file changed since"] if of else [])

@@ -1,7 +1,8 @@
-"""The colours of a text: which parts of its lines are keywords, strings and so on, by Pygments, where it's installed (Debian's python3-pygments).
+"""The colours of a text: which parts of its lines are keywords, strings and so on, by Pygments,
+where it's installed (Debian's python3-pygments).
 
-A line is a list of numbers, three for each part that has a colour: how many characters lie before it, how long it is, both in UTF-16 code units, and the
-number of its kind in KINDS.
+A line is a list of numbers, three for each part that has a colour: how many characters lie before
+it, how long it is, both in UTF-16 code units, and the number of its kind in KINDS.
 """
 
 import time
@@ -49,7 +50,8 @@ def kind_of(token: Any) -> int:
 
 
 def lexer_of(name: str, language: str = "") -> Optional[Any]:
-    """The lexer of a file's name, or of a language as Markdown names it; None where there is none."""
+    """The lexer of a file's name, or of a language as Markdown names it; None where there is
+    none."""
     if lexers is None:
         return None
     try:

@@ -10,8 +10,8 @@ MOST = 50
 def score(name: str, wanted: str) -> Optional[int]:
     """How well a name has the letters that are wanted, in their order; None where it hasn't.
 
-    Letters count that begin a word of the name or follow the one before, and more in the file's own name than in its folders. The name is searched from
-    its end, since that is what people write.
+    Letters count that begin a word of the name or follow the one before, and more in the file's own
+    name than in its folders. The name is searched from its end, since that is what people write.
     """
     low, at, points, last = name.lower(), len(name), 0, -1
     own = name.rfind("/") + 1

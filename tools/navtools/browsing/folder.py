@@ -43,7 +43,8 @@ class Folder:
         self.listed: tuple[float, list[str]] = (-SECONDS, [])
 
     def inside(self, path: str) -> Optional[str]:
-        """The path from the folder on of a file that is in it, without links; None of one that isn't."""
+        """The path from the folder on of a file that is in it, without links; None of one that
+        isn't."""
         if "\0" in path or not os.path.isabs(path):
             return None
         real = os.path.realpath(path)
@@ -56,7 +57,8 @@ class Folder:
         return is_file and os.path.getsize(path) <= MOST_BYTES
 
     def named(self, text: str) -> str:
-        """The whole path that a name from the folder on means; raises Refused for one that leads out of it."""
+        """The whole path that a name from the folder on means; raises Refused for one that leads
+        out of it."""
         is_bad = bool(text) and bool({"", ".", ".."} & set(text.split("/")))
         if is_bad or self.inside(os.path.join(self.top, text)) is None:
             raise Refused(403, "not a path in the folder")
@@ -86,7 +88,8 @@ class Folder:
             raise Refused(403, str(fault) if is_text else "not a text in UTF-8") from None
 
     def entries(self, at: str) -> list[Entry]:
-        """What stands in a folder, folders first; no name that begins with a dot, and no link that leads out."""
+        """What stands in a folder, folders first; no name that begins with a dot, and no link that
+        leads out."""
         try:
             with os.scandir(os.path.join(self.top, at)) as found:
                 entries = [
@@ -100,7 +103,8 @@ class Folder:
         return sorted(entries, key=lambda entry: (not entry.is_folder, entry.name))
 
     def files(self) -> list[str]:
-        """The names of all files, from the folder on; links to folders aren't followed. The list stands for some seconds."""
+        """The names of all files, from the folder on; links to folders aren't followed. The list
+        stands for some seconds."""
         if time.monotonic() - self.listed[0] >= SECONDS:
             names = []
             for name in self.walk():
@@ -121,7 +125,8 @@ class Folder:
 
 
 def href(text: str, line: int = -1, character: int = 0, revision: str = "") -> str:
-    """The address of the page of a file or a folder that is named from the folder on, of today or of a revision, and there of a place."""
+    """The address of the page of a file or a folder that is named from the folder on, of today or
+    of a revision, and there of a place."""
     query = f"?revision={quote(revision, safe='')}" if revision else ""
     place = f"#L{line + 1}C{character + 1}" if line >= 0 else ""
     return "/files/" + quote(os.fsencode(text), safe=KEPT) + query + place

@@ -1,7 +1,9 @@
-"""Hovers as a tree of a few kinds of nodes, which the page makes its elements of: nothing that comes from the index is ever read as HTML.
+"""Hovers as a tree of a few kinds of nodes, which the page makes its elements of: nothing that
+comes from the index is ever read as HTML.
 
-Markdown is read by markdown-it (Debian's python3-markdown-it), with HTML in it as text; without that module a hover is plain text. A node is a text, or a
-list: the name of an element, its attributes (`href` alone), and its nodes. Code has colours, as pairs of a kind and a text.
+Markdown is read by markdown-it (Debian's python3-markdown-it), with HTML in it as text; without
+that module a hover is plain text. A node is a text, or a list: the name of an element, its
+attributes (`href` alone), and its nodes. Code has colours, as pairs of a kind and a text.
 """
 
 from typing import Any, Optional, Union
@@ -24,7 +26,8 @@ ELEMENTS = {
 
 
 def tree_of(contents: Any) -> list[Node]:
-    """The nodes of hover contents: a text in Markdown, `MarkedString`s, or `MarkupContent` (LSP 3.17). Raises TypeError or KeyError for what is none."""
+    """The nodes of hover contents: a text in Markdown, `MarkedString`s, or `MarkupContent` (LSP
+    3.17). Raises TypeError or KeyError for what is none."""
     if isinstance(contents, list):
         return [node for part in contents for node in tree_of(part)]
     if isinstance(contents, str):
@@ -102,7 +105,8 @@ def code(text: str, language: str) -> Node:
 
 
 def parts_of(lexer: Optional[Any], text: str) -> list[Node]:
-    """A text as the parts that have a colour, each an element whose class is the kind, and those that have none."""
+    """A text as the parts that have a colour, each an element whose class is the kind, and those
+    that have none."""
     parts: list[Node] = []
     lines = text.split("\n")
     for number, (line, colours) in enumerate(zip(lines, coloured(lexer, text))):

@@ -1,5 +1,5 @@
-"""The tags of a file, by its project's tags: the server finds them by the beginnings of their names alone, so it's asked for each letter that a word of the
-file begins with, once.
+"""The tags of a file, by its project's tags: the server finds them by the beginnings of their names
+alone, so it's asked for each letter that a word of the file begins with, once.
 """
 
 import time

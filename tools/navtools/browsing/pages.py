@@ -1,7 +1,8 @@
 """The pages as HTML, whole, so that a file can be read without the script.
 
-The text of a file stands in blocks of a hundred lines. A browser lays out those that are seen, and the script makes elements of their lines only then; the
-colours and the words that the index doesn't know come behind the text in the same page, as data.
+The text of a file stands in blocks of a hundred lines. A browser lays out those that are seen, and
+the script makes elements of their lines only then; the colours and the words that the index doesn't
+know come behind the text in the same page, as data.
 """
 
 import json
@@ -35,7 +36,8 @@ def link(at: str, entry: Entry, shown: str, revision: str) -> str:
 
 
 def more(at: str, start: int, end: int, count: int) -> str:
-    """A button for entries of a folder that aren't in the page yet, the ones that are nearest first."""
+    """A button for entries of a folder that aren't in the page yet, the ones that are nearest
+    first."""
     words = f"{end - start:,} more"
     return (
         f'<li><button type="button" class="more" data-at="{escape(at)}" data-start="{start}" data-end="{end}" '
@@ -44,7 +46,8 @@ def more(at: str, start: int, end: int, count: int) -> str:
 
 
 def tree(folder: Folder, shown: str, revision: str, at: str = "") -> str:
-    """The files and folders of a folder: of many those around the one that is shown, or the first."""
+    """The files and folders of a folder: of many those around the one that is shown, or the
+    first."""
     entries = folder.entries(at)
     inner = next((one for one in entries if f"{shown}/".startswith(f"{at}{one.name}/")), None)
     middle = entries.index(inner) if inner else 0
@@ -75,7 +78,8 @@ def listed(folder: Folder, at: str, start: int, end: int, revision: str) -> list
 
 
 def text_in(line: str) -> str:
-    """A line as HTML; what a browser would change when it reads the page is written so that it doesn't, or is replaced by one character."""
+    """A line as HTML; what a browser would change when it reads the page is written so that it
+    doesn't, or is replaced by one character."""
     return escape(line, quote=False).replace("\r", "&#13;").replace("\0", "\ufffd")
 
 
@@ -101,7 +105,8 @@ def data(own: str, value: Any) -> str:
 
 
 def file_page(view: View, name: str, project: str, search: str) -> Iterator[str]:
-    """The page of a file or a folder, piece by piece: the text first, then what takes longer. Raises Refused before the first piece."""
+    """The page of a file or a folder, piece by piece: the text first, then what takes longer.
+    Raises Refused before the first piece."""
     path = view.path(name)
     with view.lock:
         is_folder = os.path.isdir(path)
@@ -129,7 +134,8 @@ def file_page(view: View, name: str, project: str, search: str) -> Iterator[str]
 
 
 def file_data(view: View, path: str, name: str, text: str) -> Iterator[str]:
-    """What the script knows of a file besides its text: the words that the index doesn't have, and the colours."""
+    """What the script knows of a file besides its text: the words that the index doesn't have, and
+    the colours."""
     with view.lock:
         text_map, label = view.text_map(path)
         unknown = (

@@ -1,4 +1,5 @@
-"""Serves the pages on 127.0.0.1, to this machine's browsers alone: no other site's page, and no name that leads here, gets at the files."""
+"""Serves the pages on 127.0.0.1, to this machine's browsers alone: no other site's page, and no
+name that leads here, gets at the files."""
 
 import json
 import os
@@ -60,7 +61,8 @@ class Handler(BaseHTTPRequestHandler):
     hosts: tuple[str, ...]
 
     def do_GET(self) -> None:
-        """Answers a request: a page in pieces, as they're made, anything else whole. A fault is a page where a page was asked for."""
+        """Answers a request: a page in pieces, as they're made, anything else whole. A fault is a
+        page where a page was asked for."""
         path, _, query = self.path.partition("?")
         is_page = path == "/" or path.startswith("/files/")
         try:
@@ -82,7 +84,8 @@ class Handler(BaseHTTPRequestHandler):
     do_HEAD = do_GET
 
     def refuse_others(self, path: str) -> None:
-        """Refuses a request to another host, and one of another origin's pages, unless it's a link that is followed to a page."""
+        """Refuses a request to another host, and one of another origin's pages, unless it's a link
+        that is followed to a page."""
         host: list[str] = self.headers.get_all("Host", [])
         origin = self.headers.get("Origin")
         if len(host) != 1 or host[0].lower() not in self.hosts:
@@ -107,7 +110,8 @@ class Handler(BaseHTTPRequestHandler):
         raise Refused(404, "no such page")
 
     def answer_page(self, path: str, parameters: Parameters) -> None:
-        """Sends the page of a file or a folder as its pieces are made; the connection's end is the page's."""
+        """Sends the page of a file or a folder as its pieces are made; the connection's end is the
+        page's."""
         name = os.fsdecode(unquote_to_bytes(path.removeprefix("/files/"))) if path != "/" else ""
         view = self.browser.view(parameters)
         project, search = self.browser.settings.project, self.browser.search

@@ -1,4 +1,5 @@
-"""What is shown of a folder: the files of today, or those of a git revision, and how their places and those of the index lead to one another."""
+"""What is shown of a folder: the files of today, or those of a git revision, and how their places
+and those of the index lead to one another."""
 
 import os
 import threading
@@ -64,11 +65,13 @@ class View:
         return [line.removesuffix("\r") for line in self.text(path).split("\n")]
 
     def path(self, name: str) -> str:
-        """The whole path of a file or folder; raises Refused. A file of a revision needs none of today."""
+        """The whole path of a file or folder; raises Refused. A file of a revision needs none of
+        today."""
         return self.folder.path(name) if self.checkout is None else self.folder.named(name)
 
     def text_map(self, path: str) -> tuple[Optional[TextMap], str]:
-        """The map from the indexed text of a file to the one that is shown, where that's known and not the same, and how the indexed text is called."""
+        """The map from the indexed text of a file to the one that is shown, where that's known and
+        not the same, and how the indexed text is called."""
         settings = self.workspace.settings(path) or self.settings
         project = self.workspace.projects(settings, path)[0]
         indexed = self.workspace.questions(settings, project).indexed
@@ -83,7 +86,8 @@ class View:
 
 
 def unknown_words(text_map: TextMap) -> Iterator[tuple[int, list[int]]]:
-    """Of each line, from 0, the words that the indexed text doesn't have: two numbers for each, where it starts and how long it is."""
+    """Of each line, from 0, the words that the indexed text doesn't have: two numbers for each,
+    where it starts and how long it is."""
     lines = text_map.new.lines
     for number, line in enumerate(lines):
         old = text_map.new.matched.get(number)
@@ -101,7 +105,8 @@ def unknown_words(text_map: TextMap) -> Iterator[tuple[int, list[int]]]:
 
 
 def permalink(view: View, path: str, line: int, character: int) -> tuple[str, int, int]:
-    """The commit of today's HEAD, and where a place of a file is in it; raises Refused where it isn't there."""
+    """The commit of today's HEAD, and where a place of a file is in it; raises Refused where it
+    isn't there."""
     top = top_of(os.path.dirname(os.path.realpath(path)))
     commit = (
         view.revision or line_of(git(top, "rev-parse", "--verify", "--quiet", "HEAD^{commit}"))

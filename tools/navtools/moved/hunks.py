@@ -12,7 +12,8 @@ LONGEST = 100_000
 """The characters of a line or of a hunk that are still divided into tokens."""
 STEPS, ALL_STEPS = 20_000, 100_000
 SHARE = 0.7
-"""Of a changed line, the old or the new one, so much of the words has to be matched: else the line is another one."""
+"""Of a changed line, the old or the new one, so much of the words has to be matched: else the line
+is another one."""
 
 Place = tuple[int, int]
 
@@ -38,7 +39,8 @@ class Side:
 
 @dataclass
 class Hunk:
-    """Changed lines of both texts, and, once they have been asked for, the words that are the same in both."""
+    """Changed lines of both texts, and, once they have been asked for, the words that are the same
+    in both."""
 
     old: list[int]
     new: list[int]
@@ -66,7 +68,8 @@ class Hunk:
 def same_words(old: Side, new: Side) -> list[Pair]:
     """The words that are the same in both, of those that a diff over the tokens pairs.
 
-    A word needs another one beside it in what is equal; or it stands once in the hunk, and has a sign beside it.
+    A word needs another one beside it in what is equal; or it stands once in the hunk, and has a
+    sign beside it.
     """
     edit = ShortestEdit(STEPS, ALL_STEPS)
     pairs = patience(old.texts, new.texts, edit.pairs)

@@ -28,7 +28,8 @@ def indentation(line: str) -> int:
 
 
 def is_head(bare: str) -> bool:
-    """Whether a line without its indentation may head others: it has a word, begins with no bracket and ends no statement."""
+    """Whether a line without its indentation may head others: it has a word, begins with no bracket
+    and ends no statement."""
     return (
         bare[0] not in BRACKETS
         and not bare.rstrip().endswith(STATEMENT_END)
@@ -37,9 +38,11 @@ def is_head(bare: str) -> bool:
 
 
 def enclosing(lines: Sequence[str], known: Container[int]) -> list[int]:
-    """Of each line the last of the known heads above it that is less indented, or -1; of a bracket that begins a line the one that is no deeper.
+    """Of each line the last of the known heads above it that is less indented, or -1; of a bracket
+    that begins a line the one that is no deeper.
 
-    Heads that are as deep as a line end there, unless it's no head: a bracket closes or opens for one, a statement stands in its midst.
+    Heads that are as deep as a line end there, unless it's no head: a bracket closes or opens for
+    one, a statement stands in its midst.
     """
     found: list[int] = []
     depths: list[int] = []

@@ -1,7 +1,9 @@
-"""Equal items of two lists, in order: what a patience diff pairs, and of these the pairs that could stand elsewhere.
+"""Equal items of two lists, in order: what a patience diff pairs, and of these the pairs that could
+stand elsewhere.
 
-Patience: the equal ends are paired, then the items that stand once in each list, by their longest rising sequence, and so on between them. Where
-nothing stands once, the shortest edit by Myers's algorithm pairs the rest, or nothing does, if that takes too many steps.
+Patience: the equal ends are paired, then the items that stand once in each list, by their longest
+rising sequence, and so on between them. Where nothing stands once, the shortest edit by Myers's
+algorithm pairs the rest, or nothing does, if that takes too many steps.
 """
 
 from bisect import bisect_left
@@ -12,7 +14,8 @@ Pair = tuple[int, int]
 Rest = Callable[[Sequence[str], Sequence[str]], list[Pair]]
 
 LEVELS = 60
-"""How often what lies between unique items is looked at again: a level goes over all that is left once."""
+"""How often what lies between unique items is looked at again: a level goes over all that is left
+once."""
 
 
 def rising(pairs: list[Pair]) -> list[Pair]:
@@ -54,7 +57,8 @@ def equal_ends(old: Sequence[str], new: Sequence[str]) -> tuple[int, int]:
 
 
 def patience(old: Sequence[str], new: Sequence[str], rest: Optional[Rest] = None) -> list[Pair]:
-    """Pairs of equal items that rise in both lists; `rest` pairs those of a stretch in which no item stands once."""
+    """Pairs of equal items that rise in both lists; `rest` pairs those of a stretch in which no
+    item stands once."""
     pairs: list[Pair] = []
     stretches = [(0, len(old), 0, len(new), 0)]
     while stretches:
@@ -78,13 +82,15 @@ def patience(old: Sequence[str], new: Sequence[str], rest: Optional[Rest] = None
 
 
 class ShortestEdit:
-    """Myers's algorithm ("An O(ND) Difference Algorithm and Its Variations", 1986), with a limit of steps for a call and one for all calls."""
+    """Myers's algorithm ("An O(ND) Difference Algorithm and Its Variations", 1986), with a limit of
+    steps for a call and one for all calls."""
 
     def __init__(self, most: int, in_all: int) -> None:
         self.most, self.left = most, in_all
 
     def pairs(self, old: Sequence[str], new: Sequence[str]) -> list[Pair]:
-        """The equal pairs of a shortest edit; none where it takes too many steps, of which a number of edits takes at least its square."""
+        """The equal pairs of a shortest edit; none where it takes too many steps, of which a number
+        of edits takes at least its square."""
         common = sum((Counter(old) & Counter(new)).values())
         steps = min(self.most, self.left)
         if (len(old) + len(new) - 2 * common + 1) ** 2 > steps:
@@ -145,7 +151,8 @@ def runs(pairs: list[Pair]) -> Iterator[list[Pair]]:
 
 
 def sliding(pairs: list[Pair], old: Sequence[str], new: Sequence[str]) -> set[Pair]:
-    """The pairs that an insertion or a deletion beside them could as well stand on the other side of, with the same result.
+    """The pairs that an insertion or a deletion beside them could as well stand on the other side
+    of, with the same result.
 
     Of `f(x)` that became `f(x, x)` nobody knows which `x` is the old one.
     """
@@ -162,7 +169,8 @@ def sliding(pairs: list[Pair], old: Sequence[str], new: Sequence[str]) -> set[Pa
 
 
 def slid(known: set[Pair], first: Pair, last: Pair, items: Sequence[str], side: int) -> set[Pair]:
-    """The pairs before and after a gap of one list that the gap can move over: its own items repeat there."""
+    """The pairs before and after a gap of one list that the gap can move over: its own items repeat
+    there."""
     loose: set[Pair] = set()
     for (x, y), step, other in (first, -1, last[side] - 1), (last, 1, first[side] + 1):
         while (x, y) in known and items[(x, y)[side]] == items[other]:

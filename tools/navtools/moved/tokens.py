@@ -39,7 +39,8 @@ def tokens_of(text: str, line: int) -> list[Token]:
 
 
 def token_at(tokens: Sequence[Token], character: int) -> Optional[int]:
-    """Which token a character is in: the word that begins, covers or ends there, else the sign that begins there."""
+    """Which token a character is in: the word that begins, covers or ends there, else the sign that
+    begins there."""
     index = bisect_right(tokens, character, key=lambda token: token.start) - 1
     if index < 0:
         return None

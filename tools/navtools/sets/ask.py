@@ -1,11 +1,13 @@
 """Asks a project or a set on a server, for the tools that take the name of either.
 
-A set is many projects, of which its manifest says which one has a document. A query goes to that project, and the places of all parts are shown as
-the set's. Places of parts that the manifest doesn't name, of a revision that comes or goes, are dropped; so are those of other revisions of a code
-base beside it (`NAME@BRANCH`), unless such a one is asked itself.
+A set is many projects, of which its manifest says which one has a document. A query goes to that
+project, and the places of all parts are shown as the set's. Places of parts that the manifest
+doesn't name, of a revision that comes or goes, are dropped; so are those of other revisions of a
+code base beside it (`NAME@BRANCH`), unless such a one is asked itself.
 
-What was read of manifests is kept, and read again where a part is gone or answers with places of a part that isn't known. So a query meanwhile a
-set is switched is answered from the old revision or from the new one.
+What was read of manifests is kept, and read again where a part is gone or answers with places of a
+part that isn't known. So a query meanwhile a set is switched is answered from the old revision or
+from the new one.
 """
 
 from typing import Any, Callable, Optional
@@ -18,6 +20,7 @@ from navtools.sets.manifest import (
     DOCUMENT,
     PART,
     PARTS,
+    SURFACE,
     Head,
     NotAManifest,
     base_name,
@@ -31,7 +34,8 @@ ALIKE = 3
 
 
 class UnknownPart(Exception):
-    """A project that has the form of a part, and that the manifest doesn't name; the text is the set's name."""
+    """A project that has the form of a part, and that the manifest doesn't name; the text is the
+    set's name."""
 
 
 def order_of(place: Found) -> tuple[Any, ...]:
@@ -64,7 +68,8 @@ class Sets:
             return None
 
     def is_changed(self, name: str) -> bool:
-        """Reads the manifest of a set again, and says whether it's another one; raises NotAManifest."""
+        """Reads the manifest of a set again, and says whether it's another one; raises
+        NotAManifest."""
         before, after = self.heads.pop(name, None), self.head(name)
         if before is None or after is None:
             return before is not after
@@ -79,7 +84,8 @@ class Sets:
         ]
 
     def alike(self, head: Head, uri: str) -> str:
-        """The documents whose addresses end as one does that isn't there, as text: the more folders they have in common the sooner."""
+        """The documents whose addresses end as one does that isn't there, as text: the more folders
+        they have in common the sooner."""
         own = uri.split("/")
         found = []
         for known in self.documents(head):
@@ -93,24 +99,39 @@ class Sets:
         return f"; there are {', '.join(first)}" if first else ""
 
     def shown(self, project: str, asked: str) -> Optional[str]:
-        """What the project of a place is shown as where a project or a set is asked, or None where its places are dropped; raises
-        UnknownPart."""
-        match = PART.fullmatch(project)
-        head = self.other_head(match["set"]) if match else None
-        if match is None or head is None:
+        """What the project of a place is shown as where a project or a set is asked, or None where
+        its places are dropped; raises UnknownPart."""
+        name = self.set_of(project)
+        if name is None:
             return project
-        name = match["set"]
-        if project not in head.projects():
-            raise UnknownPart(name)
         if name != asked and (BRANCH in name or base_name(asked) == base_name(name)):
             return None
         return shown_name(name)
+
+    def set_of(self, project: str) -> Optional[str]:
+        """The set that has a project as a part, or as one of its surface; None where there is none.
+        Raises UnknownPart."""
+        match = PART.fullmatch(project)
+        if match is None:
+            return None
+        name = match["set"]
+        whole = name.removesuffix(SURFACE)
+        of_surface = self.other_head(whole) if whole != name else None
+        if of_surface is not None and project in of_surface.surface_projects():
+            return whole
+        own = self.other_head(name)
+        if own is not None and project in own.projects():
+            return name
+        if own is not None or of_surface is not None:
+            raise UnknownPart(whole if own is None else name)
+        return None
 
 
 class Asked:
     """A project or a set that is asked, by the name that its users write.
 
-    The name is taken for a project's up to when the server has no dump of it: so a project costs no request more.
+    The name is taken for a project's up to when the server has no dump of it: so a project costs no
+    request more.
     """
 
     def __init__(self, name: str, fetch: Fetch) -> None:
@@ -118,7 +139,8 @@ class Asked:
         self.sets = Sets(fetch)
 
     def query(self, what: str, parameters: dict[str, Any], member: str) -> Any:
-        """What a query at a position found: the places, shown as those of sets and in order, or the contents of a hover.
+        """What a query at a position found: the places, shown as those of sets and in order, or the
+        contents of a hover.
 
         Raises NoReply, and NotAManifest.
         """
@@ -143,7 +165,8 @@ class Asked:
         return self.sets.fetch(f"/projects/{project}/{what}", parameters, member)
 
     def explained(self, fault: NoReply, uri: str) -> NoReply:
-        """A fault of a part, as one of its set: a part that the manifest names and that is gone was removed by hand."""
+        """A fault of a part, as one of its set: a part that the manifest names and that is gone was
+        removed by hand."""
         head, name = self.sets.heads.get(self.name), shown_name(self.name)
         if head is None or not is_missing(fault):
             return fault
@@ -154,7 +177,8 @@ class Asked:
         )
 
     def shown(self, places: list[Found]) -> tuple[list[Found], set[str]]:
-        """Places as they are shown, in order and each once, and the sets that have places of parts that aren't known."""
+        """Places as they are shown, in order and each once, and the sets that have places of parts
+        that aren't known."""
         found: dict[tuple[Any, ...], Found] = {}
         unknown = set()
         for place in places:
@@ -169,7 +193,8 @@ class Asked:
         return [found[order] for order in sorted(found)], unknown
 
     def names(self, parameters: dict[str, Any], every: bool) -> list[Found]:
-        """The tags of a name or a prefix: those of the project or the set, or with `every` those of all; raises NoReply, and NotAManifest."""
+        """The tags of a name or a prefix: those of the project or the set, or with `every` those of
+        all; raises NoReply, and NotAManifest."""
         if not every:
             tags = self.sets.fetch("/names", {**parameters, "project": self.name}, "tags")
             if tags or self.sets.head(self.name) is None:
@@ -186,5 +211,6 @@ class Asked:
 
 
 def is_missing(fault: NoReply) -> bool:
-    """Whether a query was refused since there is no dump of its project, or since the dump has no such document."""
+    """Whether a query was refused since there is no dump of its project, or since the dump has no
+    such document."""
     return str(fault).startswith(("D01 ", "D02 "))

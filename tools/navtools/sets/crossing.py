@@ -1,13 +1,15 @@
-"""What crosses the borders of parts: which results have places in parts other than those that ask for them, and how the parts find them.
+"""What crosses the borders of parts: which results have places in parts other than those that ask
+for them, and how the parts find them.
 
-A part writes the places that lie in it. A range whose definition has places elsewhere imports a key of the set, which the parts with these
-places export; where its references have places elsewhere it exports one, and they do too.
+A part writes the places that lie in it. A range whose definition has places elsewhere imports a key
+of the set, which the parts with these places export; where its references have places elsewhere it
+exports one, and they do too.
 
-An import makes a range speak for every request. So where a larger range would have answered another request, its result is copied onto the
-range; where that range answers by monikers, which can't be copied, the definition is written whole, with copies of the places elsewhere.
+An import makes a range speak for every request. So where a larger range would have answered another
+request, its result is copied onto the range; where that range answers by monikers, which can't be
+copied, the definition is written whole, with copies of the places elsewhere.
 """
 
-from array import array
 from bisect import bisect_left, bisect_right
 from typing import Iterator, Optional
 
@@ -29,7 +31,8 @@ def bits(mask: int) -> Iterator[int]:
 
 
 class Shared:
-    """What all cuts of a dump have in common: the hidden keys, and the keys that references are found by."""
+    """What all cuts of a dump have in common: the hidden keys, and the keys that references are
+    found by."""
 
     def __init__(self, flat: Flat, profile_requests: int) -> None:
         self.flat = flat
@@ -38,7 +41,8 @@ class Shared:
         self.reference_keys = reference_keys(flat, self.hidden)
 
     def is_covered(self, result: int, marks: int) -> bool:
-        """Whether the references of a result are joined by the dump's own keys, where a range has these marks."""
+        """Whether the references of a result are joined by the dump's own keys, where a range has
+        these marks."""
         keys = self.reference_keys.get(result)
         return keys is not None and any(mark >> 1 in keys for mark in self.flat.marks[marks])
 
@@ -46,8 +50,9 @@ class Shared:
 class Cut:
     """A dump cut into parts: part p has the documents from `cuts[p]` to before `cuts[p + 1]`.
 
-    `meaning[rank]` is what a range means in its part; `used[p]` are the meanings of part p in the order of their first ranges; `found[p]` what
-    others find in part p by a name of the set, `shown[p]` by a mark of the dump.
+    `meaning[rank]` is what a range means in its part; `used[p]` are the meanings of part p in the
+    order of their first ranges; `found[p]` what others find in part p by a name of the set,
+    `shown[p]` by a mark of the dump.
     """
 
     def __init__(self, shared: Shared, cuts: list[int], set_name: str) -> None:
@@ -56,7 +61,7 @@ class Cut:
         self.masks: dict[int, int] = {}
         self.meanings: list[Meaning] = []
         self.numbers: dict[Meaning, int] = {}
-        self.meaning = array("i")
+        self.meaning = self.flat.column("i")
         self.outers: list[Outer] = [NO_OUTER]
         self.outer_numbers: dict[Outer, int] = {NO_OUTER: 0}
         self.here: dict[tuple[int, int], int] = {}
@@ -113,8 +118,9 @@ class Cut:
         flat = self.flat
         ends: list[int] = []
         outers = [0]
-        for rank in range(flat.first[document], flat.first[document + 1]):
-            own, start, end = flat.meaning[rank], flat.start[rank], flat.end[rank]
+        first, last = flat.first[document], flat.first[document + 1]
+        rows = (column[first:last] for column in (flat.meaning, flat.start, flat.end))
+        for own, start, end in zip(*rows):
             while ends and ends[-1] < end:
                 ends.pop()
                 outers.pop()
@@ -138,7 +144,8 @@ class Cut:
         )
 
     def within(self, own: int, outer: int) -> int:
-        """What answers where a range within one of this meaning doesn't speak: for each request its result, and whether its monikers answer too."""
+        """What answers where a range within one of this meaning doesn't speak: for each request its
+        result, and whether its monikers answer too."""
         number = self.here.get((own, outer))
         if number is None:
             firsts, marks = self.flat.meanings[own]
@@ -155,7 +162,8 @@ class Cut:
         return number
 
     def number(self, own: int, outer: int) -> int:
-        """The number of what a range means in its part; `outer` is what is around it where it imports a key of the set, else NONE."""
+        """The number of what a range means in its part; `outer` is what is around it where it
+        imports a key of the set, else NONE."""
         if own == NONE:
             return NONE
         firsts, marks = self.flat.meanings[own]
@@ -202,7 +210,8 @@ class Cut:
         return needs
 
     def found_by_name(self) -> list[list[tuple[str, int, int]]]:
-        """For each part what others find in it by a name of the set: the name, the request and the result, each name once."""
+        """For each part what others find in it by a name of the set: the name, the request and the
+        result, each name once."""
         found: list[dict[tuple[str, int], int]] = [{} for _ in range(self.parts)]
         for (request, result), asking in self.needs.items():
             for part in bits(self.mask(result)):
@@ -214,7 +223,8 @@ class Cut:
         ]
 
     def shown_by_mark(self) -> list[list[tuple[int, int]]]:
-        """For each part what others have to find in it by a mark of the dump: the first results and the mark."""
+        """For each part what others have to find in it by a mark of the dump: the first results and
+        the mark."""
         shown: list[list[tuple[int, int]]] = [[] for _ in range(self.parts)]
         first_range: dict[int, int] = {}
         for rank, own in enumerate(self.flat.meaning):

@@ -1,4 +1,5 @@
-"""Cuts a tags file by documents, as the parts of a set are cut: the tags of a file belong to the part around its address."""
+"""Cuts a tags file by documents, as the parts of a set are cut: the tags of a file belong to the
+part around its address."""
 
 import os
 import re
@@ -17,7 +18,8 @@ PSEUDO = b"!_TAG_"
 
 @dataclass
 class CutTags:
-    """The tags file of each part, empty where it has none, and how many tags were too many for their parts."""
+    """The tags file of each part, empty where it has none, and how many tags were too many for
+    their parts."""
 
     bodies: list[bytes]
     left_out: int = 0
@@ -37,7 +39,8 @@ def file_of(line: bytes) -> str:
 
 
 def cut_tags(path: str, folder: str, maps: Maps, firsts: Sequence[str]) -> CutTags:
-    """Cuts the tags file that was made in a folder; `firsts` are the addresses that the parts begin with, in order."""
+    """Cuts the tags file that was made in a folder; `firsts` are the addresses that the parts begin
+    with, in order."""
     ordered = [first.encode() for first in firsts]
     heads: list[bytes] = []
     lines: list[list[bytes]] = [[] for _ in firsts]

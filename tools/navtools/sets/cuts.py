@@ -1,7 +1,8 @@
-"""Where a dump is cut into parts: between documents in the order of their addresses, each part within the server's limits.
+"""Where a dump is cut into parts: between documents in the order of their addresses, each part
+within the server's limits.
 
-Cuts of the last time are kept while their parts fit, so that a document that grows changes its own part alone. Others are made where the
-documents on both sides have few folders in common.
+Cuts of the last time are kept while their parts fit, so that a document that grows changes its own
+part alone. Others are made where the documents on both sides have few folders in common.
 """
 
 import hashlib
@@ -27,7 +28,8 @@ BYTES_AN_ELEMENT = 110
 
 @dataclass(frozen=True)
 class Size:
-    """How large a part is: its elements, and at most its bytes and the rows of a kind that the server makes of it."""
+    """How large a part is: its elements, and at most its bytes and the rows of a kind that the
+    server makes of it."""
 
     elements: int
     bytes: int
@@ -51,10 +53,9 @@ class Weights:
 
     def __init__(self, flat: Flat) -> None:
         self.flat = flat
-        self.meanings = [self.meanings_of(document) for document in range(len(flat.uris))]
 
     def meanings_of(self, document: int) -> tuple[int, list[int]]:
-        """What each document weighs by itself, and what its ranges mean."""
+        """What a document weighs by itself, and what its ranges mean."""
         flat = self.flat
         ranks = flat.meaning[flat.first[document] : flat.first[document + 1]]
         return DOCUMENT_WEIGHT + 2 * len(ranks), [own for own in set(ranks) if own != NONE]
@@ -71,11 +72,12 @@ class Weights:
         return elements, size
 
     def growth(self, first: int, last: int, most: int, full: float) -> list[float]:
-        """How full a part is after each document, from one to before another, as a share of the limits; up to one after which it's full."""
+        """How full a part is after each document, from one to before another, as a share of the
+        limits; up to one after which it's full."""
         seen: set[int] = set()
         elements, size, shares = 0, 0, []
         for document in range(first, last):
-            weight, meanings = self.meanings[document]
+            weight, meanings = self.meanings_of(document)
             elements += weight
             for own in meanings:
                 if own not in seen:
@@ -90,7 +92,8 @@ class Weights:
 
 
 def suits(uris: Sequence[str], document: int) -> tuple[int, bytes]:
-    """How well a cut before a document suits, the less the better: the folders that both sides have in common; else by chance."""
+    """How well a cut before a document suits, the less the better: the folders that both sides have
+    in common; else by chance."""
     before, after = uris[document - 1].split("/")[:-1], uris[document].split("/")[:-1]
     common = 0
     while common < min(len(before), len(after)) and before[common] == after[common]:
@@ -99,7 +102,8 @@ def suits(uris: Sequence[str], document: int) -> tuple[int, bytes]:
 
 
 def filled(weights: Weights, first: int, last: int, most: int) -> list[int]:
-    """Cuts from a document to before another, so that each part but the last is filled to a share of the limits; the first and the last are among them."""
+    """Cuts from a document to before another, so that each part but the last is filled to a share
+    of the limits; the first and the last are among them."""
     cuts = [first]
     while True:
         shares = weights.growth(cuts[-1], last, most, 1.0)
@@ -117,7 +121,8 @@ def filled(weights: Weights, first: int, last: int, most: int) -> list[int]:
 
 
 def kept_cuts(uris: Sequence[str], firsts: Iterable[str]) -> list[int]:
-    """The cuts of the last time among the documents of this time; `firsts` are the addresses that each part began with."""
+    """The cuts of the last time among the documents of this time; `firsts` are the addresses that
+    each part began with."""
     ordered = [uri.encode() for uri in uris]
     inner = {bisect_left(ordered, first.encode()) for first in firsts} - {0, len(uris)}
     return [0, *sorted(inner), len(uris)]
@@ -165,7 +170,8 @@ def refuse_large(flat: Flat, most: int) -> None:
 
 
 def joined(cuts: list[int], sizes: Sequence[Size], most: int) -> list[int]:
-    """The cuts without some between neighbours that have room for each other, where parts are less than half full on average."""
+    """The cuts without some between neighbours that have room for each other, where parts are less
+    than half full on average."""
     elements = [size.elements for size in sizes]
     cuts = list(cuts)
     while len(elements) > 1 and sum(elements) < HALF * most * len(elements):
@@ -179,7 +185,8 @@ def joined(cuts: list[int], sizes: Sequence[Size], most: int) -> list[int]:
 
 
 def split_over(cut: Cut, sizes: Sequence[Size], weights: Weights, most: int) -> list[int]:
-    """The cuts with one more in each part that is over the limits; raises TooLarge where that's one document."""
+    """The cuts with one more in each part that is over the limits; raises TooLarge where that's one
+    document."""
     cuts, alone = list(cut.cuts), []
     for part in reversed(range(cut.parts)):
         first, last = cut.cuts[part], cut.cuts[part + 1]
@@ -200,7 +207,8 @@ def planned(
     before: Optional[Sequence[str]] = None,
     most: int = MOST_ELEMENTS,
 ) -> tuple[Cut, list[Size]]:
-    """A cut of a dump whose parts fit; `before` are the addresses that the parts began with the last time."""
+    """A cut of a dump whose parts fit; `before` are the addresses that the parts began with the
+    last time."""
     flat = shared.flat
     refuse_large(flat, most)
     weights = Weights(flat)

@@ -1,20 +1,37 @@
-"""What each range of a dump means, by numbers: the first result of each request along its `next` edges, and its marks; and the places of each
-result. Documents are in the order of their addresses and ranges in that of their documents and places, so nothing here depends on the ids or
-on the order of the dump.
+"""What each range of a dump means, by numbers: the first result of each request along its `next`
+edges, and its marks; and the places of each result. Documents are in the order of their addresses
+and ranges in that of their documents and places, so nothing here depends on the ids or on the order
+of the dump.
 """
 
 from __future__ import annotations
 
+import heapq
 from array import array
 from bisect import bisect_left
+from collections import Counter
 from dataclasses import dataclass, field
-from typing import Optional
+from typing import Callable, Iterable, Iterator, Optional, Sequence
 
 from navtools.addresses import serialized
 from navtools.lsif import NotADump
-from navtools.sets.graph import EDGES, KINDS, LINE, NONE, RANGE, REFERENCES, SET, Graph, Key
+from navtools.sets.graph import (
+    EDGES,
+    KINDS,
+    LINE,
+    NONE,
+    PLACE,
+    RANGE,
+    REFERENCES,
+    SET,
+    Graph,
+    Key,
+)
+from navtools.sets.stored import Numbers, Sorted
 
 MOST_LED = 4_000_000
+STEPS_A_PLACE = 2
+MOST_STEPS = 20_000_000
 MOST_MARKS = 8_000_000
 Firsts = tuple[int, ...]
 Marks = frozenset[int]
@@ -24,23 +41,25 @@ ROLES = 2
 
 @dataclass
 class Flat:
-    """The tables. A range is its rank among all; a meaning is a pair of first results and marks; a mark is `key * 2`, and one more for an export.
+    """The tables. A range is its rank among all; a meaning is a pair of first results and marks; a
+    mark is `key * 2`, and one more for an export.
 
-    `first[d]` is the rank of the first range of document d. `places[i]` are ranks; those of a result in a role begin at
-    `first_place[result * ROLES + role]`.
+    `first[d]` is the rank of the first range of document d. `places[i]` are ranks; those of a
+    result in a role begin at `first_place[result * ROLES + role]`.
     """
 
     uris: list[str]
-    first: array[int]
-    start: array[int]
-    end: array[int]
-    meaning: array[int]
-    is_place: bytearray
-    first_place: array[int]
-    places: array[int]
+    column: Callable[[str], Numbers]
+    start: Numbers
+    end: Numbers
+    meaning: Numbers
+    is_place: Numbers
     hover_at: array[int]
     hover_bytes: array[int]
     keys: list[Key]
+    first: array[int] = field(default_factory=lambda: array("i", [0]))
+    first_place: array[int] = field(default_factory=lambda: array("i"))
+    places: Numbers = field(default_factory=lambda: array("i"))
     meanings: list[tuple[int, int]] = field(default_factory=list)
     firsts: list[Firsts] = field(default_factory=list)
     marks: list[Marks] = field(default_factory=list)
@@ -49,7 +68,8 @@ class Flat:
     cut_short: int = 0
 
     def bounds(self, result: int, role: int, low: int, high: int) -> tuple[int, int]:
-        """Where the places of a result in a role stand that are ranges from a rank to before another."""
+        """Where the places of a result in a role stand that are ranges from a rank to before
+        another."""
         slot = result * ROLES + role
         first, last = self.first_place[slot], self.first_place[slot + 1]
         begin = bisect_left(self.places, low, first, last)
@@ -80,29 +100,16 @@ class Flat:
         return any(request == REFERENCES or not mark & 1 for mark in self.marks[marks])
 
 
-def ordered_documents(graph: Graph, without: frozenset[str]) -> tuple[list[str], dict[int, int]]:
-    """The addresses as the server spells them, in order, and the place of each document among them but for those left out."""
+def ordered_documents(graph: Graph, without: frozenset[str]) -> tuple[list[str], list[int]]:
+    """The addresses as the server spells them, in order, and which documents have them; but for
+    those left out."""
     spelled = [serialized(uri) for uri in graph.uris]
-    if len(set(spelled)) < len(spelled):
-        twice = next(uri for uri in spelled if spelled.count(uri) > 1)
-        raise NotADump(f"two documents have the address {twice} (L19)")
+    twice = [uri for uri, count in Counter(spelled).items() if count > 1]
+    if twice:
+        raise NotADump(f"two documents have the address {twice[0]} (L19)")
     kept = [own for own, uri in enumerate(spelled) if uri not in without]
     kept.sort(key=lambda own: spelled[own].encode())
-    return [spelled[own] for own in kept], {own: place for place, own in enumerate(kept)}
-
-
-def ordered_ranges(graph: Graph, place: dict[int, int]) -> list[int]:
-    """The ranges of the documents that are kept, in the order of documents, then of starts, the larger first."""
-    ranges: list[list[int]] = [[] for _ in place]
-    for own, home in enumerate(graph.home):
-        if home == NONE:
-            raise NotADump("a range is contained in no document (E01)")
-        if home in place:
-            ranges[place[home]].append(own)
-    start, end = graph.start, graph.end
-    for owned in ranges:
-        owned.sort(key=lambda own: (start[own], -end[own]))
-    return [own for owned in ranges for own in owned]
+    return [spelled[own] for own in kept], kept
 
 
 def refuse_overlaps(flat: Flat) -> None:
@@ -110,8 +117,8 @@ def refuse_overlaps(flat: Flat) -> None:
     for document, uri in enumerate(flat.uris):
         open_ends: list[int] = []
         before = None
-        for rank in range(flat.first[document], flat.first[document + 1]):
-            start, end = flat.start[rank], flat.end[rank]
+        first, last = flat.first[document], flat.first[document + 1]
+        for start, end in zip(flat.start[first:last], flat.end[first:last]):
             while open_ends and open_ends[-1] <= start:
                 open_ends.pop()
             if before == (start, end) or start < end and open_ends and open_ends[-1] < end:
@@ -123,39 +130,63 @@ def refuse_overlaps(flat: Flat) -> None:
             before = start, end
 
 
-def closed_places(graph: Graph, rank: array[int], most: int) -> tuple[list[int], int]:
-    """Each result, role and rank of a place, as one number, in order: also those of results that a result leads to.
-
-    How much is led to over `referenceResults` is limited; how many results were cut short is answered too.
-    """
-    mask = (1 << 32) - 1
-    own: dict[int, list[int]] = {}
+def add_places(flat: Flat, graph: Graph, found: Sorted, most: int) -> None:
+    """Adds the places of results, of which each is a number: the result, the role and the rank;
+    also those of results that a result leads to."""
+    results = len(graph.request_of)
+    flat.first_place, flat.places = slots_of(flat, found, results)
     if graph.leads:
-        for item in graph.items:
-            own.setdefault(item >> 33, []).append(item & ((1 << 33) - 1))
-    led: list[int] = []
-    cut_short = 0
-    for result in sorted(graph.leads):
-        if len(led) >= most:
-            cut_short += 1
+        led = led_places(flat, graph, most)
+        flat.first_place, flat.places = slots_of(flat, heapq.merge(found, led), results)
+
+
+def slots_of(flat: Flat, found: Iterable[int], results: int) -> tuple[array[int], Numbers]:
+    """Where the places of each result in each role begin, and the places; `found` is in order, and
+    what is there twice counts once."""
+    first, places = array("i"), flat.column("i")
+    slot, before = 0, NONE
+    for item in found:
+        if item == before:
             continue
-        reached, short = reached_from(graph, result, most - len(led))
+        before = item
+        while slot <= item >> 32:
+            first.append(len(places))
+            slot += 1
+        places.append(item & PLACE)
+    first.extend([len(places)] * (results * ROLES + 1 - slot))
+    return first, places
+
+
+def led_places(flat: Flat, graph: Graph, most: int) -> Sorted:
+    """The places that results have by those that they lead to over `referenceResults`.
+
+    How many they are is limited, and how many steps lead to them; how many results were cut short
+    is noted.
+    """
+    led = Sorted()
+    room, steps = most, STEPS_A_PLACE * most
+    for result in sorted(graph.leads):
+        if room <= 0 or steps <= 0:
+            flat.cut_short += 1
+            continue
+        reached, is_short, gone = reached_from(graph, result, min(room, steps))
+        steps -= gone
+        items = array("q")
         for other in reached:
-            led.extend(result << 33 | item for item in own.get(other, ()))
-        cut_short += short or len(led) > most
-        del led[most:]
-    ranked = [
-        item & ~mask | rank[item & mask]
-        for every in (graph.items, led)
-        for item in every
-        if rank[item & mask] >= 0
-    ]
-    ranked.sort()
-    return ranked, cut_short
+            if len(items) > room:
+                break
+            for role in range(ROLES):
+                slot = (result * ROLES + role) << 32
+                items.extend(slot | rank for rank in flat.places_of(other, role))
+        flat.cut_short += is_short or len(items) > room
+        led.extend(items[:room])
+        room -= len(items)
+    return led
 
 
-def reached_from(graph: Graph, result: int, most: int) -> tuple[list[int], bool]:
-    """The results that a result leads to but for itself, and whether there are more."""
+def reached_from(graph: Graph, result: int, most: int) -> tuple[list[int], bool, int]:
+    """The results that a result leads to but for itself, whether there are more, and in how many
+    steps."""
     seen, todo, gone = {result: None}, [result], 0
     while todo and gone <= most:
         ends = graph.leads.get(todo.pop(), [])
@@ -164,7 +195,7 @@ def reached_from(graph: Graph, result: int, most: int) -> tuple[list[int], bool]
             if end not in seen:
                 seen[end] = None
                 todo.append(end)
-    return list(seen)[1:], bool(todo)
+    return list(seen)[1:], bool(todo), gone
 
 
 def key_numbers(graph: Graph) -> tuple[list[Key], list[int]]:
@@ -179,7 +210,8 @@ def key_numbers(graph: Graph) -> tuple[list[Key], list[int]]:
 
 
 def marks_of_monikers(graph: Graph, keys: list[int]) -> list[Marks]:
-    """The marks of each moniker and of those that `attach` edges lead to from it; those that are joined so share them."""
+    """The marks of each moniker and of those that `attach` edges lead to from it; those that are
+    joined so share them."""
     found: list[Optional[Marks]] = [None] * len(graph.monikers)
     for start in range(len(found)):
         if found[start] is not None:
@@ -205,16 +237,17 @@ class Chains:
 
     def __init__(self, graph: Graph, flat: Flat, keys: list[int]) -> None:
         self.graph, self.flat = graph, flat
-        of_moniker = marks_of_monikers(graph, keys)
-        self.own_marks = {
-            vertex: frozenset().union(*(of_moniker[moniker] for moniker in monikers))
-            for vertex, monikers in graph.borne.items()
-        }
-        self.room = MOST_MARKS
+        self.room, self.steps = MOST_MARKS, MOST_STEPS
         flat.firsts.append(NO_RESULT)
         flat.numbers[NO_RESULT] = 0
-        flat.marks.append(frozenset())
-        self.marks_numbers: dict[Marks, int] = {frozenset(): 0}
+        self.marks_numbers: dict[Marks, int] = {}
+        self.joined: dict[tuple[int, int], int] = {}
+        self.number_of(frozenset())
+        of_moniker = [self.number_of(marks) for marks in marks_of_monikers(graph, keys)]
+        self.own_marks: dict[int, int] = {
+            vertex: self.together([of_moniker[moniker] for moniker in monikers])
+            for vertex, monikers in graph.borne.items()
+        }
         self.of_set: list[Optional[tuple[int, int]]] = [None] * len(graph.after_set)
 
     def with_own(
@@ -227,19 +260,37 @@ class Chains:
             firsts = self.flat.firsts_number(
                 tuple(mine if mine != NONE else other for mine, other in zip(own, later))
             )
-        mine = self.own_marks.get(vertex)
-        if mine:
-            together = self.flat.marks[marks] | mine
-            marks = self.marks_numbers.setdefault(together, len(self.flat.marks))
-            if marks == len(self.flat.marks):
-                self.flat.marks.append(together)
-                self.take_room(len(together))
-        return firsts, marks
+        mine = self.own_marks.get(vertex, 0)
+        if not mine or mine == marks:
+            return firsts, marks
+        both = self.joined.get((mine, marks))
+        if both is None:
+            both = self.joined[mine, marks] = self.together([mine, marks])
+        return firsts, both
 
-    def take_room(self, count: int) -> None:
-        """Takes room for marks; raises NotADump where there are too many of them."""
+    def number_of(self, marks: Marks) -> int:
+        """The number of these marks, which are added where they're new."""
+        number = self.marks_numbers.setdefault(marks, len(self.flat.marks))
+        if number == len(self.flat.marks):
+            self.flat.marks.append(marks)
+            self.take_room(len(marks))
+        return number
+
+    def together(self, numbers: Sequence[int]) -> int:
+        """The number of the marks of all."""
+        several = set(numbers) - {0}
+        if len(several) < 2:
+            return max(several, default=0)
+        every = [self.flat.marks[number] for number in several]
+        self.take_room(0, sum(map(len, every)))
+        return self.number_of(frozenset().union(*every))
+
+    def take_room(self, count: int, steps: int = 0) -> None:
+        """Takes room for marks, and steps to find them; raises NotADump where there are too many of
+        them."""
         self.room -= count
-        if self.room < 0:
+        self.steps -= steps
+        if self.room < 0 or self.steps < 0:
             raise NotADump("too many monikers along `next` and `attach` edges (S02)")
 
     def at_set(self, own: int) -> tuple[int, int]:
@@ -272,10 +323,11 @@ class Chains:
         return self.with_own(code, None if bound is None else tuple(bound), found)
 
     def bearers(self) -> set[tuple[int, int]]:
-        """What others find by a mark: the first results of each vertex that has a moniker, where there
-        is one, and the mark."""
+        """What others find by a mark: the first results of each vertex that has a moniker, where
+        there is one, and the mark."""
         found = set()
-        for vertex, marks in self.own_marks.items():
+        for vertex, own in self.own_marks.items():
+            marks = self.flat.marks[own]
             at = self.at_set if vertex % KINDS == SET else self.at_range
             firsts = at(vertex // KINDS)[0]
             if firsts:
@@ -286,61 +338,55 @@ class Chains:
 
 def flattened(graph: Graph, without: frozenset[str] = frozenset(), most: int = MOST_LED) -> Flat:
     """The flat tables of a dump, without the documents that are left out."""
-    uris, place = ordered_documents(graph, without)
-    order = ordered_ranges(graph, place)
-    rank = array("i", [NONE]) * len(graph.start)
-    first = array("i", [0]) * (len(uris) + 1)
-    for number, own in enumerate(order):
-        rank[own] = number
-        first[place[graph.home[own]] + 1] = number + 1
-    for document in range(1, len(first)):
-        first[document] = max(first[document], first[document - 1])
-    found, cut_short = closed_places(graph, rank, most)
+    uris, kept = ordered_documents(graph, without)
     keys, key_of = key_numbers(graph)
+    start, end, meaning, is_place = map(graph.column, "qqib")
     flat = Flat(
         uris=uris,
-        first=first,
-        start=array("q", [graph.start[own] for own in order]),
-        end=array("q", [graph.end[own] for own in order]),
-        meaning=array("i"),
-        is_place=bytearray(len(order)),
-        first_place=array("i"),
-        places=array("i"),
+        column=graph.column,
+        start=start,
+        end=end,
+        meaning=meaning,
+        is_place=is_place,
         hover_at=graph.hover_at,
         hover_bytes=graph.hover_bytes,
         keys=keys,
-        cut_short=cut_short,
     )
+    chains, found = Chains(graph, flat, key_of), Sorted()
+    numbers: dict[tuple[int, int], int] = {(0, 0): NONE}
+    for ranges, items in graph.by_document(kept):
+        found.extend(add_ranges(flat, graph, ranges, items))
+        flat.meaning.extend(meanings_of(flat, chains, ranges, numbers))
+    flat.bearers = chains.bearers()
     refuse_overlaps(flat)
-    add_places(flat, found, len(graph.request_of))
-    add_meanings(flat, Chains(graph, flat, key_of), order)
+    add_places(flat, graph, found, most)
     return flat
 
 
-def add_places(flat: Flat, found: list[int], results: int) -> None:
-    """Adds the places of results, of which each is a number, in order; one that is there twice counts once."""
-    slot, before = 0, NONE
-    for item in found:
-        if item == before:
-            continue
-        before = item
-        while slot <= item >> 32:
-            flat.first_place.append(len(flat.places))
-            slot += 1
-        rank = item & ((1 << 32) - 1)
-        flat.places.append(rank)
-        flat.is_place[rank] = 1
-    flat.first_place.extend([len(flat.places)] * (results * ROLES + 1 - slot))
+def add_ranges(flat: Flat, graph: Graph, ranges: Sequence[int], items: Iterable[int]) -> list[int]:
+    """Adds the ranges of the next document, which are in order; answers the items of these, with
+    ranks in the place of ranges."""
+    first = flat.first[-1]
+    flat.start.extend([graph.start[own] for own in ranges])
+    flat.end.extend([graph.end[own] for own in ranges])
+    flat.first.append(first + len(ranges))
+    rank = {own: number for number, own in enumerate(ranges, first)}
+    ranked = [item & ~PLACE | rank[item & PLACE] for item in items]
+    is_place = bytearray(len(ranges))
+    for item in ranked:
+        is_place[(item & PLACE) - first] = 1
+    flat.is_place.extend(is_place)
+    return ranked
 
 
-def add_meanings(flat: Flat, chains: Chains, order: list[int]) -> None:
-    """Adds what each range means, and what others find."""
-    numbers: dict[tuple[int, int], int] = {(0, 0): NONE}
-    for own in order:
+def meanings_of(
+    flat: Flat, chains: Chains, ranges: Sequence[int], numbers: dict[tuple[int, int], int]
+) -> Iterator[int]:
+    """What each range means; meanings that are new are added."""
+    for own in ranges:
         found = chains.at_range(own)
         number = numbers.get(found)
         if number is None:
             number = numbers[found] = len(flat.meanings)
             flat.meanings.append(found)
-        flat.meaning.append(number)
-    flat.bearers = chains.bearers()
+        yield number

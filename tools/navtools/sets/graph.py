@@ -1,5 +1,6 @@
-"""Reads a dump of any size into tables of numbers: its documents, ranges, results and monikers, and what joins them. Texts stay in the file but
-for addresses and keys, so memory grows with the ids alone. Of two hovers with equal contents one is kept.
+"""Reads a dump of any size into tables of numbers: its documents, ranges, results and monikers, and
+what joins them. Texts stay in the file but for addresses and keys, so memory grows with the ids
+alone. Of two hovers with equal contents one is kept.
 """
 
 from __future__ import annotations
@@ -10,9 +11,10 @@ import os
 import sys
 from array import array
 from dataclasses import dataclass, field
-from typing import Any, BinaryIO, Callable, Optional
+from typing import Any, BinaryIO, Callable, Iterable, Iterator, Optional, Sequence
 
 from navtools.lsif import MOST_ELEMENT_BYTES, Id, NotADump, is_id, refuse_constant
+from navtools.sets.stored import Numbers
 from navtools.vertices import VERSION
 
 DEFINITION, REFERENCES, HOVER, DECLARATION, IMPLEMENTATION = REQUESTS = range(5)
@@ -35,6 +37,7 @@ MOST_NUMBER = LINE - 1
 NONE = -1
 RANGE, SET, DOCUMENT, RESULT, MONIKER, PACKAGE, OTHER = range(7)
 KINDS = 8
+PLACE = (1 << 32) - 1
 Key = tuple[str, str, Optional[tuple[str, str, str]]]
 Element = dict[str, Any]
 
@@ -45,30 +48,53 @@ class Faulty(Exception):
 
 @dataclass
 class Graph:
-    """The tables. A range, a set, a document, a result, a moniker and a package are numbers, each kind from 0 in the order of the dump.
+    """The tables. A range, a set, a document, a result, a moniker and a package are numbers, each
+    kind from 0 in the order of the dump.
 
-    A place is `line * LINE + character`. A vertex is coded as its number and its kind: `number * KINDS + kind`.
+    A place is `line * LINE + character`. A vertex is coded as its number and its kind: `number *
+    KINDS + kind`. An item is a result, a role and a range: `(result * 2 + role) << 32 | range`.
+    `sets_before[r]` is how many sets come before range r.
     """
 
     elements: int = 0
     uris: list[str] = field(default_factory=list)
-    start: array[int] = field(default_factory=lambda: array("q"))
-    end: array[int] = field(default_factory=lambda: array("q"))
+    start: Numbers = field(default_factory=lambda: array("q"))
+    end: Numbers = field(default_factory=lambda: array("q"))
     home: array[int] = field(default_factory=lambda: array("i"))
-    after_range: array[int] = field(default_factory=lambda: array("i"))
+    after_range: Numbers = field(default_factory=lambda: array("i"))
+    sets_before: array[int] = field(default_factory=lambda: array("i"))
     after_set: array[int] = field(default_factory=lambda: array("i"))
     bound: list[array[int]] = field(default_factory=lambda: [array("i") for _ in REQUESTS])
     bound_to_range: dict[int, list[int]] = field(default_factory=dict)
     request_of: array[int] = field(default_factory=lambda: array("b"))
     hover_at: array[int] = field(default_factory=lambda: array("q"))
     hover_bytes: array[int] = field(default_factory=lambda: array("i"))
-    items: array[int] = field(default_factory=lambda: array("q"))
+    items: Numbers = field(default_factory=lambda: array("q"))
     leads: dict[int, list[int]] = field(default_factory=dict)
     monikers: list[tuple[str, str, str]] = field(default_factory=list)
     package_of: array[int] = field(default_factory=lambda: array("i"))
     packages: list[tuple[str, str, str]] = field(default_factory=list)
     borne: dict[int, list[int]] = field(default_factory=dict)
     attached: dict[int, list[int]] = field(default_factory=dict)
+
+    def column(self, form: str) -> Numbers:
+        """Room for what there is of each range."""
+        return array(form)
+
+    def by_document(self, kept: Sequence[int]) -> Iterator[tuple[list[int], Iterable[int]]]:
+        """The ranges of some documents in order: by their starts, the larger first; and the items
+        of each."""
+        ranges = [array("i") for _ in self.uris]
+        items = [array("q") for _ in self.uris]
+        for own, home in enumerate(self.home):
+            if home == NONE:
+                raise NotADump("a range is contained in no document (E01)")
+            ranges[home].append(own)
+        for item in self.items:
+            items[self.home[item & PLACE]].append(item)
+        for document in kept:
+            order = sorted(ranges[document], key=lambda own: (self.start[own], -self.end[own]))
+            yield order, items[document]
 
 
 def text_of(element: Element, member: str, default: Optional[str] = None) -> str:
@@ -82,8 +108,8 @@ def text_of(element: Element, member: str, default: Optional[str] = None) -> str
 class Reader:
     """Takes the elements of a dump in their order."""
 
-    def __init__(self, profile: str) -> None:
-        self.graph = Graph()
+    def __init__(self, profile: str, graph: Graph) -> None:
+        self.graph = graph
         self.codes: dict[Id, int] = {}
         self.hovers: dict[bytes, int] = {}
         self.at, self.bytes = 0, 0
@@ -107,8 +133,14 @@ class Reader:
             **{label: self.binds(request) for request, label in enumerate(EDGES[:kinds])},
         }
 
+    def forget(self) -> None:
+        """Forgets what was only for reading: nothing else frees it, since the tables of handlers
+        lead back to the reader."""
+        self.codes, self.hovers = {}, {}
+
     def take(self, element: Element, length: int) -> None:
-        """Takes the next element, whose line has so many bytes; raises Faulty, or KeyError where an end isn't known."""
+        """Takes the next element, whose line has so many bytes; raises Faulty, or KeyError where an
+        end isn't known."""
         graph, label = self.graph, element["label"]
         graph.elements += 1
         self.bytes = length
@@ -137,6 +169,7 @@ class Reader:
         graph.end.append(last)
         graph.home.append(NONE)
         graph.after_range.append(NONE)
+        graph.sets_before.append(len(graph.after_set))
         return (len(graph.start) - 1) * KINDS + RANGE
 
     def result_set(self, own: Id, element: Element) -> int:
@@ -304,9 +337,10 @@ def first_element(element: Element) -> None:
         raise Faulty("its positions aren't counted in utf-16 (L06)")
 
 
-def read_graph(source: BinaryIO, name: str, profile: str, progress: bool) -> Graph:
-    """Reads a dump; raises NotADump at the first line that the server would refuse, as far as it's looked at here."""
-    reader, number = Reader(profile), 0
+def read_graph(source: BinaryIO, name: str, profile: str, progress: bool, tool: str) -> Graph:
+    """Reads a dump for a tool; raises NotADump at the first line that the server would refuse, as
+    far as it's looked at here."""
+    reader, number = Reader(profile, Graph()), 0
     size = os.fstat(source.fileno()).st_size if progress else 0
     for number, line in enumerate(iter(lambda: source.readline(MOST_ELEMENT_BYTES), b""), 1):
         try:
@@ -324,10 +358,11 @@ def read_graph(source: BinaryIO, name: str, profile: str, progress: bool) -> Gra
             text = "a member is missing or names no earlier vertex (L07 to L09)"
             raise NotADump(f"{name}, line {number}: {text}") from None
         if progress and number % 50_000 == 0:
-            said = f"\rsplit-lsif: read {reader.at >> 20} of {size >> 20} MiB"
+            said = f"\r{tool}: read {reader.at >> 20} of {size >> 20} MiB"
             print(said, end="", file=sys.stderr, flush=True)
     if progress:
         print("\r" + " " * 50 + "\r", end="", file=sys.stderr)
     if number == 0:
         raise NotADump(f"{name}: empty")
+    reader.forget()
     return reader.graph

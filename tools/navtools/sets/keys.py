@@ -1,7 +1,9 @@
-"""The keys of a set: which keys of the dump its parts can't show to others, and what a result is called that has places in several parts.
+"""The keys of a set: which keys of the dump its parts can't show to others, and what a result is
+called that has places in several parts.
 
-Parts are projects, so each finds what the others have by monikers. A key that the dump imports and exports itself, or by which it exports
-several results, would then give more places than the whole dump does: others don't find it in a part.
+Parts are projects, so each finds what the others have by monikers. A key that the dump imports and
+exports itself, or by which it exports several results, would then give more places than the whole
+dump does: others don't find it in a part.
 """
 
 import hashlib
@@ -18,7 +20,8 @@ Crossing = tuple[int, int]
 def bearers_and_users(
     flat: Flat,
 ) -> tuple[dict[int, set[tuple[int, int]]], dict[int, set[tuple[int, int]]]]:
-    """By key: the marks with the first results of what others find by it, and those of the ranges that have it."""
+    """By key: the marks with the first results of what others find by it, and those of the ranges
+    that have it."""
     bearers: dict[int, set[tuple[int, int]]] = {}
     users: dict[int, set[tuple[int, int]]] = {}
     for firsts, mark in flat.bearers:
@@ -31,7 +34,10 @@ def bearers_and_users(
 
 
 def is_conflicted(flat: Flat, bearers: set[tuple[int, int]], users: set[tuple[int, int]]) -> bool:
-    """Whether parts that show this key to others would find more in each other than the whole dump answers."""
+    """Whether parts that show this key to others would find more in each other than the whole dump
+    answers."""
+    if not users:
+        return False
     every = flat.firsts
     importing = [every[firsts] for is_export, firsts in users if not is_export]
     exported = [every[firsts] for is_export, firsts in bearers if is_export]
@@ -88,7 +94,8 @@ def spelled(flat: Flat, rank: int) -> str:
 
 
 def first_place(flat: Flat, result: int) -> tuple[int, int]:
-    """The first place of a result: that of its definitions, else of its references; and how many it has."""
+    """The first place of a result: that of its definitions, else of its references; and how many it
+    has."""
     ranks = flat.places_of(result, 0) or flat.places_of(result, 1)
     return ranks[0], len(flat.places_of(result, 0)) + len(flat.places_of(result, 1))
 
@@ -103,7 +110,8 @@ def all_places(flat: Flat, result: int) -> str:
 
 
 def numbered(flat: Flat, results: list[int]) -> dict[int, int]:
-    """A number for each result of a group, by the order of their first places; those that have the same places share one."""
+    """A number for each result of a group, by the order of their first places; those that have the
+    same places share one."""
     by_place: dict[int, list[int]] = {}
     for result in results:
         by_place.setdefault(first_place(flat, result)[0], []).append(result)
@@ -112,17 +120,18 @@ def numbered(flat: Flat, results: list[int]) -> dict[int, int]:
     for place in sorted(by_place):
         same = by_place[place]
         orders = {result: all_places(flat, result) if len(same) > 1 else "" for result in same}
-        for number, order in enumerate(sorted(set(orders.values())), count):
-            numbers.update({one: number for one in same if orders[one] == order})
-        count += len(set(orders.values()))
+        number = {order: at for at, order in enumerate(sorted(set(orders.values())), count)}
+        numbers.update({one: number[orders[one]] for one in same})
+        count += len(number)
     return numbers
 
 
 def names_of(flat: Flat, wanted: set[Crossing], set_name: str) -> dict[Crossing, str]:
     """What each result that has to be found from other parts is called.
 
-    A name comes of the least key of the dump that the result has; several results of one key are told apart by their number in order of place,
-    as are those without a key whose first place is in one document. So a line that is inserted changes no name.
+    A name comes of the least key of the dump that the result has; several results of one key are
+    told apart by their number in order of place, as are those without a key whose first place is in
+    one document. So a line that is inserted changes no name.
     """
     least = least_keys(flat, wanted)
     groups: dict[tuple[int, str], list[int]] = {}

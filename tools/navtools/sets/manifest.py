@@ -1,10 +1,16 @@
-"""The manifest of a set: which part has each document, and what is said of the set, written as a tags file of the project `NAME-parts`.
+"""The manifest of a set: which part has each document, and what is said of the set, written as a
+tags file of the project `NAME-parts`.
 
 Its names begin with a control character, so that no search for names finds them by chance:
 
-- U+0002 and `set`: the set, with the format, the revision, the folder of its documents, the tool that made it and a mark of its own;
+- U+0002 and `set`: the set, with the format, the revision, the folder of its documents, the tool
+  that made it and a mark of its own;
 - U+0002 and `part`: a part, with its elements and the address of its first document;
-- U+0002 and `list`: where the documents are too many for one tags file, a project with some of them, with the address of the first;
+- U+0002 and `surface`: a part of the set's surface, which is on other servers, as a part is said;
+- U+0002 and `package`: where the set is one of several servers', a package that it imports or
+  exports something of;
+- U+0002 and `list`: where the documents are too many for one tags file, a project with some of
+  them, with the address of the first;
 - U+0001 and an address: a document, with the part that has it and a digest of its text.
 
 The file of each tag is the project that it names.
@@ -13,8 +19,7 @@ The file of each tag is the project that it names.
 import os
 import re
 from bisect import bisect_right
-from dataclasses import dataclass, field, replace
-from typing import Any, Iterable, Iterator, Optional, Sequence
+from typing import Any, Iterable, Iterator, NamedTuple, Optional, Sequence
 from urllib.parse import quote
 
 from navtools.addresses import serialized
@@ -26,11 +31,13 @@ FORMAT = "1"
 TOOL = "codenav-split-lsif-1"
 SORTED = "!_TAG_FILE_SORTED\t1\t/0=unsorted, 1=sorted/\n"
 DOCUMENT, ABOUT = "\x01", "\x02"
+PACKAGE = f"{ABOUT}package"
 MOST_LINES = 99_000
 LIST_LINES = 20_000
 NAME = re.compile(r"[a-z0-9_-]{1,47}")
 PART = re.compile(r"(?P<set>[a-z0-9_-]{1,47})-[0-9a-f]{16}")
 PARTS = "-parts"
+SURFACE = "-surface"
 BRANCH = "--"
 Tag = dict[str, Any]
 
@@ -39,8 +46,7 @@ class NotAManifest(BadCall):
     """What stands where a manifest should is none; the text is the one line to print."""
 
 
-@dataclass(frozen=True)
-class PartEntry:
+class PartEntry(NamedTuple):
     """A part: its project, how many elements it has, and the address of its first document."""
 
     project: str
@@ -48,26 +54,25 @@ class PartEntry:
     first: str
 
 
-@dataclass(frozen=True)
-class DocumentEntry:
-    """A document: its address, the project of its part, and a digest of its text, empty where that wasn't read."""
+class DocumentEntry(NamedTuple):
+    """A document: its address, the project of its part, and a digest of its text, empty where that
+    wasn't read."""
 
     uri: str
     project: str
     text: str = ""
 
 
-@dataclass(frozen=True)
-class ListEntry:
+class ListEntry(NamedTuple):
     """A project with documents of a manifest, and the address of the first."""
 
     project: str
     first: str
 
 
-@dataclass(frozen=True)
-class Head:
-    """What a manifest says of its set but for the documents; parts and lists in the order of their documents."""
+class Head(NamedTuple):
+    """What a manifest says of its set but for the documents; parts and lists in the order of their
+    documents."""
 
     name: str
     revision: str = ""
@@ -76,15 +81,22 @@ class Head:
     tool: str = TOOL
     mark: str = ""
     profile: str = "1"
-    parts: tuple[PartEntry, ...] = field(default=())
-    lists: tuple[ListEntry, ...] = field(default=())
+    parts: tuple[PartEntry, ...] = ()
+    lists: tuple[ListEntry, ...] = ()
+    surface: tuple[PartEntry, ...] = ()
+    packages: tuple[str, ...] = ()
 
     def projects(self) -> list[str]:
         """The projects of the set but for its manifest."""
         return [part.project for part in self.parts] + [one.project for one in self.lists]
 
+    def surface_projects(self) -> list[str]:
+        """The projects of the surface, which are on other servers."""
+        return [part.project for part in self.surface]
+
     def part_of(self, uri: str) -> str:
-        """The part that has a document, if any has: parts have documents that follow each other in the order of their addresses."""
+        """The part that has a document, if any has: parts have documents that follow each other in
+        the order of their addresses."""
         ordered = [part.first.encode() for part in self.parts]
         return self.parts[max(bisect_right(ordered, uri.encode()) - 1, 0)].project
 
@@ -94,11 +106,12 @@ class Head:
 
     def with_mark(self, mark: str) -> "Head":
         """The same with a mark."""
-        return replace(self, mark=mark)
+        return self._replace(mark=mark)
 
 
 def set_name(text: str) -> str:
-    """The name that a set has on the server: `NAME@BRANCH`, another revision beside the set NAME, is `NAME--BRANCH` there. Raises BadCall."""
+    """The name that a set has on the server: `NAME@BRANCH`, another revision beside the set NAME,
+    is `NAME--BRANCH` there. Raises BadCall."""
     name = text.replace("@", BRANCH)
     if text.count("@") > 1 or NAME.fullmatch(name) is None:
         raise BadCall(f"a set is 1 to 47 characters of a-z 0-9 _ -, or NAME@BRANCH, not {text!r}")
@@ -144,9 +157,11 @@ def head_lines(head: Head) -> list[str]:
         ("profile", head.profile),
     ]
     lines = [line_of(f"{ABOUT}set", head.name, about)]
-    for part in head.parts:
-        fields = [("elements", str(part.elements)), ("first", part.first)]
-        lines.append(line_of(f"{ABOUT}part", part.project, fields))
+    for kind, parts in ("part", head.parts), ("surface", head.surface):
+        for part in parts:
+            fields = [("elements", str(part.elements)), ("first", part.first)]
+            lines.append(line_of(f"{ABOUT}{kind}", part.project, fields))
+    lines += [line_of(PACKAGE, head.name, [("package", package)]) for package in head.packages]
     lines += [line_of(f"{ABOUT}list", one.project, [("first", one.first)]) for one in head.lists]
     return lines
 
@@ -179,8 +194,28 @@ def fields_of(tag: Tag) -> dict[str, str]:
     return {key: value for key, value in tag["fields"]}
 
 
+def is_package(tag: Tag) -> bool:
+    """Whether a tag says a package of a set."""
+    return bool(tag["name"] == PACKAGE)
+
+
+def package_of(tag: Tag) -> str:
+    """The package that a tag says; empty where keys have none."""
+    return fields_of(tag).get("package", "")
+
+
+def part_entries(tags: Iterable[Tag], kind: str) -> list[PartEntry]:
+    """The parts of a kind, `part` or `surface`, that tags say; raises KeyError and ValueError."""
+    return [
+        PartEntry(tag["file"], int(fields_of(tag)["elements"]), fields_of(tag).get("first", ""))
+        for tag in tags
+        if tag["name"] == f"{ABOUT}{kind}"
+    ]
+
+
 def head_of(tags: Iterable[Tag], project: str) -> Optional[Head]:
-    """The head that tags of a project `NAME-parts` say, or None where there is no tag; raises NotAManifest."""
+    """The head that tags of a project `NAME-parts` say, or None where there is no tag; raises
+    NotAManifest."""
     name = project.removesuffix(PARTS)
     found = list(tags)
     if not found:
@@ -188,11 +223,10 @@ def head_of(tags: Iterable[Tag], project: str) -> Optional[Head]:
     try:
         about = [tag for tag in found if tag["name"] == f"{ABOUT}set"]
         fields = fields_of(about[0])
-        parts = [
-            PartEntry(tag["file"], int(fields_of(tag)["elements"]), fields_of(tag)["first"])
-            for tag in found
-            if tag["name"] == f"{ABOUT}part"
-        ]
+        parts, surface = (
+            tuple(sorted(part_entries(found, kind), key=lambda part: part.first.encode()))
+            for kind in ("part", "surface")
+        )
         lists = [
             ListEntry(tag["file"], fields_of(tag)["first"])
             for tag in found
@@ -206,8 +240,10 @@ def head_of(tags: Iterable[Tag], project: str) -> Optional[Head]:
             fields.get("tool", ""),
             fields.get("mark", ""),
             fields.get("profile", "1"),
-            tuple(sorted(parts, key=lambda part: part.first.encode())),
+            parts,
             tuple(sorted(lists, key=lambda one: one.first.encode())),
+            surface,
+            tuple(sorted(map(package_of, filter(is_package, found)))),
         )
     except (KeyError, IndexError, TypeError, ValueError):
         raise NotAManifest(
@@ -252,7 +288,8 @@ def read_head(path: str) -> Head:
 
 
 def read_documents(path: str, head: Head) -> list[DocumentEntry]:
-    """The documents that a manifest's file has, or the files of its lists beside it; raises NotAManifest."""
+    """The documents that a manifest's file has, or the files of its lists beside it; raises
+    NotAManifest."""
     folder = os.path.dirname(path)
     paths = [os.path.join(folder, f"{one.project}.tags") for one in head.lists] or [path]
     return [
@@ -264,7 +301,8 @@ def read_documents(path: str, head: Head) -> list[DocumentEntry]:
 
 
 def part_file(folder: str, file: str, maps: Maps) -> str:
-    """The dump of the part that has the document of a file, or the one document whose address is `file` or ends with it; raises BadCall."""
+    """The dump of the part that has the document of a file, or the one document whose address is
+    `file` or ends with it; raises BadCall."""
     path = os.path.join(folder, MANIFEST)
     documents = read_documents(path, read_head(path))
     uri, end = serialized(uri_of(file, maps)), "/" + quote(os.path.normpath(file), safe=KEPT)

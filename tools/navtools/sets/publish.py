@@ -1,10 +1,13 @@
-"""Puts a set that was split on a server: the parts that it doesn't have, then the manifest, then it removes the parts of before.
+"""Puts a set that was split on a server: the parts that it doesn't have, then the manifest, then it
+removes the parts of before.
 
-Whoever asks meanwhile is answered from the old set, and from the one put of the manifest on from the new one. A publish that ends before leaves
-the old set answering, and the next one removes what it left. One publish of a set goes on at a time: it holds a claim, which others see.
+Whoever asks meanwhile is answered from the old set, and from the one put of the manifest on from
+the new one. A publish that ends before leaves the old set answering, and the next one removes what
+it left. One publish of a set goes on at a time: it holds a claim, which others see.
 
-The server keeps keys for good and answers a key that it knows by the reply of the first time. So a claim and a manifest are put under a key
-that the one before them determines: of two that follow the same one the first alone acts, and the other finds that it isn't there.
+The server keeps keys for good and answers a key that it knows by the reply of the first time. So a
+claim and a manifest are put under a key that the one before them determines: of two that follow the
+same one the first alone acts, and the other finds that it isn't there.
 """
 
 import argparse
@@ -95,7 +98,8 @@ class Store:
 
 @dataclass
 class Claim:
-    """The claim of a set, which one publish holds at a time. `mark` is that of its last record, empty where there's none."""
+    """The claim of a set, which one publish holds at a time. `mark` is that of its last record,
+    empty where there's none."""
 
     store: Store
     name: str
@@ -109,7 +113,8 @@ class Claim:
         return fields_of(tags[0]) if tags else {}
 
     def put(self, state: str) -> bool:
-        """Puts a record after the last one that was seen; answers whether it's there now, and not one of another."""
+        """Puts a record after the last one that was seen; answers whether it's there now, and not
+        one of another."""
         own = secrets.token_hex(16)
         fields = {
             "mark": own,
@@ -149,7 +154,8 @@ class Claim:
 
 
 def after(mark: str, life: int = 0) -> str:
-    """The key of what follows something with a mark; what follows nothing has a key for each time that all was removed."""
+    """The key of what follows something with a mark; what follows nothing has a key for each time
+    that all was removed."""
     return f"after-{mark}" if mark else f"first-{life}"
 
 
@@ -184,7 +190,8 @@ def claimed(store: Store, name: str) -> Iterator[Claim]:
 
 @dataclass
 class Report:
-    """What a publish did: how many parts there are, and which of them were there before, were put and were removed."""
+    """What a publish did: how many parts there are, and which of them were there before, were put
+    and were removed."""
 
     parts: int = 0
     kept: int = 0
@@ -221,17 +228,14 @@ class Publish:
         return found
 
     def run(self) -> Report:
-        """Publishes the set; raises NoReply, Late or NotAManifest where it can't, and then the old set answers on."""
+        """Publishes the set; raises NoReply, Late or NotAManifest where it can't, and then the old
+        set answers on."""
         with claimed(self.store, self.head.name) as claim:
             old = self.store.head(self.head.name)
             if claim.taken_over and old is not None:
                 old = self.settle(old)
             there = self.store.projects()
-            if old is None and self.head.name + PARTS in there:
-                text = (
-                    f"{self.head.name}{PARTS} isn't the manifest of a set: somebody else wrote it"
-                )
-                raise NotAManifest(text)
+            self.refuse_others(there, old)
             self.remove_left(claim, there, old)
             self.put_parts(claim, there)
             claim.renew(always=True)
@@ -245,7 +249,8 @@ class Publish:
         return self.report
 
     def refuse_others(self, there: dict[str, set[str]], old: Optional[Head]) -> None:
-        """Refuses what stands in the set's place on the server and isn't a set: a manifest that somebody else wrote, or a project of its name."""
+        """Refuses what stands in the set's place on the server and isn't a set: a manifest that
+        somebody else wrote, or a project of its name."""
         name = self.head.name
         if old is None and name + PARTS in there:
             raise NotAManifest(f"{name}{PARTS} isn't the manifest of a set: somebody else wrote it")
@@ -255,7 +260,8 @@ class Publish:
             )
 
     def settle(self, old: Head) -> Head:
-        """Puts the manifest that is there again, so that the one that an interrupted publish may still put comes too late; answers what is there then."""
+        """Puts the manifest that is there again, so that the one that an interrupted publish may
+        still put comes too late; answers what is there then."""
         documents = [
             DocumentEntry(tag["name"][len(DOCUMENT) :], tag["file"], fields_of(tag).get("text", ""))
             for tag in ([] if old.lists else self.store.tags(old.name + PARTS, DOCUMENT))
@@ -292,7 +298,8 @@ class Publish:
         return self.head.profile if part == "lsif" else "1"
 
     def put_manifest(self, old: Optional[Head]) -> None:
-        """Puts the manifest, which is the switch; raises Late where another one came after the old one."""
+        """Puts the manifest, which is the switch; raises Late where another one came after the old
+        one."""
         with open(os.path.join(self.folder, MANIFEST), "rb") as file:
             lines = [line.decode() for line in file if not line.startswith((b"!_TAG_", rb"\x02"))]
         body = tags_text([*head_lines(self.head.with_mark(self.mark)), *lines])
@@ -318,7 +325,8 @@ class Publish:
 
 
 def fetch_cuts(store: Store, name: str, folder: str) -> None:
-    """Writes what the server's manifest says of a set's parts into a folder without a manifest, so that a split there keeps the cuts."""
+    """Writes what the server's manifest says of a set's parts into a folder without a manifest, so
+    that a split there keeps the cuts."""
     path = os.path.join(folder, MANIFEST)
     head = None if os.path.exists(path) else store.head(name)
     if head is not None:

@@ -1,7 +1,9 @@
-"""Splits a prepared dump of any size by documents into parts that are within the server's limits, each a dump of its own, and writes the
-manifest of the set that they are. Asked through a tool that knows sets, the parts answer as the whole dump would.
+"""Splits a prepared dump or a SCIP index of any size by documents into parts that are within the
+server's limits, each a dump of its own, and writes the manifest of the set that they are. Asked
+through a tool that knows sets, the parts answer as the whole dump would.
 
-Parts are named by what they have, so a part that didn't change keeps its name. Where FOLDER has a manifest, its cuts are kept while the parts fit.
+Parts are named by what they have, so a part that didn't change keeps its name. Where FOLDER has a
+manifest, its cuts are kept while the parts fit.
 """
 
 import argparse
@@ -13,17 +15,20 @@ import re
 import shutil
 import sys
 import tempfile
-from dataclasses import dataclass, replace
-from typing import BinaryIO, Iterator, Optional, Sequence
+from contextlib import contextmanager
+from dataclasses import dataclass, field
+from typing import Callable, Iterator, Optional, Sequence
 
+from navtools.indexers import is_scip
 from navtools.places import Maps, maps_of, path_of
 from navtools.lsif import NotADump
 from navtools.outputs import MOST_ELEMENTS, MOST_LINE_BYTES, whole_file
+from navtools.scip_to_lsif import NEEDED, add_reading, is_without_protobuf
 from navtools.sets.cut_tags import CutTags, cut_tags
 from navtools.sets.crossing import Cut, Shared
 from navtools.sets.cuts import TooLarge, planned
 from navtools.sets.flat import Flat, flattened
-from navtools.sets.graph import ASKED, read_graph
+from navtools.sets.graph import ASKED, Graph, read_graph
 from navtools.sets.manifest import (
     MANIFEST,
     DocumentEntry,
@@ -41,8 +46,18 @@ from navtools.sets.manifest import (
 from navtools.sets.write import Lines, Part
 from navtools.words import BadCall, status_of
 
+TOOL = "split-lsif"
 DIGITS = 16
 PROGRESS_BYTES = 5_000_000
+
+
+@dataclass
+class Given:
+    """What is split: how it's read, the file that has its hovers, and what is said of it."""
+
+    read: Callable[[], Graph]
+    hovers: str
+    lines: list[str] = field(default_factory=list)
 
 
 @dataclass(frozen=True)
@@ -134,7 +149,8 @@ def text_digest(uri: str, maps: Maps) -> str:
 
 
 def put_manifest(folder: str, head: Head, documents: list[DocumentEntry]) -> Head:
-    """Writes the manifest, and before it lists of documents where they are too many for one file."""
+    """Writes the manifest, and before it lists of documents where they are too many for one
+    file."""
     lines: list[str] = []
     if needs_lists(len(documents), len(head.parts)):
         lists = []
@@ -142,7 +158,7 @@ def put_manifest(folder: str, head: Head, documents: list[DocumentEntry]) -> Hea
             project = part_name(head.name, body)
             put_file(os.path.join(folder, f"{project}.tags"), body)
             lists.append(ListEntry(project, first))
-        head = replace(head, lists=tuple(lists))
+        head = head._replace(lists=tuple(lists))
     else:
         lines = document_lines(documents)
     put_file(os.path.join(folder, MANIFEST), tags_text([*head_lines(head), *lines]))
@@ -150,7 +166,8 @@ def put_manifest(folder: str, head: Head, documents: list[DocumentEntry]) -> Hea
 
 
 def drop_others(folder: str, head: Head) -> None:
-    """Removes the parts of the set that the manifest doesn't name, and what an interrupted call left."""
+    """Removes the parts of the set that the manifest doesn't name, and what an interrupted call
+    left."""
     named = set(head.projects())
     form = re.compile(rf"({re.escape(head.name)}-[0-9a-f]{{16}})\.(lsif|tags)(\.[0-9]+\.new)?")
     for file in os.listdir(folder):
@@ -181,14 +198,12 @@ def said(flat: Flat, shared: Shared, elements: int, written: Sequence[Written]) 
 
 
 def cut_dump(
-    source: BinaryIO, name: str, call: argparse.Namespace, before: Optional[Sequence[str]]
+    given: Given, call: argparse.Namespace, before: Optional[Sequence[str]]
 ) -> tuple[Cut, int, list[tuple[str, int]]]:
-    """A cut of a dump, the elements of the dump, and the documents that were left out with theirs."""
-    big = os.fstat(source.fileno()).st_size > PROGRESS_BYTES and sys.stderr.isatty()
+    """A cut of what is split, its elements, and the documents that were left out with theirs."""
     left_out: list[tuple[str, int]] = []
     while True:
-        source.seek(0)
-        graph = read_graph(source, name, call.profile, big)
+        graph = given.read()
         elements = graph.elements
         flat = flattened(graph, frozenset(uri for uri, _ in left_out))
         del graph
@@ -196,7 +211,7 @@ def cut_dump(
             text = f"the places of {flat.cut_short} results are too many over referenceResults"
             raise BadCall(f"{text}; --lenient leaves some out")
         if not flat.uris:
-            raise BadCall(f"{name}: no document to write")
+            raise BadCall(f"{call.input}: no document to write")
         try:
             cut, _ = planned(Shared(flat, ASKED[call.profile]), call.name, before, call.elements)
             return cut, elements, left_out
@@ -209,45 +224,37 @@ def cut_dump(
             left_out += fault.documents
 
 
-def split(source: BinaryIO, name: str, path: str, call: argparse.Namespace) -> None:
-    """Splits the dump in `source`, which stands in the file `path` too."""
+def split(given: Given, call: argparse.Namespace) -> None:
+    """Splits what is given, and says what was done."""
     old = os.path.join(call.folder, MANIFEST)
     before = [part.first for part in read_head(old).parts] if os.path.exists(old) else None
-    cut, elements, left_out = cut_dump(source, name, call, before)
+    cut, elements, left_out = cut_dump(given, call, before)
     maps = maps_of(call.map)
     firsts = [cut.flat.uris[first] for first in cut.cuts[:-1]]
     tags = CutTags([b""] * cut.parts)
     if call.tags is not None:
         tags = cut_tags(call.tags, call.tags_folder, maps, firsts)
     os.makedirs(call.folder, exist_ok=True)
-    writer = Writer(cut, call.name, call.profile, path, call.folder, tags.bodies)
+    writer = Writer(cut, call.name, call.profile, given.hovers, call.folder, tags.bodies)
     written = list(writer.write_all(call.jobs))
     documents = documents_of(cut, written, maps)
     parts = tuple(
         PartEntry(part.project, part.elements, first) for part, first in zip(written, firsts)
     )
-    head = Head(
-        call.name,
-        call.revision,
-        "; ".join(call.map),
-        len(documents),
-        profile=call.profile,
-        parts=parts,
-    )
+    where = "; ".join(call.map)
+    head = Head(call.name, call.revision, where, len(documents), profile=call.profile, parts=parts)
     drop_others(call.folder, put_manifest(call.folder, head, documents))
-    for uri, count in left_out:
-        print(f"split-lsif: left out: {uri}, {count} elements", file=sys.stderr)
+    lines = [*given.lines, *(f"left out: {uri}, {count} elements" for uri, count in left_out)]
     if tags.left_out:
-        text = f"tags left out: {tags.left_out}, which are too many for their parts"
-        print(f"split-lsif: {text}", file=sys.stderr)
-    for line in said(cut.flat, cut.shared, elements, written):
-        print(f"split-lsif: {line}", file=sys.stderr)
+        lines.append(f"tags left out: {tags.left_out}, which are too many for their parts")
+    for line in [*lines, *said(cut.flat, cut.shared, elements, written)]:
+        print(f"{TOOL}: {line}", file=sys.stderr)
 
 
 def words_parser() -> argparse.ArgumentParser:
     """What the command line may be."""
     parser = argparse.ArgumentParser(
-        prog="split-lsif",
+        prog=TOOL,
         description=__doc__,
         formatter_class=argparse.RawDescriptionHelpFormatter,
     )
@@ -278,7 +285,8 @@ def words_parser() -> argparse.ArgumentParser:
     parser.add_argument(
         "--lenient",
         action="store_true",
-        help="leave out what can't be had: documents that are over the limits by themselves, and places over too many referenceResults",
+        help="leave out what can't be had: documents that are over the limits by themselves, and places over too many referenceResults; and end with 0 "
+        "where something of an index was left out for a flaw",
     )
     parser.add_argument(
         "--elements",
@@ -294,38 +302,72 @@ def words_parser() -> argparse.ArgumentParser:
         metavar="N",
         help="how many processes write, one for each processor without it",
     )
+    add_reading(parser.add_argument_group("how a SCIP index is read"))
     parser.add_argument(
-        "input", metavar="IN", help="the prepared dump, or - for the standard input"
+        "input", metavar="IN", help="the prepared dump or the index, or - for the standard input"
     )
     parser.add_argument(
         "folder", metavar="FOLDER", help="where the parts and the manifest are written"
     )
+    parser.set_defaults(tool=TOOL, is_flawed=False)
     return parser
 
 
-def made(call: argparse.Namespace) -> int:
-    """Splits what the command line names; answers 0."""
-    call.name = set_name(call.name or os.path.basename(os.path.abspath(call.folder)))
+@contextmanager
+def file_of(name: str) -> Iterator[str]:
+    """The path of a file that has the input, which is copied where it can be read only once."""
+    with sys.stdin.buffer if name == "-" else open(name, "rb") as given:
+        if given.seekable() and name != "-":
+            yield name
+            return
+        with tempfile.NamedTemporaryFile() as copy:
+            shutil.copyfileobj(given, copy)
+            copy.flush()
+            yield copy.name
+
+
+def split_dump(path: str, call: argparse.Namespace) -> None:
+    """Splits the dump in a file."""
+    is_big = os.path.getsize(path) > PROGRESS_BYTES and sys.stderr.isatty()
     name = "standard input" if call.input == "-" else call.input
+
+    def read() -> Graph:
+        with open(path, "rb") as source:
+            return read_graph(source, name, call.profile, is_big, TOOL)
+
+    split(Given(read, path), call)
+
+
+def split_index(path: str, call: argparse.Namespace) -> None:
+    """Splits the SCIP index in a file."""
+    try:
+        from navtools.sets.scip_graph import read_index
+    except ModuleNotFoundError as fault:
+        if not is_without_protobuf(fault):
+            raise
+        raise BadCall(NEEDED) from None
+    with tempfile.NamedTemporaryFile() as hovers:
+        given = Given(lambda: read_index(path, hovers, call, given.lines), hovers.name)
+        split(given, call)
+
+
+def made(call: argparse.Namespace) -> int:
+    """Splits what the command line names; answers 0, or 1 where something of an index was left out
+    for a flaw."""
+    call.name = set_name(call.name or os.path.basename(os.path.abspath(call.folder)))
     if not 1 <= call.elements <= MOST_ELEMENTS:
         raise BadCall(f"a part has 1 to {MOST_ELEMENTS} elements, not {call.elements}")
     try:
-        with sys.stdin.buffer if call.input == "-" else open(call.input, "rb") as given:
-            if given.seekable() and call.input != "-":
-                split(given, name, call.input, call)
-                return 0
-            with tempfile.NamedTemporaryFile() as copy:
-                shutil.copyfileobj(given, copy)
-                copy.flush()
-                with open(copy.name, "rb") as whole:
-                    split(whole, name, copy.name, call)
+        with file_of(call.input) as path:
+            (split_index if is_scip(path) else split_dump)(path, call)
     except NotADump as fault:
         raise BadCall(str(fault)) from None
-    return 0
+    return int(call.is_flawed and not call.lenient)
 
 
 def main(words: Optional[list[str]] = None) -> int:
-    """Reads the command line; answers 0, or 2 where nothing was split."""
+    """Reads the command line; answers 0, 1 where something of an index was left out for a flaw, or
+    2 where nothing was split."""
     call = words_parser().parse_args(words)
     gc.disable()
-    return status_of("split-lsif", lambda: made(call))
+    return status_of(TOOL, lambda: made(call))

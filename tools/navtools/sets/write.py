@@ -1,16 +1,20 @@
-"""Writes a part of a dump: its documents and ranges, what the ranges mean, and what other parts and projects find in it.
+"""Writes a part of a dump: its documents and ranges, what the ranges mean, and what other parts and
+projects find in it.
 
-A range goes on to one result set with the results of its meaning that the part has, cut to the places in the part. The monikers by which others
-are to find these results stand on that set. All others stand on a set behind it, which has no results: found by others, it gives nothing.
+A range goes on to one result set with the results of its meaning that the part has, cut to the
+places in the part. The monikers by which others are to find these results stand on that set. All
+others stand on a set behind it, which has no results: found by others, it gives nothing.
 """
+
+from __future__ import annotations
 
 import json
 from array import array
-from typing import Any, BinaryIO, Callable, Iterable, Optional, Sequence
+from typing import Any, BinaryIO, Callable, Iterable, Optional, Protocol, Sequence
 
 from navtools.sets.crossing import Cut
-from navtools.sets.flat import Flat
 from navtools.sets.graph import BY_IMPORT, EDGES, HOVER, NONE, REFERENCES, RESULTS, Key
+from navtools.sets.stored import Numbers
 
 SCHEME = "codenav-set"
 MOST_ENDS = 20_000
@@ -26,10 +30,19 @@ def as_text(value: Any) -> str:
     return json.dumps(value, ensure_ascii=False, separators=(",", ":"))
 
 
+class Tables(Protocol):
+    """Where ranges stand, and where hovers are in the dump: tables of a graph, or flat ones."""
+
+    start: Numbers
+    end: Numbers
+    hover_at: array[int]
+    hover_bytes: array[int]
+
+
 class Counter:
     """Counts the elements of a part, and at most how many bytes and rows they are."""
 
-    def __init__(self, flat: Flat) -> None:
+    def __init__(self, flat: Tables) -> None:
         self.flat = flat
         self.count = 0
         self.bytes = 0
@@ -71,11 +84,19 @@ class Counter:
         self.bytes += ELEMENT_BYTES + 6 * self.flat.hover_bytes[result]
         return self.count
 
+    def package(self, package: tuple[str, str, str]) -> int:
+        """What is said of a package; answers its id."""
+        manager, name, version = package
+        members = (
+            f',"manager":{as_text(manager)},"name":{as_text(name)},"version":{as_text(version)}'
+        )
+        return self.vertex("packageInformation", members)
+
 
 class Lines(Counter):
     """Keeps the lines of a part's elements. Hovers are read from the dump."""
 
-    def __init__(self, flat: Flat, dump: BinaryIO) -> None:
+    def __init__(self, flat: Tables, dump: BinaryIO) -> None:
         super().__init__(flat)
         self.dump = dump
         self.lines: list[str] = []
@@ -132,7 +153,7 @@ class Lines(Counter):
         return self.vertex("hoverResult", f',"result":{{"contents":{contents}}}')
 
 
-def hover_contents(flat: Flat, dump: BinaryIO, result: int) -> Any:
+def hover_contents(flat: Tables, dump: BinaryIO, result: int) -> Any:
     """The contents of a hover, read from the dump."""
     dump.seek(flat.hover_at[result])
     return json.loads(dump.read(flat.hover_bytes[result]))["result"]["contents"]
@@ -156,25 +177,26 @@ class Part:
         self.project = self.out.vertex("project")
         self.documents()
         self.copied_documents()
-        meaning = self.cut.meaning
         after = {own: self.meaning(own) for own in self.cut.used[self.part]}
         pairs = []
-        for rank in range(self.low, self.high):
-            target = after.get(meaning[rank])
+        for own, meaning in zip(self.own, self.cut.meaning[self.low : self.high]):
+            target = after.get(meaning)
             if target is not None:
-                pairs.append((self.own[rank - self.low], target))
+                pairs.append((own, target))
         self.out.nexts(pairs)
         self.found_by_mark()
         self.found_by_name()
 
     def documents(self) -> None:
         """Its documents, each with those of its ranges that mean something or are places."""
-        flat, meaning = self.flat, self.cut.meaning
+        flat = self.flat
         for document in range(self.cut.cuts[self.part], self.cut.cuts[self.part + 1]):
+            low, high = flat.first[document], flat.first[document + 1]
+            rows = zip(self.cut.meaning[low:high], flat.is_place[low:high])
             ranks = [
                 rank
-                for rank in range(flat.first[document], flat.first[document + 1])
-                if meaning[rank] != NONE or flat.is_place[rank]
+                for rank, (meaning, is_place) in enumerate(rows, low)
+                if meaning != NONE or is_place
             ]
             first = self.document(document, ranks)
             for own, rank in enumerate(ranks, first):
@@ -188,7 +210,8 @@ class Part:
         return first
 
     def copied_documents(self) -> None:
-        """The documents of other parts with copies of their places, for definitions that are written whole."""
+        """The documents of other parts with copies of their places, for definitions that are
+        written whole."""
         ranks: dict[int, None] = {}
         for own in self.cut.used[self.part]:
             firsts, _, is_whole = self.cut.meanings[own]
@@ -265,19 +288,14 @@ class Part:
             members = f',"scheme":{as_text(scheme)},"identifier":{as_text(identifier)}'
             own = self.out.vertex("moniker", f',"kind":"{kind}"{members}')
             if package is not None:
-                target = self.once(("package", package), lambda: self.package(package))
-                self.out.edge("packageInformation", own, target or 0)
+                self.out.edge("packageInformation", own, self.package(package))
             return own
 
         return self.once(("moniker", is_export, key), make) or 0
 
-    def package(self, package: Optional[tuple[str, str, str]]) -> int:
+    def package(self, package: tuple[str, str, str]) -> int:
         """What is said of a package."""
-        manager, name, version = package or ("", "", "")
-        members = (
-            f',"manager":{as_text(manager)},"name":{as_text(name)},"version":{as_text(version)}'
-        )
-        return self.out.vertex("packageInformation", members)
+        return self.once(("package", package), lambda: self.out.package(package)) or 0
 
     def own_monikers(self, marks: Iterable[int]) -> list[int]:
         """The monikers of marks of the dump."""
@@ -326,7 +344,8 @@ class Part:
     def results_of(
         self, firsts: int, marks: int, is_whole: bool
     ) -> tuple[Bound, Bound, set[SetMark]]:
-        """The results of a meaning: those that stand before its monikers, those that stand with them, and the names by which others are asked.
+        """The results of a meaning: those that stand before its monikers, those that stand with
+        them, and the names by which others are asked.
 
         An empty result speaks, so it's written where no moniker speaks in its place.
         """
@@ -357,7 +376,8 @@ class Part:
         return before, results, names
 
     def found_by_mark(self) -> None:
-        """What others find by a mark of the dump, where no range of the part has just that: a result set on no range's chain."""
+        """What others find by a mark of the dump, where no range of the part has just that: a
+        result set on no range's chain."""
         bare: dict[int, list[int]] = {}
         for firsts, mark in self.cut.shown[self.part]:
             if (firsts, mark) not in self.shown:
@@ -372,7 +392,8 @@ class Part:
             self.result_set(results, self.own_monikers(marks))
 
     def order(self, firsts: int, marks: list[int]) -> tuple[Any, ...]:
-        """The order of such a set among others, by all that it has, so that it doesn't depend on the order of the dump."""
+        """The order of such a set among others, by all that it has, so that it doesn't depend on
+        the order of the dump."""
         places: list[list[int]] = []
         hover = ""
         for request, result in enumerate(self.flat.firsts[firsts]):
@@ -392,7 +413,8 @@ class Part:
         return json.dumps(hover_contents(self.flat, self.out.dump, result), sort_keys=True)
 
     def found_by_name(self) -> None:
-        """What others find by a name of the set: a result set of its own with just one result, so that a join for one request leads to no other."""
+        """What others find by a name of the set: a result set of its own with just one result, so
+        that a join for one request leads to no other."""
         for name, request, result in self.cut.found[self.part]:
             moniker = self.moniker(True, (SCHEME, name, None))
             own = self.here(request, result)

@@ -101,23 +101,24 @@ const hovers = new Map();
 async function hoverOf(place) {
   const key = hashOf(place);
   if (!hovers.has(key)) {
-    hovers.set(key, fetched("/ask", { what: "hover", ...at(place) }).catch((fault) => { hovers.delete(key); say(fault.message); return {}; }));
+    hovers.set(key, fetched("/ask", { what: "hover", ...at(place) }).catch((fault) => { hovers.delete(key); say(fault.message); return { fault: fault.message }; }));
   }
   return hovers.get(key);
 }
 
 async function hover(place, box, key) {
   const answer = await hoverOf(place);
-  if (key && key !== under) return;
-  showTip(answer, box);
+  if (!key || key === under) showTip(answer, box);
+  return answer;
 }
 
 async function hoverHere() {
   const marked = element("word");
   if (!marked) return;
+  clearTimeout(timer);
   marked.setAttribute("aria-describedby", "tip");
-  await hover(word, marked.getBoundingClientRect());
-  if (tip.hidden) say("Nothing is said of it.");
+  const answer = await hover(word, marked.getBoundingClientRect());
+  if (tip.hidden) say(answer.fault ?? "Nothing is said of it.");
 }
 
 function close() {

@@ -1,0 +1,1 @@
+"""What other servers have of a project or a set: its surface."""

@@ -1,0 +1,183 @@
+"""Publishes a set at its home, with its surface on the other servers.
+
+The manifest at the home names the parts of the surface too, so that the one put of the manifest
+switches all servers. Before it the new parts of the surface stand beside the old ones, and who asks
+is shown those that the manifest names. After it the old ones are removed. A publish that ends
+before leaves the old revision answering everywhere, and the next one removes what it left.
+"""
+
+import os
+import re
+import secrets
+from contextlib import contextmanager
+from dataclasses import dataclass, field
+from typing import BinaryIO, Iterator, NamedTuple, Optional, cast
+
+from navtools.client import NoReply
+from navtools.outputs import excesses
+from navtools.sets import split
+from navtools.sets.manifest import (
+    MANIFEST,
+    PACKAGE,
+    PARTS,
+    SURFACE,
+    Head,
+    PartEntry,
+    package_of,
+    read_head,
+    set_name,
+)
+from navtools.sets.publish import CLAIM, Claim, Publish, Store
+from navtools.surfaces.surface import write_surface
+from navtools.words import BadCall
+
+MOST_NAME = 39
+DIGITS = "-[0-9a-f]{16}"
+
+
+def surface_name(name: str) -> str:
+    """The set that the surface of a set is; raises BadCall where the name is too long for it."""
+    if len(name) > MOST_NAME:
+        raise BadCall(
+            f"on several servers a set's name has at most {MOST_NAME} characters, not {name!r}"
+        )
+    return set_name(name + SURFACE)
+
+
+class Made(NamedTuple):
+    """A surface that was made: its parts, and the packages that the dump is joined by."""
+
+    parts: tuple[PartEntry, ...]
+    packages: tuple[str, ...]
+
+
+def made_surface(dump: str, name: str, profile: str, folder: str) -> Made:
+    """Writes the surface of a prepared dump into a folder, in parts where it's over the limits."""
+    os.makedirs(folder, exist_ok=True)
+    whole = os.path.join(folder, "whole.lsif")
+    with open(dump, "rb") as source:
+        _, surface = write_surface(cast(BinaryIO, source), dump, profile, whole)
+    packages = surface.joined_packages()
+    if not surface.bearers:
+        return Made((), packages)
+    if excesses(surface.lines.count, surface.bytes, surface.longest):
+        return Made(split_surface(whole, name, profile, folder), packages)
+    with open(whole, "rb") as file:
+        project = split.part_name(surface_name(name), file.read(), profile)
+    os.replace(whole, os.path.join(folder, f"{project}.lsif"))
+    return Made((PartEntry(project, surface.lines.count, ""),), packages)
+
+
+def split_surface(whole: str, name: str, profile: str, folder: str) -> tuple[PartEntry, ...]:
+    """Splits a surface that is over the limits; answers the parts."""
+    words = ["--name", surface_name(name), "--profile", profile, whole, folder]
+    if split.main(words) != 0:
+        raise BadCall("the surface of the dump can't be split")
+    return read_head(os.path.join(folder, MANIFEST)).parts
+
+
+@dataclass
+class Spread(Publish):
+    """A publish to several servers: `store` is the home, `others` are the other servers, `front`
+    what all ask, where there's one.
+
+    With `only_joined` the surface goes to servers alone that have a set with a package in common;
+    `lacking` are the sets elsewhere with one, whose surfaces the home hasn't, since they were
+    published before this set was there.
+    """
+
+    others: list[Store] = field(default_factory=list)
+    surface: str = ""
+    front: Optional[Store] = None
+    only_joined: bool = False
+    done: list[str] = field(default_factory=list)
+    lacking: list[str] = field(default_factory=list)
+
+    def put_parts(self, claim: Claim, there: dict[str, set[str]]) -> None:
+        """Puts the parts at the home, and those of the surface on the other servers."""
+        self.refuse_another_home(claim)
+        with self.told(self.store):
+            super().put_parts(claim, there)
+        for store in self.others:
+            with self.told(store):
+                self.put_surface(claim, store)
+
+    def refuse_another_home(self, claim: Claim) -> None:
+        """Refuses to go on where the front sends the set to another server than the one that has
+        the claim."""
+        if self.front is None:
+            return
+        record = Claim(self.front, claim.name).record()
+        if record.get("mark") != claim.mark:
+            raise BadCall(
+                f"{self.front.server} sends {claim.name} to another server than {self.store.server}: "
+                "--servers has to name those of the front's configuration, spelled as there"
+            )
+
+    def joined_sets(self, store: Store) -> set[str]:
+        """The other sets at a server that have a package in common with this one."""
+        tags = store.found("/names", {"name": PACKAGE}, "tags")
+        own = set(self.head.packages)
+        found = {tag["project"].removesuffix(PARTS) for tag in tags if package_of(tag) in own}
+        return found - {self.head.name}
+
+    def wanted(self, store: Store) -> list[str]:
+        """The projects of the surface that a server is to have."""
+        is_wanted = not self.only_joined or self.joined_sets(store)
+        return self.head.surface_projects() if is_wanted else []
+
+    def note_lacking(self) -> None:
+        """Notes the sets elsewhere whose surfaces the home should have and hasn't."""
+        there = self.store.projects()
+        for store in self.others if self.only_joined else []:
+            for name in sorted(self.joined_sets(store)):
+                head = store.head(name)
+                if head is not None and not set(head.surface_projects()) <= there.keys():
+                    self.lacking.append(name)
+
+    def put_surface(self, claim: Claim, store: Store) -> None:
+        """Puts the parts of the surface that a server is to have and hasn't."""
+        there, wanted = store.projects(), self.wanted(store)
+        for part in self.head.surface:
+            if part.project in wanted and part.project not in there:
+                claim.renew()
+                with open(os.path.join(self.surface, f"{part.project}.lsif"), "rb") as body:
+                    key = secrets.token_hex(16)
+                    store.put(part.project, "lsif", body.read(), key, self.head.profile)
+
+    def remove_old(self, claim: Claim, old: Optional[Head]) -> None:
+        """Removes the old parts at the home, and those of the surface that aren't wanted on each
+        server."""
+        self.done.clear()
+        with self.told(self.store):
+            super().remove_old(claim, old)
+            self.remove_others(claim, self.store, SURFACE + DIGITS, [])
+        # where the front was asked it's sure that the set itself is nowhere else any more
+        ends = f"({SURFACE})?{DIGITS}|{PARTS}|{CLAIM}" if self.front else SURFACE + DIGITS
+        for store in self.others:
+            with self.told(store):
+                self.remove_others(claim, store, ends, self.wanted(store))
+        self.note_lacking()
+
+    def remove_others(self, claim: Claim, store: Store, ends: str, wanted: list[str]) -> None:
+        """Removes the projects of the set with these ends from a server, but for some."""
+        form = re.compile(f"{re.escape(self.head.name)}({ends})")
+        for project in sorted(store.projects()):
+            if form.fullmatch(project) and project not in wanted:
+                claim.renew()
+                store.remove(project)
+
+    @contextmanager
+    def told(self, store: Store) -> Iterator[None]:
+        """Notes that a server is done; a fault of one says which are, and that the next publish
+        goes on from there."""
+        try:
+            yield
+        except NoReply as fault:
+            done = ", ".join(self.done) or "none"
+            state = "switched" if self.is_switched else "as it was"
+            raise NoReply(
+                f"{fault}; servers done: {done}; the set is {state}, publish again"
+            ) from None
+        if store.server not in self.done:
+            self.done.append(store.server)

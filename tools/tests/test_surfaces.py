@@ -1,0 +1,335 @@
+"""Tests of surfaces: that projects on several servers, each with the surfaces of those elsewhere,
+answer as on one server."""
+
+import io
+import json
+import os
+import random
+import tempfile
+import unittest
+from contextlib import redirect_stderr
+from typing import Any, Callable, Iterator
+from unittest import mock
+
+from navtools import prepare
+from navtools.sets.graph import Graph
+from navtools.surfaces import found, surface
+from tests.accepted import fault
+from tests.dump_walks import OF_PROFILE, Maker, Question, Walk, answered, body_of, questions
+from tests.servers import NOT_BUILT, TOP, program
+from tests.test_sets import Bodies, of_reply, parts_of, put_of, replayed, request_of, walks
+
+SUFFIX = "-surface"
+NAMES = ["apple", "pear", "quince"]
+SEEDS = range(40)
+
+
+def surface_of(body: bytes, profile: str, folder: str, *words: str) -> bytes:
+    """The surface of a dump, which is within the limits."""
+    path, out = os.path.join(folder, "whole"), os.path.join(folder, "surface")
+    with open(path, "wb") as file:
+        file.write(body)
+    with redirect_stderr(io.StringIO()) as said:
+        status = surface.main(["--profile", profile, *words, path, out])
+    assert status == 0, said.getvalue()
+    with open(out, "rb") as file:
+        return file.read()
+
+
+def split_apart(body: bytes, profile: str) -> list[bytes]:
+    """The parts of a dump that is cut at each document."""
+    with tempfile.NamedTemporaryFile() as file:
+        file.write(body)
+        file.flush()
+        return list(parts_of(file.name, profile)[0].values()) if b'"document"' in body else []
+
+
+def shown(answer: Any) -> Any:
+    """An answer in which the places of a surface are those of its project."""
+    if not isinstance(answer, set):
+        return answer
+    return {(place[0].partition(SUFFIX)[0], *place[1:]) for place in answer}
+
+
+class Case:
+    """Projects on one server, and on several: `servers` has those of each."""
+
+    def __init__(self, whole: Bodies, profiles: dict[str, str], servers: list[list[str]]) -> None:
+        self.whole, self.profiles = whole, dict(profiles)
+        with tempfile.TemporaryDirectory() as folder:
+            surfaces = {
+                name + SUFFIX: surface_of(body, profiles[name], folder)
+                for name, body in whole.items()
+            }
+        self.profiles.update({name + SUFFIX: profile for name, profile in profiles.items()})
+        self.surfaces = surfaces
+        self.servers = [
+            {
+                **{name: whole[name] for name in names},
+                **{
+                    name: body
+                    for name, body in surfaces.items()
+                    if name.removesuffix(SUFFIX) not in names
+                },
+            }
+            for names in servers
+        ]
+        self.asked = [list(self.questions_of(names)) for names in servers]
+
+    def questions_of(self, names: list[str]) -> Iterator[tuple[str, Question]]:
+        """Each question of projects."""
+        for name in names:
+            walk = self.walks({name: self.whole[name]})[name]
+            for question in questions(walk, OF_PROFILE[self.profiles[name]]):
+                yield name, question
+
+    def walks(self, bodies: Bodies) -> dict[str, Walk]:
+        """Walks over bodies."""
+        return walks(bodies, self.profiles, "1")
+
+    def unequal(self) -> Iterator[tuple[str, Question, Any, Any]]:
+        """The questions that the servers answer otherwise than one, by walks."""
+        one = self.walks(self.whole)
+        for bodies, asked in zip(self.servers, self.asked):
+            own = self.walks(bodies)
+            for name, question in asked:
+                mine, its = answered(one, name, question), shown(answered(own, name, question))
+                if mine != its:
+                    yield name, question, mine, its
+
+    def unequal_in_program(self, folder: str) -> Iterator[tuple[str, Question, Any, Any]]:
+        """The same by the program."""
+        for bodies, asked in zip(self.servers, self.asked):
+            requests = [request_of(name, question) for name, question in asked]
+            one, own = (
+                replayed([*self.puts(some), *requests], folder)[len(some) :]
+                for some in (self.whole, bodies)
+            )
+            for (name, question), mine, its in zip(asked, one, own):
+                if of_reply(mine) != shown(of_reply(its)):
+                    yield name, question, of_reply(mine), shown(of_reply(its))
+
+    def puts(self, bodies: Bodies) -> list[bytes]:
+        """The uploads of bodies."""
+        return [put_of(name, body, self.profiles[name]) for name, body in bodies.items()]
+
+
+def random_case(seed: int) -> Case:
+    """Three random dumps on two servers, or on three."""
+    rng = random.Random(seed)
+    profiles = {name: rng.choice(["1", "2"]) for name in NAMES}
+    keys = rng.choice([4, 12, 30])
+    whole = {
+        name: body_of(
+            Maker(rng, profiles[name], [f"file:///{name}/{n}" for n in "ab"], keys).make()
+        )
+        for name in NAMES
+    }
+    servers = rng.choice([[NAMES[:1], NAMES[1:]], [NAMES[:2], NAMES[2:]], [[one] for one in NAMES]])
+    return Case(whole, profiles, servers)
+
+
+def crates() -> Case:
+    """The two crates of demo/, each on a server of its own."""
+    bodies = {}
+    with tempfile.TemporaryDirectory() as folder, redirect_stderr(io.StringIO()):
+        for name in ("crate", "user"):
+            path = os.path.join(folder, name)
+            prepare.main([os.path.join(TOP, "demo", f"{name}.raw.lsif"), path])
+            with open(path, "rb") as file:
+                bodies[name] = file.read()
+    return Case(bodies, dict.fromkeys(bodies, "1"), [["crate"], ["user"]])
+
+
+class EqualAnswers(unittest.TestCase):
+    """That several servers with surfaces answer as one."""
+
+    def test_random_dumps(self) -> None:
+        """Every request at every range of three random dumps."""
+        for seed in SEEDS:
+            for name, question, one, other in random_case(seed).unequal():
+                self.assertEqual(one, other, f"seed {seed}, {name}, {question}")
+
+    def test_in_parts(self) -> None:
+        """Surfaces that are split at each document lead to the same places."""
+        for seed in SEEDS:
+            case = random_case(seed)
+            for bodies in case.servers:
+                for name in [name for name in bodies if name.endswith(SUFFIX)]:
+                    for number, part in enumerate(
+                        split_apart(bodies.pop(name), case.profiles[name])
+                    ):
+                        bodies[f"{name}-{number}"] = part
+                        case.profiles[f"{name}-{number}"] = case.profiles[name]
+            for name, question, one, other in case.unequal():
+                if question.request != "hover":
+                    self.assertEqual(one, other, f"seed {seed}, {name}, {question}")
+
+    @unittest.skipUnless(program(), NOT_BUILT)
+    def test_random_dumps_in_the_program(self) -> None:
+        """The same, answered by the program."""
+        with tempfile.TemporaryDirectory() as folder:
+            for seed in SEEDS[:20]:
+                found = list(random_case(seed).unequal_in_program(folder))
+                self.assertEqual(found, [], f"seed {seed}")
+
+    @unittest.skipUnless(program(), NOT_BUILT)
+    def test_crates(self) -> None:
+        """The crates of demo/, which differ where there are no surfaces."""
+        case = crates()
+        with tempfile.TemporaryDirectory() as folder:
+            self.assertEqual(list(case.unequal_in_program(folder)), [])
+            case.servers = [{name: case.whole[name]} for name in ("crate", "user")]
+            self.assertGreater(len(list(case.unequal_in_program(folder))), 10)
+
+
+class OfItself(unittest.TestCase):
+    """What a surface is by itself."""
+
+    def test_answers_nothing(self) -> None:
+        """The server takes it, and no question that is asked of it finds anything."""
+        for seed in SEEDS:
+            case = random_case(seed)
+            for name, body in case.surfaces.items():
+                self.assertIsNone(fault(body, case.profiles[name]))
+                every = case.walks({name: body})
+                for question in questions(every[name], OF_PROFILE[case.profiles[name]]):
+                    self.assertIn(answered(every, name, question), (None, set()))
+
+    def test_deep_and_wide(self) -> None:
+        """Results that lead to results, and monikers that are joined, aren't multiplied out."""
+        count = 2000
+        elements: list[dict[str, Any]] = [
+            {"type": "vertex", "label": "metaData", "version": "0.6.0"},
+            {"type": "vertex", "label": "document", "uri": "file:///a"},
+        ]
+        ranges = list(range(2, 2 + count))
+        for line in range(count):
+            ends = {end: {"line": line, "character": at} for end, at in (("start", 0), ("end", 1))}
+            elements.append({"type": "vertex", "label": "range", **ends})
+        for label in ("referenceResult", "resultSet", "moniker"):
+            more = {"scheme": "s", "kind": "export"} if label == "moniker" else {}
+            for number in range(count):
+                own = {"identifier": str(number)} if more else {}
+                elements.append({"type": "vertex", "label": label, **more, **own})
+        results, sets, monikers = (range(2 + count * at, 2 + count * (at + 1)) for at in (1, 2, 3))
+        elements.append({"type": "edge", "label": "contains", "outV": 1, "inVs": ranges})
+        for at in range(count):
+            role = {"property": "references", "shard": 1}
+            edges = [
+                ("item", results[at], {"inVs": [ranges[at]], **role}),
+                ("textDocument/references", sets[at], {"inV": results[at]}),
+                ("moniker", sets[at], {"inV": monikers[at]}),
+            ]
+            if at:
+                lead = {"inVs": [results[at - 1]], **role, "property": "referenceResults"}
+                edges += [
+                    ("item", results[at], lead),
+                    ("attach", monikers[at], {"inV": monikers[at - 1]}),
+                ]
+            elements += [
+                {"type": "edge", "label": label, "outV": out, **more} for label, out, more in edges
+            ]
+        for own, element in enumerate(elements):
+            element["id"] = own
+        with tempfile.TemporaryDirectory() as folder:
+            lines = surface_of(body_of(elements), "1", folder).count(b"\n")
+        self.assertLess(lines, len(elements) + 10)
+
+
+def without_leads(graph: Graph, results: set[int]) -> set[int]:
+    """Results alone."""
+    return set(results)
+
+
+def all_alike(graph: Graph) -> bytearray:
+    """No moniker is an export."""
+    return bytearray(min(kind, found.EITHER) for kind in KINDS_OF(graph))
+
+
+KINDS_OF = found.kinds_of_monikers
+FAULTS: dict[str, tuple[Any, str, Callable[..., Any]]] = {
+    "results that results lead to are left out": (surface, "led_to", without_leads),
+    "exports are found for references alone": (found, "kinds_of_monikers", all_alike),
+    "what stands further along a chain isn't found": (found, "take_after", lambda *what: None),
+    "monikers aren't joined": (surface.Surface, "attached", lambda own, moniker: iter(())),
+    "vertices are in another order": (found, "line_order", lambda graph, vertex: (-vertex,)),
+}
+
+
+class Faults(unittest.TestCase):
+    """That wrong surfaces are found by the walks."""
+
+    def test_each_is_found(self) -> None:
+        """Each fault makes an answer differ."""
+        for name, (where, function, wrong) in FAULTS.items():
+            with self.subTest(name), mock.patch.object(where, function, wrong):
+                # a lead to what isn't written is a fault too
+                with mock.patch.object(surface.Surface, "write_leads", sound_leads):
+                    seen = any(True for seed in SEEDS for _ in random_case(seed).unequal())
+            self.assertTrue(seen, name)
+
+
+def sound_leads(own: surface.Surface) -> None:
+    """Writes the leads to results that are written."""
+    own.graph.leads = {
+        result: [other for other in others if other in own.own_results]
+        for result, others in own.graph.leads.items()
+    }
+    own.graph.leads = {result: others for result, others in own.graph.leads.items() if others}
+    WRITE_LEADS(own)
+
+
+WRITE_LEADS = surface.Surface.write_leads
+
+
+class Called(unittest.TestCase):
+    """The call of the tool."""
+
+    def setUp(self) -> None:
+        self.folder = self.enterContext(tempfile.TemporaryDirectory())
+        self.out = os.path.join(self.folder, "out")
+
+    def call(self, body: bytes) -> tuple[int, str]:
+        """The status of a call, and what it says."""
+        path = os.path.join(self.folder, "in")
+        with open(path, "wb") as file:
+            file.write(body)
+        with redirect_stderr(io.StringIO()) as said:
+            return surface.main([path, self.out]), said.getvalue()
+
+    def test_over_the_limits(self) -> None:
+        """A surface over the limits is written, and that is said with status 1."""
+        body = body_of(Maker(random.Random(1), "1", ["file:///a"], 4).make())
+        with mock.patch("navtools.outputs.MOST_ELEMENTS", 3):
+            status, said = self.call(body)
+        self.assertEqual(status, 1)
+        self.assertRegex(said, "over the limits: [0-9]+ elements, .*; split-lsif splits it")
+        self.assertTrue(os.path.exists(self.out))
+
+    def test_no_dump(self) -> None:
+        """What is no prepared dump is one line and status 2, and nothing is written."""
+        meta = b'{"id":0,"type":"vertex","label":"metaData","version":"0.6.0"}\n'
+        for body, line in (
+            (b"", "empty"),
+            (b"{", "line 1: not JSON"),
+            (meta.replace(b"0.6", b"0.4"), "line 1: of version 0.4.0"),
+            (meta + b'{"id":0,"type":"vertex","label":"resultSet"}\n', "line 2: its id was used"),
+        ):
+            status, said = self.call(body)
+            self.assertEqual((status, said.count("\n")), (2, 1), said)
+            self.assertIn(line, said)
+            self.assertFalse(os.path.exists(self.out))
+
+    def test_without_monikers(self) -> None:
+        """A dump that others can't find has an empty surface."""
+        self.assertEqual(
+            self.call(b'{"id":0,"type":"vertex","label":"metaData","version":"0.6.0"}'),
+            (0, "surface-lsif: elements 1 -> 2\n"),
+        )
+        with open(self.out, "rb") as file:
+            self.assertEqual([json.loads(line)["label"] for line in file], ["metaData", "project"])
+
+
+if __name__ == "__main__":
+    unittest.main()
