@@ -1,7 +1,7 @@
 """The first reading of a dump for `prepare-lsif`: its vertices and edges as numbers in arrays, so
 that memory grows with the ids alone.
 
-Each id gets a number when it's first named, also by an edge that stands before its vertex. Numbers
+Each id gets a number when it's first named, also by an edge that comes before its vertex. Numbers
 of edges' ids aren't kept: nothing names an edge.
 """
 

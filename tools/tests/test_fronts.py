@@ -109,7 +109,7 @@ class OfFront:
             self.assertEqual(self.front.ask("HEAD", "/projects")[0::2], (405, b""))
 
         def test_chunks_and_newer_versions(self) -> None:
-            """A body whose length isn't said before, which the server doesn't take, is handed on
+            """A body whose length isn't said before, which the server doesn't take, is passed on
             whole; so is what comes from a client that speaks HTTP/2 too."""
             if not shutil.which("curl"):
                 self.skipTest("curl isn't installed (Debian's curl)")

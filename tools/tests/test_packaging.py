@@ -124,7 +124,7 @@ class LaidOut(unittest.TestCase):
         return page.replace("\\-", "-").lower()
 
     def test_runit(self) -> None:
-        """The service of runit serves, and ends when it's told to."""
+        """The service of runit serves, and ends when `runsv` does."""
         if not shutil.which("runsv") or os.getuid() != 0:
             self.skipTest("runsv isn't there (Debian's runit), or this isn't root")
         port = free_port()

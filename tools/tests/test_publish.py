@@ -194,7 +194,7 @@ class Publish(OnCheckout):
         self.assertEqual(listed(self.url), [{"dump": False, "name": "app", "tags": True}])
 
     def test_without_an_indexer(self) -> None:
-        """That there's no dump is told; with no tags either nothing is uploaded."""
+        """That there's no dump is said; with no tags either nothing is uploaded."""
         other = os.path.join(self.home, "c")
         os.mkdir(other)
         nothing = "no indexer is known for what is here, and there are no tags"

@@ -116,7 +116,7 @@ class OnService(unittest.TestCase):
         return request(f"{self.url()}{HOVER}", seconds=SECONDS).body
 
     def ended(self, process: "subprocess.Popen[str]") -> tuple[int, str]:
-        """The status of a service, and what it said, when it has ended or is told to."""
+        """The status of a service, and what it said, after SIGTERM."""
         process.terminate()
         _, said = process.communicate(timeout=SECONDS)
         return process.returncode, said

@@ -236,8 +236,8 @@ class Published(OnFile):
             self.publish(folder)
 
     def test_two_at_once(self) -> None:
-        """While one publish goes on another is refused; one that was taken over is refused too, and
-        never a mixture."""
+        """While one publish goes on another is refused; one whose claim another has now is
+        refused too, and never a mixture."""
         both = Revisions(self.folder)
         self.publish(both.folders[0])
         late: list[str] = []

@@ -110,8 +110,8 @@ class OnServers(unittest.TestCase):
         return folder
 
     def make_surface(self, folder: str) -> int:
-        """Makes the surface of the dump that was split into a folder; answers how many parts it
-        has."""
+        """Makes the surface of the dump that was split into a folder; answers the number
+        of its parts."""
         whole = os.path.join(os.path.dirname(folder), "whole.lsif")
         name = os.path.basename(folder)
         surface = made_surface(whole, name, "1", os.path.join(folder, "surface"))

@@ -21,7 +21,7 @@ PORT = "codenav: cannot listen"
 
 @dataclass(frozen=True)
 class Refusal:
-    """What a person is told, and whether to try again without one."""
+    """The line that a person reads, and whether to try again without one."""
 
     text: str
     may_pass: bool

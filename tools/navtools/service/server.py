@@ -61,7 +61,7 @@ class Server:
             self.process.wait()
 
     def last_words(self) -> str:
-        """The line that it ended with on the standard error, which is handed on."""
+        """The line that it ended with on the standard error, which is printed here too."""
         assert self.process.stderr is not None
         said = self.process.stderr.read().decode(errors="replace").strip()
         if said:

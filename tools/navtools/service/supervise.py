@@ -67,7 +67,7 @@ class Supervisor:
         self.turns_now = True
 
     def run(self) -> None:
-        """Serves until it's told to stop. Raises Ended where no server can be started by itself."""
+        """Serves until SIGTERM. Raises Ended where no server can be started by itself."""
         signal.signal(signal.SIGTERM, self.stop)
         signal.signal(signal.SIGINT, self.stop)
         signal.signal(signal.SIGHUP, self.turn_now)
@@ -81,7 +81,7 @@ class Supervisor:
             self.rest(LONG_PAUSE if self.refused else PAUSE)
 
     def rest(self, seconds: float) -> None:
-        """Waits, but not when it's told to stop."""
+        """Waits, but not after SIGTERM."""
         stop = time.monotonic() + seconds
         while not self.stops and time.monotonic() < stop:
             time.sleep(TICK)
