@@ -43,8 +43,16 @@ def hover_text(contents: Any) -> str:
 def tags_of(call: argparse.Namespace) -> list[dict[str, Any]]:
     """The tags of the names that a call asks for. Raises NoReply."""
     parameters = {"name": call.name} if call.prefix is None else {"prefix": call.prefix}
-    fetch = fetch_from(call.url, SECONDS)
-    return Index(call.project, fetch).names(parameters, call.all_projects)
+    if call.all_projects:
+        # here, since few calls need it
+        from navtools.surfaces.names import names_of_all, servers_given
+
+        if servers := servers_given(call.servers, os.curdir):
+            return names_of_all(
+                servers, call.project, parameters, lambda url: fetch_from(url, SECONDS)
+            )
+    index = Index(call.project, fetch_from(call.url, SECONDS))
+    return index.names(parameters, call.all_projects)
 
 
 def is_whole_file(place: dict[str, Any], file: str) -> bool:
@@ -154,6 +162,12 @@ def words_parser() -> argparse.ArgumentParser:
         "--all-projects",
         action="store_true",
         help="those of all projects, and not of PROJECT alone",
+    )
+    one.add_argument(
+        "--servers",
+        metavar="URL,URL..",
+        help="with --all-projects: all servers of a front that spreads projects, each of which is asked; without it `servers` of the "
+        "nearest .codenav.toml above the current folder, or the server at URL alone",
     )
     texts = one.add_mutually_exclusive_group(required=True)
     texts.add_argument("name", metavar="NAME", nargs="?")

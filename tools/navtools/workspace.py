@@ -133,6 +133,14 @@ def folders_above(folder: str) -> Iterator[str]:
         folder = above
 
 
+def servers_above(folder: str) -> list[str]:
+    """The texts of `servers` in the nearest `.codenav.toml` of a folder and those above it; none
+    where it has no such key. Raises BadCall."""
+    paths = (os.path.join(above, FILE) for above in folders_above(os.path.abspath(folder)))
+    nearest = next(filter(os.path.isfile, paths), None)
+    return list(found_in_file(nearest).get("servers", [])) if nearest else []
+
+
 class Workspace:
     """The files of an editor, of which each is asked of its own project.
 

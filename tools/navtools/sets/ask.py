@@ -44,6 +44,11 @@ def order_of(place: Found) -> tuple[Any, ...]:
     return (place["project"], place["uri"].encode("utf-8", "surrogatepass"), *ends)
 
 
+def order_of_tag(tag: Found) -> tuple[Any, ...]:
+    """The order of tags in an answer."""
+    return (tag["name"].encode(), tag["project"], tag["line"])
+
+
 class Sets:
     """The manifests on a server, as far as they were asked for."""
 
@@ -194,20 +199,37 @@ class Asked:
 
     def names(self, parameters: dict[str, Any], every: bool) -> list[Found]:
         """The tags of a name or a prefix: those of the project or the set, or with `every` those of
-        all; raises NoReply, and NotAManifest."""
+        all on the server; raises NoReply, and NotAManifest."""
+        head = None
         if not every:
             tags = self.sets.fetch("/names", {**parameters, "project": self.name}, "tags")
-            if tags or self.sets.head(self.name) is None:
+            head = None if tags else self.sets.head(self.name)
+            if head is None:
                 return list(tags)
+        if head is not None and head.is_spread():
+            tags = self.tags_of_parts(parameters)
+        else:
+            tags = self.sets.fetch("/names", parameters, "tags")
         found = []
-        for tag in self.sets.fetch("/names", parameters, "tags"):
+        for tag in tags:
             try:
                 project = self.sets.shown(tag["project"], self.name)
             except UnknownPart:
                 continue
             if project is not None and (every or project == shown_name(self.name)):
                 found.append({**tag, "project": project})
-        return sorted(found, key=lambda tag: (tag["name"].encode(), tag["project"], tag["line"]))
+        return sorted(found, key=order_of_tag)
+
+    def tags_of_parts(self, parameters: dict[str, Any]) -> list[Found]:
+        """The tags of the set's parts, asked of each: a front over several servers sends what names
+        no project to any of them."""
+        for _ in range(3):
+            head, found = self.sets.head(self.name), []
+            for part in head.parts if head is not None else ():
+                found += self.sets.fetch("/names", {**parameters, "project": part.project}, "tags")
+            if not self.sets.is_changed(self.name):
+                return found
+        raise NoReply(f"the set {shown_name(self.name)} is switched again and again")
 
 
 def is_missing(fault: NoReply) -> bool:

@@ -94,6 +94,10 @@ class Head(NamedTuple):
         """The projects of the surface, which are on other servers."""
         return [part.project for part in self.surface]
 
+    def is_spread(self) -> bool:
+        """Whether the set is on one of several servers, with its surface on the others."""
+        return bool(self.surface or self.packages)
+
     def part_of(self, uri: str) -> str:
         """The part that has a document, if any has: parts have documents that follow each other in
         the order of their addresses."""

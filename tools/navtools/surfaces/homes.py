@@ -41,15 +41,25 @@ def points_of(server: str) -> list[int]:
     return points
 
 
+class Ring:
+    """The points of servers, of these addresses."""
+
+    def __init__(self, servers: Sequence[str]) -> None:
+        self.servers: dict[int, str] = {}
+        for server in servers:
+            for point in points_of(named_in_front(server)):
+                self.servers.setdefault(point, server)
+        self.points = sorted(self.servers)
+
+    def home(self, project: str) -> str:
+        """The server that has a project."""
+        at = bisect_left(self.points, crc32(shard_of(project).encode()))
+        return self.servers[self.points[at % len(self.points)]]
+
+
 def home_of(servers: Sequence[str], project: str) -> str:
     """The server, of these addresses, that has a project."""
-    ring: dict[int, str] = {}
-    for server in servers:
-        for point in points_of(named_in_front(server)):
-            ring.setdefault(point, server)
-    points = sorted(ring)
-    at = bisect_left(points, crc32(shard_of(project).encode()))
-    return ring[points[at % len(points)]]
+    return Ring(servers).home(project)
 
 
 def servers_of(texts: Sequence[str]) -> list[str]:
