@@ -10,8 +10,8 @@ from typing import Any, Optional
 class Stage:
     """A stage, as a context. What it's about is said at its end, with the seconds that it took."""
 
-    def __init__(self, tool: str, what: str, total: Optional[int] = None) -> None:
-        self.tool, self.what, self.detail = tool, what, ""
+    def __init__(self, tool: str, what: str, total: Optional[int] = None, unit: str = "B") -> None:
+        self.tool, self.what, self.detail, self.unit = tool, what, "", unit
         self.total = total
         self.bar: Any = None
 
@@ -22,7 +22,7 @@ class Stage:
         except ImportError:
             return self
         # `disable`: no bar but on a terminal.
-        look: dict[str, Any] = {"unit": "B", "unit_scale": True, "delay": 1, "disable": None}
+        look: dict[str, Any] = {"unit": self.unit, "unit_scale": True, "delay": 1, "disable": None}
         if self.total is None:
             look["bar_format"] = "{desc}: {n_fmt}{unit} in {elapsed}"
         self.bar = tqdm(desc=self.what, total=self.total, leave=False, file=sys.stderr, **look)

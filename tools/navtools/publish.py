@@ -5,7 +5,8 @@ Each stage is a line on the standard error, and on a terminal a bar where Debian
 there. Nothing is uploaded before all is made and checked. What was uploaded is printed, and then
 what was left out, and why. A dump that is too large for one project becomes a set of parts, which
 is asked by PROJECT too; `NAME@BRANCH` is one beside that of NAME. With several servers it's always
-a set, which goes to its home, and its surface to the others.
+a set, which goes to its home, and its surface to the others. With `--rebalance` all sets that were
+kept are put where a list of servers has them.
 """
 
 import argparse
@@ -16,7 +17,7 @@ import sys
 import tempfile
 from contextlib import contextmanager, redirect_stderr, suppress
 from io import BufferedReader
-from typing import Callable, Iterator, NamedTuple, Optional
+from typing import Any, Callable, Iterator, NamedTuple, Optional
 
 from navtools import explain, prepare
 from navtools.__main__ import main_of
@@ -33,7 +34,14 @@ from navtools.sets.publish import Publish, Store, fetch_cuts, remove_set
 from navtools.tagging import LEFT_OUT, tagged
 from navtools.upload import fresh_key, put, upload_url
 from navtools.surfaces.homes import home_of, named_in_front, servers_of
-from navtools.surfaces.spread import Spread, made_surface, surface_name
+from navtools.surfaces.rebalance import GRACE, rebalanced
+from navtools.surfaces.spread import (
+    Spread,
+    keep_surface,
+    made_surface,
+    surface_file,
+    surface_name,
+)
 from navtools.words import BadCall, add_server, parsed, project_of, server_of, status_of
 from navtools.workspace import FILE, found_in_file
 
@@ -276,14 +284,15 @@ def surface_of(call: argparse.Namespace, dump: str, name: str, folder: str) -> l
         heard = Heard()
         try:
             with redirect_stderr(heard):
-                call.surface = made_surface(dump, name, call.profile, own)
+                surface = made_surface(dump, name, call.profile, own)
         except BadCall as fault:
             said = [str(fault), *heard.getvalue().splitlines()[-1:]]
             raise BadCall(": ".join(said)) from None
-        stage.detail = f"elements {sum(part.elements for part in call.surface.parts)}"
+        stage.detail = f"elements {sum(part.elements for part in surface.parts)}"
+    keep_surface(folder, surface)
     return [
-        Body(part.project, "lsif", os.path.join(own, f"{part.project}.lsif"), call.profile)
-        for part in call.surface.parts
+        Body(part.project, "lsif", surface_file(own, part.project), call.profile)
+        for part in surface.parts
     ]
 
 
@@ -294,7 +303,7 @@ def publish_of(call: argparse.Namespace, folder: str) -> Publish:
         return Publish(home, folder, in_place_of_project=True)
     server = server_of(call.url)
     is_front = named_in_front(server) not in map(named_in_front, call.servers)
-    spread = Spread(
+    return Spread(
         home,
         folder,
         in_place_of_project=True,
@@ -303,9 +312,6 @@ def publish_of(call: argparse.Namespace, folder: str) -> Publish:
         front=Store(server) if is_front else None,
         only_joined=call.servers_that_join,
     )
-    made = call.surface
-    spread.head = spread.head._replace(surface=made.parts, packages=made.packages)
-    return spread
 
 
 def send_set(call: argparse.Namespace, folder: str) -> str:
@@ -353,6 +359,9 @@ def servers_in(call: argparse.Namespace) -> list[str]:
 
 def published(call: argparse.Namespace) -> int:
     """Goes from the checkout to the server; answers the status."""
+    if call.rebalance is not None:
+        call.servers = servers_in(call)
+        return rebalanced(call)
     call.home, call.set = server_of(call.url), call.set or "@" in call.project
     call.folder = os.path.realpath(call.folder)
     if not os.path.isdir(call.folder):
@@ -391,8 +400,35 @@ def published(call: argparse.Namespace) -> int:
     return 0
 
 
-def words_parser() -> argparse.ArgumentParser:
-    """What the command line may be."""
+def add_rebalance(group: Any) -> None:
+    """Adds the options of a call that puts sets where a list of servers has them."""
+    group.add_argument(
+        "--rebalance",
+        metavar="FOLDER",
+        help="in place of PROJECT: put all sets that are kept below FOLDER where --servers has them, as far as they aren't there; and when the front "
+        "asks these servers, remove what is left where they were",
+    )
+    group.add_argument(
+        "--servers-before",
+        metavar="URL,URL..",
+        help="the list of before, where a server that can be asked leaves it",
+    )
+    group.add_argument(
+        "--switch",
+        metavar="COMMAND",
+        help="the line of a shell that switches the front; without it switch the front, and call again",
+    )
+    group.add_argument(
+        "--grace",
+        type=float,
+        default=GRACE,
+        metavar="SECONDS",
+        help=f"remove so long after the switch, for requests that are under way; {GRACE:g} without it",
+    )
+
+
+def words_parser(is_of_all: bool = False) -> argparse.ArgumentParser:
+    """What the command line may be, of one project or of all sets that are kept."""
     known = "\n".join(
         f"  {one.name:20} {one.line}"
         + (f"   where there is {' or '.join(one.marks)}" if one.marks else "")
@@ -454,11 +490,21 @@ def words_parser() -> argparse.ArgumentParser:
         metavar="REV",
         help="the git revision that is indexed; without it the one that FOLDER has checked out, where no file that git has is changed",
     )
-    parser.add_argument("--keep", metavar="FOLDER", help="keep the files that are made, in FOLDER")
+    parser.add_argument(
+        "--keep",
+        metavar="FOLDER",
+        help="keep the files that are made, in FOLDER, which with several servers is one for each set: --rebalance puts them",
+    )
+    add_rebalance(
+        parser.add_argument_group("where the list of servers changes, or one has lost its sets")
+    )
     parser.add_argument(
         "--dry-run", action="store_true", help="make and check all, and upload nothing"
     )
     add_server(parser)
+    if is_of_all:
+        parser.set_defaults(folder=os.curdir)
+        return parser
     parser.add_argument("project", metavar="PROJECT")
     parser.add_argument(
         "folder", metavar="FOLDER", nargs="?", default=os.curdir, help="the checkout; . without it"
@@ -469,5 +515,7 @@ def words_parser() -> argparse.ArgumentParser:
 def main(words: Optional[list[str]] = None) -> int:
     """Reads the command line and publishes; answers 0, 1 where it's refused, and 2 where it can't
     be carried out."""
-    call = parsed(words_parser(), words)
+    words = sys.argv[1:] if words is None else words
+    is_of_all = any(word.partition("=")[0] == "--rebalance" for word in words)
+    call = parsed(words_parser(is_of_all), words)
     return status_of(TOOL, lambda: published(call))

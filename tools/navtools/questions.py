@@ -23,17 +23,27 @@ def name_of(text: str) -> str:
     return text
 
 
-def fetch_from(server: str, seconds: float, most: int = 1 << 30) -> Fetch:
+class Fetcher:
     """What asks a server: by a path, parameters and the member of the reply. Raises NoReply."""
 
-    def fetch(path: str, parameters: dict[str, Any], member: str) -> Any:
-        url = address(server, path, parameters)
-        found = found_in(request(url, seconds=seconds, most=most), member)
+    def __init__(self, server: str, seconds: float, most: int) -> None:
+        self.server, self.seconds, self.most = server, seconds, most
+
+    def __call__(self, path: str, parameters: dict[str, Any], member: str) -> Any:
+        url = address(self.server, path, parameters)
+        found = found_in(request(url, seconds=self.seconds, most=self.most), member)
         if member in SHAPES and not (type(found) is list and all(map(SHAPES[member], found))):
             raise NoReply(f"not the {member} of codenav")
         return found
 
-    return fetch
+    def within(self, seconds: float) -> "Fetcher":
+        """The same with another time limit, where that is less."""
+        return Fetcher(self.server, min(seconds, self.seconds), self.most)
+
+
+def fetch_from(server: str, seconds: float, most: int = 1 << 30) -> Fetch:
+    """What asks a server."""
+    return Fetcher(server, seconds, most)
 
 
 def is_place(value: Any) -> bool:

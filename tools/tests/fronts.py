@@ -4,6 +4,7 @@ nginx with Lua, and nginx and HAProxy."""
 import base64
 import glob
 import os
+import re
 import shutil
 import socket
 import ssl
@@ -26,6 +27,9 @@ USER = "ci:secret"
 RATE, BURST = "rate=200r/s", "burst=400"
 UNLIMITED = ("rate=100000r/s", "burst=10000")
 SECONDS = 20
+# how long a front holds a request while its server is away
+LONGEST = 600
+SERVER_LINES = re.compile(r"(?:    server \S+ max_fails=0;\n)+")
 # a port that no server of a test is given
 NOBODY = "127.0.0.1:9"
 MAIN = """
@@ -72,6 +76,7 @@ class Front:
     local: int = field(default_factory=free_port)
     queue: int = field(default_factory=free_port)
     more_queues: list[int] = field(default_factory=list)
+    longest: int = LONGEST
 
     @property
     def url(self) -> str:
@@ -129,6 +134,9 @@ def rendered(text: str, front: Front, servers: list[str], limits: tuple[str, str
         "127.0.0.1:8092": f"127.0.0.1:{front.queue}",
         RATE: limits[0],
         BURST: limits[1],
+        f"LONGEST, PAUSE = {LONGEST}": f"LONGEST, PAUSE = {front.longest}",
+        f"retries {LONGEST}": f"retries {front.longest}",
+        f"timeout queue {LONGEST}s": f"timeout queue {front.longest}s",
     }.items():
         text = text.replace(shown, own)
     return with_more_queues(text, front, servers) if front.more_queues else text
@@ -206,11 +214,15 @@ def wait_for_port(port: int, process: subprocess.Popen[bytes], log: str) -> None
 
 @contextmanager
 def fronted(
-    kind: str, folder: str, servers: list[str], limits: tuple[str, str] = UNLIMITED
+    kind: str,
+    folder: str,
+    servers: list[str],
+    limits: tuple[str, str] = UNLIMITED,
+    longest: int = LONGEST,
 ) -> Iterator[Front]:
     """A front before servers, of which the last is the one that takes turns with the first; it's at
     the folder, which is empty."""
-    front = Front(kind, folder)
+    front = Front(kind, folder, longest=longest)
     servers = servers if len(servers) > 1 else [*servers, NOBODY]
     if kind == "haproxy":
         front.more_queues = [free_port() for _ in servers[1:-1]]
@@ -223,6 +235,49 @@ def fronted(
             log = f"{folder}/{os.path.basename(words[0])}.log"
             wait_for_port(port, stack.enter_context(running(words, log)), log)
         yield front
+
+
+def another_queue(front: Front, server: str) -> tuple[int, list[str]]:
+    """The HAProxy before a machine that is added, with a file of its own: its port, and how it's
+    started."""
+    queue, path = free_port(), f"{front.folder}/haproxy-{host_port(server)}.cfg"
+    with open(f"{front.folder}/haproxy.cfg", encoding="utf-8") as file:
+        text = file.read().partition("frontend ")[0].replace(".sock", f"-{queue}.sock")
+    with open(path, "w", encoding="utf-8") as out:
+        out.write(
+            f"{text}frontend codenav\n    bind 127.0.0.1:{queue}\n    default_backend codenav\n"
+            f"backend codenav\n    server one {server} maxconn 1\n"
+        )
+    return queue, [str(found_program("haproxy")), "-db", "-f", path]
+
+
+@contextmanager
+def adding(front: Front, server: str) -> Iterator[tuple[str, str, str]]:
+    """A server more for a front of several: how the front is to name it, and the lines of a shell
+    that add it to the front and that take it away again."""
+    place, times, config = server, 1, f"{front.folder}/codenav.conf"
+    with ExitStack() as stack:
+        if front.kind == "haproxy":
+            queue, words = another_queue(front, server)
+            log = f"{front.folder}/haproxy-{queue}.log"
+            wait_for_port(queue, stack.enter_context(running(words, log)), log)
+            place, times = f"127.0.0.1:{queue}", 4
+        with open(config, encoding="utf-8") as file:
+            text = file.read()
+        line = f"    server {place} max_fails=0;\n" * times
+        texts = {"less": text, "more": SERVER_LINES.sub(lambda own: own[0] + line, text, count=1)}
+        for name, own in texts.items():
+            with open(f"{config}.{name}", "w", encoding="utf-8") as out:
+                out.write(own)
+        nginx, folder = found_program("nginx"), front.folder
+        reload = f"{nginx} -e {folder}/error.log -c {folder}/nginx.conf -s reload"
+        more, less = (f"cp {config}.{name} {config} && {reload}" for name in ("more", "less"))
+        yield place, more, less
+
+
+def host_port(server: str) -> str:
+    """The port of a server that is named by its host and port."""
+    return server.rpartition(":")[2]
 
 
 def host_of(url: str) -> str:

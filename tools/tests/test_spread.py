@@ -7,6 +7,7 @@ import multiprocessing
 import os
 import random
 import tempfile
+import time
 import unittest
 from contextlib import redirect_stderr, redirect_stdout
 from typing import Any, Callable, Optional
@@ -18,12 +19,12 @@ from navtools.places import uri_of
 from navtools.serving import ended, free_port, started
 from navtools.sets import split
 from navtools.sets.manifest import PartEntry
-from navtools.sets.publish import Late, Publish, Store, claimed, remove_set
+from navtools.sets.publish import Claim, Late, Publish, Store, claimed, remove_set
 from navtools.surfaces.homes import home_of, shard_of
 from navtools.surfaces.spread import Spread, made_surface
 from navtools.workspace import FILE
 from tests.dump_walks import OF_PROFILE, Walk, answered, questions
-from tests.fronts import NOBODY, fronted, host_of, lacking
+from tests.fronts import LONGEST, NOBODY, fronted, host_of, lacking
 from tests.servers import NOT_BUILT, REQUESTS, TOP, program
 from tests.test_lsp import Editor
 from tests.test_set_service import MOST_STEPS, answer_of, asked_at, revision, split_into
@@ -43,6 +44,8 @@ def crate(name: str) -> bytes:
 class OnServers(unittest.TestCase):
     """Tests that ask three servers by a front, which are empty at first."""
 
+    longest = LONGEST
+
     def setUp(self) -> None:
         found = program()
         if found is None or lacking("lua"):
@@ -54,7 +57,9 @@ class OnServers(unittest.TestCase):
         self.addCleanup(lambda: [ended(server) for server in self.running])
         places = [*map(host_of, self.servers), NOBODY]
         os.mkdir(os.path.join(self.folder, "front"))
-        self.front = self.enterContext(fronted("lua", os.path.join(self.folder, "front"), places))
+        self.front = self.enterContext(
+            fronted("lua", os.path.join(self.folder, "front"), places, longest=self.longest)
+        )
         self.enterContext(
             mock.patch.dict(
                 os.environ,
@@ -153,7 +158,7 @@ class Homes(OnServers):
             self.assertEqual([tag["file"] for tag in tags], [f"{number}.c"])
 
 
-class Published(OnServers):
+class TwoSets(OnServers):
     """Two crates, each at a home of its own, the second one joined to the first, of which there are
     two revisions."""
 
@@ -201,6 +206,10 @@ class Published(OnServers):
     def counts(self) -> list[int]:
         """How many projects each server has."""
         return [len(self.on(server)) for server in self.servers]
+
+
+class Published(TwoSets):
+    """A set is published beside another one."""
 
     def test_switch(self) -> None:
         """A set is published, switched to another revision and back; all is answered as on one
@@ -259,6 +268,29 @@ class Published(OnServers):
         self.assertEqual(child.exitcode, 0)
         self.assertEqual(switched, sorted(switched))
         self.assertEqual(set(switched), {0, 1})
+
+    def test_clocks(self) -> None:
+        """A claim of another machine whose clock goes otherwise is respected up to a quarter of an
+        hour, and taken over beyond; who was taken over ends with one line, and nothing is lost."""
+        home, now = Store(self.servers[0]), time.time()
+        self.spread(self.folders[0]).run()
+        for at, (ahead, is_respected) in enumerate(
+            [(0, True), (600, True), (-600, True), (86400, False), (-86400, False)]
+        ):
+            claim = Claim(home, self.name)
+            with self.subTest(ahead), mock.patch("socket.gethostname", lambda: "another"):
+                with mock.patch("time.time", lambda: now + ahead):
+                    claim.take()
+            publish = self.spread(self.folders[at % 2])
+            if is_respected:
+                with self.assertRaisesRegex(Late, f"another publish of {self.name} is under way"):
+                    publish.run()
+                claim.put("free")
+                continue
+            publish.run()
+            self.assertEqual(self.answering(), at % 2)
+            with self.assertRaisesRegex(Late, f"another publish of {self.name} has taken over"):
+                claim.renew(always=True)
 
     def publish_and_die(self, at: int, is_made: bool) -> None:
         """Publishes in a process that ends at a change, as if it were killed."""
@@ -393,7 +425,7 @@ class Called(OnServers):
 
     def test_of_one_name(self) -> None:
         """While a publish is under way another one of that name is refused in one line; a surface
-        whose set is gone is shown by its own name."""
+        whose set is gone is shown under the set's name, as before."""
         code, user = self.name_at(self.servers[0], "code"), self.name_at(self.servers[1], "user")
         folders = {
             name: self.made(name, crate(of), "w") for name, of in ((code, "crate"), (user, "user"))
@@ -409,7 +441,7 @@ class Called(OnServers):
             {"uri": "file:///src/tr/user/src/lib.rs", "line": 4, "character": 24},
             "places",
         )
-        self.assertRegex(found[0]["project"], f"^{code}-surface-[0-9a-f]{{16}}$")
+        self.assertEqual([place["project"] for place in found], [code, user])
         self.spread(folders[code]).run()
         found = asked_at(self.front.url, user).query(
             "definition",

@@ -10,6 +10,7 @@ part that isn't known. So a query meanwhile a set is switched is answered from t
 from the new one.
 """
 
+import time
 from typing import Any, Callable, Optional
 
 from navtools.client import NoReply
@@ -31,11 +32,17 @@ from navtools.sets.manifest import (
 Fetch = Callable[[str, dict[str, Any], str], Any]
 Found = dict[str, Any]
 ALIKE = 3
+BRIEF = 5.0
+AWAY_SECONDS = 60.0
 
 
 class UnknownPart(Exception):
     """A project that has the form of a part, and that the manifest doesn't name; the text is the
     set's name."""
+
+
+class Away(Exception):
+    """The server of another set than the one that is asked doesn't answer."""
 
 
 def order_of(place: Found) -> tuple[Any, ...]:
@@ -54,23 +61,32 @@ class Sets:
 
     def __init__(self, fetch: Fetch) -> None:
         self.fetch = fetch
+        within = getattr(fetch, "within", None)
+        self.brief: Fetch = within(BRIEF) if within else fetch
         self.heads: dict[str, Optional[Head]] = {}
+        self.away: dict[str, float] = {}
 
-    def head(self, name: str) -> Optional[Head]:
+    def head(self, name: str, fetch: Optional[Fetch] = None) -> Optional[Head]:
         """The manifest of a set, or None where there is none."""
         if name not in self.heads:
             project = name + PARTS
-            tags = self.fetch("/names", {"prefix": ABOUT, "project": project}, "tags")
+            tags = (fetch or self.fetch)("/names", {"prefix": ABOUT, "project": project}, "tags")
             self.heads[name] = head_of(tags, project)
         return self.heads[name]
 
     def other_head(self, name: str) -> Optional[Head]:
-        """The manifest of a set that wasn't asked for by its name: what is no manifest is none."""
+        """The manifest of a set that wasn't asked for by its name: what is no manifest is none.
+        Raises Away where the set's server doesn't answer soon, which isn't tried again at once."""
+        if self.away.get(name, 0.0) > time.monotonic():
+            raise Away
         try:
-            return self.head(name)
+            return self.head(name, self.brief)
         except NotAManifest:
             self.heads[name] = None
             return None
+        except NoReply:
+            self.away[name] = time.monotonic() + AWAY_SECONDS
+            raise Away from None
 
     def is_changed(self, name: str) -> bool:
         """Reads the manifest of a set again, and says whether it's another one; raises
@@ -115,21 +131,25 @@ class Sets:
 
     def set_of(self, project: str) -> Optional[str]:
         """The set that has a project as a part, or as one of its surface; None where there is none.
-        Raises UnknownPart."""
+        Where the set's server is away, or has lost it, it's that of the project's name. Raises
+        UnknownPart."""
         match = PART.fullmatch(project)
         if match is None:
             return None
         name = match["set"]
         whole = name.removesuffix(SURFACE)
-        of_surface = self.other_head(whole) if whole != name else None
-        if of_surface is not None and project in of_surface.surface_projects():
+        try:
+            of_surface = self.other_head(whole) if whole != name else None
+            if of_surface is not None and project in of_surface.surface_projects():
+                return whole
+            own = self.other_head(name)
+        except Away:
             return whole
-        own = self.other_head(name)
         if own is not None and project in own.projects():
             return name
         if own is not None or of_surface is not None:
             raise UnknownPart(whole if own is None else name)
-        return None
+        return whole if whole != name else None
 
 
 class Asked:

@@ -16,6 +16,7 @@ Its names begin with a control character, so that no search for names finds them
 The file of each tag is the project that it names.
 """
 
+import hashlib
 import os
 import re
 from bisect import bisect_right
@@ -33,6 +34,7 @@ SORTED = "!_TAG_FILE_SORTED\t1\t/0=unsorted, 1=sorted/\n"
 DOCUMENT, ABOUT = "\x01", "\x02"
 PACKAGE = f"{ABOUT}package"
 MOST_LINES = 99_000
+DIGITS = 16
 LIST_LINES = 20_000
 NAME = re.compile(r"[a-z0-9_-]{1,47}")
 PART = re.compile(r"(?P<set>[a-z0-9_-]{1,47})-[0-9a-f]{16}")
@@ -111,6 +113,13 @@ class Head(NamedTuple):
     def with_mark(self, mark: str) -> "Head":
         """The same with a mark."""
         return self._replace(mark=mark)
+
+
+def part_name(name: str, body: bytes, profile: str = "1", tags: bytes = b"") -> str:
+    """The project of a part of a set with this dump, which is read in a profile, and these tags."""
+    digest = hashlib.sha256(b"" if profile == "1" else f"profile {profile}\n".encode())
+    digest.update(body + tags)
+    return f"{name}-{digest.hexdigest()[:DIGITS]}"
 
 
 def set_name(text: str) -> str:
@@ -289,6 +298,13 @@ def read_head(path: str) -> Head:
     if head is None:
         raise NotAManifest(f"{path} isn't the manifest of a set")
     return head
+
+
+def with_head(path: str, head: Head) -> bytes:
+    """What a manifest's file has, with another head."""
+    with open(path, "rb") as file:
+        lines = [line.decode() for line in file if not line.startswith((b"!_TAG_", rb"\x02"))]
+    return tags_text([*head_lines(head), *lines])
 
 
 def read_documents(path: str, head: Head) -> list[DocumentEntry]:

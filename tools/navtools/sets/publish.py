@@ -38,6 +38,7 @@ from navtools.sets.manifest import (
     read_head,
     shown_name,
     tags_text,
+    with_head,
 )
 from navtools.words import BadCall, server_of, status_of
 
@@ -49,6 +50,12 @@ MOST_LIVES = 1000
 
 class Late(BadCall):
     """Another publish of the set was faster, or is under way; the text is the one line to print."""
+
+
+def content_of(path: str) -> bytes:
+    """The bytes of a file."""
+    with open(path, "rb") as file:
+        return file.read()
 
 
 class Store:
@@ -80,12 +87,22 @@ class Store:
 
     def projects(self) -> dict[str, set[str]]:
         """The projects of the server, each with the parts that it has: `lsif`, `tags`."""
-        return {
-            one["name"]: {
-                part for part, there in (("lsif", one["dump"]), ("tags", one["tags"])) if there
+        with self.understood():
+            return {
+                one["name"]: {
+                    part for part, there in (("lsif", one["dump"]), ("tags", one["tags"])) if there
+                }
+                for one in self.found("/projects", {}, "projects")
             }
-            for one in self.found("/projects", {}, "projects")
-        }
+
+    @contextmanager
+    def understood(self) -> Iterator[None]:
+        """Has a reply without what is looked for in it be a fault of the server."""
+        try:
+            yield
+        except (KeyError, TypeError, AttributeError):
+            text = f"{self.server}: not a reply of codenav as these tools know it"
+            raise NoReply(text) from None
 
     def tags(self, project: str, prefix: str) -> list[dict[str, Any]]:
         """The tags of a project whose names begin with a text."""
@@ -161,7 +178,8 @@ def after(mark: str, life: int = 0) -> str:
 
 def is_alive(record: dict[str, str]) -> bool:
     """Whether the process that put a record of a claim may still be at work."""
-    if time.time() - float(record.get("time", "0")) > LEASE:
+    # a clock that goes otherwise than this one's is no reason to wait for longer
+    if abs(time.time() - float(record.get("time", "0"))) > LEASE:
         return False
     if record.get("host") != socket.gethostname():
         return True
@@ -285,13 +303,16 @@ class Publish:
         """Puts the parts that aren't there."""
         for project, files in self.files.items():
             missing = [part for part in files if part not in there.get(project, ())]
+            bodies = self.bodies_of(project, files) if missing else {}
             for part in missing:
                 claim.renew()
-                with open(files[part], "rb") as body:
-                    self.store.put(
-                        project, part, body.read(), secrets.token_hex(16), self.profile(part)
-                    )
+                key = secrets.token_hex(16)
+                self.store.put(project, part, bodies[part], key, self.profile(part))
             self.report.new += bool(missing)
+
+    def bodies_of(self, project: str, files: dict[str, str]) -> dict[str, bytes]:
+        """What the files of a part have."""
+        return {part: content_of(path) for part, path in files.items()}
 
     def profile(self, part: str) -> str:
         """The profile that a part of a project is put with."""
@@ -300,10 +321,8 @@ class Publish:
     def put_manifest(self, old: Optional[Head]) -> None:
         """Puts the manifest, which is the switch; raises Late where another one came after the old
         one."""
-        with open(os.path.join(self.folder, MANIFEST), "rb") as file:
-            lines = [line.decode() for line in file if not line.startswith((b"!_TAG_", rb"\x02"))]
-        body = tags_text([*head_lines(self.head.with_mark(self.mark)), *lines])
-        name = self.head.name
+        path, name = os.path.join(self.folder, MANIFEST), self.head.name
+        body = with_head(path, self.head.with_mark(self.mark))
         for life in range(MOST_LIVES):
             self.store.put(name + PARTS, "tags", body, after(old.mark if old else "", life))
             now = self.store.head(name)

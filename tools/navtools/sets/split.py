@@ -30,6 +30,7 @@ from navtools.sets.cuts import TooLarge, planned
 from navtools.sets.flat import Flat, flattened
 from navtools.sets.graph import ASKED, Graph, read_graph
 from navtools.sets.manifest import (
+    DIGITS,
     MANIFEST,
     DocumentEntry,
     Head,
@@ -39,6 +40,7 @@ from navtools.sets.manifest import (
     head_lines,
     listed,
     needs_lists,
+    part_name,
     read_head,
     set_name,
     tags_text,
@@ -47,7 +49,6 @@ from navtools.sets.write import Lines, Part
 from navtools.words import BadCall, status_of
 
 TOOL = "split-lsif"
-DIGITS = 16
 PROGRESS_BYTES = 5_000_000
 
 
@@ -67,13 +68,6 @@ class Written:
     project: str
     elements: int
     bytes: int
-
-
-def part_name(name: str, body: bytes, profile: str = "1", tags: bytes = b"") -> str:
-    """The project of a part of a set with this dump, which is read in a profile, and these tags."""
-    digest = hashlib.sha256(b"" if profile == "1" else f"profile {profile}\n".encode())
-    digest.update(body + tags)
-    return f"{name}-{digest.hexdigest()[:DIGITS]}"
 
 
 def put_file(path: str, body: bytes) -> None:

@@ -14,7 +14,7 @@ from dataclasses import dataclass, field
 from typing import BinaryIO, Iterator, NamedTuple, Optional, cast
 
 from navtools.client import NoReply
-from navtools.outputs import excesses
+from navtools.outputs import excesses, whole_file
 from navtools.sets import split
 from navtools.sets.manifest import (
     MANIFEST,
@@ -24,10 +24,12 @@ from navtools.sets.manifest import (
     Head,
     PartEntry,
     package_of,
+    part_name,
     read_head,
     set_name,
+    with_head,
 )
-from navtools.sets.publish import CLAIM, Claim, Publish, Store
+from navtools.sets.publish import CLAIM, Claim, Publish, Store, content_of
 from navtools.surfaces.surface import write_surface
 from navtools.words import BadCall
 
@@ -36,7 +38,12 @@ DIGITS = "-[0-9a-f]{16}"
 
 
 def surface_name(name: str) -> str:
-    """The set that the surface of a set is; raises BadCall where the name is too long for it."""
+    """The set that the surface of a set is; raises BadCall where the name is too long for it, or is
+    that of a surface."""
+    if name.endswith(SURFACE):
+        raise BadCall(
+            f"on several servers a set's name doesn't end with {SURFACE}, as {name!r} does"
+        )
     if len(name) > MOST_NAME:
         raise BadCall(
             f"on several servers a set's name has at most {MOST_NAME} characters, not {name!r}"
@@ -52,20 +59,39 @@ class Made(NamedTuple):
 
 
 def made_surface(dump: str, name: str, profile: str, folder: str) -> Made:
-    """Writes the surface of a prepared dump into a folder, in parts where it's over the limits."""
+    """Writes the surface of a prepared dump into a folder, in parts where it's over the limits, and
+    removes what's left there of another one."""
     os.makedirs(folder, exist_ok=True)
     whole = os.path.join(folder, "whole.lsif")
     with open(dump, "rb") as source:
         _, surface = write_surface(cast(BinaryIO, source), dump, profile, whole)
-    packages = surface.joined_packages()
-    if not surface.bearers:
-        return Made((), packages)
-    if excesses(surface.lines.count, surface.bytes, surface.longest):
-        return Made(split_surface(whole, name, profile, folder), packages)
-    with open(whole, "rb") as file:
-        project = split.part_name(surface_name(name), file.read(), profile)
-    os.replace(whole, os.path.join(folder, f"{project}.lsif"))
-    return Made((PartEntry(project, surface.lines.count, ""),), packages)
+    parts: tuple[PartEntry, ...] = ()
+    if surface.bearers and excesses(surface.lines.count, surface.bytes, surface.longest):
+        parts = split_surface(whole, name, profile, folder)
+    elif surface.bearers:
+        project = part_name(surface_name(name), content_of(whole), profile)
+        os.replace(whole, surface_file(folder, project))
+        parts = (PartEntry(project, surface.lines.count, ""),)
+    named = {surface_file(folder, part.project) for part in parts}
+    for file in os.listdir(folder):
+        path = os.path.join(folder, file)
+        if file.endswith(".lsif") and path not in named:
+            os.unlink(path)
+    return Made(parts, surface.joined_packages())
+
+
+def surface_file(folder: str, project: str) -> str:
+    """The file of a part of a surface in its folder."""
+    return os.path.join(folder, f"{project}.lsif")
+
+
+def keep_surface(folder: str, surface: Made) -> None:
+    """Writes into the manifest of a set's folder what its surface is."""
+    path = os.path.join(folder, MANIFEST)
+    head = read_head(path)._replace(surface=surface.parts, packages=surface.packages)
+    body = with_head(path, head)
+    with whole_file(path) as out:
+        out.write(body)
 
 
 def split_surface(whole: str, name: str, profile: str, folder: str) -> tuple[PartEntry, ...]:
@@ -141,9 +167,9 @@ class Spread(Publish):
         for part in self.head.surface:
             if part.project in wanted and part.project not in there:
                 claim.renew()
-                with open(os.path.join(self.surface, f"{part.project}.lsif"), "rb") as body:
-                    key = secrets.token_hex(16)
-                    store.put(part.project, "lsif", body.read(), key, self.head.profile)
+                files = {"lsif": surface_file(self.surface, part.project)}
+                body = self.bodies_of(part.project, files)["lsif"]
+                store.put(part.project, "lsif", body, secrets.token_hex(16), self.head.profile)
 
     def remove_old(self, claim: Claim, old: Optional[Head]) -> None:
         """Removes the old parts at the home, and those of the surface that aren't wanted on each
@@ -176,8 +202,9 @@ class Spread(Publish):
         except NoReply as fault:
             done = ", ".join(self.done) or "none"
             state = "switched" if self.is_switched else "as it was"
+            where = "" if str(fault).startswith(store.server) else f"{store.server}: "
             raise NoReply(
-                f"{fault}; servers done: {done}; the set is {state}, publish again"
+                f"{where}{fault}; servers done: {done}; the set is {state}, publish again"
             ) from None
         if store.server not in self.done:
             self.done.append(store.server)
