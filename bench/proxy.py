@@ -187,8 +187,9 @@ def homes(ports: list[int]) -> dict[str, int]:
     return home
 
 
-def publish_all(front: Front, servers: list[str]) -> None:
-    """Publishes each project as a set, by the tool, with its surface on the other servers."""
+def publish_all(front: Front, servers: list[str], kept: Optional[str] = None) -> None:
+    """Publishes each project as a set, by the tool, with its surface on the other servers, and
+    keeps them in a folder where one is named."""
     folder = front.folder
     os.environ["SSL_CERT_FILE"] = f"{folder}/codenav/certificate.pem"
     os.environ["CODENAV_USER"] = USER
@@ -197,6 +198,7 @@ def publish_all(front: Front, servers: list[str]) -> None:
         with open(path, "w", encoding="utf-8") as out:
             out.write(dump(number))
         words = ["--servers", ",".join(servers), "--no-tags", "--dump", path]
+        words += ["--keep", f"{kept}/{project}"] if kept else []
         with redirect_stdout(StringIO()), redirect_stderr(StringIO()) as said:
             status = publish.main([*words, front.url, project, folder])
         if status != 0:
