@@ -34,6 +34,7 @@ from tests.fronts import KINDS, NOBODY, Front, adding, fronted, host_of, lacking
 
 SERVERS = 3
 CLIENTS = 4
+MANY = 8
 SECONDS = 60
 # how long a front holds a request while its server is away: 600 s in packaging/front
 LONGEST = 10
@@ -193,7 +194,7 @@ def lose(trial: Trial, questions: list[Question]) -> None:
     row("a server is lost: its sets", its, taken, "")
     row("the sets of the others", others, taken, "")
     if its["right"] + its["wrong"] or others["failed"] + others["wrong"]:
-        raise Failed(f"lost: {its}, {others}")
+        raise Failed(f"lost: {its}, {others} {sorted({question.fault for question, _ in found})}")
     trial.running[port] = trial.start(port)
     begin = time.monotonic()
     said = trial.rebalance(servers)
@@ -215,7 +216,11 @@ def each_once(trial: Trial, questions: list[Question]) -> list[tuple[Question, s
         for question in some:
             found.append((question, question.ask(indexes[question.project])))
 
-    clients = [threading.Thread(target=ask, args=(questions[at::8],)) for at in range(8)]
+    # the questions of a project are one client's, as an index is
+    projects = sorted(indexes)
+    shares = [set(projects[at::MANY]) for at in range(MANY)]
+    parts = [[one for one in questions if one.project in share] for share in shares]
+    clients = [threading.Thread(target=ask, args=(part,)) for part in parts]
     for client in clients:
         client.start()
     for client in clients:
