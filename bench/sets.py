@@ -1,21 +1,30 @@
 #!/usr/bin/env python3
-"""Measures a set: splits a large dump, publishes it, asks it, then changes one document, splits and
-publishes again; beside it a small set is asked in the same run. Prints what each stage took: wall
-clock, processor time of the tools and of the server, and memory of the tools.
+"""Measures a set: splits a large dump and a small one, publishes both, asks both in turns, then
+changes one document of the large one, splits and publishes again. Prints what each stage took: wall
+clock, processor time of the tool and of the server, and the most memory of the tool with its
+processes and of the server.
 
-usage: bench/sets.py PROGRAM LARGE SMALL [ASKED]
-       (both dumps are prepared; bench/large_dump.py makes a large one)
+Where it asks is chosen by chance among the ranges of the parts, of which one at a time is in
+memory. The document that's changed is that which most documents lead to among those that were
+asked for definitions.
+
+usage: bench/sets.py PROGRAM LARGE SMALL [ASKED [FOLDER]]
+       (both dumps are prepared; bench/large_dump.py makes a large one. ASKED questions of each
+       kind, 300 without it. FOLDER keeps the splits, and a later run takes those that it has.)
 """
 
 import json
 import os
 import random
+import re
 import resource
+import shutil
 import subprocess
 import sys
 import tempfile
 import time
 from contextlib import contextmanager
+from dataclasses import dataclass, field
 from typing import Any, Iterator
 
 TOP = os.path.dirname(os.path.dirname(os.path.abspath(__file__)))
@@ -24,147 +33,301 @@ sys.path.insert(0, os.path.join(TOP, "tools"))
 from navtools import client
 from navtools.client import found_in, request
 from navtools.sets.ask import Asked
-from navtools.sets.graph import LINE, REFERENCES, read_graph
-from navtools.sets.flat import Flat, flattened
+from navtools.sets.manifest import MANIFEST, Head, read_documents, read_head
 from navtools.serving import ended, free_port, started
 
 TICKS = os.sysconf("SC_CLK_TCK")
 KINDS = {"definition": "places", "references": "places", "hover": "contents"}
+TURNS = 20
+PROCESSES = "2"
+EACH = 0.25
+ID = re.compile(rb'"id":(\d+)')
+Point = tuple[str, int, int]
 
 
-def server_seconds(pid: int) -> float:
+def processor_seconds(pid: int) -> float:
     """The processor time of a process."""
     with open(f"/proc/{pid}/stat", encoding="ascii") as file:
         fields = file.read().rpartition(")")[2].split()
     return (int(fields[11]) + int(fields[12])) / TICKS
 
 
+def exact_seconds(pid: int) -> float:
+    """The processor time of a process of one thread, to the microsecond."""
+    with open(f"/proc/{pid}/schedstat", encoding="ascii") as file:
+        return int(file.read().split()[0]) / 1e9
+
+
+def most_memory(pid: int) -> int:
+    """The most memory that a process had so far, in MB."""
+    with open(f"/proc/{pid}/status", encoding="ascii") as file:
+        return next(int(line.split()[1]) for line in file if line.startswith("VmHWM")) >> 10
+
+
+def family(pid: int) -> list[int]:
+    """A process and its children."""
+    try:
+        with open(f"/proc/{pid}/task/{pid}/children", encoding="ascii") as file:
+            return [pid, *map(int, file.read().split())]
+    except OSError:
+        return [pid]
+
+
+def shared_memory(pid: int) -> int:
+    """The memory of a process and its children in MB, in which what they share counts once."""
+    total = 0
+    for own in family(pid):
+        try:
+            with open(f"/proc/{own}/smaps_rollup", encoding="ascii") as file:
+                total += next(int(line.split()[1]) for line in file if line.startswith("Pss:"))
+        except (OSError, StopIteration):
+            pass
+    return total >> 10
+
+
 @contextmanager
-def stage(name: str, pid: int) -> Iterator[None]:
-    """Prints what is spent in the context."""
-    wall, server = time.monotonic(), server_seconds(pid)
-    before = resource.getrusage(resource.RUSAGE_CHILDREN)
-    yield
-    after = resource.getrusage(resource.RUSAGE_CHILDREN)
-    tool = after.ru_utime + after.ru_stime - before.ru_utime - before.ru_stime
+def stage(name: str, pid: int) -> Iterator[dict[str, float]]:
+    """Prints what is spent in the context, which notes what its tool took."""
+    wall, server = time.monotonic(), processor_seconds(pid)
+    used: dict[str, float] = {}
+    yield used
     print(
-        f"{name}: {time.monotonic() - wall:.1f} s, tool {tool:.1f} s, server {server_seconds(pid) - server:.1f} s, "
-        f"most memory of a tool so far {after.ru_maxrss >> 10} MB",
+        f"{name}: {time.monotonic() - wall:.1f} s, tool {used['seconds']:.1f} s and {used['memory']} MB, "
+        f"server {processor_seconds(pid) - server:.1f} s and at most {most_memory(pid)} MB so far",
         flush=True,
     )
 
 
-def called(*words: str) -> None:
+def called(used: dict[str, float], *words: str) -> None:
     """Calls a tool."""
-    done = subprocess.run([sys.executable, *words], check=True, capture_output=True)
-    print((done.stdout + done.stderr).decode().rstrip("\n"), flush=True)
+    used["memory"] = 0
+    before = resource.getrusage(resource.RUSAGE_CHILDREN)
+    with tempfile.TemporaryFile() as said:
+        with subprocess.Popen([sys.executable, *words], stdout=said, stderr=said) as tool:
+            while tool.poll() is None:
+                used["memory"] = max(used["memory"], shared_memory(tool.pid))
+                try:
+                    tool.wait(EACH)
+                except subprocess.TimeoutExpired:
+                    pass
+        said.seek(0)
+        text = said.read().decode().rstrip("\n")
+    after = resource.getrusage(resource.RUSAGE_CHILDREN)
+    used["seconds"] = after.ru_utime + after.ru_stime - before.ru_utime - before.ru_stime
+    if tool.returncode != 0:
+        sys.exit(f"{words[0]}: {text}")
+    print(text, flush=True)
 
 
-def points_of(flat: Flat, count: int) -> list[tuple[str, int, int]]:
-    """Places of ranges, by chance."""
+def points_in(path: str, count: int, rng: random.Random) -> Iterator[Point]:
+    """So many places of ranges of a part, by chance."""
+    homes: list[tuple[str, int, int]] = []
+    ranges = {}
+    with open(path, "rb") as file:
+        for line in file:
+            if b'"label":"range"' in line:
+                found = ID.search(line)
+                assert found is not None
+                ranges[int(found[1])] = line
+            elif b'"label":"document"' in line:
+                uri = json.loads(line)["uri"]
+            elif b'"label":"contains"' in line:
+                inside = json.loads(line)["inVs"]
+                homes += [(uri, inside[0], inside[-1])] if inside else []
+    for own in rng.choices(list(ranges), k=count):
+        start = json.loads(ranges[own])["start"]
+        uri = next(uri for uri, first, last in homes if first <= own <= last)
+        yield uri, start["line"], start["character"]
+
+
+def points_of(folder: str, count: int) -> list[Point]:
+    """So many places of ranges of a set, by chance: about as many of each part."""
     rng = random.Random(3)
-    found = []
-    while len(found) < count:
-        rank = rng.randrange(len(flat.start))
-        if flat.meaning[rank] >= 0 and flat.start[rank] // LINE == flat.end[rank] // LINE:
-            line, character = divmod(flat.start[rank], LINE)
-            found.append((flat.uris[flat.document_of(rank)], line, character))
+    parts = read_head(os.path.join(folder, MANIFEST)).parts
+    each, more = divmod(count, len(parts))
+    found: list[Point] = []
+    for at, part in enumerate(parts):
+        path = os.path.join(folder, f"{part.project}.lsif")
+        found += points_in(path, each + (at < more), rng)
+    rng.shuffle(found)
     return found
 
 
-def most_used(flat: Flat) -> str:
-    """The document that most documents refer to."""
-    users: dict[int, set[int]] = {}
-    for firsts in flat.firsts:
-        result = firsts[REFERENCES]
-        if result >= 0:
-            own = flat.places_of(result, 0)
-            if own:
-                found = users.setdefault(flat.document_of(own[0]), set())
-                found.update(map(flat.document_of, flat.places_of(result, 1)))
-    return flat.uris[max(users, key=lambda document: len(users[document]))]
+@dataclass
+class Asking:
+    """A set that is asked: the time of each answer, the server's processor time, and for each
+    document those that lead to it."""
 
+    url: str
+    name: str
+    points: list[Point]
+    times: dict[str, list[float]] = field(default_factory=lambda: {kind: [] for kind in KINDS})
+    server: dict[str, float] = field(default_factory=lambda: dict.fromkeys(KINDS, 0.0))
+    users: dict[str, set[str]] = field(default_factory=dict)
 
-def flat_of(path: str) -> Flat:
-    """The flat tables of a dump."""
-    with open(path, "rb") as source:
-        return flattened(read_graph(source, path, "1", False, "split-lsif"))
+    def __post_init__(self) -> None:
+        self.asked = Asked(self.name, self.fetch)
 
+    def fetch(self, path: str, parameters: dict[str, Any], member: str) -> Any:
+        """What the server answers."""
+        return found_in(request(client.address(self.url, path, parameters)), member)
 
-def asked(url: str, name: str, points: list[tuple[str, int, int]]) -> None:
-    """Asks a set at places and prints how long that takes."""
-
-    def fetch(path: str, parameters: dict[str, Any], member: str) -> Any:
-        return found_in(request(client.address(url, path, parameters)), member)
-
-    one = Asked(name, fetch)
-    for kind, member in KINDS.items():
-        times = []
-        for uri, line, character in points:
+    def ask(self, kind: str, turn: int, pid: int) -> None:
+        """Asks a share of the questions of a kind."""
+        server = exact_seconds(pid)
+        for uri, line, character in self.points[turn::TURNS]:
+            at = {"uri": uri, "line": line, "character": character}
             began = time.perf_counter()
-            one.query(kind, {"uri": uri, "line": line, "character": character}, member)
-            times.append((time.perf_counter() - began) * 1e3)
-        times.sort()
-        print(
-            f"{name}, {kind}, {len(times)} asked: p50 {times[len(times) // 2]:.2f} ms, p99 {times[len(times) * 99 // 100]:.2f} ms",
-            flush=True,
-        )
+            found = self.asked.query(kind, at, KINDS[kind])
+            self.times[kind].append((time.perf_counter() - began) * 1e3)
+            for place in found if kind == "definition" else ():
+                self.users.setdefault(place["uri"], set()).add(uri)
+        self.server[kind] += exact_seconds(pid) - server
+
+    def most_used(self) -> str:
+        """The document that most documents lead to."""
+        return max(sorted(self.users), key=lambda uri: len(self.users[uri]))
+
+    def figures(self, kind: str) -> tuple[float, float, float]:
+        """The median and the 99th percentile in ms, and the server's time of one on average."""
+        times = sorted(self.times[kind])
+        own = self.server[kind] / len(times) * 1e3
+        return times[len(times) // 2], times[len(times) * 99 // 100], own
+
+
+def asked_in_turns(small: Asking, large: Asking, pid: int) -> None:
+    """Asks both sets in turns, and prints the figures of each and their ratio."""
+    for one in (small, large):
+        one.ask("definition", 0, pid)
+        one.times["definition"].clear()
+        one.server["definition"] = 0.0
+    for turn in range(TURNS):
+        for kind in KINDS:
+            for one in (small, large) if turn % 2 else (large, small):
+                one.ask(kind, turn, pid)
+    for kind in KINDS:
+        found = [one.figures(kind) for one in (small, large)]
+        for one, (middle, late, server) in zip((small, large), found):
+            print(
+                f"{one.name}, {kind}, {len(one.times[kind])} asked: p50 {middle:.3f} ms, p99 {late:.3f} ms, "
+                f"the server's own {server:.3f} ms on average"
+            )
+        ratios = (large / small for small, large in zip(*found))
+        print(f"{kind}, large to small:", *(f"{ratio:.2f}" for ratio in ratios), flush=True)
 
 
 def edited(path: str, uri: str, out: str) -> None:
     """Writes a dump in which a document has a line more at its top."""
     own, inside = None, set()
-    with open(path, encoding="utf-8") as file:
+    with open(path, "rb") as file:
         for line in file:
-            if '"document"' in line and json.loads(line).get("uri") == uri:
+            if b'"document"' in line and json.loads(line).get("uri") == uri:
                 own = json.loads(line)["id"]
-            elif own is not None and '"contains"' in line and json.loads(line)["outV"] == own:
+            elif own is not None and b'"contains"' in line and json.loads(line)["outV"] == own:
                 inside.update(json.loads(line)["inVs"])
-    with open(path, encoding="utf-8") as file, open(out, "w", encoding="utf-8") as written:
+    with open(path, "rb") as file, open(out, "wb") as written:
         for line in file:
-            if '"label":"range"' in line:
-                one = json.loads(line)
-                if one["id"] in inside:
+            if b'"label":"range"' in line:
+                found = ID.search(line)
+                if found is not None and int(found[1]) in inside:
+                    one = json.loads(line)
                     for end in ("start", "end"):
                         one[end]["line"] += 1
-                    line = json.dumps(one, separators=(",", ":")) + "\n"
+                    line = json.dumps(one, separators=(",", ":")).encode() + b"\n"
             written.write(line)
+
+
+def read_text(path: str) -> str:
+    """What a file has."""
+    with open(path, encoding="utf-8") as file:
+        return file.read()
+
+
+def head_of(folder: str) -> Head:
+    """What the manifest in a folder says."""
+    return read_head(os.path.join(folder, MANIFEST))
+
+
+def split(name: str, path: str, own: str, pid: int) -> None:
+    """Splits a dump."""
+    with stage(f"{name}, split", pid) as used:
+        words = ["--jobs", PROCESSES, "--name", name.split()[0], path, own]
+        called(used, f"{TOP}/tools/split-lsif", *words)
+
+
+def published(name: str, url: str, own: str, pid: int) -> None:
+    """Publishes what is in a folder."""
+    with stage(f"{name}, published", pid) as used:
+        called(used, f"{TOP}/tools/publish-set", url, own)
+
+
+def changed(large: str, own: str, uri: str, pid: int) -> str:
+    """Changes a document of the large dump, and splits it with the cuts of before; answers the
+    folder with the parts."""
+    again, dump = f"{own} again", f"{own}.lsif"
+    known = os.path.join(again, "changed")
+    parts = {one.project for one in read_documents(os.path.join(own, MANIFEST), head_of(own))}
+    print(f"a line more in {uri}, of a set of {len(parts)} parts")
+    if not os.path.exists(known) or read_text(known) != uri:
+        os.makedirs(again, exist_ok=True)
+        shutil.copy(os.path.join(own, MANIFEST), again)
+        edited(large, uri, dump)
+        split("large again", dump, again, pid)
+        os.unlink(dump)
+        with open(known, "w", encoding="utf-8") as file:
+            file.write(uri)
+    return again
+
+
+def files_of(database: str) -> list[str]:
+    """The files of a database that are there."""
+    return [path for path in (database, f"{database}-wal") if os.path.exists(path)]
+
+
+def print_size(database: str) -> None:
+    """Prints how large the files of a database are."""
+    print(f"database and log {sum(map(os.path.getsize, files_of(database))) >> 20} MB", flush=True)
 
 
 def measured(program: str, large: str, small: str, count: int, folder: str) -> None:
     """Measures everything."""
     port = free_port()
     database = os.path.join(folder, "index.db")
+    for path in files_of(database):
+        os.unlink(path)
     server = started(program, port, 1_000_000, database)
     url = f"http://127.0.0.1:{port}"
-    flat = flat_of(large)
-    points, changed = points_of(flat, count), most_used(flat)
-    del flat
-    for name, path in (("small", small), ("large", large)):
-        own = os.path.join(folder, name)
-        with stage(f"{name}, split", server.pid):
-            called(f"{TOP}/tools/split-lsif", path, own)
-        with stage(f"{name}, published", server.pid):
-            called(f"{TOP}/tools/publish-set", url, own)
-    asked(url, "small", points_of(flat_of(small), count))
-    asked(url, "large", points)
-    again = os.path.join(folder, "again.lsif")
-    edited(large, changed, again)
-    print(f"a line more in {changed}, which most documents refer to")
-    with stage("large, split again", server.pid):
-        called(f"{TOP}/tools/split-lsif", again, os.path.join(folder, "large"))
-    with stage("large, published again", server.pid):
-        called(f"{TOP}/tools/publish-set", url, os.path.join(folder, "large"))
-    files = [path for path in (database, f"{database}-wal") if os.path.exists(path)]
-    print(f"database and log {sum(map(os.path.getsize, files)) >> 20} MB")
+    folders = {name: os.path.join(folder, name) for name in ("small", "large")}
+    for (name, own), path in zip(folders.items(), (small, large)):
+        if not os.path.exists(os.path.join(own, MANIFEST)):
+            split(name, path, own, server.pid)
+        published(name, url, own, server.pid)
+        print_size(database)
+    askings = [Asking(url, name, points_of(own, count)) for name, own in folders.items()]
+    asked_in_turns(*askings, server.pid)
+    again = changed(large, folders["large"], askings[1].most_used(), server.pid)
+    published("large again", url, again, server.pid)
+    print_size(database)
     ended(server)
     began = time.monotonic()
-    ended(started(program, port, 1_000_000, database))
-    print(f"a start over it {time.monotonic() - began:.1f} s")
+    server = started(program, port, 1_000_000, database)
+    print(
+        f"a start over it {time.monotonic() - began:.1f} s, "
+        f"processor {processor_seconds(server.pid):.1f} s, {most_memory(server.pid)} MB"
+    )
+    ended(server)
+
+
+def main(words: list[str]) -> None:
+    """Reads the command line."""
+    if len(words) not in (3, 4, 5):
+        sys.exit("usage: bench/sets.py PROGRAM LARGE SMALL [ASKED [FOLDER]]")
+    count = int((words[3:] or ["300"])[0])
+    with tempfile.TemporaryDirectory() as made:
+        folder = (words[4:] or [made])[0]
+        os.makedirs(folder, exist_ok=True)
+        measured(*words[:3], count, folder)
 
 
 if __name__ == "__main__":
-    if len(sys.argv) not in (4, 5):
-        sys.exit("usage: bench/sets.py PROGRAM LARGE SMALL [ASKED]")
-    with tempfile.TemporaryDirectory() as made:
-        measured(*sys.argv[1:4], int((sys.argv[4:] or ["300"])[0]), made)
+    main(sys.argv[1:])

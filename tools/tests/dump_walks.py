@@ -1,14 +1,15 @@
 """Answers of whole dumps by a walk over their elements, as docs/DEFINITIONS.md says them, for tests
 that need no server; and random dumps to walk.
 
-It's written for being read, and searches all elements at each step.
+It's written for being read: it has the edges of each kind by their ends, and nothing is joined or cut
+before a question is asked.
 """
 
 import functools
 import json
 import random
 from dataclasses import dataclass
-from typing import Any, Iterator
+from typing import Any, Iterable, Iterator
 
 Element = dict[str, Any]
 Place = tuple[str, str, tuple[int, int], tuple[int, int]]
@@ -32,30 +33,50 @@ class Question:
     declaration: bool = True
 
 
+def grouped(pairs: Iterable[tuple[Any, Any]]) -> dict[Any, list[Any]]:
+    """The second ones of pairs by the first ones, in order."""
+    found: dict[Any, list[Any]] = {}
+    for one, other in pairs:
+        found.setdefault(one, []).append(other)
+    return found
+
+
 class Walk:
     """A dump and its edges."""
 
-    def __init__(self, elements: list[Element], profile: str) -> None:
+    def __init__(self, elements: Iterable[Element], profile: str) -> None:
         self.requests = OF_PROFILE[profile]
-        self.vertices = {one["id"]: one for one in elements if one["type"] == "vertex"}
+        self.vertices: dict[Any, Element] = {}
+        labels: dict[str, list[Element]] = {}
+        for one in elements:
+            if one["type"] == "vertex":
+                self.vertices[one["id"]] = one
+            else:
+                labels.setdefault(one["label"], []).append(one)
         self.lines = {own: line for line, own in enumerate(self.vertices)}
-        self.edges = [one for one in elements if one["type"] == "edge"]
         self.home = {
             target: edge["outV"]
-            for edge in self.edges
-            if edge["label"] == "contains" and self.vertices[edge["outV"]]["label"] == "document"
+            for edge in labels.get("contains", [])
+            if self.vertices[edge["outV"]]["label"] == "document"
             for target in edge["inVs"]
         }
-        self.after = {e["outV"]: e["inV"] for e in self.edges if e["label"] == "next"}
+        self.after = {e["outV"]: e["inV"] for e in labels.get("next", [])}
         self.bound = {
             (edge["outV"], request): edge["inV"]
             for request in self.requests
-            for edge in self.edges
-            if edge["label"] == f"textDocument/{request}"
+            for edge in labels.get(f"textDocument/{request}", [])
         }
-        self.borne = [
-            (edge["outV"], edge["inV"]) for edge in self.edges if edge["label"] == "moniker"
-        ]
+        self.borne = [(edge["outV"], edge["inV"]) for edge in labels.get("moniker", [])]
+        self.monikers = grouped(self.borne)
+        self.packages = {e["outV"]: e["inV"] for e in labels.get("packageInformation", [])}
+        attached = [(edge["outV"], edge["inV"]) for edge in labels.get("attach", [])]
+        self.attached = grouped([*attached, *((to, own) for own, to in attached)])
+        self.items = grouped((edge["outV"], edge) for edge in labels.get("item", []))
+        self.on_line = grouped(
+            ((self.uri(own), line), own)
+            for own in self.home
+            for line in range(self.span(own)[0][0], self.span(own)[1][0] + 1)
+        )
 
     @functools.cache
     def span(self, own: Any) -> tuple[tuple[int, int], tuple[int, int]]:
@@ -72,8 +93,8 @@ class Walk:
         """The ranges of a document that cover a position, the smallest first."""
         found = [
             own
-            for own in self.home
-            if self.uri(own) == uri and self.span(own)[0] <= position < self.span(own)[1]
+            for own in self.on_line.get((uri, position[0]), [])
+            if self.span(own)[0] <= position < self.span(own)[1]
         ]
         order = sorted(found, key=lambda own: (self.span(own)[0], [-n for n in self.span(own)[1]]))
         return tuple(reversed(order))
@@ -99,14 +120,7 @@ class Walk:
     @functools.cache
     def key(self, moniker: Any) -> tuple[Any, ...]:
         """The key of a moniker."""
-        package = next(
-            (
-                self.vertices[edge["inV"]]
-                for edge in self.edges
-                if edge["label"] == "packageInformation" and edge["outV"] == moniker
-            ),
-            None,
-        )
+        package = self.vertices.get(self.packages.get(moniker))
         of_package = package and tuple(package[name] for name in ("manager", "name", "version"))
         return (*(self.vertices[moniker][name] for name in ("scheme", "identifier")), of_package)
 
@@ -115,12 +129,9 @@ class Walk:
         """A moniker and those that `attach` edges lead to, either way."""
         found, todo = {moniker}, [moniker]
         while todo:
-            own = todo.pop()
-            for edge in self.edges:
-                if edge["label"] == "attach" and own in (edge["outV"], edge["inV"]):
-                    for other in {edge["outV"], edge["inV"]} - found:
-                        found.add(other)
-                        todo.append(other)
+            more = set(self.attached.get(todo.pop(), [])) - found
+            found |= more
+            todo += more
         return found
 
     @functools.cache
@@ -131,15 +142,21 @@ class Walk:
     @functools.cache
     def marks(self, own: Any) -> set[tuple[str, Any]]:
         """The marks of a range."""
-        chain = list(self.chain(own))
         return {
-            mark for at, moniker in self.borne if at in chain for mark in self.marks_of(moniker)
+            mark
+            for at in self.chain(own)
+            for moniker in self.monikers.get(at, [])
+            for mark in self.marks_of(moniker)
         }
 
-    @functools.cache
+    @functools.cached_property
+    def bearers_of(self) -> dict[tuple[str, Any], list[Any]]:
+        """What has a moniker, by its kind and key."""
+        return grouped((mark, at) for at, moniker in self.borne for mark in self.marks_of(moniker))
+
     def bearers(self, kind: str, key: Any) -> list[Any]:
         """What has a moniker of a kind and a key."""
-        return [at for at, moniker in self.borne if (kind, key) in self.marks_of(moniker)]
+        return self.bearers_of.get((kind, key), [])
 
     @functools.cache
     def places(self, result: Any, roles: tuple[str, ...]) -> set[tuple[str, Any, Any]]:
@@ -148,9 +165,7 @@ class Walk:
         places = set()
         while todo:
             own = todo.pop()
-            for edge in self.edges:
-                if edge["label"] != "item" or edge["outV"] != own:
-                    continue
+            for edge in self.items.get(own, []):
                 role = edge.get("property", "definitions")
                 if role == "referenceResults":
                     todo += [end for end in edge["inVs"] if end not in found]

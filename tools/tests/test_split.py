@@ -190,6 +190,27 @@ class Split(unittest.TestCase):
             files = {file[:-5] for file in os.listdir(self.out) if file.endswith(".lsif")}
             self.assertEqual(files, set(self.head().projects()))
 
+    def files(self) -> dict[str, bytes]:
+        """What was written, by the names of files."""
+        found = {}
+        for name in os.listdir(self.out):
+            with open(os.path.join(self.out, name), "rb") as file:
+                found[name] = file.read()
+        return found
+
+    def test_processes(self) -> None:
+        """The same files, byte for byte, by however many processes they're written."""
+        uris = {f"file:///{folder}/{file}": 20 for folder in "abcd" for file in range(6)}
+        body, found = body_of(made(uris)), []
+        for jobs in ("1", "2", "5", "40"):
+            self.out = os.path.join(self.folder, jobs)
+            words = ["--jobs", jobs, "--name", "code", "--elements", "200"]
+            self.assertEqual(self.split(body, *words)[0], 0)
+            found.append(self.files())
+        self.assertGreater(len(found[0]), 5)
+        for other in found[1:]:
+            self.assertEqual(found[0], other)
+
     def test_parts_are_half_full(self) -> None:
         """Where documents go, parts are joined, so that they are half full on average."""
         uris = {f"file:///{folder}/{file}": 20 for folder in "abcdef" for file in range(6)}

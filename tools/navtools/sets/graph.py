@@ -11,9 +11,10 @@ import os
 import sys
 from array import array
 from dataclasses import dataclass, field
+from functools import partial
 from typing import Any, BinaryIO, Callable, Iterable, Iterator, Optional, Sequence
 
-from navtools.lsif import MOST_ELEMENT_BYTES, Id, NotADump, is_id, refuse_constant
+from navtools.lsif import MOST_ELEMENT_BYTES, SPACE, Id, NotADump, is_id, scan
 from navtools.sets.stored import Numbers
 from navtools.vertices import VERSION
 
@@ -159,7 +160,7 @@ class Reader:
         """A range."""
         start, end = element["start"], element["end"]
         numbers = start["line"], start["character"], end["line"], end["character"]
-        if not all(type(number) is int and 0 <= number <= MOST_NUMBER for number in numbers):
+        if {*map(type, numbers)} != {int} or min(numbers) < 0 or max(numbers) > MOST_NUMBER:
             raise Faulty("a range without a start and an end (L07)")
         graph = self.graph
         first, last = numbers[0] * LINE + numbers[1], numbers[2] * LINE + numbers[3]
@@ -311,15 +312,15 @@ class Reader:
             self.graph.attached.setdefault(one, []).append(other)
 
 
-DECODER = json.JSONDecoder(parse_constant=refuse_constant)
-
-
 def element_of(line: bytes) -> Element:
     """The element of a line; raises Faulty where it's none."""
     try:
-        value = DECODER.decode(line.decode("utf-8"))
-    except (UnicodeDecodeError, ValueError, RecursionError):
+        text = line.decode("utf-8").strip(SPACE)
+        value, end = scan(text, 0)
+    except (ValueError, RecursionError, StopIteration):
         raise Faulty("not JSON (L02)") from None
+    if end != len(text):
+        raise Faulty("not JSON (L02)")
     if type(value) is not dict or not is_id(value.get("id")):
         raise Faulty("no element with an id (L03)")
     if value.get("type") not in ("vertex", "edge") or type(value.get("label")) is not str:
@@ -342,7 +343,7 @@ def read_graph(source: BinaryIO, name: str, profile: str, progress: bool, tool: 
     far as it's looked at here."""
     reader, number = Reader(profile, Graph()), 0
     size = os.fstat(source.fileno()).st_size if progress else 0
-    for number, line in enumerate(iter(lambda: source.readline(MOST_ELEMENT_BYTES), b""), 1):
+    for number, line in enumerate(iter(partial(source.readline, MOST_ELEMENT_BYTES), b""), 1):
         try:
             if len(line) == MOST_ELEMENT_BYTES:
                 raise Faulty(f"longer than {MOST_ELEMENT_BYTES} bytes, the limit of an element")

@@ -292,9 +292,9 @@ def words_parser() -> argparse.ArgumentParser:
     parser.add_argument(
         "--jobs",
         type=int,
-        default=os.cpu_count() or 1,
+        default=len(os.sched_getaffinity(0)),
         metavar="N",
-        help="how many processes write, one for each processor without it",
+        help="how many processes write, one for each processor that the call may use without it",
     )
     add_reading(parser.add_argument_group("how a SCIP index is read"))
     parser.add_argument(
