@@ -1,8 +1,8 @@
 #!/usr/bin/env python3
-"""Measures a set: splits a large dump and a small one, publishes both, asks both in turns, then
-changes one document of the large one, splits and publishes again. Prints what each stage took: wall
-clock, processor time of the tool and of the server, and the most memory of the tool with its
-processes and of the server.
+"""Measures a set: splits a large dump and a small one, publishes both, asks both in turns, starts
+the server again, then changes one document of the large one, splits and publishes again. Prints
+what each stage took: wall clock, processor time of the tool and of the server, and the most memory
+of the tool with its processes and of the server.
 
 Where it asks is chosen by chance among the ranges of the parts, of which one at a time is in
 memory. The document that's changed is that which most documents lead to among those that were
@@ -289,6 +289,18 @@ def print_size(database: str) -> None:
     print(f"database and log {sum(map(os.path.getsize, files_of(database))) >> 20} MB", flush=True)
 
 
+def started_again(program: str, port: int, database: str) -> subprocess.Popen[bytes]:
+    """Starts a server over a database, and prints what that takes."""
+    began = time.monotonic()
+    server = started(program, port, 1_000_000, database)
+    print(
+        f"a start over it {time.monotonic() - began:.1f} s, "
+        f"processor {processor_seconds(server.pid):.1f} s, {most_memory(server.pid)} MB",
+        flush=True,
+    )
+    return server
+
+
 def measured(program: str, large: str, small: str, count: int, folder: str) -> None:
     """Measures everything."""
     port = free_port()
@@ -305,16 +317,11 @@ def measured(program: str, large: str, small: str, count: int, folder: str) -> N
         print_size(database)
     askings = [Asking(url, name, points_of(own, count)) for name, own in folders.items()]
     asked_in_turns(*askings, server.pid)
+    ended(server)
+    server = started_again(program, port, database)
     again = changed(large, folders["large"], askings[1].most_used(), server.pid)
     published("large again", url, again, server.pid)
     print_size(database)
-    ended(server)
-    began = time.monotonic()
-    server = started(program, port, 1_000_000, database)
-    print(
-        f"a start over it {time.monotonic() - began:.1f} s, "
-        f"processor {processor_seconds(server.pid):.1f} s, {most_memory(server.pid)} MB"
-    )
     ended(server)
 
 

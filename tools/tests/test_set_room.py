@@ -109,9 +109,10 @@ class FullDisk(NoRoom):
         self.disk = os.path.join(self.folder, "disk")
         os.mkdir(self.disk)
         probe = [*UNSHARE, "mount", "-t", "tmpfs", "none", self.disk]
-        done = subprocess.run(probe, capture_output=True, text=True, check=False)
-        if done.returncode != 0:
-            self.skipTest(f"no file system can be mounted here: {done.stderr.strip()}")
+        try:
+            subprocess.run(probe, capture_output=True, text=True, check=True)
+        except (OSError, subprocess.CalledProcessError) as fault:
+            self.skipTest(f"no file system can be mounted here: {fault}")
         names = {"unshare": " ".join(UNSHARE), "size": DISK, "disk": self.disk}
         wrapper = os.path.join(self.folder, "program")
         with open(wrapper, "w", encoding="utf-8") as script:

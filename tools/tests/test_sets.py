@@ -342,3 +342,27 @@ class Stable(unittest.TestCase):
                     found.append(parts_of(path, profile)[0])
             self.assertEqual(found[0], found[1], f"seed {seed}")
             self.assertEqual(found[0], found[2], f"seed {seed}")
+
+    def test_an_inserted_line(self) -> None:
+        """A line more at the top of a document changes no key of the set."""
+        for seed in SEEDS:
+            maker = Maker(random.Random(seed), "2", URIS, 3)
+            maker.make()
+            elements = maker.numbered()
+            home = next(one["id"] for one in elements if one.get("uri") == URIS[1])
+            edges = [one for one in elements if one["label"] == "contains" and one["outV"] == home]
+            inside = {end for edge in edges for end in edge["inVs"]}
+            found = []
+            for _ in range(2):
+                with tempfile.TemporaryDirectory() as folder:
+                    path = os.path.join(folder, "dump")
+                    with open(path, "wb") as out:
+                        out.write(body_of(elements))
+                    flat = flat_of(path, "2")
+                count = len(flat.uris)
+                found.append(Cut(Shared(flat, 5), [*range(count + 1)], "set").names)
+                for one in elements:
+                    if one["id"] in inside and one["type"] == "vertex":
+                        for end in ("start", "end"):
+                            one[end] = {**one[end], "line": one[end]["line"] + 1}
+            self.assertEqual(*found, f"seed {seed}")

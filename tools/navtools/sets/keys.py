@@ -7,6 +7,7 @@ dump does: others don't find it in a part.
 """
 
 import hashlib
+from array import array
 from base64 import urlsafe_b64encode
 from typing import Iterable
 
@@ -87,12 +88,6 @@ def least_keys(flat: Flat, wanted: set[Crossing]) -> dict[Crossing, int]:
     return least
 
 
-def spelled(flat: Flat, rank: int) -> str:
-    """A place as text."""
-    start, end = flat.start[rank], flat.end[rank]
-    return f"{flat.uris[flat.document_of(rank)]}#{start}:{end}"
-
-
 def first_place(flat: Flat, result: int) -> tuple[int, int]:
     """The first place of a result: that of its definitions, else of its references; and how many it
     has."""
@@ -100,29 +95,26 @@ def first_place(flat: Flat, result: int) -> tuple[int, int]:
     return ranks[0], len(flat.places_of(result, 0)) + len(flat.places_of(result, 1))
 
 
-def all_places(flat: Flat, result: int) -> str:
-    """A digest of the places of a result."""
-    digest = hashlib.sha256()
-    for role in (0, 1):
-        for rank in flat.places_of(result, role):
-            digest.update(f"{role} {spelled(flat, rank)}\n".encode())
-    return digest.hexdigest()
+def all_places(flat: Flat, result: int) -> "tuple[array[int], array[int]]":
+    """The places of a result in both roles."""
+    return flat.places_of(result, 0), flat.places_of(result, 1)
 
 
 def numbered(flat: Flat, results: list[int]) -> dict[int, int]:
-    """A number for each result of a group, by the order of their first places; those that have the
-    same places share one."""
+    """A number for each result of a group, by the order of their first places, else of all; those
+    that have the same places share one. Places are compared by their order alone, which stays as it
+    is where lines are inserted."""
     by_place: dict[int, list[int]] = {}
     for result in results:
         by_place.setdefault(first_place(flat, result)[0], []).append(result)
     numbers: dict[int, int] = {}
     count = 0
     for place in sorted(by_place):
-        same = by_place[place]
-        orders = {result: all_places(flat, result) if len(same) > 1 else "" for result in same}
-        number = {order: at for at, order in enumerate(sorted(set(orders.values())), count)}
-        numbers.update({one: number[orders[one]] for one in same})
-        count += len(number)
+        before = None
+        for places, own in sorted((all_places(flat, own), own) for own in by_place[place]):
+            count += before not in (None, places)
+            numbers[own], before = count, places
+        count += 1
     return numbers
 
 

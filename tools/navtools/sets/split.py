@@ -50,6 +50,9 @@ from navtools.words import BadCall, status_of
 
 TOOL = "split-lsif"
 PROGRESS_BYTES = 5_000_000
+# What a process reads of the tables becomes its own, since reading counts references. So it ends
+# after some parts, and another one takes its place.
+PARTS_EACH = 4
 
 
 @dataclass
@@ -112,7 +115,8 @@ class Writer:
             yield from map(self.write, parts)
             return
         gc.freeze()
-        with multiprocessing.get_context("fork").Pool(min(processes, len(parts))) as pool:
+        count = min(processes, len(parts))
+        with multiprocessing.get_context("fork").Pool(count, maxtasksperchild=PARTS_EACH) as pool:
             yield from pool.imap(write_part, parts)
 
 
