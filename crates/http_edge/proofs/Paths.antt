@@ -1,6 +1,6 @@
 -- The route that the router finds for a path, and the parameter that it returns.
 use Rattle.std.proofs.Common.{◌≡◌, ◌≢◌, ℕ, suc, ◌+◌, ◌-◌, ◌<◌, ◌≤◌, ◌⊎◌, inl, inr, zero, Bool, true, false, List, [], ◌∷◌, ◌++◌, length, length-append, append-nil, drop, drop-cons, add-one, get_or, Result, Ok, Err, Option, Some, None, option_map, unwrap_or, MatchOption, refl, sym, ◌∙◌, ap, subst, arith, codes, nat_eq, is_some, IsAscii}
-use Rattle.std.specs.Prelude.{◌==◌, if◌then◌else◌, option_and_then}
+use Rattle.std.specs.Prelude.{◌==◌, ◌&&◌, if◌then◌else◌, option_and_then}
 use lib.Utf8.{encode}
 use Rattle.std.specs.Borrow.{Bor}
 use Rattle.std.specs.Cmp.Lexicographic.{pointwise}
@@ -17,10 +17,11 @@ use Rattle.matchit.specs.Route.{Scan, parse_route}
 use Rattle.matchit.specs.Router.{RouteOf, InsertsRead}
 use Rattle.matchit.specs.declared.error.InsertError.{InsertError}
 use Rattle.matchit.proofs.OnLiterals.{matchit_on_literals}
+use Rattle.dump.specs.declared.request_kind.RequestKind.TheVariants.{Definition}
 use Rattle.http_edge.specs.Steps.Routes.{routes, template_text, template_of, with_scan, with_routes}
 use Rattle.http_edge.specs.Routes.{Form, fixed, of_project, form_of, HasForm, IsPathOf, NoSlash, all_routes, first_segment, after_segment, after_prefix, where_follows, segment_before, project_in, found_or, route_among, route_of}
 use Rattle.http_edge.specs.declared.route.Route.{Route}
-use Rattle.http_edge.specs.declared.route.Route.TheVariants.{Lsif, Tags, Project, Definition, References, Hover, Declaration, Implementation, Profile, Names, Projects}
+use Rattle.http_edge.specs.declared.route.Route.TheVariants.{Lsif, At}
 use Rattle.http_edge.proofs.Rows.{IsLiteral, IsSuffix, IsSimple, Matches, Each, EachOf, suffix_literal, suffix_cut, literal_simple, parts, parts_of, segment_is, sound, complete}
 pub use Rattle.http_edge.proofs.Rows.{same_is}
 
@@ -35,7 +36,7 @@ Good (fixed text) = IsLiteral text × (after_prefix (codes "/projects/") text �
 Good (of_project suffix) = IsSuffix suffix
 
 good : (route : Route) → Good (form_of route)
-good Lsif = grind arith
+good (At Definition) = grind arith
 good route = grind arith
 
 prefix_step : (x b : ℕ) (w path rest : List ℕ) (c : Bool) → (x == b) ≡ c → after_prefix (x ∷ w) (b ∷ path) ≡ Some rest
@@ -97,7 +98,7 @@ sample (of_project suffix) = codes "/projects/p" ++ suffix
 
 of_sample : (route : Route) → option_map (λ (found : Route × List ℕ). found.0) (route_of (sample (form_of route))) ≡ Some route
 unfolding route_of
-of_sample Lsif = refl
+of_sample (At Definition) = refl
 of_sample route = refl
 
 same_route : (route other : Route) → form_of route ≡ form_of other → route ≡ other
@@ -126,7 +127,12 @@ Among route (r ∷ list) = (r ≡ route) ⊎ Among route list
 
 all_among : (route : Route) → Among route all_routes
 all_among Lsif = inl refl
+all_among (At Definition) = search (inl, inr) depth 14
 all_among route = search (inl, inr) depth 14
+
+both_true : (a b : Bool) → (a && b) ≡ true → (a ≡ true) × (b ≡ true)
+both_true true b e = (refl, e)
+both_true false b e = cc e
 
 found_some : (r : Route) (o : Option (List ℕ)) (other : Option (Route × List ℕ)) → is_some other ≡ true → is_some (found_or r o other) ≡ true
 found_some r None other e = e
@@ -164,17 +170,36 @@ abbrev rows_in : List Route → RowsOf (RouteOf Route)
 rows_in [] = []
 rows_in (route ∷ list) = (pattern_of (form_of route), row_of route) ∷ rows_in list
 
+abbrev values_in : RowsOf (RouteOf Route) → List Route
+values_in [] = []
+values_in (row ∷ rows) = row.1.value ∷ values_in rows
+
 -- the routes in the router's order
 abbrev in_order : List Route
-in_order = Names ∷ Declaration ∷ Definition ∷ Hover ∷ Implementation ∷ Lsif ∷ Profile ∷ References ∷ Tags ∷ Project ∷ Projects ∷ []
+in_order = values_in routes
 
 routes_are : routes ≡ rows_in in_order
 unfolding matchit_on_literals routes
 routes_are = refl
 
+-- each of these routes has a row
+abbrev all_held : RowsOf (RouteOf Route) → List Route → Bool
+all_held rows [] = true
+all_held rows (route ∷ list) = is_some (lookup (pattern_of (form_of route)) rows) && all_held rows list
+
+held_among : (rows : RowsOf (RouteOf Route)) (list : List Route) (route : Route) → Among route list → all_held rows list ≡ true
+    → is_some (lookup (pattern_of (form_of route)) rows) ≡ true
+held_among rows [] route a h = absurd a
+held_among rows (r ∷ list) route (inl e) h = rw (← e) (both_true (is_some (lookup (pattern_of (form_of r)) rows)) (all_held rows list) h).0
+held_among rows (r ∷ list) route (inr a) h =
+    held_among rows list route a (both_true (is_some (lookup (pattern_of (form_of r)) rows)) (all_held rows list) h).1
+
+held_all : all_held routes all_routes ≡ true
+unfolding matchit_on_literals routes
+held_all = refl
+
 held : (route : Route) → is_some (lookup (pattern_of (form_of route)) (rows_in in_order)) ≡ true
-held Lsif = refl
-held route = refl
+held route = rw (← routes_are) (held_among routes all_routes route (all_among route) held_all)
 
 each_row : (Q : List ℕ → RouteOf Route → Type 0) (list : List Route) → ((route : Route) → Q (pattern_of (form_of route)) (row_of route)) → Each Q (rows_in list)
 each_row Q [] f = tt

@@ -1,14 +1,16 @@
 -- What requests ask.
-use Rattle.std.proofs.Common.{◌≡◌, ℕ, Bool, true, false, List, Option, Some, None, refl, ap, sym, ◌∙◌}
+use Rattle.std.proofs.Common.{◌≡◌, ◌≢◌, ℕ, Bool, true, false, List, Option, Some, None, refl, ap, sym, ◌∙◌}
 use Rattle.std.specs.Str.{bytes_eq, IsUtf8, is_utf8}
 use Rattle.std.proofs.lemmas.Bool.{false_from_ne_true}
 use Rattle.std.proofs.lemmas.Str.{IsUtf8-from_is_utf8, is_utf8-from_IsUtf8}
 use Rattle.std.specs.declared.alloc.AllocError.{AllocError}
 use Rattle.std.specs.Prelude.{Result, Ok, Err, IfOk, option_map}
+use Rattle.dump.specs.declared.request_kind.RequestKind.{RequestKind}
+use Rattle.dump.specs.declared.request_kind.RequestKind.TheVariants.{References}
 use Rattle.machine.specs.declared.request.Query.{Query}
-use Rattle.machine.specs.Requests.{QueryValue, RequestValue, query_value}
+use Rattle.machine.specs.Requests.{QueryValue, position_query, RequestValue, query_value}
 use Rattle.machine.specs.Requests as requests
-use Rattle.http_edge.specs.Requests.{refused, path_in, query_in, with_form, with_method, with_route, route_in, request_of, message_of}
+use Rattle.http_edge.specs.Requests.{refused, path_in, query_in, place_in, query_at, with_form, with_method, with_route, route_in, request_of, message_of}
 use Rattle.http_edge.specs.Messages.{ends}
 use Rattle.http_edge.specs.Parameters.{parameters}
 use Rattle.http_edge.specs.Routes.{method_of, route_of}
@@ -87,6 +89,12 @@ asks_same (Refused refusal) f g same asks = (asks.0, λ body. sym (same body) �
 pub asks_query : (asked : Asked) (q read : Option Query) (value : Option QueryValue) → AsksFor asked (λ body. option_map requests.query (option_map query_value q)) → q ≡ read
     → option_map query_value read ≡ value → AsksFor asked (λ body. option_map requests.query value)
 asks_query asked q read value asks is says = asks_same asked _ _ (λ body. ap (option_map requests.query) (ap (option_map query_value) is ∙ says)) asks
+
+-- each kind but references is asked by a position alone
+pub query_of_place : (kind : RequestKind) (project : List ℕ) (pairs : List (List ℕ × List ℕ)) → kind ≢ References
+    → query_at kind project pairs ≡ option_map (position_query kind) (place_in project pairs)
+query_of_place References project pairs other = absurd (other refl)
+query_of_place kind project pairs other = refl
 
 pub text_route : (path : List ℕ) → IsUtf8 path → route_of path ≡ route_in path
 text_route path u = rw (is_utf8-from_IsUtf8 path u) refl

@@ -9,7 +9,8 @@ use Rattle.lsif.specs.declared.element.Profile.TheVariants.{One, Two}
 use Rattle.machine.specs.Names.{is_project_name, is_key, is_without_nul, where_so, number_in}
 use Rattle.machine.specs.Requests.{ActionValue, put_dump, put_tags, remove, CommandValue, DocumentPositionValue, at_value, QueryValue, position_query, references, names, prefix, projects, profile, RequestValue}
 use Rattle.machine.specs.Requests as requests
-use Rattle.dump.specs.declared.request_kind.RequestKind.TheVariants as kinds
+use Rattle.dump.specs.declared.request_kind.RequestKind.{RequestKind}
+use Rattle.dump.specs.declared.request_kind.RequestKind.TheVariants.{References}
 use Rattle.http_edge.specs.Values.{Values, absent, single, several}
 use Rattle.http_edge.specs.Parameters.{parameter, parameters}
 use Rattle.http_edge.specs.Routes.{route_of, method_of}
@@ -113,6 +114,11 @@ place_in project pairs = option_map place_of (both (project_name project) (both 
 abbrev pub references_of : DocumentPositionValue × Bool → QueryValue
 references_of (place, declared) = references place declared
 
+-- the query of that kind at a position; one for references has a parameter more
+abbrev pub query_at : RequestKind → List ℕ → List (List ℕ × List ℕ) → Option QueryValue
+query_at References project pairs = option_map references_of (both (place_in project pairs) (declaration_in pairs))
+query_at kind project pairs = option_map (position_query kind) (place_in project pairs)
+
 abbrev pub names_of : List ℕ × Option (List ℕ) → QueryValue
 names_of (name, project) = names name project
 
@@ -130,11 +136,7 @@ unfoldable pub request_of : Route → List ℕ → List (List ℕ × List ℕ) �
 request_of routes.Lsif project pairs body = option_map (dump_put body) (both (project_name project) (both (key_in pairs) (profile_in pairs)))
 request_of routes.Tags project pairs body = option_map (command_of (put_tags body)) (both (project_name project) (key_in pairs))
 request_of routes.Project project pairs body = option_map (command_of remove) (both (project_name project) (key_in pairs))
-request_of routes.Definition project pairs body = option_map requests.query (option_map (position_query kinds.Definition) (place_in project pairs))
-request_of routes.References project pairs body = option_map requests.query (option_map references_of (both (place_in project pairs) (declaration_in pairs)))
-request_of routes.Hover project pairs body = option_map requests.query (option_map (position_query kinds.Hover) (place_in project pairs))
-request_of routes.Declaration project pairs body = option_map requests.query (option_map (position_query kinds.Declaration) (place_in project pairs))
-request_of routes.Implementation project pairs body = option_map requests.query (option_map (position_query kinds.Implementation) (place_in project pairs))
+request_of (routes.At kind) project pairs body = option_map requests.query (query_at kind project pairs)
 request_of routes.Profile project pairs body = option_map requests.query (option_map profile (project_name project))
 request_of routes.Names project pairs body =
     option_map requests.query (tags_of (parameter (codes "name") pairs) (parameter (codes "prefix") pairs) (searched_in pairs))

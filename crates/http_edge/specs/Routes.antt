@@ -1,19 +1,16 @@
 -- The routes, and the route of a path.
 use Rattle.std.specs.Prelude.{◌≡◌, ◌≢◌, ℕ, Bool, List, [], ◌∷◌, ◌++◌, Option, Some, None, option_and_then, codes, if◌then◌else◌, ◌==◌}
 use Rattle.std.specs.Str.{bytes_eq}
+use Rattle.dump.specs.declared.request_kind.RequestKind.TheVariants.{Definition, References, Hover, Declaration, Implementation}
 use Rattle.http_edge.specs.declared.route.Route.{Route}
-use Rattle.http_edge.specs.declared.route.Route.TheVariants.{Lsif, Tags, Project, Definition, References, Hover, Declaration, Implementation, Profile, Names, Projects}
+use Rattle.http_edge.specs.declared.route.Route.TheVariants.{Lsif, Tags, Project, At, Profile, Names, Projects}
 
 -- the method that a route takes (RFC 9110, section 9)
 abbrev pub method_of : Route → List ℕ
 method_of Lsif = codes "PUT"
 method_of Tags = codes "PUT"
 method_of Project = codes "DELETE"
-method_of Definition = codes "GET"
-method_of References = codes "GET"
-method_of Hover = codes "GET"
-method_of Declaration = codes "GET"
-method_of Implementation = codes "GET"
+method_of (At kind) = codes "GET"
 method_of Profile = codes "GET"
 method_of Names = codes "GET"
 method_of Projects = codes "GET"
@@ -29,11 +26,11 @@ abbrev pub form_of : Route → Form
 form_of Lsif = of_project (codes "/lsif")
 form_of Tags = of_project (codes "/tags")
 form_of Project = of_project []
-form_of Definition = of_project (codes "/definition")
-form_of References = of_project (codes "/references")
-form_of Hover = of_project (codes "/hover")
-form_of Declaration = of_project (codes "/declaration")
-form_of Implementation = of_project (codes "/implementation")
+form_of (At Definition) = of_project (codes "/definition")
+form_of (At References) = of_project (codes "/references")
+form_of (At Hover) = of_project (codes "/hover")
+form_of (At Declaration) = of_project (codes "/declaration")
+form_of (At Implementation) = of_project (codes "/implementation")
 form_of Profile = of_project (codes "/profile")
 form_of Names = fixed (codes "/names")
 form_of Projects = fixed (codes "/projects")
@@ -57,7 +54,7 @@ IsPathOf route = HasForm (form_of route)
 
 abbrev pub all_routes : List Route
 all_routes =
-    Lsif ∷ Tags ∷ Project ∷ Definition ∷ References ∷ Hover ∷ Declaration ∷ Implementation ∷ Profile ∷ Names ∷ Projects ∷ []
+    Lsif ∷ Tags ∷ Project ∷ At Definition ∷ At References ∷ At Hover ∷ At Declaration ∷ At Implementation ∷ Profile ∷ Names ∷ Projects ∷ []
 
 -- the bytes up to the first slash, without it
 abbrev pub first_segment : List ℕ → List ℕ

@@ -2,7 +2,7 @@
 ghost use Rattle.std.specs.Prelude.{◌≡◌, ℕ, List, Option, IfOk, codes, option_map};
 ghost use Rattle.machine.specs.Requests.{position_query, profile, query_value};
 ghost use Rattle.http_edge.specs.Parameters.{parameter};
-ghost use Rattle.http_edge.specs.Requests.{both, declaration_in, names_of, place_in, prefix_of, project_name, references_of, searched_in, tags_of, is_tag_text};
+ghost use Rattle.http_edge.specs.Requests.{both, declaration_in, names_of, place_in, prefix_of, project_name, query_at, references_of, searched_in, tags_of, is_tag_text};
 ghost use Rattle.machine.specs.Names.{where_so};
 ghost use Rattle.http_edge.specs.Steps.Requests.{place_value};
 
@@ -41,7 +41,7 @@ fn read_place(
     }
 }
 
-pub(crate) fn read_position_query(
+fn read_position_query(
     alloc: Global,
     kind: RequestKind,
     project: &str,
@@ -60,7 +60,7 @@ pub(crate) fn read_position_query(
     }
 }
 
-pub(crate) fn read_references(
+fn read_references(
     alloc: Global,
     project: &str,
     parameters: &Parameters<'_>,
@@ -78,6 +78,21 @@ pub(crate) fn read_references(
             declaration,
         })),
         _ => Ok(None),
+    }
+}
+
+/// The query of that kind at a position. One for references has a parameter more.
+pub(crate) fn read_query_at(
+    alloc: Global,
+    kind: RequestKind,
+    project: &str,
+    parameters: &Parameters<'_>,
+) -> Result<Option<Query>, AllocError>
+    ensures { IfOk result (λ o. option_map query_value o ≡ query_at kind project.now parameters.now) }
+{
+    match kind {
+        RequestKind::References => read_references(alloc, project, parameters),
+        _ => read_position_query(alloc, kind, project, parameters),
     }
 }
 

@@ -2,19 +2,18 @@
 //! since an upload takes its body in pieces.
 ghost use Rattle.std.specs.Prelude.{◌≡◌, ℕ, List, [], Some, IfOk, IfSome, option_map};
 ghost use Rattle.std.specs.Str.{bytes_eq};
-ghost use Rattle.machine.specs.Requests.{command, command_value, position_query, query, query_value};
+ghost use Rattle.machine.specs.Requests.{command, command_value, query, query_value};
 ghost use Rattle.machine.specs.Uploads.{HasRead};
-ghost use Rattle.http_edge.specs.Requests.{path_in, place_in, query_in, request_of, route_in};
+ghost use Rattle.http_edge.specs.Requests.{path_in, query_in, request_of, route_in};
 ghost use Rattle.http_edge.specs.Steps.Requests.{Asks, AsksFor, upload_request};
 ghost use Rattle.http_edge.specs.Routes.{method_of};
 ghost use Rattle.http_edge.specs.Steps.Routes.{named_route, routes};
 
 use crate::commands::{read_dump, read_removal, read_tags};
 use crate::parameters::Parameters;
-use crate::queries::{read_position_query, read_profile_query, read_references, read_tags_query};
+use crate::queries::{read_profile_query, read_query_at, read_tags_query};
 use crate::refusal::Refusal;
 use crate::route::{Route, find_route};
-use dump::RequestKind;
 use machine::{Command, Query, Request, Upload};
 use matchit::Router;
 use std::alloc::{AllocError, Global};
@@ -91,18 +90,6 @@ fn asked_query<'b>(asked: Option<Query>) -> Asked<'b>
     }
 }
 
-/// What a route asks at a position.
-fn ask_at<'b>(
-    alloc: Global,
-    kind: RequestKind,
-    project: &str,
-    parameters: &Parameters<'_>,
-) -> Result<Asked<'b>, AllocError>
-    ensures { IfOk result (λ asked. AsksFor asked (λ _. option_map query (option_map (position_query kind) (place_in project.now parameters.now)))) }
-{
-    Ok(asked_query(read_position_query(alloc, kind, project, parameters)?))
-}
-
 /// What a route asks with its project's name and its parameters. Refused where one of these is
 /// missing, there twice, or not of its form.
 #[tactic(auto, unfolding(crate::specs::Requests::request_of))]
@@ -118,11 +105,7 @@ fn read_route<'b>(
         Route::Lsif => Ok(asked_upload(read_dump(alloc, project, parameters)?)),
         Route::Tags => Ok(asked_upload(read_tags(alloc, project, parameters)?)),
         Route::Project => Ok(asked_command(read_removal(alloc, project, parameters)?)),
-        Route::Definition => ask_at(alloc, RequestKind::Definition, project, parameters),
-        Route::References => Ok(asked_query(read_references(alloc, project, parameters)?)),
-        Route::Hover => ask_at(alloc, RequestKind::Hover, project, parameters),
-        Route::Declaration => ask_at(alloc, RequestKind::Declaration, project, parameters),
-        Route::Implementation => ask_at(alloc, RequestKind::Implementation, project, parameters),
+        Route::At(kind) => Ok(asked_query(read_query_at(alloc, kind, project, parameters)?)),
         Route::Profile => Ok(asked_query(read_profile_query(alloc, project)?)),
         Route::Names => Ok(asked_query(read_tags_query(alloc, parameters)?)),
         Route::Projects => Ok(asked_query(Some(Query::Projects))),

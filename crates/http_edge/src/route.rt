@@ -4,6 +4,7 @@ ghost use Rattle.std.specs.Prelude.{◌≡◌, ◌≤◌, ◌↔◌, ℕ, length
 ghost use Rattle.http_edge.specs.Steps.Routes.{routes, named_route, template_of};
 ghost use Rattle.http_edge.specs.Routes.{method_of, route_of, IsPathOf};
 
+use dump::RequestKind;
 use http::Method;
 use matchit::{InsertError, Router};
 use std::alloc::Global;
@@ -17,16 +18,8 @@ pub(crate) enum Route {
     Tags,
     /// `/projects/{p}`, which is removed.
     Project,
-    /// `/projects/{p}/definition`, which answers definitions.
-    Definition,
-    /// `/projects/{p}/references`, which answers references.
-    References,
-    /// `/projects/{p}/hover`, which answers hovers.
-    Hover,
-    /// `/projects/{p}/declaration`, which answers declarations.
-    Declaration,
-    /// `/projects/{p}/implementation`, which answers implementations.
-    Implementation,
+    /// `/projects/{p}/` and a segment of the kind's own, which answers requests of that kind.
+    At(RequestKind),
     /// `/projects/{p}/profile`, which answers the profile of the project's dump.
     Profile,
     /// `/names`, which answers tags by their names.
@@ -40,11 +33,11 @@ const ROUTES: [Route; 11] = [
     Route::Lsif,
     Route::Tags,
     Route::Project,
-    Route::Definition,
-    Route::References,
-    Route::Hover,
-    Route::Declaration,
-    Route::Implementation,
+    Route::At(RequestKind::Definition),
+    Route::At(RequestKind::References),
+    Route::At(RequestKind::Hover),
+    Route::At(RequestKind::Declaration),
+    Route::At(RequestKind::Implementation),
     Route::Profile,
     Route::Names,
     Route::Projects,
@@ -71,11 +64,11 @@ impl Route {
             Route::Lsif => "/projects/{p}/lsif",
             Route::Tags => "/projects/{p}/tags",
             Route::Project => "/projects/{p}",
-            Route::Definition => "/projects/{p}/definition",
-            Route::References => "/projects/{p}/references",
-            Route::Hover => "/projects/{p}/hover",
-            Route::Declaration => "/projects/{p}/declaration",
-            Route::Implementation => "/projects/{p}/implementation",
+            Route::At(RequestKind::Definition) => "/projects/{p}/definition",
+            Route::At(RequestKind::References) => "/projects/{p}/references",
+            Route::At(RequestKind::Hover) => "/projects/{p}/hover",
+            Route::At(RequestKind::Declaration) => "/projects/{p}/declaration",
+            Route::At(RequestKind::Implementation) => "/projects/{p}/implementation",
             Route::Profile => "/projects/{p}/profile",
             Route::Names => "/names",
             Route::Projects => "/projects",

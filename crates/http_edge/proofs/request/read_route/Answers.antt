@@ -15,25 +15,9 @@ pub returns-in_ok-read_removal-in-Project : goal.returns-in_ok-read_removal-in-P
 unfolding request_of
 returns-in_ok-read_removal-in-Project c = rw c.in-Project.is (asks_same _ _ _ (λ body. c.in_ok-read_removal-in-Project.ensures) c.asked_command.ensures)
 
-pub returns-in-Definition : goal.returns-in-Definition
+pub returns-in_ok-read_query_at-in-At : goal.returns-in_ok-read_query_at-in-At
 unfolding request_of
-returns-in-Definition c = rw c.in-Definition.is c.ask_at.ensures
-
-pub returns-in-Hover : goal.returns-in-Hover
-unfolding request_of
-returns-in-Hover c = rw c.in-Hover.is c.ask_at-in-Hover.ensures
-
-pub returns-in-Declaration : goal.returns-in-Declaration
-unfolding request_of
-returns-in-Declaration c = rw c.in-Declaration.is c.ask_at-in-Declaration.ensures
-
-pub returns-in-Implementation : goal.returns-in-Implementation
-unfolding request_of
-returns-in-Implementation c = rw c.in-Implementation.is c.ask_at-in-Implementation.ensures
-
-pub returns-in_ok-read_references-in-References : goal.returns-in_ok-read_references-in-References
-unfolding request_of
-returns-in_ok-read_references-in-References c = rw c.in-References.is (asks_query _ _ _ _ c.asked_query.ensures refl c.in_ok-read_references-in-References.ensures)
+returns-in_ok-read_query_at-in-At c = rw c.in-At.is (asks_query _ _ _ _ c.asked_query.ensures refl c.in_ok-read_query_at-in-At.ensures)
 
 pub returns-in_ok-read_profile_query-in-Profile : goal.returns-in_ok-read_profile_query-in-Profile
 unfolding request_of
