@@ -7,7 +7,8 @@ use Rattle.httparse.specs.Spans.{header_bytes}
 use Rattle.httparse.specs.declared.spans.HeaderSpan.{HeaderSpan}
 use Rattle.http_edge.specs.Values.{Values, absent, single, several}
 use Rattle.http_edge.specs.Steps.Values.{with_value, with_values}
-use Rattle.http_edge.specs.Fields.{Pair, field_values, same_name, body_limit}
+use Rattle.http_edge.specs.Fields.{Pair, field_values, same_name}
+use Rattle.http_edge.specs.Limits.{body_limit}
 
 pub body_limit_is : body_limit ≡ 33554432
 unfolding body_limit

@@ -9,7 +9,8 @@ use Rattle.httparse.specs.Spans.{header_bytes, span_bytes, IsRequestAt, IsReques
 use Rattle.httparse.specs.declared.spans.HeaderSpan.{HeaderSpan}
 use Rattle.httparse.specs.declared.spans.RequestSpans.{RequestSpans}
 use Rattle.http_edge.specs.Fields.{body_length}
-use Rattle.http_edge.specs.Heads.{same, is_end, find_head, head_limit, HeadValue, rejected, with_length, IsSaidBy, Says, SettlesHead, IsHeadUnended}
+use Rattle.http_edge.specs.Heads.{same, is_end, find_head, HeadValue, rejected, with_length, IsSaidBy, Says, SettlesHead, IsHeadUnended}
+use Rattle.http_edge.specs.Limits.{head_limit}
 use Rattle.http_edge.specs.Steps.Heads.{head_value, FitsIn}
 use Rattle.http_edge.specs.declared.head.Head.{Head}
 use Rattle.http_edge.specs.declared.head.Head.TheVariants.{Refused, Request}

@@ -4,7 +4,8 @@ use Rattle.std.proofs.lemmas.List.{take-append-le, drop-append-le, length-take}
 use Rattle.std.proofs.Math.Seq.{take-nil}
 use Rattle.std.proofs.lemmas.Grind.{common_steps}
 use Rattle.httparse.proofs.GrammarLemmas.{request_unique}
-use Rattle.http_edge.specs.Heads.{find_head, HeadValue, rejected, request_head, said_by, IsSaidBy, SaysAt, head_limit, SettlesHeadAt, SettlesHead, IsHeadUnended}
+use Rattle.http_edge.specs.Heads.{find_head, HeadValue, rejected, request_head, said_by, IsSaidBy, SaysAt, SettlesHeadAt, SettlesHead, IsHeadUnended}
+use Rattle.http_edge.specs.Limits.{head_limit}
 use Rattle.http_edge.specs.Messages.{HasBody, Settles, IsUnended}
 use Rattle.http_edge.specs.Requests.{MessageValue}
 use Rattle.http_edge.specs.declared.refusal.Refusal.{Refusal}

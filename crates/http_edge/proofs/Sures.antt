@@ -2,7 +2,8 @@
 use Rattle.std.proofs.Common.{◌≡◌, ℕ, ◌+◌, ◌-◌, ◌<◌, inl, inr, Bool, true, false, List, [], ◌∷◌, ◌++◌, length, take, Option, Some, None, refl, sym, ◌∙◌, ap, subst, arith, append_assoc, append-nil, suc, zero, length-append, replicate, drop, option_map}
 use Rattle.std.proofs.lemmas.List.{take-append-drop, length-replicate, drop_all}
 use Rattle.std.specs.Prelude.{◌&&◌, if◌then◌else◌}
-use Rattle.http_edge.specs.Heads.{is_end, find_head, head_limit, rejected, request_head, SettlesHead}
+use Rattle.http_edge.specs.Heads.{is_end, find_head, rejected, request_head, SettlesHead}
+use Rattle.http_edge.specs.Limits.{head_limit}
 use Rattle.http_edge.specs.Messages.{Settles, IsUnended, First, ends, Unless, Requests, IsPrefix, BeginsEach, Sure}
 use Rattle.http_edge.specs.Steps.Messages.{SettlesAll}
 use Rattle.http_edge.specs.Refusals.{row_of}

@@ -4,6 +4,7 @@ use Rattle.std.specs.List.{list_all}
 use Rattle.std.specs.Char.{to_ascii_lowercase, is_ascii_digit}
 use Rattle.std.specs.Str.{bytes_eq}
 use Rattle.std.specs.Str.Parse.{digits_value}
+use Rattle.http_edge.specs.Limits.{body_limit, digits_limit}
 use Rattle.http_edge.specs.Values.{Values, absent, single, several, values}
 use Rattle.http_edge.specs.declared.refusal.Refusal.{Refusal}
 use Rattle.http_edge.specs.declared.refusal.Refusal.TheVariants.{BadHead, LengthRequired, BodyTooLarge, TransferCoding}
@@ -22,13 +23,9 @@ field_values name [] = []
 field_values name (field ∷ fields) =
     if same_name field.0 name then field.1 ∷ field_values name fields else field_values name fields
 
--- how many bytes a body has at most
-unfoldable pub body_limit : ℕ
-body_limit = 33554432
-
--- 1 to 19 decimal digits
+-- decimal digits, at least one and not too many
 abbrev pub is_length : List ℕ → Bool
-is_length text = nat_lt 0 (length text) && nat_le (length text) 19 && list_all is_ascii_digit text
+is_length text = nat_lt 0 (length text) && nat_le (length text) digits_limit && list_all is_ascii_digit text
 
 abbrev pub limited : ℕ → Result ℕ Refusal
 limited n = if nat_lt body_limit n then Err BodyTooLarge else Ok n

@@ -4,6 +4,7 @@ use Rattle.std.specs.Cmp.Lexicographic.{pointwise}
 use Rattle.httparse.specs.Grammar.{RequestHead, ReadsRequest}
 use Rattle.httparse.specs.Spans.{name_and_value}
 use Rattle.http_edge.specs.Fields.{body_length}
+use Rattle.http_edge.specs.Limits.{head_limit, line_limit, field_limit}
 use Rattle.http_edge.specs.declared.refusal.Refusal.{Refusal}
 use Rattle.http_edge.specs.declared.refusal.Refusal.TheVariants.{BadHead, HeadTooLarge}
 
@@ -29,9 +30,9 @@ pub data HeadValue : Type 0 where
   rejected : Refusal → HeadValue
   request_head : List ℕ → List ℕ → ℕ → HeadValue
 
--- these bytes are the head, whole, with at most 32 fields
+-- these bytes are the head, whole, with few enough fields
 abbrev pub IsHead : List ℕ → RequestHead → Type 0
-IsHead bytes h = ReadsRequest bytes h [] × (length h.fields ≤ 32)
+IsHead bytes h = ReadsRequest bytes h [] × (length h.fields ≤ field_limit)
 
 abbrev pub with_length : List ℕ → List ℕ → Result ℕ Refusal → HeadValue
 with_length method target (Ok len) = request_head method target len
@@ -54,13 +55,9 @@ abbrev pub SaysAt : Bool → List ℕ → HeadValue → Type 0
 SaysAt true head value = value ≡ rejected HeadTooLarge
 SaysAt false head value = IsSaidBy head value
 
--- what a head says: a request line, 32 fields and the empty line are 34 lines
+-- what a head says
 abbrev pub Says : List ℕ → HeadValue → Type 0
-Says head value = SaysAt (nat_lt 34 (lines_in head)) head value
-
--- how many bytes a head has at most
-unfoldable pub head_limit : ℕ
-head_limit = 8192
+Says head value = SaysAt (nat_lt line_limit (lines_in head)) head value
 
 abbrev pub SettlesHeadAt : Option ℕ → List ℕ → HeadValue → List ℕ → Type 0
 SettlesHeadAt (Some n) bytes value rest = Says (take n bytes) value × (rest ≡ drop n bytes)

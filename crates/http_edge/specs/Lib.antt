@@ -1,5 +1,6 @@
 pub mod Fields
 pub mod Heads
+pub mod Limits
 pub mod Messages
 pub mod Parameters
 pub mod Refusals

@@ -8,11 +8,9 @@ ghost use Rattle.http_edge.specs.Steps.Values.{with_value};
 ghost use Rattle.http_edge.specs.Fields.{same_name, field_values, is_length, limited, content_length, body_length};
 ghost use Rattle.http_edge.specs.Steps.Fields.{field_values_of};
 
+use crate::limits::{BODY_LIMIT, LENGTH_DIGITS};
 use crate::refusal::Refusal;
 use httparse::spans::HeaderSpan;
-
-/// The most bytes of a body.
-const BODY_LIMIT: usize = 33_554_432;
 
 /// The values of the fields of one name.
 #[derive(Clone, Copy, Debug, PartialEq, Eq)]
@@ -53,11 +51,11 @@ fn field_values<'a>(head: &'a [u8], headers: &[HeaderSpan], name: &[u8]) -> Fiel
     found
 }
 
-/// The number that 1 to 19 decimal digits are. So it fits a `u64`.
+/// The number that 1 to `LENGTH_DIGITS` decimal digits are. So it fits a `u64`.
 fn read_length(text: &[u8]) -> Option<u64>
     ensures { result ≡ (if is_length text.now then Some (digits_value 10 text.now) else None) }
 {
-    if text.is_empty() || text.len() > 19 {
+    if text.is_empty() || text.len() > LENGTH_DIGITS {
         return None;
     }
     let mut length = 0u64;

@@ -1,20 +1,15 @@
 //! The head of a request: where it ends, and what it says. A head that hasn't ended is scanned
-//! again once more bytes have come; it has at most 8,192 of them.
+//! again once more bytes have come; it has at most `HEAD_LIMIT` of them.
 ghost use Rattle.std.specs.Prelude.{◌≡◌, ℕ, ◌+◌, ◌<◌, ◌≤◌, List, [], drop, take, Option, Some, None, IfSome, IfNone, MatchOption, length, option_map, codes};
-ghost use Rattle.http_edge.specs.Heads.{same, is_end, find_head, IsSaidBy, Says, SettlesHead, IsHeadUnended, head_limit, lines_in};
+ghost use Rattle.http_edge.specs.Heads.{same, is_end, find_head, IsSaidBy, Says, SettlesHead, IsHeadUnended, lines_in};
 ghost use Rattle.http_edge.specs.Steps.Heads.{head_value, FitsIn};
 
 use crate::fields::body_length;
+use crate::limits::{FIELD_LIMIT, HEAD_LIMIT, LINE_LIMIT};
 use crate::refusal::Refusal;
 use http::Method;
 use httparse::Status;
 use httparse::spans::{EMPTY_HEADER_SPAN, Span, parse_request};
-
-/// The most bytes of a head.
-pub(crate) const HEAD_LIMIT: usize = 8192;
-
-/// The most lines of a head: a request line, 32 fields and the empty line.
-const LINE_LIMIT: usize = 34;
 
 /// Where the parts of a request line are that say what it asks.
 #[derive(Clone, Copy, Debug, PartialEq, Eq)]
@@ -63,7 +58,7 @@ fn read_head(head: &[u8]) -> Head
     ensures reads { IsSaidBy head.now (head_value head.now result) }
     ensures fits { FitsIn (length head.now) result }
 {
-    let mut headers = [EMPTY_HEADER_SPAN; 32];
+    let mut headers = [EMPTY_HEADER_SPAN; FIELD_LIMIT];
     match parse_request(head, &mut headers) {
         Ok(Status::Complete(spans)) => {
             if spans.len != head.len() {

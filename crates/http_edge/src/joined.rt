@@ -1,13 +1,12 @@
 //! The first write of a reply: its head and the beginning of its body in one piece. A reply of at
-//! most 64 KiB is written whole by it, so that no crash leaves a client with a head and no body.
-//! What follows is in `reply.rt`.
+//! most `FIRST_BYTES` is written whole by it, so that no crash leaves a client with a head and no
+//! body. What follows is in `reply.rt`.
 ghost use Rattle.std.specs.Prelude.{◌≡◌, ℕ, ◌+◌, ◌≤◌, List, [], ◌++◌, take, IfOk, length, vec_capacity};
+ghost use Rattle.http_edge.specs.Limits.{first_bytes};
 
+use crate::limits::{FIRST_BYTES, REPLY_HEAD_LIMIT};
 use std::alloc::{AllocError, Global};
 use std::marker::Model;
-
-/// The most bytes of a reply that its first write takes.
-const FIRST_BYTES: usize = 65_536;
 
 /// Room for the bytes of the first write. It's made once, so that no reply takes memory for it.
 #[derive(Drop)]
@@ -17,12 +16,13 @@ pub(crate) struct Joined {
 
 impl Model for Joined {
     ghost use Rattle.std.specs.Prelude.{ℕ, ◌≤◌, List, vec_capacity};
+    ghost use Rattle.http_edge.specs.Limits.{first_bytes};
 
     ghost Value = { List ℕ };
 
     ghost view = { λ j. j.bytes.items };
 
-    ghost invariant = { λ j. 65536 ≤ vec_capacity j.bytes };
+    ghost invariant = { λ j. first_bytes ≤ vec_capacity j.bytes };
 }
 
 impl Joined {
@@ -42,11 +42,11 @@ impl Joined {
     }
 
     /// Joins a head and as many bytes of a body as there is room for, and returns how many these
-    /// are. They are all, where both have at most 64 KiB.
+    /// are. They are all, where both have at most `FIRST_BYTES`.
     pub(crate) fn join(&mut self, head: &[u8], body: &[u8]) -> usize
-        requires { length head.now ≤ 256 }
+        requires { length head.now ≤ REPLY_HEAD_LIMIT }
         ensures within { result ≤ length body.now }
-        ensures whole { length head.now + length body.now ≤ 65536 → result ≡ length body.now }
+        ensures whole { length head.now + length body.now ≤ first_bytes → result ≡ length body.now }
         ensures bytes { self.new ≡ head.now ++ take result body.now }
     {
         let count = body.len().min(FIRST_BYTES - head.len());

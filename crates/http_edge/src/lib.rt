@@ -7,6 +7,7 @@ mod forms;
 mod head;
 mod joined;
 mod laws;
+mod limits;
 mod parameters;
 mod queries;
 mod reading;

@@ -1,18 +1,19 @@
-//! Reads the messages of a stream: a head, and then the body in pieces of at most 8,192 bytes. An
-//! upload takes each piece as it comes, so that no body is held whole. Where the desk knows the
-//! reply already, since the upload's key is kept, the body is read and dropped.
+//! Reads the messages of a stream: a head, and then the body in pieces of at most `HEAD_LIMIT`
+//! bytes. An upload takes each piece as it comes, so that no body is held whole. Where the desk
+//! knows the reply already, since the upload's key is kept, the body is read and dropped.
 //! `specs/Messages` says which messages a stream has.
 ghost use Rattle.std.specs.Prelude.{◌≡◌, ◌≢◌, ℕ, ◌+◌, ◌-◌, ◌^◌, ◌<◌, ◌≤◌, List, [], ◌++◌, drop, take, Option, Some, None, IfOk, IfSome, length};
 ghost use Rattle.httparse.specs.Spans.{span_bytes, IsWithin};
 ghost use Rattle.lsif.specs.Streams.{AtEnd, CountsFailure, Moves, Pulls};
 ghost use Rattle.machine.specs.State.{State};
 ghost use Rattle.http_edge.specs.Steps.Heads.{FitsIn};
-ghost use Rattle.http_edge.specs.Heads.{head_limit};
+ghost use Rattle.http_edge.specs.Limits.{head_limit};
 ghost use Rattle.http_edge.specs.Steps.Requests.{Asks};
 ghost use Rattle.http_edge.specs.Steps.Routes.{routes};
 ghost use Rattle.http_edge.specs.Steps.Serving.{Knows, MessageAfter, NextHead, NextMessage, ReadsBody, Refills, Stays, TakesBody, TakesPiece, known_of};
 
-use crate::head::{HEAD_LIMIT, Head, RequestLine, first_head};
+use crate::head::{Head, RequestLine, first_head};
+use crate::limits::HEAD_LIMIT;
 use crate::refusal::Refusal;
 use crate::request::{Asked, read_request};
 use crate::route::{Route, router};
@@ -181,7 +182,7 @@ pub(crate) struct MessageReader {
 
 impl Model for MessageReader {
     ghost use Rattle.std.specs.Prelude.{◌≡◌, ◌≤◌, ℕ, List};
-    ghost use Rattle.http_edge.specs.Heads.{head_limit};
+    ghost use Rattle.http_edge.specs.Limits.{head_limit};
     ghost use Rattle.http_edge.specs.Steps.Routes.{routes};
 
     ghost Value = { List ℕ };

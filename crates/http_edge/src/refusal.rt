@@ -11,11 +11,11 @@ pub(crate) enum Refusal {
     /// H01: the head isn't one of HTTP/1.1, or the input ends in it, or its `Content-Length` isn't
     /// one number.
     BadHead,
-    /// H02: more than 8,192 bytes or 34 lines of a head.
+    /// H02: more than `HEAD_LIMIT` bytes or `LINE_LIMIT` lines of a head.
     HeadTooLarge,
     /// H03: a PUT without `Content-Length`.
     LengthRequired,
-    /// H04: a body of more than 33,554,432 bytes.
+    /// H04: a body of more than `BODY_LIMIT` bytes.
     BodyTooLarge,
     /// H05: the input ends in the body.
     BodyCut,

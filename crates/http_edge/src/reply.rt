@@ -8,6 +8,7 @@ ghost use Rattle.http_edge.specs.Replies.{phrase, allow_text, head_text, respons
 ghost use Rattle.http_edge.specs.Steps.Replies.{answer_value};
 
 use crate::joined::Joined;
+use crate::limits::REPLY_HEAD_LIMIT;
 use crate::refusal::Refusal;
 use crate::route::Route;
 use arrayvec::ArrayString;
@@ -50,8 +51,8 @@ pub fn phrase_law()
 {}
 
 /// Adds a method to a head.
-fn push_method(head: &mut ArrayString<256>, method: &Method)
-    requires { array_string_len head.old + length method.now ≤ 256 }
+fn push_method(head: &mut ArrayString<REPLY_HEAD_LIMIT>, method: &Method)
+    requires { array_string_len head.old + length method.now ≤ REPLY_HEAD_LIMIT }
     ensures text { head.new.bytes ≡ head.old.bytes ++ method.now }
     ensures len { array_string_len head.new ≡ array_string_len head.old + length method.now }
 {
@@ -59,8 +60,8 @@ fn push_method(head: &mut ArrayString<256>, method: &Method)
 }
 
 /// Adds the field `Allow` to a head where a method is allowed.
-fn push_allow(head: &mut ArrayString<256>, allow: Option<Route>)
-    requires { array_string_len head.old + 15 ≤ 256 }
+fn push_allow(head: &mut ArrayString<REPLY_HEAD_LIMIT>, allow: Option<Route>)
+    requires { array_string_len head.old + 15 ≤ REPLY_HEAD_LIMIT }
     ensures text { head.new.bytes ≡ head.old.bytes ++ allow_text allow }
     ensures short { array_string_len head.new ≤ array_string_len head.old + 15 }
 {
@@ -74,7 +75,7 @@ fn push_allow(head: &mut ArrayString<256>, allow: Option<Route>)
 
 /// The head of a response (RFC 9112, sections 4 and 5), to its empty line. It has at most 222
 /// bytes, since a phrase has at most 31 and the digits of its numbers are at most 40.
-fn head(status: u16, allow: Option<Route>, body_length: usize) -> ArrayString<256>
+fn head(status: u16, allow: Option<Route>, body_length: usize) -> ArrayString<REPLY_HEAD_LIMIT>
     ensures { result.bytes ≡ head_text status allow body_length }
 {
     let mut digits = Buffer::new();
@@ -112,7 +113,7 @@ fn push_response<W: Sink>(
 }
 
 impl Answer {
-    /// Writes it: a reply of at most 64 KiB by one write.
+    /// Writes it: a reply of at most `FIRST_BYTES` by one write.
     pub(crate) fn write<W: Sink>(&self, w: &mut W, joined: &mut Joined) -> Result<(), Failed>
         requires { CanCount (W.output w.old) }
         ensures { Sends (W.output w.old) (answer_text (answer_value self.now)) result (W.output w.new) }

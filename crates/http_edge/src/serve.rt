@@ -153,11 +153,10 @@ fn serve<D: Desk, R: Source, W: Sink>(
 /// them, and says how many replies were written. Stops at the end of the input, at the limit, and
 /// at a refusal that ends the stream.
 ///
-/// A head has at most 8,192 bytes, 34 lines and 32 fields, and a body at most 33,554,432 bytes. A
-/// body is never held whole: an upload takes it in pieces of at most 8,192 bytes, and nothing has
-/// an effect before all of it came. A reply of at most 64 KiB goes out by one write. The buffers
-/// and the router are made first: where memory for them is refused, nothing was read or written.
-/// What is buffered is served before more is read.
+/// How long a head and a body may be, and which replies go out by one write, is in `limits.rt`. A
+/// body is never held whole: an upload takes it in pieces, and nothing has an effect before all of
+/// it came. The buffers and the router are made first: where memory for them is refused, nothing
+/// was read or written. What is buffered is served before more is read.
 pub fn serve_stream<D: Desk, R: Source, W: Sink>(
     alloc: Global,
     desk: &mut D,
