@@ -1,5 +1,5 @@
 -- Which states of the index the tables represent.
-use Rattle.std.specs.Prelude.{◌≡◌, ⊤, ℕ, List, [], map, Option, Some, None, option_map, Ok, IsTrue}
+use Rattle.std.specs.Prelude.{◌≡◌, ⊤, ℕ, List, [], map, Option, Some, None, option_map, Result, Ok, IsTrue, IfErr, OnOk}
 use Rattle.sqlite_value.specs.Order.{Row}
 use Rattle.sqlite_schema.specs.declared.schema.Schema.{Schema}
 use Rattle.sqlite_trees.specs.Tree.{Trees}
@@ -16,9 +16,11 @@ use Rattle.flatten.specs.Flat.{RowsValue, IsFlat}
 use Rattle.tables.specs.Columns.{dump_rows, tag_rows}
 use Rattle.tables.specs.Contents.{Contents, Replies, Keeps, KeepsOne}
 use Rattle.tables.specs.Databases.{IsListed}
+use Rattle.tables.specs.Fault.{IsStoreFault}
 use Rattle.tables.specs.Schema.{IsSchemaOne, schema_two}
 use Rattle.machine.specs.State.{State, Change, accepted_text, text_after}
 use Rattle.tables.specs.TableTrees.{more_tree}
+use Rattle.tables.specs.declared.fault.TablesFault.{TablesFault}
 use Rattle.tables.specs.declared.slots.Part.TheVariants.{Dump, Tags}
 
 -- the dump has no fault, its ranges have positions within their bounds, and these are the rows that
@@ -111,10 +113,21 @@ abbrev pub IsAsBefore : sqlite.State → sqlite.State → Type 0
 IsAsBefore old new = (new.now ≡ old.now) × (new.committed ≡ old.committed)
 
 -- What a selection leaves of the tables, also where it refuses: it wrote nothing.
-pub record OnlySelects (old new : sqlite.State) : Type 0 where
+pub record OnlySelects {A : Type 0} (result : Result A TablesFault) (old new : sqlite.State) : Type 0 where
   -- where the store still serves, tables that rested for a state are as before
   pub same : sqlite.HasCleanDisk new → IsTrue new.is_open → (m : State) → Rests old m → IsAsBefore old new
   -- where the disk has returned what was written so far, it had before
   pub clean : sqlite.HasCleanDisk new → sqlite.HasCleanDisk old
   -- and a crash may leave no more than before
   pub survives : (m : State) → Rests old m → sqlite.Survives old new (λ _. ⊥)
+  -- it refuses by S01 or S02 alone
+  pub fault : IfErr result IsStoreFault
+
+-- What each change of the tables leaves, also where it refuses.
+pub record MayChange {A : Type 0} (result : Result A TablesFault) (old new : sqlite.State) : Type 0 where
+  -- where the disk has returned what was written so far, it had before
+  pub clean : sqlite.HasCleanDisk new → sqlite.HasCleanDisk old
+  -- where the change was made, the store still serves
+  pub is_open : sqlite.HasCleanDisk new → OnOk result (IsTrue new.is_open)
+  -- it refuses by S01 or S02 alone
+  pub fault : IfErr result IsStoreFault

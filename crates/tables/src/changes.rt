@@ -1,10 +1,10 @@
 //! The changes of the index: a dump or tags replaced, and both removed. Each is one transaction
 //! with its kept reply, so that a crash leaves both or neither. `specs/Contents` says what they
 //! leave.
-ghost use Rattle.std.specs.Prelude.{◌≡◌, ◌||◌, ℕ, List, Option, Some, None, is_some, false, IsTrue, IfOk, OnOk, OnErr, IfErr};
+ghost use Rattle.std.specs.Prelude.{◌≡◌, ◌||◌, ℕ, List, Option, Some, None, is_some, false, IsTrue, IfOk, OnOk, OnErr};
 ghost use Rattle.sqlite.specs.State.{HasCleanDisk, Survives};
 ghost use Rattle.sqlite.specs.Held.{state};
-ghost use Rattle.tables.specs.Steps.Clauses.{CommitsNothing};
+ghost use Rattle.tables.specs.Steps.Clauses.{CommitsNothing, EndsTransaction};
 ghost use Rattle.flatten.specs.Rows.{rows_value};
 ghost use Rattle.dump.specs.Progress.{DumpValue};
 ghost use Rattle.tags.specs.Views.{tag_values};
@@ -12,8 +12,7 @@ ghost use Rattle.tables.specs.Schema.{schema_two};
 ghost use Rattle.tables.specs.Columns.{dump_rows, tag_rows};
 ghost use Rattle.tables.specs.Contents.{Contents, Replies, Keeps, changed as replaced, kept};
 ghost use Rattle.tables.specs.Databases.{IsListed};
-ghost use Rattle.tables.specs.Fault.{IsStoreFault};
-ghost use Rattle.tables.specs.Stands.{IsAsBefore, IsDump, IsNew, Rests, StandsFor, replies_of};
+ghost use Rattle.tables.specs.Stands.{IsAsBefore, IsDump, IsNew, MayChange, Rests, StandsFor, replies_of};
 ghost use Rattle.machine.specs.State.{State, parts_removed, accepted_text, set_dump, set_tags, clear, changed};
 ghost use Rattle.tables.specs.Steps.Puts.{GoesOn};
 ghost use Rattle.tables.specs.declared.slots.Part.TheVariants.{Dump, Tags};
@@ -63,9 +62,7 @@ fn commit_dump<S: Alter>(
     rows: &Rows<'_>,
 ) -> Result<(), Error>
     requires mode { conn.old.in_transaction ≡ false }
-    ensures mode { conn.new.in_transaction ≡ false }
-    ensures clean { HasCleanDisk (state S.Store conn.new) → HasCleanDisk (state S.Store conn.old) }
-    ensures open { HasCleanDisk (state S.Store conn.new) → OnOk result (IsTrue (state S.Store conn.new).is_open) }
+    ensures ended { EndsTransaction result (state S.Store conn.old) (state S.Store conn.new) }
     ensures done { HasCleanDisk (state S.Store conn.new) → (m : State) (dump : DumpValue) → Rests (state S.Store conn.old) m
         → IsDump dump (dump_rows rows.now.profile (rows_value rows.now)) → IsNew m project.now key.now reply.now (set_dump dump)
         → OnOk result (Rests (state S.Store conn.new) (changed m project.now key.now (set_dump dump))) }
@@ -118,9 +115,7 @@ fn commit_tags<S: Alter>(
     tags: &[Tag],
 ) -> Result<(), Error>
     requires mode { conn.old.in_transaction ≡ false }
-    ensures mode { conn.new.in_transaction ≡ false }
-    ensures clean { HasCleanDisk (state S.Store conn.new) → HasCleanDisk (state S.Store conn.old) }
-    ensures open { HasCleanDisk (state S.Store conn.new) → OnOk result (IsTrue (state S.Store conn.new).is_open) }
+    ensures ended { EndsTransaction result (state S.Store conn.old) (state S.Store conn.new) }
     ensures done { HasCleanDisk (state S.Store conn.new) → (m : State) → Rests (state S.Store conn.old) m
         → IsNew m project.now key.now reply.now (set_tags (tag_values tags.now))
         → OnOk result (Rests (state S.Store conn.new) (changed m project.now key.now (set_tags (tag_values tags.now)))) }
@@ -180,9 +175,7 @@ fn commit_removal<S: Alter>(
     key: &str,
 ) -> Result<bool, Error>
     requires mode { conn.old.in_transaction ≡ false }
-    ensures mode { conn.new.in_transaction ≡ false }
-    ensures clean { HasCleanDisk (state S.Store conn.new) → HasCleanDisk (state S.Store conn.old) }
-    ensures open { HasCleanDisk (state S.Store conn.new) → OnOk result (IsTrue (state S.Store conn.new).is_open) }
+    ensures ended { EndsTransaction result (state S.Store conn.old) (state S.Store conn.new) }
     ensures done { HasCleanDisk (state S.Store conn.new) → (m : State) → Rests (state S.Store conn.old) m → m.kept project.now key.now ≡ None
         → IfOk result (λ was_there. (was_there ≡ (is_some (m.dump project.now) || is_some (m.tags project.now)))
         × Rests (state S.Store conn.new) (changed m project.now key.now clear)) }
@@ -204,12 +197,11 @@ impl<S: Alter> Tables<S> {
     ghost use Rattle.std.specs.Prelude.{◌≡◌, ◌||◌, None, is_some, IsTrue, IfOk, OnOk, OnErr};
     ghost use Rattle.sqlite.specs.State.{HasCleanDisk, Survives};
     ghost use Rattle.sqlite.specs.Held.{state};
-    ghost use Rattle.tables.specs.Steps.Clauses.{CommitsNothing};
     ghost use Rattle.flatten.specs.Rows.{rows_value};
     ghost use Rattle.dump.specs.Progress.{DumpValue};
     ghost use Rattle.tags.specs.Views.{tag_values};
     ghost use Rattle.tables.specs.Columns.{dump_rows};
-    ghost use Rattle.tables.specs.Stands.{IsAsBefore, IsDump, IsNew, Rests, StandsFor};
+    ghost use Rattle.tables.specs.Stands.{IsAsBefore, IsDump, IsNew, MayChange, Rests, StandsFor};
     ghost use Rattle.machine.specs.State.{State, set_dump, set_tags, clear, changed};
 
     /// Replaces the rows of the project's dump, where it has one, and keeps the text of the reply
@@ -224,9 +216,7 @@ impl<S: Alter> Tables<S> {
         reply: &str,
         rows: &Rows<'_>,
     ) -> Result<(), TablesFault>
-        ensures clean { HasCleanDisk (state S.Store self.new) → HasCleanDisk (state S.Store self.old) }
-        ensures fault { IfErr result IsStoreFault }
-        ensures open { HasCleanDisk (state S.Store self.new) → OnOk result (IsTrue (state S.Store self.new).is_open) }
+        ensures outcome { MayChange result (state S.Store self.old) (state S.Store self.new) }
         ensures done { HasCleanDisk (state S.Store self.new) → (m : State) (dump : DumpValue) → Rests (state S.Store self.old) m
             → IsDump dump (dump_rows rows.now.profile (rows_value rows.now)) → IsNew m project.now key.now reply.now (set_dump dump)
             → OnOk result (Rests (state S.Store self.new) (changed m project.now key.now (set_dump dump))) }
@@ -257,9 +247,7 @@ impl<S: Alter> Tables<S> {
         reply: &str,
         tags: &[Tag],
     ) -> Result<(), TablesFault>
-        ensures clean { HasCleanDisk (state S.Store self.new) → HasCleanDisk (state S.Store self.old) }
-        ensures fault { IfErr result IsStoreFault }
-        ensures open { HasCleanDisk (state S.Store self.new) → OnOk result (IsTrue (state S.Store self.new).is_open) }
+        ensures outcome { MayChange result (state S.Store self.old) (state S.Store self.new) }
         ensures done { HasCleanDisk (state S.Store self.new) → (m : State) → Rests (state S.Store self.old) m
             → IsNew m project.now key.now reply.now (set_tags (tag_values tags.now))
             → OnOk result (Rests (state S.Store self.new) (changed m project.now key.now (set_tags (tag_values tags.now)))) }
@@ -281,9 +269,7 @@ impl<S: Alter> Tables<S> {
     ///
     /// With each error the tables are as they were: `Refused` and `Memory` (`TablesFault`).
     pub fn remove(&mut self, project: &str, key: &str) -> Result<bool, TablesFault>
-        ensures clean { HasCleanDisk (state S.Store self.new) → HasCleanDisk (state S.Store self.old) }
-        ensures fault { IfErr result IsStoreFault }
-        ensures open { HasCleanDisk (state S.Store self.new) → OnOk result (IsTrue (state S.Store self.new).is_open) }
+        ensures outcome { MayChange result (state S.Store self.old) (state S.Store self.new) }
         ensures done { HasCleanDisk (state S.Store self.new) → (m : State) → Rests (state S.Store self.old) m → m.kept project.now key.now ≡ None
             → IfOk result (λ was_there. (was_there ≡ (is_some (m.dump project.now) || is_some (m.tags project.now)))
             × Rests (state S.Store self.new) (changed m project.now key.now clear)) }

@@ -1,13 +1,12 @@
 //! The ranges that cover a position, as they are selected: an index finds the last range that
 //! starts at the position or before, and a climb by its parents the others. That takes one
 //! statement for each range on the way, however many the document has.
-ghost use Rattle.std.specs.Prelude.{◌≡◌, List, ℕ, Some, map, IfOk, IfErr, OnOk};
+ghost use Rattle.std.specs.Prelude.{◌≡◌, List, ℕ, Some, map, IfOk, OnOk};
 ghost use Rattle.sqlite.specs.State.{HasCleanDisk};
 ghost use Rattle.sqlite.specs.Held.{state};
 ghost use Rattle.flatten.specs.Flat.{RangeRowValue, IsRangeRow, result_for};
 ghost use Rattle.tables.specs.Contents.{HasSlot};
 ghost use Rattle.machine.specs.State.{State};
-ghost use Rattle.tables.specs.Fault.{IsStoreFault};
 ghost use Rattle.tables.specs.Stands.{OnlySelects, Rests};
 ghost use Rattle.tables.specs.Selections.{FindsCover, FindsCovering, range_found};
 ghost use Rattle.tables.specs.Steps.Slots.{IsKnown};
@@ -195,8 +194,7 @@ impl<S: Alter> Tables<S> {
     ) -> Result<Covering, TablesFault>
         ensures found { HasCleanDisk (state S.Store self.new) → (m : State) → Rests (state S.Store self.old) m
             → IfOk result (FindsCovering m request project.now uri.now position) }
-        ensures selects { OnlySelects (state S.Store self.old) (state S.Store self.new) }
-        ensures fault { IfErr result IsStoreFault }
+        ensures selects { OnlySelects result (state S.Store self.old) (state S.Store self.new) }
     {
         match find_covering(
             alloc,

@@ -1,6 +1,6 @@
 //! The items of results, as they are selected by the key of their table: the places of a result in
 //! a role, then sorted. `FindsItems` in `specs/Selections`.
-ghost use Rattle.std.specs.Prelude.{◌≡◌, ◌∷◌, [], List, ℕ, Contains, map, IfOk, IfErr, OnOk};
+ghost use Rattle.std.specs.Prelude.{◌≡◌, ◌∷◌, [], List, ℕ, Contains, map, IfOk, OnOk};
 ghost use Rattle.std.specs.Rc.{rc_str_bytes};
 ghost use Rattle.sqlite_value.specs.declared.value.Value.TheVariants.{Text};
 ghost use Rattle.sqlite.specs.State.{HasCleanDisk};
@@ -10,7 +10,6 @@ ghost use Rattle.dump.specs.Places.{IsListing, place_cmp};
 ghost use Rattle.tables.specs.Columns.{position, IsWritten};
 ghost use Rattle.tables.specs.Contents.{HasSlot};
 ghost use Rattle.machine.specs.State.{State};
-ghost use Rattle.tables.specs.Fault.{IsStoreFault};
 ghost use Rattle.tables.specs.Stands.{OnlySelects, Rests};
 ghost use Rattle.tables.specs.Selections.{FindsItems, item_found};
 ghost use Rattle.tables.specs.Steps.Slots.{IsKnown};
@@ -138,8 +137,7 @@ impl<S: Alter> Tables<S> {
     ) -> Result<Vec<FoundItem>, TablesFault>
         ensures found { HasCleanDisk (state S.Store self.new) → (m : State) → Rests (state S.Store self.old) m
             → IfOk result (λ found. FindsItems m project.now result_number role (map item_found found.items)) }
-        ensures selects { OnlySelects (state S.Store self.old) (state S.Store self.new) }
-        ensures fault { IfErr result IsStoreFault }
+        ensures selects { OnlySelects result (state S.Store self.old) (state S.Store self.new) }
     {
         match find_items(
             alloc,

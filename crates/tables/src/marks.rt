@@ -1,5 +1,5 @@
 //! The marks of a range, as they are selected, by kind and key. `FindsMarks` in `specs/Selections`.
-ghost use Rattle.std.specs.Prelude.{◌≡◌, ◌∷◌, [], List, ℕ, Contains, map, string_bytes, IfOk, IfErr, OnOk};
+ghost use Rattle.std.specs.Prelude.{◌≡◌, ◌∷◌, [], List, ℕ, Contains, map, string_bytes, IfOk, OnOk};
 ghost use Rattle.sqlite_value.specs.declared.value.Value.TheVariants.{Text};
 ghost use Rattle.sqlite.specs.State.{HasCleanDisk};
 ghost use Rattle.sqlite.specs.Held.{state};
@@ -8,7 +8,6 @@ ghost use Rattle.flatten.specs.Flat.{kind_index};
 ghost use Rattle.tables.specs.Columns.{number};
 ghost use Rattle.tables.specs.Contents.{HasSlot};
 ghost use Rattle.machine.specs.State.{State};
-ghost use Rattle.tables.specs.Fault.{IsStoreFault};
 ghost use Rattle.tables.specs.Stands.{OnlySelects, Rests};
 ghost use Rattle.tables.specs.Selections.{FindsMarks, mark_text_cmp, mark_found};
 ghost use Rattle.tables.specs.Steps.Slots.{IsKnown};
@@ -116,8 +115,7 @@ impl<S: Alter> Tables<S> {
     ) -> Result<Vec<FoundMark>, TablesFault>
         ensures found { HasCleanDisk (state S.Store self.new) → (m : State) → Rests (state S.Store self.old) m
             → IfOk result (λ found. FindsMarks m project.now line (map mark_found found.items)) }
-        ensures selects { OnlySelects (state S.Store self.old) (state S.Store self.new) }
-        ensures fault { IfErr result IsStoreFault }
+        ensures selects { OnlySelects result (state S.Store self.old) (state S.Store self.new) }
     {
         match find_marks(alloc, &mut self.conn, &mut self.slot, project, line) {
             Ok(found) => Ok(found),

@@ -5,7 +5,7 @@ ghost use Rattle.tables.specs.Fault.{IsStoreFault};
 ghost use Rattle.tables.specs.Opening.{AfterMigration, StaysCommitted, IsRolledBack, Migrates};
 ghost use Rattle.sqlite.specs.State.{HasCleanDisk, Survives, IsUnchanged};
 ghost use Rattle.sqlite.specs.Held.{state};
-ghost use Rattle.tables.specs.Steps.Clauses.{CommitsNothing};
+ghost use Rattle.tables.specs.Steps.Clauses.{CommitsNothing, EndsTransaction};
 ghost use Rattle.tables.specs.Schema.{empty_schema};
 ghost use Rattle.tables.specs.Stands.{Finds, FindsOne, Rests, RestsOne, StandsFor};
 ghost use Rattle.machine.specs.State.{State};
@@ -45,10 +45,9 @@ fn upgrade<S: Alter>(conn: &mut Connection<S>) -> Result<(), Error>
     ensures made { IsFormatOne (state S.Store conn.old).now → HasCleanDisk (state S.Store conn.new)
         → OnOk result (IsUpgraded (state S.Store conn.old).now (state S.Store conn.new).now
         × ((state S.Store conn.new).committed ≡ (state S.Store conn.new).now)) }
-    ensures mode { conn.new.in_transaction ≡ false }
+    ensures ended { EndsTransaction result (state S.Store conn.old) (state S.Store conn.new) }
     ensures same { HasCleanDisk (state S.Store conn.new) → IsTrue (state S.Store conn.new).is_open
         → OnErr result (IsRolledBack (state S.Store conn.old) (state S.Store conn.new)) }
-    ensures clean { HasCleanDisk (state S.Store conn.new) → HasCleanDisk (state S.Store conn.old) }
     ensures crash { IsFormatOne (state S.Store conn.old).now
         → Survives (state S.Store conn.old) (state S.Store conn.new) (WasUpgraded (state S.Store conn.old).now.trees) }
 {

@@ -1,11 +1,10 @@
 //! Tags by their names, as they are selected: of one name, or of a prefix. Both are ranges of the
 //! index on names, so that no tag of another name is read. `specs/Names`.
-ghost use Rattle.std.specs.Prelude.{◌≡◌, Contains, map, option_map, IfOk, OnOk, IfErr};
+ghost use Rattle.std.specs.Prelude.{◌≡◌, Contains, map, option_map, IfOk, OnOk};
 ghost use Rattle.sqlite.specs.State.{HasCleanDisk};
 ghost use Rattle.sqlite.specs.Held.{state};
 ghost use Rattle.dump.specs.Places.{IsListing};
 ghost use Rattle.machine.specs.State.{State};
-ghost use Rattle.tables.specs.Fault.{IsStoreFault};
 ghost use Rattle.tables.specs.Stands.{OnlySelects, Rests};
 ghost use Rattle.machine.specs.FoundTags.{BeginsWith, line_cmp, name_cmp};
 ghost use Rattle.machine.specs.Found.{tag_found};
@@ -161,8 +160,7 @@ impl<S: Alter> Tables<S> {
     ) -> Result<Vec<FoundTag>, TablesFault>
         ensures found { HasCleanDisk (state S.Store self.new) → (m : State) → Rests (state S.Store self.old) m
             → IfOk result (λ found. FindsNamed m (option_map (λ p. p.now) project.entry) name.now (map tag_found found.items)) }
-        ensures selects { OnlySelects (state S.Store self.old) (state S.Store self.new) }
-        ensures fault { IfErr result IsStoreFault }
+        ensures selects { OnlySelects result (state S.Store self.old) (state S.Store self.new) }
     {
         self.slot = None;
         match find_named(alloc, &mut self.conn, name, project) {
@@ -182,8 +180,7 @@ impl<S: Alter> Tables<S> {
     ) -> Result<Vec<FoundTag>, TablesFault>
         ensures found { HasCleanDisk (state S.Store self.new) → (m : State) → Rests (state S.Store self.old) m
             → IfOk result (λ found. FindsPrefixed m (option_map (λ p. p.now) project.entry) prefix.now (map tag_found found.items)) }
-        ensures selects { OnlySelects (state S.Store self.old) (state S.Store self.new) }
-        ensures fault { IfErr result IsStoreFault }
+        ensures selects { OnlySelects result (state S.Store self.old) (state S.Store self.new) }
     {
         self.slot = None;
         match find_prefixed(alloc, &mut self.conn, prefix, project) {

@@ -1,12 +1,11 @@
 //! The parts of projects, as they are selected: the slot of a part, and the profile of a dump.
-ghost use Rattle.std.specs.Prelude.{◌≡◌, Some, option_map, IfOk, IfErr, OnOk};
+ghost use Rattle.std.specs.Prelude.{◌≡◌, Some, option_map, IfOk, OnOk};
 ghost use Rattle.sqlite.specs.State.{HasCleanDisk};
 ghost use Rattle.sqlite.specs.Held.{state};
 ghost use Rattle.tables.specs.Schema.{schema_two};
 ghost use Rattle.tables.specs.Columns.{profile_columns};
 ghost use Rattle.tables.specs.Contents.{Contents, Replies, Keeps};
 ghost use Rattle.machine.specs.State.{State};
-ghost use Rattle.tables.specs.Fault.{IsStoreFault};
 ghost use Rattle.tables.specs.Stands.{OnlySelects, Rests};
 ghost use Rattle.tables.specs.Steps.Slots.{IsDumpSlot, IsKnown, IsSlotOf};
 ghost use Rattle.tables.specs.declared.slots.Part.TheVariants.{Dump};
@@ -120,8 +119,7 @@ impl<S: Alter> Tables<S> {
     pub fn profile(&mut self, project: &str) -> Result<Option<Profile>, TablesFault>
         ensures found { HasCleanDisk (state S.Store self.new) → (m : State) → Rests (state S.Store self.old) m
             → IfOk result (λ found. found ≡ option_map (λ d. d.profile) (m.dump project.now)) }
-        ensures selects { OnlySelects (state S.Store self.old) (state S.Store self.new) }
-        ensures fault { IfErr result IsStoreFault }
+        ensures selects { OnlySelects result (state S.Store self.old) (state S.Store self.new) }
     {
         self.slot = None;
         match find_profile(&mut self.conn, project) {

@@ -1,12 +1,11 @@
 //! The projects with a part, as they are selected, by name. `FindsProjects` in `specs/Selections`.
-ghost use Rattle.std.specs.Prelude.{◌≡◌, Contains, is_some, map, string_bytes, IfOk, IfErr};
+ghost use Rattle.std.specs.Prelude.{◌≡◌, Contains, is_some, map, string_bytes, IfOk};
 ghost use Rattle.sqlite.specs.State.{HasCleanDisk};
 ghost use Rattle.sqlite.specs.Held.{state};
 ghost use Rattle.dump.specs.Places.{IsListing};
 ghost use Rattle.tables.specs.Schema.{schema_two};
 ghost use Rattle.tables.specs.Contents.{Contents, Replies, Keeps};
 ghost use Rattle.machine.specs.State.{State};
-ghost use Rattle.tables.specs.Fault.{IsStoreFault};
 ghost use Rattle.tables.specs.Stands.{OnlySelects, Rests};
 ghost use Rattle.machine.specs.Projects.{text_cmp};
 ghost use Rattle.machine.specs.Found.{project_found};
@@ -95,8 +94,7 @@ impl<S: Alter> Tables<S> {
     pub fn projects(&mut self, alloc: Global) -> Result<Vec<FoundProject>, TablesFault>
         ensures found { HasCleanDisk (state S.Store self.new) → (m : State) → Rests (state S.Store self.old) m
             → IfOk result (λ found. FindsProjects m (map project_found found.items)) }
-        ensures selects { OnlySelects (state S.Store self.old) (state S.Store self.new) }
-        ensures fault { IfErr result IsStoreFault }
+        ensures selects { OnlySelects result (state S.Store self.old) (state S.Store self.new) }
     {
         self.slot = None;
         match list_projects(alloc, &mut self.conn) {

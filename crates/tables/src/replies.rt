@@ -1,9 +1,8 @@
 //! The kept replies, as they are selected: the text under a project and a key.
-ghost use Rattle.std.specs.Prelude.{◌≡◌, IfOk, option_map, string_bytes, IfErr};
+ghost use Rattle.std.specs.Prelude.{◌≡◌, IfOk, option_map, string_bytes};
 ghost use Rattle.sqlite.specs.State.{HasCleanDisk};
 ghost use Rattle.sqlite.specs.Held.{state};
 ghost use Rattle.machine.specs.State.{State, accepted_text};
-ghost use Rattle.tables.specs.Fault.{IsStoreFault};
 ghost use Rattle.tables.specs.Stands.{OnlySelects, Rests};
 ghost use Rattle.tables.specs.Steps.Clauses.{OfState, OnlyReads};
 
@@ -35,8 +34,7 @@ impl<S: Alter> Tables<S> {
     pub fn kept_reply(&mut self, project: &str, key: &str) -> Result<Option<String>, TablesFault>
         ensures found { HasCleanDisk (state S.Store self.new) → (m : State) → Rests (state S.Store self.old) m
             → IfOk result (λ reply. option_map string_bytes reply ≡ option_map accepted_text (m.kept project.now key.now)) }
-        ensures selects { OnlySelects (state S.Store self.old) (state S.Store self.new) }
-        ensures fault { IfErr result IsStoreFault }
+        ensures selects { OnlySelects result (state S.Store self.old) (state S.Store self.new) }
     {
         self.slot = None;
         match find_reply(&mut self.conn, project, key) {

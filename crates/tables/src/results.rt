@@ -1,11 +1,10 @@
 //! The contents of hover results, selected by the number of the result. `FindsHover` in
 //! `specs/Selections`.
-ghost use Rattle.std.specs.Prelude.{List, ℕ, Some, option_map, string_bytes, IfOk, IfErr};
+ghost use Rattle.std.specs.Prelude.{List, ℕ, Some, option_map, string_bytes, IfOk};
 ghost use Rattle.sqlite.specs.State.{HasCleanDisk};
 ghost use Rattle.sqlite.specs.Held.{state};
 ghost use Rattle.tables.specs.Contents.{HasSlot};
 ghost use Rattle.machine.specs.State.{State};
-ghost use Rattle.tables.specs.Fault.{IsStoreFault};
 ghost use Rattle.tables.specs.Stands.{OnlySelects, Rests};
 ghost use Rattle.tables.specs.Selections.{FindsHover};
 ghost use Rattle.tables.specs.Steps.Slots.{IsKnown};
@@ -70,8 +69,7 @@ impl<S: Alter> Tables<S> {
     ) -> Result<Option<String>, TablesFault>
         ensures found { HasCleanDisk (state S.Store self.new) → (m : State) → Rests (state S.Store self.old) m
             → IfOk result (λ found. FindsHover m project.now result_number (option_map string_bytes found)) }
-        ensures selects { OnlySelects (state S.Store self.old) (state S.Store self.new) }
-        ensures fault { IfErr result IsStoreFault }
+        ensures selects { OnlySelects result (state S.Store self.old) (state S.Store self.new) }
     {
         match find_hover(&mut self.conn, &self.slot, project, result_number) {
             Ok(found) => Ok(found),

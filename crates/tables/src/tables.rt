@@ -4,7 +4,7 @@ ghost use Rattle.std.specs.Prelude.{◌≡◌, ◌⊎◌, codes, true, false, Is
 ghost use Rattle.sqlite_catalog.specs.Change.{is_used};
 ghost use Rattle.sqlite.specs.State.{HasCleanDisk, Survives, IsUnchanged};
 ghost use Rattle.sqlite.specs.Held.{state};
-ghost use Rattle.tables.specs.Steps.Clauses.{CommitsNothing};
+ghost use Rattle.tables.specs.Steps.Clauses.{CommitsNothing, EndsTransaction};
 ghost use Rattle.tables.specs.Schema.{empty_schema};
 ghost use Rattle.tables.specs.Databases.{IsMade, WasMade, IsFormatOne, IsFormatTwo, ShowsVersion};
 ghost use Rattle.tables.specs.Fault.{IsStoreFault};
@@ -76,11 +76,9 @@ fn make<S: Alter>(conn: &mut Connection<S>) -> Result<(), Error>
     requires mode { conn.old.in_transaction ≡ false }
     ensures made { (state S.Store conn.old).now.schema ≡ empty_schema → HasCleanDisk (state S.Store conn.new)
         → OnOk result (IsMade (state S.Store conn.new).now × ((state S.Store conn.new).committed ≡ (state S.Store conn.new).now)) }
-    ensures mode { conn.new.in_transaction ≡ false }
+    ensures ended { EndsTransaction result (state S.Store conn.old) (state S.Store conn.new) }
     ensures same { HasCleanDisk (state S.Store conn.new) → IsTrue (state S.Store conn.new).is_open
         → OnErr result (IsRolledBack (state S.Store conn.old) (state S.Store conn.new)) }
-    ensures clean { HasCleanDisk (state S.Store conn.new) → HasCleanDisk (state S.Store conn.old) }
-    ensures open { HasCleanDisk (state S.Store conn.new) → OnOk result (IsTrue (state S.Store conn.new).is_open) }
     ensures crash { (state S.Store conn.old).now.schema ≡ empty_schema → Survives (state S.Store conn.old) (state S.Store conn.new) WasMade }
 {
     let mut tx = conn.transaction();

@@ -55,3 +55,12 @@ pub record CommitsNothing {S : Type 0} (store : Ghosts S) (old new : MutBor (Hel
   pub kept : sqlite.HasCleanDisk (state store new.now) → sqlite.KeepsCommit (state store old.now) (state store new.now)
   -- and nothing more may be left than before
   pub survives : sqlite.Survives (state store old.now) (state store new.now) (λ _. ⊥)
+
+-- What a transaction that was begun and ended leaves of its connection, also where it fails.
+pub record EndsTransaction {A E : Type 0} (result : Result A E) (old new : sqlite.State) : Type 0 where
+  -- it's in no transaction
+  pub mode : new.in_transaction ≡ false
+  -- where the disk has returned what was written so far, it had before
+  pub clean : sqlite.HasCleanDisk new → sqlite.HasCleanDisk old
+  -- where the transaction was committed, the store still serves
+  pub is_open : sqlite.HasCleanDisk new → OnOk result (IsTrue new.is_open)

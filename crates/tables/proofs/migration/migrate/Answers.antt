@@ -12,7 +12,7 @@ use Rattle.tables.proofs.migration.migrate.Goals as goal
 pub returns-in-Ok-upgrade-clause-crash : goal.returns-in-Ok-upgrade-clause-crash
 returns-in-Ok-upgrade-clause-crash g c is = rw c.over.ensures (
   (λ clean.
-      let found = c.find_format.ensures.old (c.upgrade.ensures.clean clean) is in
+      let found = c.find_format.ensures.old (c.upgrade.ensures.ended.clean clean) is in
       migrates (state g.S.Store c.args.conn) (state g.S.Store c.find_format.new.conn) (state g.S.Store c.upgrade.new.conn) is (search (found, rules)) (c.find_format.ensures.crash (inl is)) c.upgrade.ensures.crash),
   tt,
 )
@@ -22,7 +22,7 @@ returns-in-Ok-upgrade-clause-stands g c m it = rw c.over.ensures (
   (λ clean.
       let is = resting_one _ m it in
       let one = rests_one _ m is in
-      let same = (c.in-Ok-One.ensures.old (c.upgrade.ensures.clean clean) one).1.0.now_is in
+      let same = (c.in-Ok-One.ensures.old (c.upgrade.ensures.ended.clean clean) one).1.0.now_is in
       let made = c.in-Ok-upgrade.ensures.made (subst IsFormatOne (sym same) one) clean in
       (refl, rests_upgraded (state g.S.Store c.args.conn) (state g.S.Store c.upgrade.new.conn) m is (subst (λ (d : Database). IsUpgraded d (state g.S.Store c.upgrade.new.conn).now) same made.0) made.1)),
   tt,
@@ -32,7 +32,7 @@ pub returns-in-Ok-upgrade-clause-left : goal.returns-in-Ok-upgrade-clause-left
 returns-in-Ok-upgrade-clause-left g c m is = rw c.over.ensures (
   (λ clean.
       let one = rests_one _ m is in
-      let found = c.find_format.ensures.old (c.upgrade.ensures.clean clean) one in
+      let found = c.find_format.ensures.old (c.upgrade.ensures.ended.clean clean) one in
       implied _ _ (WasUpgraded (state g.S.Store c.args.conn).now.trees) (λ db. StandsFor db m) (stands_upgraded (state g.S.Store c.args.conn).now.trees m is.stands)
       (migrates (state g.S.Store c.args.conn) (state g.S.Store c.find_format.new.conn) (state g.S.Store c.upgrade.new.conn) one (search (found, rules)) (c.find_format.ensures.crash (inl one)) c.upgrade.ensures.crash)),
   tt,
@@ -43,7 +43,7 @@ returns-in-Err-upgrade-clause-left g c m is = (
   tt,
   (λ clean.
       let one = rests_one _ m is in
-      let found = c.find_format.ensures.old (c.upgrade.ensures.clean clean) one in
+      let found = c.find_format.ensures.old (c.upgrade.ensures.ended.clean clean) one in
       implied _ _ (WasUpgraded (state g.S.Store c.args.conn).now.trees) (λ db. StandsFor db m) (stands_upgraded (state g.S.Store c.args.conn).now.trees m is.stands)
       (migrates (state g.S.Store c.args.conn) (state g.S.Store c.find_format.new.conn) (state g.S.Store c.upgrade.new.conn) one (search (found, rules)) (c.find_format.ensures.crash (inl one)) c.upgrade.ensures.crash)),
 )
@@ -81,7 +81,7 @@ returns-in-Ok-clause-stands g c m it = (
 pub returns-in-Ok-upgrade-clause-known_stands : goal.returns-in-Ok-upgrade-clause-known_stands
 returns-in-Ok-upgrade-clause-known_stands g c m it = rw c.over.ensures (
   (λ clean.
-      let found = c.find_format.ensures.known (c.upgrade.ensures.clean clean) (rests_format _ m (resting _ m it)) in
+      let found = c.find_format.ensures.known (c.upgrade.ensures.ended.clean clean) (rests_format _ m (resting _ m it)) in
       absurd (search (found, rules))),
   tt,
 )

@@ -13,7 +13,7 @@ returns-in_err-check-clause-changes g c good m stood free =
 pub returns-in_err-remove-clause-changes : goal.returns-in_err-remove-clause-changes
 returns-in_err-remove-clause-changes g c good m stood free =
     let next = changed m c.args.project.now c.args.key.now clear in
-    let asked = c.remove.ensures.clean good in
+    let asked = c.remove.ensures.outcome.clean good in
     let rests = rests_when_asked (state g.S.Store c.args.self.now) (state g.S.Store c.check.new.self) m (c.in_ok-check.ensures.open asked) stood in
     let held = refused_change g.S.Store c.args.self.now c.check.new.self c.remove.new.self m next c.check.ensures.survives asked (c.remove.ensures.crash m rests free) good rests (λ up. c.in_err-remove.ensures.same good up m rests free) in
     search rules
@@ -21,5 +21,5 @@ returns-in_err-remove-clause-changes g c good m stood free =
 pub returns-clause-changes : goal.returns-clause-changes
 returns-clause-changes g c good m stood free =
     let next = changed m c.args.project.now c.args.key.now clear in
-    let rests = rests_when_asked (state g.S.Store c.args.self.now) (state g.S.Store c.check.new.self) m (c.in_ok-check.ensures.open (c.remove.ensures.clean good)) stood in
-    (made_change g.S.Store g.met.S.Store.settled c.remove.new.self next (c.in_ok-remove.ensures.open good) (c.in_ok-remove.ensures.done good m rests free).1, tt)
+    let rests = rests_when_asked (state g.S.Store c.args.self.now) (state g.S.Store c.check.new.self) m (c.in_ok-check.ensures.open (c.remove.ensures.outcome.clean good)) stood in
+    (made_change g.S.Store g.met.S.Store.settled c.remove.new.self next (c.in_ok-remove.ensures.outcome.is_open good) (c.in_ok-remove.ensures.done good m rests free).1, tt)

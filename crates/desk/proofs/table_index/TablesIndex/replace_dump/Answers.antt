@@ -24,7 +24,7 @@ returns-in_err-check-clause-changes g c good m stood new =
 pub returns-in_err-replace_dump-clause-changes : goal.returns-in_err-replace_dump-clause-changes
 returns-in_err-replace_dump-clause-changes g c good m stood new =
     let next = changed m c.args.project.now c.args.key.now (set_dump c.args.dump) in
-    let asked = c.replace_dump.ensures.clean good in
+    let asked = c.replace_dump.ensures.outcome.clean good in
     let rests = rests_when_asked (state g.S.Store c.args.self.now) (state g.S.Store c.check.new.self) m (c.in_ok-check.ensures.open asked) stood in
     let held = refused_change g.S.Store c.args.self.now c.check.new.self c.replace_dump.new.self m next c.check.ensures.survives asked (c.replace_dump.ensures.crash m c.args.dump rests c.in_ok-rows.ensures new) good rests (λ up. c.in_err-replace_dump.ensures.same good up m c.args.dump rests c.in_ok-rows.ensures new) in
     search rules
@@ -32,5 +32,5 @@ returns-in_err-replace_dump-clause-changes g c good m stood new =
 pub returns-clause-changes : goal.returns-clause-changes
 returns-clause-changes g c good m stood new =
     let next = changed m c.args.project.now c.args.key.now (set_dump c.args.dump) in
-    let rests = rests_when_asked (state g.S.Store c.args.self.now) (state g.S.Store c.check.new.self) m (c.in_ok-check.ensures.open (c.replace_dump.ensures.clean good)) stood in
-    (made_change g.S.Store g.met.S.Store.settled c.replace_dump.new.self next (c.in_ok-replace_dump.ensures.open good) (c.in_ok-replace_dump.ensures.done good m c.args.dump rests c.in_ok-rows.ensures new), tt)
+    let rests = rests_when_asked (state g.S.Store c.args.self.now) (state g.S.Store c.check.new.self) m (c.in_ok-check.ensures.open (c.replace_dump.ensures.outcome.clean good)) stood in
+    (made_change g.S.Store g.met.S.Store.settled c.replace_dump.new.self next (c.in_ok-replace_dump.ensures.outcome.is_open good) (c.in_ok-replace_dump.ensures.done good m c.args.dump rests c.in_ok-rows.ensures new), tt)

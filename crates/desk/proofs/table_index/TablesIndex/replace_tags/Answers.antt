@@ -20,7 +20,7 @@ returns-in_err-replace_tags-clause-changes g c good m stood new =
     let same : tags ≡ c.args.part = search rules in
     let next = changed m c.args.project.now c.args.key.now (set_tags tags) in
     let is_new = subst (λ ts. IsNew m c.args.project.now c.args.key.now c.args.reply.now (set_tags ts)) (sym same) new in
-    let asked = c.replace_tags.ensures.clean good in
+    let asked = c.replace_tags.ensures.outcome.clean good in
     let rests = rests_when_asked (state g.S.Store c.args.self.now) (state g.S.Store c.check.new.self) m (c.in_ok-check.ensures.open asked) stood in
     let refused = refused_change g.S.Store c.args.self.now c.check.new.self c.replace_tags.new.self m next c.check.ensures.survives asked (c.replace_tags.ensures.crash m rests is_new) good rests (λ up. c.in_err-replace_tags.ensures.same good up m rests is_new) in
     let held = subst (λ ts. Refuses (λ t k. ServesFor (state g.S.Store t) k) (λ t states. LeavesOneOf (state g.S.Store t) states) c.args.self.now c.replace_tags.new.self m (changed m c.args.project.now c.args.key.now (set_tags ts))) same refused in
@@ -32,6 +32,6 @@ returns-clause-changes g c good m stood new =
     let same : tags ≡ c.args.part = search rules in
     let next = changed m c.args.project.now c.args.key.now (set_tags tags) in
     let is_new = subst (λ ts. IsNew m c.args.project.now c.args.key.now c.args.reply.now (set_tags ts)) (sym same) new in
-    let rests = rests_when_asked (state g.S.Store c.args.self.now) (state g.S.Store c.check.new.self) m (c.in_ok-check.ensures.open (c.replace_tags.ensures.clean good)) stood in
-    let made = made_change g.S.Store g.met.S.Store.settled c.replace_tags.new.self next (c.in_ok-replace_tags.ensures.open good) (c.in_ok-replace_tags.ensures.done good m rests is_new) in
+    let rests = rests_when_asked (state g.S.Store c.args.self.now) (state g.S.Store c.check.new.self) m (c.in_ok-check.ensures.open (c.replace_tags.ensures.outcome.clean good)) stood in
+    let made = made_change g.S.Store g.met.S.Store.settled c.replace_tags.new.self next (c.in_ok-replace_tags.ensures.outcome.is_open good) (c.in_ok-replace_tags.ensures.done good m rests is_new) in
     (subst (λ ts. Commits (λ t k. ServesFor (state g.S.Store t) k) (λ t states. LeavesOneOf (state g.S.Store t) states) c.replace_tags.new.self (changed m c.args.project.now c.args.key.now (set_tags ts))) same made, tt)

@@ -31,7 +31,7 @@ returns-in-Err-make-clause-left g c has =
 pub returns-in-Ok-clause-stands : goal.returns-in-Ok-clause-stands
 returns-in-Ok-clause-stands g c m it = rw c.over.ensures (
   (λ clean.
-      let found = c.find_format.ensures.known (c.make.ensures.clean clean) (rests_format _ m (resting _ m it)) in
+      let found = c.find_format.ensures.known (c.make.ensures.ended.clean clean) (rests_format _ m (resting _ m it)) in
       absurd (search (found, rules))),
   tt,
 )
@@ -59,13 +59,13 @@ returns-in-Ok-Unknown-clause-stands g c m it = (
 
 pub returns-in-Ok-clause-known : goal.returns-in-Ok-clause-known
 returns-in-Ok-clause-known g c is = rw c.over.ensures (λ clean.
-    let found = c.find_format.ensures.known (c.make.ensures.clean clean) is in
+    let found = c.find_format.ensures.known (c.make.ensures.ended.clean clean) is in
     absurd (search (found, rules)))
 
 pub returns-in-Ok-clause-old : goal.returns-in-Ok-clause-old
 returns-in-Ok-clause-old g c it = rw c.over.ensures (
   (λ clean.
-      let found = c.find_format.ensures.old (c.make.ensures.clean clean) (is_format_one _ it) in
+      let found = c.find_format.ensures.old (c.make.ensures.ended.clean clean) (is_format_one _ it) in
       absurd (search (found, rules))),
   tt,
 )
