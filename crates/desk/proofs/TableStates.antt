@@ -1,6 +1,7 @@
 -- What calls of tables leave of the states for which they serve, and of those of which a crash
 -- leaves one.
-use Rattle.std.proofs.Common.{◌≡◌, ◌∙◌, ◌++◌, [], ◌∷◌, List, IsTrue, inl, inr, sym, ap, subst}
+use Rattle.std.proofs.Common.{◌≡◌, ◌∙◌, ◌++◌, [], ◌∷◌, List, IsTrue, inl, inr, refl, sym, ap, subst, true, arith}
+use Rattle.std.specs.Prelude.{Result, Ok, Err, IfErr}
 use Rattle.std.proofs.lemmas.List.Elements.{Contains-append_left, Contains-push}
 use Rattle.sqlite_trees.specs.declared.store.Store.{Ghosts}
 use Rattle.sqlite_trees.specs.Tree.{Trees}
@@ -8,10 +9,13 @@ use Rattle.sqlite.specs.Effect.{Database}
 use Rattle.sqlite.specs.Held.{Held, state}
 use Rattle.sqlite.specs.State as sqlite
 use Rattle.sqlite.specs.State.{HasCleanDisk, Survives}
-use Rattle.tables.specs.Stands.{IsAsBefore, Rests, StandsFor}
+use Rattle.tables.specs.Stands.{IsAsBefore, OnlySelects, Rests, StandsFor}
+use Rattle.tables.specs.declared.fault.TablesFault.{TablesFault}
 use Rattle.machine.specs.State.{State}
-use Rattle.desk.specs.Indexes.{Commits, Refuses}
+use Rattle.desk.specs.Indexes.{Commits, Reads, Refuses}
 use Rattle.desk.specs.TableStates.{LeavesOneOf, ServesFor, leaves_more}
+use Rattle.desk.specs.declared.index.IndexFault.{IndexFault}
+use Rattle.desk.specs.declared.index.IndexFault.TheVariants.{Refused}
 
 pub rests_on : (s t : sqlite.State) (m : State) → IsAsBefore s t → Rests s m → Rests t m
 rests_on s t m same is = record {
@@ -38,7 +42,32 @@ leaves_both s t states n survives clean leaves db may = elim (survives.crash cle
 pub rests_when_asked : (old mid : sqlite.State) (m : State) → IsTrue old.is_open × IsAsBefore old mid → ServesFor old m → Rests mid m
 rests_when_asked old mid m asked stood = rests_on old mid m asked.1 (stood asked.0)
 
+-- tables keep their state in a store
+may_refuse : {A : Type 0} (r : Result A IndexFault) → IfErr r (λ fault. fault ≡ Refused → true ≡ true)
+may_refuse (Ok a) = tt
+may_refuse (Err e) = λ _. refl
+
 module _ {S : Type 0} (g : Ghosts S) where
+  was_clean : (old mid : Held S) → Survives (state g old) (state g mid) (λ _. ⊥) → HasCleanDisk (state g mid) → HasCleanDisk (state g old)
+  was_clean old mid asked clean = omega (arith, asked.clean)
+
+  -- a selection of tables whose store was asked whether it's open, and is
+  pub selected : {A B : Type 0} (found : Result A TablesFault) (answer : Result B IndexFault) (old mid new : Held S) → Survives (state g old) (state g mid) (λ _. ⊥)
+      → (HasCleanDisk (state g mid) → IsTrue (state g old).is_open × IsAsBefore (state g old) (state g mid)) → OnlySelects found (state g mid) (state g new)
+      → Reads (λ t m. ServesFor (state g t) m) (λ t states. LeavesOneOf (state g t) states) (λ t. HasCleanDisk (state g t)) true answer old new
+  selected found answer old mid new asked was_open selects = record {
+    reliable = λ clean. was_clean old mid asked (selects.clean clean);
+    only = λ clean. record {
+      state = λ m stood up.
+          let rests = rests_when_asked (state g old) (state g mid) m (was_open (selects.clean clean)) stood in
+          rests_on (state g mid) (state g new) m (selects.same clean up m rests) rests;
+      left = λ m states stood leaves.
+          let rests = rests_when_asked (state g old) (state g mid) m (was_open (selects.clean clean)) stood in
+          leaves_still (state g mid) (state g new) states (selects.survives m rests) clean (leaves_still (state g old) (state g mid) states asked (selects.clean clean) leaves);
+    };
+    refused = may_refuse answer;
+  }
+
   abbrev IsRefused : Held S → Held S → State → State → Type 0
   IsRefused = Refuses (λ t m. ServesFor (state g t) m) (λ t states. LeavesOneOf (state g t) states)
 

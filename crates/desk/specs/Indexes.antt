@@ -1,11 +1,13 @@
 -- What a call of an index finds of a state, and what it leaves: the states that the index
 -- represents, and those of which a crash leaves one.
-use Rattle.std.specs.Prelude.{◌≡◌, ◌++◌, [], ◌∷◌, ℕ, List, map, Option, Some, Result, Ok, OnOk, OnErr, option_map}
+use Rattle.std.specs.Prelude.{◌≡◌, ◌++◌, [], ◌∷◌, ℕ, Bool, true, List, map, Option, Some, Result, Ok, OnOk, OnErr, IfErr, option_map}
 use Rattle.dump.specs.Fault.{IsFaultless}
 use Rattle.dump.specs.Progress.{DumpValue}
 use Rattle.machine.specs.FoundTags.{FoundTag}
 use Rattle.machine.specs.State.{State, accepted_text}
 use Rattle.tables.specs.Names.{FindsNamed, FindsPrefixed}
+use Rattle.desk.specs.declared.index.IndexFault.{IndexFault}
+use Rattle.desk.specs.declared.index.IndexFault.TheVariants.{Refused}
 use Rattle.desk.specs.declared.index.Wanted.{Wanted}
 use Rattle.desk.specs.declared.index.Wanted.TheVariants.{Name, Prefix}
 
@@ -29,6 +31,15 @@ module _ {I : Type 0} (stands : I → State → Type 0) (may_leave : I → List 
   pub record ReadsOnly (old new : I) : Type 0 where
     pub state : (m : State) → stands old m → stands new m
     pub left : (m : State) (states : List State) → stands old m → may_leave old states → may_leave new states
+
+  -- what a selection leaves, and why it may refuse
+  pub record Reads {A : Type 0} (is_reliable : I → Type 0) (may_refuse : Bool) (result : Result A IndexFault) (old new : I) : Type 0 where
+    -- an index that is reliable after the call was so before it
+    pub reliable : is_reliable new → is_reliable old
+    -- where it's reliable, the call changed nothing
+    pub only : is_reliable new → ReadsOnly old new
+    -- it refuses by S01 only where it keeps its state in a store
+    pub refused : IfErr result (λ fault. fault ≡ Refused → may_refuse ≡ true)
 
   -- a change was made: the index represents this state, and a crash leaves it alone
   pub record Commits (new : I) (n : State) : Type 0 where

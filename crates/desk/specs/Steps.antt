@@ -1,5 +1,6 @@
 -- What only private contracts and proofs name: steps of loops, and values of the program's own
 -- types.
+pub mod Clauses
 pub mod Indexes
 pub mod Listed
 pub mod Plain

@@ -72,7 +72,7 @@ pub trait Index {
     ghost use Rattle.tables.specs.Stands.{IsNew};
     ghost use Rattle.machine.specs.State.{State, changed, clear, set_dump, set_tags};
     ghost use Rattle.tables.specs.Selections.{FindsBearers, FindsCovering, FindsHover, FindsItems, FindsMarks, FindsProjects, bearer_found, item_found, mark_found};
-    ghost use Rattle.desk.specs.Indexes.{AreFaultless, Changes, FindsTags, ReadsOnly, kept_text};
+    ghost use Rattle.desk.specs.Indexes.{AreFaultless, Changes, FindsTags, Reads, kept_text};
     ghost use Rattle.desk.specs.declared.index.IndexFault.TheVariants.{Refused};
 
     /// The states that it represents: every state where it serves no more.
@@ -90,11 +90,9 @@ pub trait Index {
 
     /// The text of the reply that is kept for the project under the key.
     fn kept_reply(&mut self, project: &str, key: &str) -> Result<Option<String>, IndexFault>
-        ensures reliable { is_reliable self.new → is_reliable self.old }
         ensures found { is_reliable self.new → (m : State) → stands self.old m
             → IfOk result (λ text. option_map string_bytes text ≡ kept_text m project.now key.now) }
-        ensures reads_only { is_reliable self.new → ReadsOnly stands may_leave self.old self.new }
-        ensures refused { IfErr result (λ fault. fault ≡ Refused → may_refuse ≡ true) };
+        ensures reads { Reads stands may_leave is_reliable may_refuse result self.old self.new };
 
     /// The ranges of the document of this URL that cover the position, the smallest first, with
     /// their results for the request. A dump that answers has no fault.
@@ -106,11 +104,9 @@ pub trait Index {
         uri: &str,
         at: Position,
     ) -> Result<Covering, IndexFault>
-        ensures reliable { is_reliable self.new → is_reliable self.old }
         ensures found { is_reliable self.new → (m : State) → stands self.old m → IfOk result (FindsCovering m request project.now uri.now at) }
         ensures faultless { is_reliable self.new → (m : State) → stands self.old m → OnOk result (AreFaultless m) }
-        ensures reads_only { is_reliable self.new → ReadsOnly stands may_leave self.old self.new }
-        ensures refused { IfErr result (λ fault. fault ≡ Refused → may_refuse ≡ true) };
+        ensures reads { Reads stands may_leave is_reliable may_refuse result self.old self.new };
 
     /// The marks of the range at this line of the project's dump, counted from 1.
     fn marks(
@@ -119,11 +115,9 @@ pub trait Index {
         project: &str,
         line: u32,
     ) -> Result<Vec<FoundMark>, IndexFault>
-        ensures reliable { is_reliable self.new → is_reliable self.old }
         ensures found { is_reliable self.new → (m : State) → stands self.old m
             → IfOk result (λ found. FindsMarks m project.now line (map mark_found found.items)) }
-        ensures reads_only { is_reliable self.new → ReadsOnly stands may_leave self.old self.new }
-        ensures refused { IfErr result (λ fault. fault ≡ Refused → may_refuse ≡ true) };
+        ensures reads { Reads stands may_leave is_reliable may_refuse result self.old self.new };
 
     /// The places of a result of the project's dump in a role, by the result's number.
     fn items(
@@ -133,26 +127,20 @@ pub trait Index {
         result_number: u32,
         role: Role,
     ) -> Result<Vec<FoundItem>, IndexFault>
-        ensures reliable { is_reliable self.new → is_reliable self.old }
         ensures found { is_reliable self.new → (m : State) → stands self.old m
             → IfOk result (λ found. FindsItems m project.now result_number role (map item_found found.items)) }
-        ensures reads_only { is_reliable self.new → ReadsOnly stands may_leave self.old self.new }
-        ensures refused { IfErr result (λ fault. fault ≡ Refused → may_refuse ≡ true) };
+        ensures reads { Reads stands may_leave is_reliable may_refuse result self.old self.new };
 
     /// The vertices of all projects that have a mark with the key of this text.
     fn bearers(&mut self, alloc: Global, key: &str) -> Result<Vec<FoundBearer>, IndexFault>
-        ensures reliable { is_reliable self.new → is_reliable self.old }
         ensures found { is_reliable self.new → (m : State) → stands self.old m → IfOk result (λ found. FindsBearers m key.now (map bearer_found found.items)) }
-        ensures reads_only { is_reliable self.new → ReadsOnly stands may_leave self.old self.new }
-        ensures refused { IfErr result (λ fault. fault ≡ Refused → may_refuse ≡ true) };
+        ensures reads { Reads stands may_leave is_reliable may_refuse result self.old self.new };
 
     /// The contents of a hover result of the project's dump, by the result's number.
     fn hover(&mut self, project: &str, result_number: u32) -> Result<Option<String>, IndexFault>
-        ensures reliable { is_reliable self.new → is_reliable self.old }
         ensures found { is_reliable self.new → (m : State) → stands self.old m
             → IfOk result (λ found. FindsHover m project.now result_number (option_map string_bytes found)) }
-        ensures reads_only { is_reliable self.new → ReadsOnly stands may_leave self.old self.new }
-        ensures refused { IfErr result (λ fault. fault ≡ Refused → may_refuse ≡ true) };
+        ensures reads { Reads stands may_leave is_reliable may_refuse result self.old self.new };
 
     /// The tags with the names that are asked for, of all projects or of one.
     fn tags(
@@ -161,26 +149,20 @@ pub trait Index {
         wanted: Wanted<'_>,
         project: Option<&str>,
     ) -> Result<Vec<FoundTag>, IndexFault>
-        ensures reliable { is_reliable self.new → is_reliable self.old }
         ensures found { is_reliable self.new → (m : State) → stands self.old m
             → IfOk result (λ found. FindsTags m (option_map (λ p. p.now) project.entry) wanted.entry (map tag_found found.items)) }
-        ensures reads_only { is_reliable self.new → ReadsOnly stands may_leave self.old self.new }
-        ensures refused { IfErr result (λ fault. fault ≡ Refused → may_refuse ≡ true) };
+        ensures reads { Reads stands may_leave is_reliable may_refuse result self.old self.new };
 
     /// The projects that have a dump or tags.
     fn projects(&mut self, alloc: Global) -> Result<Vec<FoundProject>, IndexFault>
-        ensures reliable { is_reliable self.new → is_reliable self.old }
         ensures found { is_reliable self.new → (m : State) → stands self.old m → IfOk result (λ found. FindsProjects m (map project_found found.items)) }
-        ensures reads_only { is_reliable self.new → ReadsOnly stands may_leave self.old self.new }
-        ensures refused { IfErr result (λ fault. fault ≡ Refused → may_refuse ≡ true) };
+        ensures reads { Reads stands may_leave is_reliable may_refuse result self.old self.new };
 
     /// The profile that the project's dump was read by.
     fn profile(&mut self, project: &str) -> Result<Option<Profile>, IndexFault>
-        ensures reliable { is_reliable self.new → is_reliable self.old }
         ensures found { is_reliable self.new → (m : State) → stands self.old m
             → IfOk result (λ found. found ≡ option_map (λ d. d.profile) (m.dump project.now)) }
-        ensures reads_only { is_reliable self.new → ReadsOnly stands may_leave self.old self.new }
-        ensures refused { IfErr result (λ fault. fault ≡ Refused → may_refuse ≡ true) };
+        ensures reads { Reads stands may_leave is_reliable may_refuse result self.old self.new };
 
     /// Replaces the dump of the project, where it has one, and keeps the text of the reply under
     /// the key, which must not be kept yet.

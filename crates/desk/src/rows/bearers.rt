@@ -1,13 +1,12 @@
 //! The vertices of other projects that are joined to a range: those that have a moniker with one of
 //! its keys (`IsJoined` of `specs/Joins`). They are found by the rows of the bearers, one selection
 //! for each key.
-ghost use Rattle.std.specs.Prelude.{◌≡◌, Contains, IfOk, IfErr, IfSome, IfNone, OnOk, map, string_bytes, true};
+ghost use Rattle.std.specs.Prelude.{◌≡◌, Contains, IfOk, IfSome, IfNone, OnOk, map, string_bytes};
 ghost use Rattle.flatten.specs.Flat.{result_for};
 ghost use Rattle.tables.specs.Selections.{BearerFound, bearer_found};
 ghost use Rattle.machine.specs.State.{State};
-ghost use Rattle.desk.specs.Indexes.{ReadsOnly};
+ghost use Rattle.desk.specs.Steps.Clauses.{OnlyReads};
 ghost use Rattle.desk.specs.Steps.Rows.{Adds, AreJoined, AreThose, IsKeyJoined, JoinedValue, OfBearer, joined_value};
-ghost use Rattle.desk.specs.declared.index.IndexFault.TheVariants.{Refused};
 
 use crate::index::{Index, IndexFault};
 use dump::RequestKind;
@@ -83,11 +82,9 @@ fn add_key<I: Index>(
     own: &str,
     key: &str,
 ) -> Result<(), IndexFault>
-    ensures reliable { I.is_reliable index.new → I.is_reliable index.old }
     ensures found { I.is_reliable index.new → (m : State) → I.stands index.old m
         → OnOk result (Adds (map joined_value found.old.items) (map joined_value found.new.items) (IsKeyJoined m request own.now key.now)) }
-    ensures reads_only { I.is_reliable index.new → ReadsOnly I.stands I.may_leave index.old index.new }
-    ensures refused { IfErr result (λ fault. fault ≡ Refused → I.may_refuse ≡ true) }
+    ensures reads { OnlyReads I.Index result index.old index.new }
 {
     let bearers = index.bearers(alloc, key)?;
     add_bearers(found, request, own, bearers)?;
@@ -103,11 +100,9 @@ pub(crate) fn joined_bearers<I: Index>(
     own: &str,
     keys: &[String],
 ) -> Result<Vec<JoinedBearer>, IndexFault>
-    ensures reliable { I.is_reliable index.new → I.is_reliable index.old }
     ensures found { I.is_reliable index.new → (m : State) → I.stands index.old m
         → IfOk result (λ found. AreThose (AreJoined m request own.now (map string_bytes keys.now)) (map joined_value found.items)) }
-    ensures reads_only { I.is_reliable index.new → ReadsOnly I.stands I.may_leave index.old index.new }
-    ensures refused { IfErr result (λ fault. fault ≡ Refused → I.may_refuse ≡ true) }
+    ensures reads { OnlyReads I.Index result index.old index.new }
 {
     let mut found = Vec::new(alloc);
     for key in keys {

@@ -1,14 +1,13 @@
 //! The contents that answer a hover query: those of the range's own result, and where it has none,
 //! those of the first vertex that is joined to it, by project and line (`HoversAt` of
 //! `specs/Answers`).
-ghost use Rattle.std.specs.Prelude.{◌≡◌, IfOk, IfErr, option_map, string_bytes, true};
+ghost use Rattle.std.specs.Prelude.{IfOk, option_map, string_bytes};
 ghost use Rattle.tables.specs.Selections.{range_found};
 ghost use Rattle.machine.specs.State.{State};
-ghost use Rattle.desk.specs.Indexes.{ReadsOnly};
+ghost use Rattle.desk.specs.Steps.Clauses.{OnlyReads};
 ghost use Rattle.machine.specs.Answers.{AnswersAt, AnswersHover};
 ghost use Rattle.machine.specs.Requests.{at_value};
 ghost use Rattle.desk.specs.Steps.RowHovers.{RowHovers};
-ghost use Rattle.desk.specs.declared.index.IndexFault.TheVariants.{Refused};
 
 use crate::index::{Index, IndexFault};
 use crate::rows::bearers::joined_bearers;
@@ -27,11 +26,9 @@ fn contents_at<I: Index>(
     own: &str,
     range: &FoundRange,
 ) -> Result<Option<String>, IndexFault>
-    ensures reliable { I.is_reliable index.new → I.is_reliable index.old }
     ensures found { I.is_reliable index.new → (m : State) → I.stands index.old m
         → IfOk result (λ o. RowHovers m own.now (range_found range.now) (option_map string_bytes o)) }
-    ensures reads_only { I.is_reliable index.new → ReadsOnly I.stands I.may_leave index.old index.new }
-    ensures refused { IfErr result (λ fault. fault ≡ Refused → I.may_refuse ≡ true) }
+    ensures reads { OnlyReads I.Index result index.old index.new }
 {
     if let Some(number) = range.result {
         return index.hover(own, number);
@@ -52,11 +49,9 @@ pub(crate) fn hover<I: Index>(
     uri: &DocUri,
     at: Position,
 ) -> Result<Reply, IndexFault>
-    ensures reliable { I.is_reliable index.new → I.is_reliable index.old }
     ensures found { I.is_reliable index.new → (m : State) → I.stands index.old m
         → IfOk result (λ r. AnswersAt m (at_value project.now uri.now at) (AnswersHover m (at_value project.now uri.now at)) r) }
-    ensures reads_only { I.is_reliable index.new → ReadsOnly I.stands I.may_leave index.old index.new }
-    ensures refused { IfErr result (λ fault. fault ≡ Refused → I.may_refuse ≡ true) }
+    ensures reads { OnlyReads I.Index result index.old index.new }
 {
     let (project, uri) = (project.as_str(), uri.as_str());
     match pick(alloc, index, RequestKind::Hover, project, uri, at)? {

@@ -1,16 +1,15 @@
 //! The places of results in the roles that are asked for: those of the items that an index finds,
 //! sorted, each once.
-ghost use Rattle.std.specs.Prelude.{◌≡◌, Contains, IfOk, IfErr, OnOk, map, string_bytes, true};
+ghost use Rattle.std.specs.Prelude.{◌≡◌, Contains, IfOk, OnOk, map, string_bytes};
 ghost use Rattle.dump.specs.Places.{IsListing, PlaceValue};
 ghost use Rattle.tables.specs.Selections.{item_found};
 ghost use Rattle.machine.specs.State.{State};
-ghost use Rattle.desk.specs.Indexes.{ReadsOnly};
+ghost use Rattle.desk.specs.Steps.Clauses.{OnlyReads};
 ghost use Rattle.machine.specs.Answers.{found_cmp};
 ghost use Rattle.machine.specs.Reply.{places_found};
 ghost use Rattle.machine.specs.Steps.Places.{found_in};
 ghost use Rattle.desk.specs.Steps.Rows.{Adds, IsPlaceOf, IsPlaceOfOne, IsRolePlace, project_result_value};
 ghost use Rattle.desk.specs.Steps.RowPlaces.{item_place};
-ghost use Rattle.desk.specs.declared.index.IndexFault.TheVariants.{Refused};
 
 use crate::index::{Index, IndexFault};
 use crate::rows::results::ProjectResult;
@@ -56,12 +55,10 @@ fn add_role<'a, I: Index>(
     project_result: &'a ProjectResult,
     role: Role,
 ) -> Result<(), IndexFault>
-    ensures reliable { I.is_reliable index.new → I.is_reliable index.old }
     ensures found { I.is_reliable index.new → (m : State) → I.stands index.old m
         → OnOk result (Adds (map item_place found.old.items) (map item_place found.new.items)
         (IsRolePlace m role (project_result_value project_result.now))) }
-    ensures reads_only { I.is_reliable index.new → ReadsOnly I.stands I.may_leave index.old index.new }
-    ensures refused { IfErr result (λ fault. fault ≡ Refused → I.may_refuse ≡ true) }
+    ensures reads { OnlyReads I.Index result index.old index.new }
 {
     let items = index.items(
         alloc,
@@ -81,12 +78,10 @@ fn add_roles<'a, I: Index>(
     project_result: &'a ProjectResult,
     roles: &[Role],
 ) -> Result<(), IndexFault>
-    ensures reliable { I.is_reliable index.new → I.is_reliable index.old }
     ensures found { I.is_reliable index.new → (m : State) → I.stands index.old m
         → OnOk result (Adds (map item_place found.old.items) (map item_place found.new.items)
         (IsPlaceOf m roles.now (project_result_value project_result.now))) }
-    ensures reads_only { I.is_reliable index.new → ReadsOnly I.stands I.may_leave index.old index.new }
-    ensures refused { IfErr result (λ fault. fault ≡ Refused → I.may_refuse ≡ true) }
+    ensures reads { OnlyReads I.Index result index.old index.new }
 {
     for role in roles {
         add_role(alloc, index, found, project_result, *role)?;
@@ -102,12 +97,10 @@ fn add_results<'a, I: Index>(
     project_results: &'a [ProjectResult],
     roles: &[Role],
 ) -> Result<(), IndexFault>
-    ensures reliable { I.is_reliable index.new → I.is_reliable index.old }
     ensures found { I.is_reliable index.new → (m : State) → I.stands index.old m
         → OnOk result (Adds (map item_place found.old.items) (map item_place found.new.items)
         (IsPlaceOfOne m roles.now (Contains (map project_result_value project_results.now)))) }
-    ensures reads_only { I.is_reliable index.new → ReadsOnly I.stands I.may_leave index.old index.new }
-    ensures refused { IfErr result (λ fault. fault ≡ Refused → I.may_refuse ≡ true) }
+    ensures reads { OnlyReads I.Index result index.old index.new }
 {
     for project_result in project_results {
         add_roles(alloc, index, found, project_result, roles)?;
@@ -122,12 +115,10 @@ pub(crate) fn places_of<'a, I: Index>(
     project_results: &'a [ProjectResult],
     roles: &[Role],
 ) -> Result<Vec<ItemPlace<'a>>, IndexFault>
-    ensures reliable { I.is_reliable index.new → I.is_reliable index.old }
     ensures found { I.is_reliable index.new → (m : State) → I.stands index.old m
         → IfOk result (λ found. IsListing found_cmp
         (IsPlaceOfOne m roles.now (Contains (map project_result_value project_results.now))) (map item_place found.items)) }
-    ensures reads_only { I.is_reliable index.new → ReadsOnly I.stands I.may_leave index.old index.new }
-    ensures refused { IfErr result (λ fault. fault ≡ Refused → I.may_refuse ≡ true) }
+    ensures reads { OnlyReads I.Index result index.old index.new }
 {
     let mut found = Vec::new(alloc);
     add_results(alloc, index, &mut found, project_results, roles)?;

@@ -1,14 +1,13 @@
 //! The replies to queries, each made of what the selections of an index find, whether that is in a
 //! database or in memory.
-ghost use Rattle.std.specs.Prelude.{◌≡◌, ◌≢◌, IfOk, IfErr, true};
+ghost use Rattle.std.specs.Prelude.{◌≡◌, ◌≢◌, IfOk};
 ghost use Rattle.dump.specs.declared.request_kind.RequestKind.TheVariants as requests;
 ghost use Rattle.machine.specs.State.{State};
-ghost use Rattle.desk.specs.Indexes.{ReadsOnly};
+ghost use Rattle.desk.specs.Steps.Clauses.{OnlyReads};
 ghost use Rattle.machine.specs.Answers.{Answers, AnswersAt, AnswersKind, AnswersPlaces, reference_roles};
 ghost use Rattle.machine.specs.Requests.{at_value, query_value};
 ghost use Rattle.machine.specs.Requests as queries;
 ghost use Rattle.desk.specs.Steps.Listed.{tags_query};
-ghost use Rattle.desk.specs.declared.index.IndexFault.TheVariants.{Refused};
 
 use crate::index::{Index, IndexFault, Wanted};
 use crate::rows::hovers::hover;
@@ -41,11 +40,9 @@ pub(crate) fn places<I: Index>(
     uri: &DocUri,
     at: Position,
 ) -> Result<Reply, IndexFault>
-    ensures reliable { I.is_reliable index.new → I.is_reliable index.old }
     ensures found { I.is_reliable index.new → (m : State) → I.stands index.old m → request ≢ requests.Hover
         → IfOk result (λ r. AnswersAt m (at_value project.now uri.now at) (AnswersPlaces m request roles.now (at_value project.now uri.now at)) r) }
-    ensures reads_only { I.is_reliable index.new → ReadsOnly I.stands I.may_leave index.old index.new }
-    ensures refused { IfErr result (λ fault. fault ≡ Refused → I.may_refuse ≡ true) }
+    ensures reads { OnlyReads I.Index result index.old index.new }
 {
     let (project, uri) = (project.as_str(), uri.as_str());
     match pick(alloc, index, request, project, uri, at)? {
@@ -67,10 +64,8 @@ pub(crate) fn tags<I: Index>(
     wanted: Wanted<'_>,
     project: &Option<ProjectName>,
 ) -> Result<Reply, IndexFault>
-    ensures reliable { I.is_reliable index.new → I.is_reliable index.old }
     ensures found { I.is_reliable index.new → (m : State) → I.stands index.old m → IfOk result (λ r. Answers m (tags_query wanted.entry project.now) r) }
-    ensures reads_only { I.is_reliable index.new → ReadsOnly I.stands I.may_leave index.old index.new }
-    ensures refused { IfErr result (λ fault. fault ≡ Refused → I.may_refuse ≡ true) }
+    ensures reads { OnlyReads I.Index result index.old index.new }
 {
     let name = project.as_ref().map(ProjectName::as_str);
     let found = index.tags(alloc, wanted, name)?;
@@ -79,10 +74,8 @@ pub(crate) fn tags<I: Index>(
 
 /// Answers the query for the projects.
 pub(crate) fn projects<I: Index>(alloc: Global, index: &mut I) -> Result<Reply, IndexFault>
-    ensures reliable { I.is_reliable index.new → I.is_reliable index.old }
     ensures found { I.is_reliable index.new → (m : State) → I.stands index.old m → IfOk result (λ r. Answers m queries.projects r) }
-    ensures reads_only { I.is_reliable index.new → ReadsOnly I.stands I.may_leave index.old index.new }
-    ensures refused { IfErr result (λ fault. fault ≡ Refused → I.may_refuse ≡ true) }
+    ensures reads { OnlyReads I.Index result index.old index.new }
 {
     let found = index.projects(alloc)?;
     Ok(projects_found(alloc, &found)?)
@@ -94,10 +87,8 @@ pub(crate) fn profile<I: Index>(
     index: &mut I,
     project: &ProjectName,
 ) -> Result<Reply, IndexFault>
-    ensures reliable { I.is_reliable index.new → I.is_reliable index.old }
     ensures found { I.is_reliable index.new → (m : State) → I.stands index.old m → IfOk result (λ r. Answers m (queries.profile project.now) r) }
-    ensures reads_only { I.is_reliable index.new → ReadsOnly I.stands I.may_leave index.old index.new }
-    ensures refused { IfErr result (λ fault. fault ≡ Refused → I.may_refuse ≡ true) }
+    ensures reads { OnlyReads I.Index result index.old index.new }
 {
     match index.profile(project.as_str())? {
         Some(profile) => Ok(profile_found(alloc, profile)?),
@@ -114,11 +105,9 @@ fn answer_at<I: Index>(
     uri: &DocUri,
     at: Position,
 ) -> Result<Reply, IndexFault>
-    ensures reliable { I.is_reliable index.new → I.is_reliable index.old }
     ensures found { I.is_reliable index.new → (m : State) → I.stands index.old m
         → IfOk result (λ r. AnswersAt m (at_value project.now uri.now at) (AnswersKind m kind (at_value project.now uri.now at)) r) }
-    ensures reads_only { I.is_reliable index.new → ReadsOnly I.stands I.may_leave index.old index.new }
-    ensures refused { IfErr result (λ fault. fault ≡ Refused → I.may_refuse ≡ true) }
+    ensures reads { OnlyReads I.Index result index.old index.new }
 {
     match kind {
         RequestKind::Hover => hover(alloc, index, project, uri, at),
@@ -137,10 +126,8 @@ pub(crate) fn answer<I: Index>(
     index: &mut I,
     query: &Query,
 ) -> Result<Reply, IndexFault>
-    ensures reliable { I.is_reliable index.new → I.is_reliable index.old }
     ensures found { I.is_reliable index.new → (m : State) → I.stands index.old m → IfOk result (λ r. Answers m (query_value query.now) r) }
-    ensures reads_only { I.is_reliable index.new → ReadsOnly I.stands I.may_leave index.old index.new }
-    ensures refused { IfErr result (λ fault. fault ≡ Refused → I.may_refuse ≡ true) }
+    ensures reads { OnlyReads I.Index result index.old index.new }
 {
     match query {
         Query::At {

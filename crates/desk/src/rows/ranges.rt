@@ -1,13 +1,13 @@
 //! The range that answers a request at a position: the smallest that covers it and has a result, or
 //! a key by which the request goes on to other projects (`Pick` of the crate `dump`). The rows come
 //! smallest first, so the search ends at the first that does.
-ghost use Rattle.std.specs.Prelude.{◌≡◌, ◌↔◌, IsTrue, IfOk, IfErr, OnOk, map, option_map, string_bytes, true};
+ghost use Rattle.std.specs.Prelude.{◌↔◌, IsTrue, IfOk, OnOk, map, option_map, string_bytes};
 ghost use Rattle.dump.specs.Requests.{IsFirst};
 ghost use Rattle.tables.specs.Selections.{mark_found, range_found};
 ghost use Rattle.machine.specs.State.{State};
-ghost use Rattle.desk.specs.Indexes.{AreFaultless, ReadsOnly};
+ghost use Rattle.desk.specs.Indexes.{AreFaultless};
+ghost use Rattle.desk.specs.Steps.Clauses.{OnlyReads};
 ghost use Rattle.desk.specs.Steps.Rows.{AreFollowed, AreKeys, Picks, RowSpeaks};
-ghost use Rattle.desk.specs.declared.index.IndexFault.TheVariants.{Refused};
 
 use crate::index::{Index, IndexFault};
 use dump::RequestKind;
@@ -54,11 +54,9 @@ pub(crate) fn keys_at<I: Index>(
     project: &str,
     line: u32,
 ) -> Result<Vec<String>, IndexFault>
-    ensures reliable { I.is_reliable index.new → I.is_reliable index.old }
     ensures found { I.is_reliable index.new → (m : State) → I.stands index.old m
         → IfOk result (λ keys. AreKeys m request project.now line (map string_bytes keys.items)) }
-    ensures reads_only { I.is_reliable index.new → ReadsOnly I.stands I.may_leave index.old index.new }
-    ensures refused { IfErr result (λ fault. fault ≡ Refused → I.may_refuse ≡ true) }
+    ensures reads { OnlyReads I.Index result index.old index.new }
 {
     let marks = index.marks(alloc, project, line)?;
     let keys = followed_keys(alloc, request, marks)?;
@@ -74,11 +72,9 @@ fn speaks<I: Index>(
     project: &str,
     range: &FoundRange,
 ) -> Result<bool, IndexFault>
-    ensures reliable { I.is_reliable index.new → I.is_reliable index.old }
     ensures found { I.is_reliable index.new → (m : State) → I.stands index.old m
         → IfOk result (λ speaks. IsTrue speaks ↔ RowSpeaks m request project.now (range_found range.now)) }
-    ensures reads_only { I.is_reliable index.new → ReadsOnly I.stands I.may_leave index.old index.new }
-    ensures refused { IfErr result (λ fault. fault ≡ Refused → I.may_refuse ≡ true) }
+    ensures reads { OnlyReads I.Index result index.old index.new }
 {
     if range.result.is_some() {
         return Ok(true);
@@ -96,11 +92,9 @@ fn first_speaking<I: Index>(
     project: &str,
     ranges: &[FoundRange],
 ) -> Result<Option<FoundRange>, IndexFault>
-    ensures reliable { I.is_reliable index.new → I.is_reliable index.old }
     ensures first { I.is_reliable index.new → (m : State) → I.stands index.old m
         → IfOk result (λ o. IsFirst (RowSpeaks m request project.now) (map range_found ranges.now) (option_map range_found o)) }
-    ensures reads_only { I.is_reliable index.new → ReadsOnly I.stands I.may_leave index.old index.new }
-    ensures refused { IfErr result (λ fault. fault ≡ Refused → I.may_refuse ≡ true) }
+    ensures reads { OnlyReads I.Index result index.old index.new }
 {
     for range in ranges {
         if speaks(alloc, index, request, project, range)? {
@@ -119,11 +113,9 @@ pub(crate) fn pick<I: Index>(
     uri: &str,
     at: Position,
 ) -> Result<Picked, IndexFault>
-    ensures reliable { I.is_reliable index.new → I.is_reliable index.old }
     ensures found { I.is_reliable index.new → (m : State) → I.stands index.old m → IfOk result (Picks m request project.now uri.now at) }
     ensures faultless { I.is_reliable index.new → (m : State) → I.stands index.old m → OnOk result (AreFaultless m) }
-    ensures reads_only { I.is_reliable index.new → ReadsOnly I.stands I.may_leave index.old index.new }
-    ensures refused { IfErr result (λ fault. fault ≡ Refused → I.may_refuse ≡ true) }
+    ensures reads { OnlyReads I.Index result index.old index.new }
 {
     match index.covering(alloc, request, project, uri, at)? {
         Covering::NoDump => Ok(Picked::NoDump),

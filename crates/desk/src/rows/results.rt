@@ -1,13 +1,12 @@
 //! The results that answer a query at a position: the first result of the range and those of the
 //! vertices that are joined to it. A result is named by its project and by its number, which is its
 //! line in the project's dump.
-ghost use Rattle.std.specs.Prelude.{◌≡◌, Contains, IfOk, IfErr, OnOk, map, true};
+ghost use Rattle.std.specs.Prelude.{◌≡◌, Contains, IfOk, OnOk, map};
 ghost use Rattle.dump.specs.Places.{IsListing};
 ghost use Rattle.tables.specs.Selections.{range_found};
 ghost use Rattle.machine.specs.State.{State};
-ghost use Rattle.desk.specs.Indexes.{ReadsOnly};
+ghost use Rattle.desk.specs.Steps.Clauses.{OnlyReads};
 ghost use Rattle.desk.specs.Steps.Rows.{Adds, AreThose, IsAnsweringResult, IsOwnResult, JoinedValue, joined_value, project_result_cmp, project_result_value, result_of_joined};
-ghost use Rattle.desk.specs.declared.index.IndexFault.TheVariants.{Refused};
 
 use crate::index::{Index, IndexFault};
 use crate::rows::bearers::{JoinedBearer, joined_bearers};
@@ -64,12 +63,10 @@ pub(crate) fn answering_results<I: Index>(
     own: &str,
     range: &FoundRange,
 ) -> Result<Vec<ProjectResult>, IndexFault>
-    ensures reliable { I.is_reliable index.new → I.is_reliable index.old }
     ensures found { I.is_reliable index.new → (m : State) → I.stands index.old m
         → IfOk result (λ results. IsListing project_result_cmp
         (IsAnsweringResult m request own.now (range_found range.now)) (map project_result_value results.items)) }
-    ensures reads_only { I.is_reliable index.new → ReadsOnly I.stands I.may_leave index.old index.new }
-    ensures refused { IfErr result (λ fault. fault ≡ Refused → I.may_refuse ≡ true) }
+    ensures reads { OnlyReads I.Index result index.old index.new }
 {
     let keys = keys_at(alloc, index, request, own, range.line)?;
     let joined = joined_bearers(alloc, index, request, own, &keys)?;

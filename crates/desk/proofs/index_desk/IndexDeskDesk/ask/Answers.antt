@@ -8,4 +8,4 @@ returns-in-Ok-clause-reply g c = λ good m stood. own (c.in-Ok.ensures.found goo
 
 pub returns-in-Err-clause-reply : goal.returns-in-Err-clause-reply
 returns-in-Err-clause-reply g c = λ good m stood.
-    refused_reply g.I.Index.may_refuse m (query (query_value c.args.query.now)) c.refusal.result c.in-Err.fault c.refusal.ensures c.in-Err.ensures.refused
+    refused_reply g.I.Index.may_refuse m (query (query_value c.args.query.now)) c.refusal.result c.in-Err.fault c.refusal.ensures c.in-Err.ensures.reads.refused

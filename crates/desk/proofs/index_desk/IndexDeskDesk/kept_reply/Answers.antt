@@ -14,4 +14,4 @@ returns-in-Ok-None-clause-reply g c = λ good m stood.
 
 pub returns-in-Err-clause-reply : goal.returns-in-Err-clause-reply
 returns-in-Err-clause-reply g c = λ good m stood.
-    refused_known g.I.Index.may_refuse m c.args.project.now c.args.key.now c.refusal.result c.in-Err.fault c.refusal.ensures c.in-Err.ensures.refused
+    refused_known g.I.Index.may_refuse m c.args.project.now c.args.key.now c.refusal.result c.in-Err.fault c.refusal.ensures c.in-Err.ensures.reads.refused

@@ -17,13 +17,13 @@ loop-key-preserved g c =
     let request = c.args.request in
     let own = c.args.own.now in
     record {
-      reliable = λ s. was.reliable (e.reliable s);
-      reads_only = λ s. reads_then (was.reads_only (e.reliable s)) (e.reads_only s);
+      reliable = λ s. was.reliable (e.reads.reliable s);
+      reads_only = λ s. reads_then (was.reads_only (e.reads.reliable s)) (e.reads.only s);
       found = λ s m stood j.
           let split = drop_next keys i key c.loop-key-test.true c.key-item.is in
-          let step = subst (λ t. Contains (map joined_value c.add_key.new.found.items) j ↔ (Contains (map joined_value c.loop-key.found.items) j ⊎ IsKeyJoined m request own t j)) c.as_str.ensures.value (e.found s m ((was.reads_only (e.reliable s)).state m stood) j) in
+          let step = subst (λ t. Contains (map joined_value c.add_key.new.found.items) j ↔ (Contains (map joined_value c.loop-key.found.items) j ⊎ IsKeyJoined m request own t j)) c.as_str.ensures.value (e.found s m ((was.reads_only (e.reads.reliable s)).state m stood) j) in
           let more = subst (λ l. AreJoined m request own (map string_bytes l) j ↔ (IsKeyJoined m request own (string_bytes key) j ⊎ AreJoined m request own (map string_bytes (drop (i + 1) keys)) j)) (sym split) (keys_more m request own j (string_bytes key) (map string_bytes (drop (i + 1) keys))) in
-          iff_trans (or_step step more) (was.found (e.reliable s) m stood j);
+          iff_trans (or_step step more) (was.found (e.reads.reliable s) m stood j);
     }
 
 pub returns-clause-found : goal.returns-clause-found

@@ -17,13 +17,13 @@ loop-project_result-preserved g c =
     let i = c.loop-project_result.project_result-index in
     let project_result = c.project_result-item.result in
     record {
-      reliable = λ s. was.reliable (e.reliable s);
-      reads_only = λ s. reads_then (was.reads_only (e.reliable s)) (e.reads_only s);
+      reliable = λ s. was.reliable (e.reads.reliable s);
+      reads_only = λ s. reads_then (was.reads_only (e.reads.reliable s)) (e.reads.only s);
       found = λ s m stood place.
           let split = drop_next project_results i project_result c.loop-project_result-test.true c.project_result-item.is in
           let more = subst (λ (l : List ProjectResult). IsPlaceOfOne m roles (λ (t : ProjectResultValue). Contains (map project_result_value l) t) place ↔ (IsPlaceOf m roles (project_result_value project_result) place ⊎ IsPlaceOfOne m roles (λ (t : ProjectResultValue). Contains (map project_result_value (drop (i + 1) project_results)) t) place)) (sym split)
           (results_more m roles place (project_result_value project_result) (map project_result_value (drop (i + 1) project_results))) in
-          iff_trans (or_step (e.found s m ((was.reads_only (e.reliable s)).state m stood) place) more) (was.found (e.reliable s) m stood place);
+          iff_trans (or_step (e.found s m ((was.reads_only (e.reads.reliable s)).state m stood) place) more) (was.found (e.reads.reliable s) m stood place);
     }
 
 pub returns-clause-found : goal.returns-clause-found

@@ -13,10 +13,10 @@ loop-role-preserved g c =
     let i = c.loop-role.role-index in
     let t = project_result_value c.args.project_result.now in
     record {
-      reliable = λ s. was.reliable (e.reliable s);
-      reads_only = λ s. reads_then (was.reads_only (e.reliable s)) (e.reads_only s);
+      reliable = λ s. was.reliable (e.reads.reliable s);
+      reads_only = λ s. reads_then (was.reads_only (e.reads.reliable s)) (e.reads.only s);
       found = λ s m stood place.
-          iff_trans (roles_step m t place roles i _ c.loop-role-test.true (e.found s m ((was.reads_only (e.reliable s)).state m stood) place)) (was.found (e.reliable s) m stood place);
+          iff_trans (roles_step m t place roles i _ c.loop-role-test.true (e.found s m ((was.reads_only (e.reads.reliable s)).state m stood) place)) (was.found (e.reads.reliable s) m stood place);
     }
 
 pub returns-clause-found : goal.returns-clause-found

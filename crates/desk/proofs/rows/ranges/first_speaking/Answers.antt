@@ -15,8 +15,8 @@ returns-then-branch-clause-first g c = λ s m stood.
     let range = c.range-item.result in
     let split = drop_next c.args.ranges.now c.loop-range.range-index range c.loop-range-test.true c.range-item.is in
     let yes : IsTrue c.in_ok-speaks.field-0 = search rules in
-    let speaks = (e.found s m ((was.reads_only (e.reliable s)).state m stood)).0 yes in
-    was.first (e.reliable s) m stood (Some (range_found range))
+    let speaks = (e.found s m ((was.reads_only (e.reads.reliable s)).state m stood)).0 yes in
+    was.first (e.reads.reliable s) m stood (Some (range_found range))
     (subst (λ l. IsFirst (RowSpeaks m c.args.request c.args.project.now) (map range_found l) (Some (range_found range))) (sym split) (here speaks))
 
 pub loop-range-preserved : goal.loop-range-preserved
@@ -29,11 +29,11 @@ loop-range-preserved g c =
     let split = drop_next c.args.ranges.now c.loop-range.range-index range c.loop-range-test.true c.range-item.is in
     let no : IsTrue c.in_ok-speaks.field-0 → ⊥ = search rules in
     record {
-      reliable = λ s. was.reliable (e.reliable s);
-      reads_only = λ s. reads_then (was.reads_only (e.reliable s)) (e.reads_only s);
+      reliable = λ s. was.reliable (e.reads.reliable s);
+      reads_only = λ s. reads_then (was.reads_only (e.reads.reliable s)) (e.reads.only s);
       first = λ s m stood o rest.
-          let silent : RowSpeaks m request own (range_found range) → ⊥ = λ speaks. no ((e.found s m ((was.reads_only (e.reliable s)).state m stood)).1 speaks) in
-          was.first (e.reliable s) m stood o (subst (λ l. IsFirst (RowSpeaks m request own) (map range_found l) o) (sym split) (later silent rest));
+          let silent : RowSpeaks m request own (range_found range) → ⊥ = λ speaks. no ((e.found s m ((was.reads_only (e.reads.reliable s)).state m stood)).1 speaks) in
+          was.first (e.reads.reliable s) m stood o (subst (λ l. IsFirst (RowSpeaks m request own) (map range_found l) o) (sym split) (later silent rest));
     }
 
 pub returns-clause-first : goal.returns-clause-first

@@ -11,9 +11,9 @@ pub returns-clause-found : goal.returns-clause-found
 returns-clause-found g c = λ s m stood.
     let request = c.args.request in
     let own = c.args.own.now in
-    let before = c.joined_bearers.ensures.reliable s in
+    let before = c.joined_bearers.ensures.reads.reliable s in
     let keyed = subst (λ l. AreKeys m request own c.args.range.now.line (map string_bytes l)) (sym c.deref.ensures.value) (c.in_ok-keys.ensures.found before m stood) in
-    let mid = (c.in_ok-keys.ensures.reads_only before).state m stood in
+    let mid = (c.in_ok-keys.ensures.reads.only before).state m stood in
     let row = range_found c.args.range.now in
     let listing = project_results_listed _ _ _ c.sort_unstable.ensures.permutation c.sort_unstable.ensures.sorted (dedup_is _ _ _ c.dedup.ensures.filtered) in
     relisted project_result_cmp _ (IsAnsweringResult m request own row) _
