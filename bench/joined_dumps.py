@@ -11,55 +11,82 @@ of it with other numbers.
 import json
 import random
 import re
+import tempfile
 from collections import Counter
 from typing import Iterator, NamedTuple, TextIO
 
-from large_dump import Copy, Element, Symbol, put
+from large_dump import Element, Smaller, Symbol, as_text, away_of
 
 SHARE = 0.05
 NAME = re.compile(r"\bs([0-9]+)_c(?=[0-9]{3})")
+KEPT = ("document", "range", "moniker", "packageInformation")
 MOST_PLACES = 4000
 BLOCK = 1 << 20
 FIRST = 1_000_000_000
 """The first id of what is written when all else is known: no dump has so many elements."""
+
+Place = tuple[str, int, int]
 
 
 class Made(NamedTuple):
     """What was made: the number of elements, and places of references that lead to other dumps."""
 
     elements: int
-    places: list[tuple[str, int, int]]
+    places: list[Place]
 
 
-class Marked(Copy):
-    """A smaller dump within the text."""
+class Key(NamedTuple):
+    """An exported key: its moniker and its package, with the names of a copy."""
 
-    def __init__(self, path: str, number: int, base: int) -> None:
-        self.kinds: dict[int, Element] = {}
-        self.package: dict[int, Element] = {}
+    moniker: Element
+    package: Element
+
+
+class Marked(Smaller):
+    """A smaller dump within the text, of which is also known where its ranges are, and which result
+    sets export what."""
+
+    def __init__(self, path: str) -> None:
+        self.kept: dict[int, Element] = {}
         self.keys: dict[int, int] = {}
-        super().__init__(path, number, base)
-        self.folder, self.prefix = f"s0_{self.folder}", f"s0_{self.prefix}"
+        self.package: dict[int, int] = {}
+        self.led_to: dict[int, int] = {}
+        super().__init__(path)
 
-    def learn(self, one: Element) -> None:
-        """Learns which result set exports what."""
-        super().learn(one)
-        if one["label"] in ("moniker", "packageInformation") and one["type"] == "vertex":
-            self.kinds[one["id"]] = one
-        elif one["label"] == "moniker" and self.kinds[one["inV"]]["kind"] == "export":
+    def learn(self, one: Element, with_moniker: set[int], definitions: set[int]) -> None:
+        """Learns of an element what has to be known of the dump."""
+        super().learn(one, with_moniker, definitions)
+        label = one["label"]
+        if one["type"] == "vertex":
+            if label in KEPT:
+                self.kept[one["id"]] = one
+        elif label == "next":
+            self.led_to[one["outV"]] = one["inV"]
+        elif label == "moniker" and self.kept[one["inV"]]["kind"] == "export":
             self.keys[one["outV"]] = one["inV"]
-        elif one["label"] == "packageInformation":
-            self.package[one["outV"]] = self.kinds[one["inV"]]
+        elif label == "packageInformation":
+            self.package[one["outV"]] = one["inV"]
 
-    def exports(self, single: set[str]) -> Iterator[tuple[Symbol, tuple[Element, Element]]]:
-        """The symbols that have an exported key of these, each with its moniker and its package."""
-        led_to = {to for own, to in self.after.items() if own not in self.home}
-        for own, moniker in self.keys.items():
-            is_single = self.kinds[moniker]["identifier"] in single and own not in led_to
-            if is_single and own in self.references and moniker in self.package:
-                symbol = own + self.base, self.references[own] + self.base
-                key = self.kinds[moniker], self.package[moniker]
-                yield symbol, (self.moved(key[0]), self.moved(key[1]))
+    def exports(self, base: int, prefix: str, single: set[str]) -> Iterator[tuple[Symbol, Key]]:
+        """The symbols of a copy that have an exported key of these, each with the key."""
+        led_to = {to for own, to in self.led_to.items() if own not in self.home}
+        for own, number in self.keys.items():
+            moniker = self.kept[number]
+            is_single = moniker["identifier"] in single and own not in led_to
+            if is_single and own in self.references and number in self.package:
+                package = self.kept[self.package[number]]
+                identifier = f"{prefix}::{moniker['identifier']}"
+                name = f"{prefix}-{package['name']}"
+                yield (own + base, self.references[own] + base), Key(
+                    {**moniker, "identifier": identifier}, {**package, "name": name}
+                )
+
+    def places(self, prefix: str, ranges: dict[int, Symbol]) -> Iterator[Place]:
+        """The places of ranges in a copy."""
+        for own in ranges:
+            uri, start = self.kept[self.home[own]]["uri"], self.kept[own]["start"]
+            uri = uri.replace("file:///", f"file:///ws/{prefix}-{self.name}/")
+            yield uri, start["line"], start["character"]
 
 
 class Imports:
@@ -73,7 +100,7 @@ class Imports:
         number = FIRST + 2 * len(self.symbols)
         return self.symbols.setdefault(symbol, (number, number + 1))
 
-    def written(self, keys: dict[Symbol, tuple[Element, Element]], first: int) -> Iterator[Element]:
+    def written(self, keys: dict[Symbol, Key], first: int) -> Iterator[Element]:
         """The elements of the imports, which have ids from `first` on but for the result sets and
         results."""
         for symbol, (own, references) in self.symbols.items():
@@ -108,52 +135,50 @@ def single_keys(dumps: list[str]) -> set[str]:
     return {identifier for identifier, count in found.items() if count == 1}
 
 
-def places_in(copy: Marked, ranges: dict[int, Symbol]) -> list[tuple[str, int, int]]:
-    """The places of ranges of a copy."""
-    elements = {one["id"]: one for one in copy.elements if one["label"] in ("range", "document")}
-    starts = [(elements[copy.home[own]]["uri"], elements[own]["start"]) for own in ranges]
-    return [
-        (uri.replace("file:///", f"file:///ws/{copy.folder}/"), start["line"], start["character"])
-        for uri, start in starts
-    ]
+def put_copies(
+    out: TextIO, later: TextIO, copies: int, dumps: list[str]
+) -> tuple[int, int, list[Place]]:
+    """Writes the copies and what they import, and edges between them to `later`; answers the last
+    id, how many elements there are, and the places that lead to the next dump."""
+    rng, imports, single = random.Random(5), Imports(), single_keys(dumps)
+    symbols: list[Symbol] = []
+    keys: dict[Symbol, Key] = {}
+    places: list[Place] = []
+    last, count = 0, 1
+    out.write(as_text({"id": 0, "type": "vertex", "label": "metaData", "version": "0.6.0"}))
+    marked = [Marked(path) for path in dumps]
+    for number in range(copies):
+        for dump in marked:
+            base, prefix = last + 1, f"s0_c{number:03d}"
+            away = away_of(dump, rng, SHARE, symbols)
+            # all of the copies so far are in the next dump too
+            abroad = away_of(dump, rng, SHARE, list(keys))
+            led = {own: imports.of(to) for own, to in abroad.items()}
+            places += dump.places(prefix, led)
+            other = dump.led_away(base, {**away, **led}, later)
+            out.writelines(dump.copied(base, prefix, other))
+            count += len(dump.lines) - sum(not text for text in other.values())
+            last = base + dump.last
+            symbols += [(own + base, references + base) for own, references in dump.symbols]
+            keys.update(dump.exports(base, prefix, single))
+    for one in imports.written(keys, last + 1):
+        out.write(as_text(one))
+        count += 1
+    rng.shuffle(places)
+    return last + 5 * len(imports.symbols), count, places
 
 
 def make_text(path: str, copies: int, dumps: list[str]) -> Made:
     """Writes the text of which all dumps are copies."""
-    rng, imports, single = random.Random(5), Imports(), single_keys(dumps)
-    symbols: list[Symbol] = []
-    keys: dict[Symbol, tuple[Element, Element]] = {}
-    later: list[Element] = []
-    places: list[tuple[str, int, int]] = []
-    last, count = 0, 1
-    with open(path, "w", encoding="utf-8") as out:
-        put(out, {"id": 0, "type": "vertex", "label": "metaData", "version": "0.6.0"})
-        for number in range(copies):
-            for dump in dumps:
-                copy = Marked(dump, number, last + 1)
-                away = copy.away(rng, SHARE, symbols)
-                # all of the copies so far are in the next dump too
-                abroad = copy.away(rng, SHARE, list(keys))
-                led = {own: imports.of(to) for own, to in abroad.items()}
-                places += places_in(copy, led)
-                count += put_all(out, copy.written({**away, **led}, later))
-                last = copy.last()
-                symbols += copy.symbols()
-                keys.update(copy.exports(single))
-        count += put_all(out, imports.written(keys, last + 1))
-        last += 5 * len(imports.symbols)
-        count += put_all(out, ({**one, "id": own} for own, one in enumerate(later, last + 1)))
-    rng.shuffle(places)
-    return Made(count, places[:MOST_PLACES])
-
-
-def put_all(out: TextIO, elements: Iterator[Element]) -> int:
-    """Writes elements; answers how many."""
-    count = 0
-    for one in elements:
-        put(out, one)
-        count += 1
-    return count
+    led = 0
+    with open(path, "w", encoding="utf-8") as out, tempfile.TemporaryFile(
+        "w+", encoding="utf-8"
+    ) as later:
+        last, count, places = put_copies(out, later, copies, dumps)
+        later.seek(0)
+        for led, line in enumerate(later, 1):
+            out.write(f'{{"id":{last + led},{line[1:]}')
+    return Made(count + led, places[:MOST_PLACES])
 
 
 def renamed(text: str, by: int, count: int = 0) -> str:

@@ -87,21 +87,26 @@ def shared_memory(pid: int) -> int:
 
 @contextmanager
 def stage(name: str, pid: int) -> Iterator[dict[str, float]]:
-    """Prints what is spent in the context, which notes what its tool took."""
+    """Prints what is spent in the context, which notes what its tool took where there's one."""
     wall, server = time.monotonic(), processor_seconds(pid)
     used: dict[str, float] = {}
     yield used
+    tool = f"tool {used['seconds']:.1f} s and {used['memory']} MB, " if used else ""
     print(
-        f"{name}: {time.monotonic() - wall:.1f} s, tool {used['seconds']:.1f} s and {used['memory']} MB, "
-        f"server {processor_seconds(pid) - server:.1f} s and at most {most_memory(pid)} MB so far",
+        f"{name}: {time.monotonic() - wall:.1f} s, {tool}server {processor_seconds(pid) - server:.1f} s and at most {most_memory(pid)} MB so far",
         flush=True,
     )
 
 
+def children_seconds() -> float:
+    """The processor time of all processes of this one that ended."""
+    usage = resource.getrusage(resource.RUSAGE_CHILDREN)
+    return usage.ru_utime + usage.ru_stime
+
+
 def called(used: dict[str, float], *words: str) -> None:
     """Calls a tool."""
-    used["memory"] = 0
-    before = resource.getrusage(resource.RUSAGE_CHILDREN)
+    used["memory"], before = 0, children_seconds()
     with tempfile.TemporaryFile() as said:
         with subprocess.Popen([sys.executable, *words], stdout=said, stderr=said) as tool:
             while tool.poll() is None:
@@ -112,8 +117,7 @@ def called(used: dict[str, float], *words: str) -> None:
                     pass
         said.seek(0)
         text = said.read().decode().rstrip("\n")
-    after = resource.getrusage(resource.RUSAGE_CHILDREN)
-    used["seconds"] = after.ru_utime + after.ru_stime - before.ru_utime - before.ru_stime
+    used["seconds"] = children_seconds() - before
     if tool.returncode != 0:
         sys.exit(f"{words[0]}: {text}")
     print(text, flush=True)

@@ -18,6 +18,7 @@ usage: bench/ten_servers.py PROGRAM SERVERS COPIES DUMP DUMP ..   (prepared, of 
 import multiprocessing
 import os
 import re
+import resource
 import secrets
 import sys
 import tempfile
@@ -31,8 +32,8 @@ from typing import Any, Callable, Iterator, NamedTuple
 TOP = os.path.dirname(os.path.dirname(os.path.abspath(__file__)))
 sys.path.insert(0, os.path.join(TOP, "tools"))
 
-from joined_dumps import make_text, write_renamed
-from sets import server_seconds, stage
+from joined_dumps import Place, make_text, write_renamed
+from sets import children_seconds, processor_seconds, stage
 
 from navtools.questions import fetch_from
 from navtools.serving import Failed, ended, free_port, started
@@ -45,7 +46,6 @@ ASKED = 400
 SECONDS = 300
 KINDS = "definition", "references"
 OF_A_SET = re.compile(r"(s[0-9]+)-(?:surface-)?[0-9a-f]{16}")
-Place = tuple[str, int, int]
 
 
 class Server(NamedTuple):
@@ -67,10 +67,15 @@ def serving(program: str, database: str) -> Iterator[Server]:
         ended(process)
 
 
-def in_child(call: Callable[..., Any], *words: object) -> Any:
-    """What a call answers that is made in a process of its own, so that its memory is known."""
+def in_child(used: dict[str, float], call: Callable[..., Any], *words: object) -> Any:
+    """What a call answers that is made in a process of its own; notes its time, and the most memory
+    that such a process had so far."""
+    before = children_seconds()
     with ProcessPoolExecutor(1, mp_context=multiprocessing.get_context("fork")) as pool:
-        return pool.submit(call, *words).result()
+        answer = pool.submit(call, *words).result()
+    used["seconds"] = children_seconds() - before
+    used["memory"] = resource.getrusage(resource.RUSAGE_CHILDREN).ru_maxrss >> 10
+    return answer
 
 
 def split_dump(dump: str, name: str, folder: str) -> str:
@@ -113,10 +118,10 @@ def make_sets(text: str, count: int, folder: str) -> None:
         own = os.path.join(folder, f"s{number}")
         where = os.path.join(own, "surface")
         write_renamed(text, dump, number, count)
-        with stage(f"s{number}, split", os.getpid()):
-            print(in_child(split_dump, dump, f"s{number}", own))
-        with stage(f"s{number}, surface", os.getpid()):
-            made = in_child(surface_of, dump, f"s{number}", where)
+        with stage(f"s{number}, split", os.getpid()) as used:
+            print(in_child(used, split_dump, dump, f"s{number}", own))
+        with stage(f"s{number}, surface", os.getpid()) as used:
+            made = in_child(used, surface_of, dump, f"s{number}", where)
         print(
             f"s{number}: {os.path.getsize(dump)} bytes of a dump, {bytes_of(own)} of parts; surface: "
             f"{sum(part.elements for part in made.parts)} elements in {len(made.parts)} parts, "
@@ -142,7 +147,7 @@ def ask_both(one: Server, spread: Server, places: list[Place], is_equal: bool) -
     asked = [Asked("s0", fetch_from(server.url, SECONDS)) for server in (one, spread)]
     for kind in KINDS:
         times: list[list[float]] = [[], []]
-        before = [server_seconds(server.process.pid) for server in (one, spread)]
+        before = [processor_seconds(server.process.pid) for server in (one, spread)]
         found, away = [0, 0], 0
         for uri, line, character in places:
             answers = []
@@ -162,7 +167,7 @@ def ask_both(one: Server, spread: Server, places: list[Place], is_equal: bool) -
         if not away:
             raise Failed(f"{kind}: no answer leads to another set")
         for at, server in enumerate((one, spread)):
-            took, used = sorted(times[at]), server_seconds(server.process.pid) - before[at]
+            took, used = sorted(times[at]), processor_seconds(server.process.pid) - before[at]
             print(
                 f"{kind}, {'spread' if at else 'one server'}: p50 {took[len(took) // 2] * 1e3:.2f} ms, "
                 f"p99 {took[len(took) * 99 // 100] * 1e3:.2f} ms, the server {used / len(took) * 1e3:.2f} ms, "
@@ -183,7 +188,7 @@ def report(program: str, server: Server) -> None:
     )
     began = time.monotonic()
     with serving(program, server.database) as again:
-        took, used = time.monotonic() - began, server_seconds(again.process.pid)
+        took, used = time.monotonic() - began, processor_seconds(again.process.pid)
     print(
         f"{os.path.basename(server.database)}: {size >> 20} MB, memory {int(memory) >> 10} MB, "
         f"a start {took:.1f} s, {used:.1f} s of processor time",
@@ -194,7 +199,7 @@ def report(program: str, server: Server) -> None:
 def measured(program: str, count: int, copies: int, dumps: list[str], folder: str) -> None:
     """Measures everything."""
     text = os.path.join(folder, "text")
-    made = in_child(make_text, text, copies, dumps)
+    made = in_child({}, make_text, text, copies, dumps)
     print(f"{count} sets, each of a dump of {made.elements} elements", flush=True)
     make_sets(text, count, folder)
     with ExitStack() as stack:
