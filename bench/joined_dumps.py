@@ -122,7 +122,7 @@ class Imports:
 
 
 def single_keys(dumps: list[str]) -> set[str]:
-    """The identifiers that one vertex of all dumps bears."""
+    """The identifiers that one vertex of all dumps has."""
     found: Counter[str] = Counter()
     for dump in dumps:
         identifiers: dict[int, str] = {}

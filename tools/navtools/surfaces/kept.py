@@ -1,7 +1,7 @@
 """The sets that publishes kept: `publish --keep FOLDER` leaves there the parts of a set, its manifest
 and its surface.
 
-A server hands out no dump. So what a server lost, or what another one is to get, is put from these
+A server returns no dump. So what a server lost, or what another one is to get, is put from these
 folders. They are found by the manifests in them, wherever below one folder they are.
 """
 

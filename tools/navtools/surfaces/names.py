@@ -23,7 +23,7 @@ def servers_given(given: Optional[str], folder: str) -> list[str]:
 
 
 class Server:
-    """A server that is asked among others, whose faults are told with its address."""
+    """A server that is asked among others, whose faults name its address."""
 
     def __init__(self, url: str, fetch: Fetch) -> None:
         self.url, self.fetch = url, fetch
@@ -40,7 +40,7 @@ class Server:
         return not self.known.isdisjoint((name, name + PARTS))
 
     def told(self, call: Callable[[], Any]) -> Any:
-        """What a call answers, whose fault is told with the address."""
+        """What a call answers, whose fault names the address."""
         try:
             return call()
         except NoReply as fault:
