@@ -36,7 +36,10 @@ class Lint(unittest.TestCase):
         if find_spec("markdown_it") is None:
             self.skipTest("markdown_it isn't installed (Debian's package python3-markdown-it)")
         words = ["--strict", "--cache-dir", os.devnull, "--no-error-summary", *TYPED]
-        self.assertEqual(self.said_by("mypy", *words), "")
+        said = self.said_by("mypy", *words)
+        if "Library stubs not installed" in said:
+            self.skipTest("mypy has no stubs (Debian's package python3-typeshed)")
+        self.assertEqual(said, "")
 
     def test_layout(self) -> None:
         """Layouts differ between the years of black."""
