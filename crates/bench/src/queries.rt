@@ -2,8 +2,8 @@
 //! it prints how long a put into an empty database in memory takes, the check of the dump, and the replacement.
 use crate::shared::{bad, checked, document, number, project, put, since, words};
 use desk::{Desk, Query, Reply, TableDesk};
-use dump::RequestKind;
 use flatten::flatten;
+use lsif::RequestKind;
 use positions::Position;
 use sqlite::{Alter, Connection};
 use std::alloc::Global;

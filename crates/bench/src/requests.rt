@@ -2,7 +2,7 @@
 //! query of each kind.
 use crate::shared::{bad, document, number, project, put, since};
 use desk::{Desk, MemoryDesk, Query, TableDesk};
-use dump::RequestKind;
+use lsif::RequestKind;
 use positions::Position;
 use std::alloc::Global;
 use std::time::Instant;

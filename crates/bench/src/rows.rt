@@ -2,14 +2,16 @@
 //! what the file `asked` says, a line each, and prints the kind, the nanoseconds and how much was found.
 use crate::shared::{bad, checked, number, since};
 use desk::TableDesk;
-use dump::{RequestKind, Role};
+use dump::Role;
 use flatten::{Rows, flatten};
+use lsif::RequestKind;
+use machine::Covering;
 use positions::Position;
 use sqlite::{Alter, Connection};
 use std::alloc::Global;
 use std::time::Instant;
 use std::{fs, io};
-use tables::{Covering, Tables};
+use tables::Tables;
 use tags::read_tags;
 
 fn put<S: Alter>(

@@ -5,7 +5,7 @@ use Rattle.sqlite_trees.specs.Tree.{Trees}
 use Rattle.sqlite.specs.Files.{HoldsDatabase}
 use Rattle.sqlite.specs.State as sqlite
 use Rattle.machine.specs.Projects.{ProjectValue}
-use Rattle.tables.specs.Selections.{FindsProjects}
+use Rattle.machine.specs.Selections.{FindsProjects}
 use Rattle.tables.specs.Stands.{Rests, StandsFor, StandsForOne}
 use Rattle.machine.specs.State.{State}
 

@@ -13,7 +13,7 @@ use Rattle.std.proofs.lemmas.List.Kept.{IsStrictlySortedBy-dedup, Any-dedup, Con
 use Rattle.std.proofs.lemmas.List.Sorted.{Contains-permutation, IsPermutation-sym}
 use Rattle.positions.specs.Position.{PositionValue}
 use Rattle.lsif.specs.Element.{IdValue, document}
-use Rattle.dump.specs.declared.request_kind.RequestKind.{RequestKind}
+use Rattle.lsif.specs.declared.request_kind.RequestKind.{RequestKind}
 use Rattle.dump.specs.Fault.{IsFaultless}
 use Rattle.dump.specs.Graph.{vertex_at}
 use Rattle.dump.specs.Contained.{is_in, IsNested}
@@ -23,7 +23,7 @@ use Rattle.dump.specs.Requests.{IsWithin, RangeValue}
 use Rattle.flatten.specs.Flat.{RangeRowValue, RowsValue, IsFlat, by_line, number_of}
 use Rattle.flatten.specs.Rows.{range_value}
 use Rattle.flatten.specs.declared.rows.RangeRow.{RangeRow}
-use Rattle.tables.specs.Selections.{FindsCover}
+use Rattle.machine.specs.Selections.{FindsCover}
 use Rattle.tables.specs.Steps.Climbs.{IsCoverRow, AreWithin, row_found}
 use Rattle.tables.proofs.CoverLists.{covers_rows, range_of}
 use Rattle.desk.specs.Steps.Selected.{by_span, range_found_of}

@@ -2,17 +2,17 @@
 -- of first results.
 use Rattle.std.proofs.Common.{◌≡◌, ◌∙◌, List, [], ◌∷◌, sym, ap, subst, arith, ℕ, ◌≤◌, Bool, true, false, refl, ◌<◌, get_or, nat_le, slice_get}
 use Rattle.std.specs.Prelude.{ℕ, Contains, Option, Some, None, if◌then◌else◌, slice_get}
-use Rattle.lsif.specs.Element.{IdValue, VertexValue, contains, next, definition, references, declaration, implementation, hover, moniker_edge, package_edge, attach, item, other_edge, ElementValue, vertex, edge, same_id, element_id}
+use Rattle.lsif.specs.Element.{IdValue, VertexValue, contains, next, request_edge, moniker_edge, package_edge, attach, item, other_edge, ElementValue, vertex, edge, same_id, element_id}
 use Rattle.dump.specs.Graph.{vertex_at, ends, line_of}
 use Rattle.dump.specs.Monikers.{moniker_pairs_of, MarkValue, Bears}
 use Rattle.dump.specs.Walks.{Pair, first_to, first_of_list, same_label, single_in, single_pairs}
-use Rattle.dump.specs.declared.request_kind.RequestKind.{RequestKind}
-use Rattle.dump.specs.Requests.{First, label_of}
+use Rattle.lsif.specs.declared.request_kind.RequestKind.{RequestKind}
+use Rattle.dump.specs.declared.single.SingleLabel.TheVariants.{Request}
+use Rattle.dump.specs.Requests.{First}
 use Rattle.std.proofs.lemmas.List.Quantifiers.{position-Some}
 use Rattle.dump.specs.declared.single.SingleLabel.{SingleLabel}
-use Rattle.dump.specs.declared.single.SingleLabel.TheVariants.{Next, Definition, References, Hover, PackageInformation, Declaration, Implementation}
+use Rattle.dump.specs.declared.single.SingleLabel.TheVariants.{Next, PackageInformation}
 use Rattle.std.proofs.lemmas.Option.{get_or_from_slice_get}
-use Rattle.dump.specs.declared.request_kind.RequestKind.TheVariants.{Hover}
 use Rattle.machine.proofs.Members.{contains_head, contains_tail, contains_one, not_in_nil, flat_of, in_if, same_id_self}
 
 abbrev pub HasLine : List ElementValue → IdValue → Type 0
@@ -40,11 +40,7 @@ two_ends from to x y e = (
 pub moniker_ends : AreEnds moniker_pairs_of
 moniker_ends (edge i (contains from to)) x y at = absurd (not_in_nil (x, y) at)
 moniker_ends (edge i (next from to)) x y at = absurd (not_in_nil (x, y) at)
-moniker_ends (edge i (definition from to)) x y at = absurd (not_in_nil (x, y) at)
-moniker_ends (edge i (references from to)) x y at = absurd (not_in_nil (x, y) at)
-moniker_ends (edge i (declaration from to)) x y at = absurd (not_in_nil (x, y) at)
-moniker_ends (edge i (implementation from to)) x y at = absurd (not_in_nil (x, y) at)
-moniker_ends (edge i (hover from to)) x y at = absurd (not_in_nil (x, y) at)
+moniker_ends (edge i (request_edge kind from to)) x y at = absurd (not_in_nil (x, y) at)
 moniker_ends (edge i (moniker_edge from to)) x y at = two_ends from to x y (contains_one {X = Pair} (from, to) (x, y) at)
 moniker_ends (edge i (package_edge from to)) x y at = absurd (not_in_nil (x, y) at)
 moniker_ends (edge i (attach from to)) x y at = absurd (not_in_nil (x, y) at)
@@ -85,11 +81,7 @@ pair_ends b from to x y at =
 single_ends : (label : SingleLabel) (e : ElementValue) (x y : IdValue) → Contains (single_in label e) (x, y) → Contains (ends e) y
 single_ends label (edge i (contains from to)) x y at = absurd (not_in_nil (x, y) at)
 single_ends label (edge i (next from to)) x y at = pair_ends (same_label Next label) from to x y at
-single_ends label (edge i (definition from to)) x y at = pair_ends (same_label Definition label) from to x y at
-single_ends label (edge i (references from to)) x y at = pair_ends (same_label References label) from to x y at
-single_ends label (edge i (declaration from to)) x y at = pair_ends (same_label Declaration label) from to x y at
-single_ends label (edge i (implementation from to)) x y at = pair_ends (same_label Implementation label) from to x y at
-single_ends label (edge i (hover from to)) x y at = pair_ends (same_label Hover label) from to x y at
+single_ends label (edge i (request_edge kind from to)) x y at = pair_ends (same_label (Request kind) label) from to x y at
 single_ends label (edge i (moniker_edge from to)) x y at = absurd (not_in_nil (x, y) at)
 single_ends label (edge i (package_edge from to)) x y at = pair_ends (same_label PackageInformation label) from to x y at
 single_ends label (edge i (attach from to)) x y at = absurd (not_in_nil (x, y) at)
@@ -116,8 +108,8 @@ bound own (x ∷ xs) r e = found_by own (first_to own x) x xs r refl (bound own 
 
 pub result_line : (request : RequestKind) (elements : List ElementValue) → HasEnds elements → HasVertexLines elements → (x r : IdValue) → First request elements x (Some r) → HasLine elements r
 result_line request elements has lined x r f =
-    let b = bound (single_pairs (label_of request) elements) f.0 r (sym f.2) in
-    target_line (label_of request) elements has lined b.0 r b.1
+    let b = bound (single_pairs (Request request) elements) f.0 r (sym f.2) in
+    target_line (Request request) elements has lined b.0 r b.1
 
 -- ---- lines
 

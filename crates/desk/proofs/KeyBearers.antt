@@ -14,7 +14,7 @@ use Rattle.dump.specs.Places.{IsListing}
 use Rattle.dump.specs.Progress.{DumpValue}
 use Rattle.machine.specs.State.{State}
 use Rattle.machine.specs.Projects.{text_cmp}
-use Rattle.tables.specs.Selections.{BearerFound, bearer_found_cmp, FindsBearers, Bears}
+use Rattle.machine.specs.Selections.{BearerFound, bearer_found_cmp, FindsBearers, Bears}
 use Rattle.desk.specs.Steps.Plain.{Stands}
 use Rattle.desk.specs.Steps.Selected.{bearer_in_cmp, IsBearerOf, IsBearerHere, IsBearerAmong, AddsBearers, FoundSoFar}
 use Rattle.desk.specs.declared.project.Project.{Project}

@@ -7,9 +7,9 @@ use denote.Ref.{Bor}
 use Rattle.std.proofs.lemmas.Cmp.{tied_itself, upto}
 use Rattle.std.specs.declared.cmp.Ordering.{Ordering}
 use Rattle.std.specs.declared.cmp.Ordering.TheVariants.{Less, Equal, Greater}
-use Rattle.dump.specs.declared.request_kind.RequestKind.{RequestKind}
+use Rattle.lsif.specs.declared.request_kind.RequestKind.{RequestKind}
 use Rattle.machine.specs.State.{State}
-use Rattle.tables.specs.Selections.{RangeFound}
+use Rattle.machine.specs.Selections.{RangeFound}
 use Rattle.desk.specs.Steps.RowHovers.{IsLeast, joined_cmp}
 use Rattle.desk.specs.Steps.Rows.{AreJoined, AreKeys, IsRowJoined, JoinedValue, joined_value}
 use Rattle.desk.specs.declared.rows.bearers.JoinedBearer.{JoinedBearer}

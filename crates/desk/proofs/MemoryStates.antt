@@ -12,7 +12,7 @@ use Rattle.dump.specs.Progress.{DumpValue}
 use Rattle.flatten.specs.Flat.{IsHoverRow}
 use Rattle.tags.specs.Values.{TagValue}
 use Rattle.machine.specs.State.{State, Change, set_dump, set_tags, clear, changed, dump_after}
-use Rattle.tables.specs.Selections.{MarkText, FindsHover, FindsItems, FindsMarks, mark_text_cmp}
+use Rattle.machine.specs.Selections.{MarkText, FindsHover, FindsItems, FindsMarks, mark_text_cmp}
 use Rattle.desk.specs.Indexes.{AreFaultless}
 use Rattle.desk.specs.Steps.Selected.{IsItemOf, IsMarkOf, IsHoverOf, hover_row}
 use Rattle.machine.proofs.Listing.{relisted}

@@ -4,7 +4,7 @@ use Rattle.std.proofs.lemmas.List.{length-map}
 use Rattle.lsif.specs.Element.{ElementValue}
 use Rattle.dump.specs.Progress.{DumpValue}
 use Rattle.tags.specs.Values.{TagValue}
-use Rattle.tables.specs.Stands.{IsNew}
+use Rattle.machine.specs.State.{IsNew}
 use Rattle.machine.specs.State.{State, accepted_text, dump_put, set_dump, set_tags, tags_put}
 use Rattle.machine.specs.Reply.{ReplyValue, reply_body, dump_accepted, tags_accepted}
 

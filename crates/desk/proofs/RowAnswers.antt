@@ -1,12 +1,12 @@
 -- What answers a query at a position, from what rows say.
 use Rattle.std.proofs.Common.{◌≡◌, ◌≢◌, ℕ, List, [], Option, Some, None, subst}
-use Rattle.dump.specs.declared.request_kind.RequestKind.{RequestKind}
-use Rattle.dump.specs.declared.request_kind.RequestKind.TheVariants as requests
+use Rattle.lsif.specs.declared.request_kind.RequestKind.{RequestKind}
+use Rattle.lsif.specs.declared.request_kind.RequestKind.TheVariants as requests
 use Rattle.dump.specs.declared.role.Role.{Role}
 use Rattle.dump.specs.Places.{IsListing}
 use Rattle.positions.specs.Position.{PositionValue}
 use Rattle.machine.specs.State.{State}
-use Rattle.tables.specs.Selections.{RangeFound}
+use Rattle.machine.specs.Selections.{RangeFound}
 use Rattle.machine.specs.Answers.{AnswersAt, AnswersHover, AnswersPlaces, IsFound, answered, found_cmp, picked, picked_hover, unpicked, unpicked_hover}
 use Rattle.machine.specs.Reply.{FoundPlace, hover_found, places_found}
 use Rattle.machine.specs.Requests.{at_value}

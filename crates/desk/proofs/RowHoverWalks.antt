@@ -6,7 +6,7 @@ use Rattle.std.specs.Ordering.{MatchOrdering, nat_cmp, ordering_then}
 use Rattle.std.specs.declared.cmp.Ordering.{Ordering}
 use Rattle.std.specs.declared.cmp.Ordering.TheVariants.{Less, Equal, Greater}
 use Rattle.lsif.specs.Element.{IdValue, VertexValue, hover_result, ElementValue}
-use Rattle.dump.specs.declared.request_kind.RequestKind.TheVariants.{Hover}
+use Rattle.lsif.specs.declared.request_kind.RequestKind.TheVariants.{Hover}
 use Rattle.dump.specs.Fault.{IsFaultless}
 use Rattle.dump.specs.Graph.{line_of, vertex_at}
 use Rattle.dump.specs.Monikers.{MarkValue, Bears, moniker_pairs_of}
@@ -15,11 +15,11 @@ use Rattle.dump.specs.Requests.{First, RangeValue}
 use Rattle.dump.proofs.Lines.{end_vertex, vertex_line}
 use Rattle.dump.proofs.OwnPlaces.{first_contents}
 use Rattle.dump.proofs.Progresses.{sound_of}
-use Rattle.flatten.specs.Flat.{IsHoverRow, IsResult, result_for}
+use Rattle.flatten.specs.Flat.{IsHoverRow, IsResult}
 use Rattle.flatten.proofs.NumberPairs.{number_line}
 use Rattle.machine.specs.State.{State}
 use Rattle.machine.specs.Projects.{text_cmp}
-use Rattle.tables.specs.Selections.{FindsHover, HasHover, RangeFound}
+use Rattle.machine.specs.Selections.{FindsHover, HasHover, RangeFound}
 use Rattle.machine.specs.Answers.{HasContents, HasJoinedContents, HoversAt, own, joined, bare, IsAtOrBefore}
 use Rattle.desk.specs.Steps.RowHovers.{HasContentsOf, IsLeast, RowHovers, joined_cmp}
 use Rattle.desk.specs.Indexes.{AreFaultless}
@@ -103,7 +103,7 @@ module _ (m : State) (free : AreFaultless m) (own_name : List ℕ) (dump : DumpV
   contents_row p k contents (second, y, v, j, at, (result, first, is)) =
       let sure = free p second j.is_there in
       let results = each_results second.elements sure y in
-      let f = first_number second.elements sure Hover y result (result_for Hover results.0) (results.1 Hover) first in
+      let f = first_number second.elements sure Hover y result (results.0 Hover) (results.1 Hover) first in
       let b = joined_from m free Hover own_name dump there r row has p f.0 second y j (subst (IsResult second.elements Hover y) f.1 (results.1 Hover)) in
       let n = number_line (line_of second.elements y) b.0 b.1 in
       let le : n.0 ≤ k = first_line second.elements y v n.0 k at n.1 in

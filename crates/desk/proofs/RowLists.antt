@@ -1,13 +1,12 @@
 -- Keys, roles and results, one after another.
 use Rattle.std.proofs.Common.{◌≡◌, ◌⊎◌, inl, inr, ⊎_elim, ◌∙◌, ℕ, zero, suc, ◌+◌, ◌<◌, ◌≤◌, length, drop, drop-cons, add-one, get_or, arith, List, [], ◌∷◌, refl, sym, ap, subst}
 use Rattle.std.specs.Prelude.{◌↔◌, Contains, Option, Some}
-use Rattle.dump.specs.declared.request_kind.RequestKind.{RequestKind}
+use Rattle.lsif.specs.declared.request_kind.RequestKind.{RequestKind}
 use Rattle.dump.specs.declared.role.Role.{Role}
 use Rattle.dump.specs.Places.{PlaceValue}
 use Rattle.machine.specs.State.{State}
-use Rattle.tables.specs.Selections.{BearerFound, FindsItems, HasItem, RangeFound}
+use Rattle.machine.specs.Selections.{BearerFound, FindsItems, HasItem, RangeFound}
 use Rattle.machine.specs.Reply.{FoundPlace}
-use Rattle.flatten.specs.Flat.{result_for}
 use Rattle.machine.specs.Steps.Places.{found_in}
 use Rattle.desk.specs.Steps.Rows.{AreJoined, AreKeys, IsAnsweringResult, IsKeyJoined, IsOwnResult, IsPlaceOf, IsPlaceOfOne, IsRolePlace, IsRowJoined, JoinedValue, OfBearer, ProjectResultValue, result_of_joined}
 use Rattle.desk.proofs.Finding.{iff_trans, or_step}
@@ -85,7 +84,7 @@ one_of request own b j w h = (to, λ e. subst (OfBearer request own b) e h)
     to k =
         let project = sym h.its_project ∙ k.its_project in
         let line = sym h.its_line ∙ k.its_line in
-        let number = same_number (result_for request b.results) j.number w.number h.its_result k.its_result in
+        let number = same_number (b.results request) j.number w.number h.its_result k.its_result in
         λ i. record { project = project i; line = line i; number = number i }
 
 -- the items of a result in a role are its places

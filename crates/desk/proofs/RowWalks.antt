@@ -4,26 +4,28 @@ use Rattle.std.specs.Prelude.{◌↔◌, Contains, Option, Some, None, is_some, 
 use Rattle.std.specs.List.{AllZip}
 use Rattle.positions.specs.Position.{PositionValue}
 use Rattle.lsif.specs.Element.{IdValue, range, ElementValue}
-use Rattle.dump.specs.declared.request_kind.RequestKind.{RequestKind}
-use Rattle.dump.specs.declared.request_kind.RequestKind.TheVariants as requests
+use Rattle.lsif.specs.declared.request_kind.RequestKind.{RequestKind}
+use Rattle.lsif.specs.declared.request_kind.RequestKind.TheVariants as requests
 use Rattle.dump.specs.declared.role.Role.{Role}
 use Rattle.dump.specs.Fault.{IsFaultless}
 use Rattle.dump.specs.Graph.{vertex_at}
 use Rattle.dump.specs.Monikers.{MarkValue, Marks}
 use Rattle.dump.specs.Places.{PlaceValue, Places}
 use Rattle.dump.specs.Progress.{DumpValue, IsSound}
-use Rattle.dump.specs.Requests.{First, IsFirst, nobody, here, later, Pick, RangeValue, Speaks, follows, finds, label_of}
+use Rattle.lsif.specs.RequestKinds.{follows, finds}
+use Rattle.dump.specs.declared.single.SingleLabel.TheVariants.{Request}
+use Rattle.dump.specs.Requests.{First, IsFirst, nobody, here, later, Pick, RangeValue, Speaks}
 use Rattle.dump.specs.Walks.{HasChain, first_of_list, next_pairs, single_pairs}
 use Rattle.dump.proofs.Ends.{each_ends}
 use Rattle.dump.proofs.Lines.{end_vertex, one_line, vertex_line}
 use Rattle.dump.proofs.OnePicks.{one_result}
 use Rattle.dump.proofs.Progresses.{sound_of}
-use Rattle.flatten.specs.Flat.{AreResults, IsItemRow, IsMarkRow, IsResult, ItemRowValue, ResultsValue, number_of, result_for}
+use Rattle.flatten.specs.Flat.{AreResults, IsItemRow, IsMarkRow, IsResult, ItemRowValue, ResultsValue, number_of}
 use Rattle.flatten.specs.KeyTexts.{key_text}
 use Rattle.flatten.proofs.KeyLemmas.{key_same}
 use Rattle.flatten.proofs.NumberPairs.{number_ones}
 use Rattle.machine.specs.State.{State}
-use Rattle.tables.specs.Selections.{BearerFound, FindsCover, HasMark, IsRangeFound, MarkText, RangeFound}
+use Rattle.machine.specs.Selections.{BearerFound, FindsCover, HasMark, IsRangeFound, MarkText, RangeFound}
 use Rattle.machine.specs.Answers.{HasPlace, IsFound}
 use Rattle.machine.specs.Joins.{IsJoined}
 use Rattle.machine.specs.Reply.{FoundPlace}
@@ -70,32 +72,10 @@ module _ (elements : List ElementValue) (free : IsFaultless (map Ok elements)) w
 
   -- each vertex has results
   chain_results : (x : IdValue) → HasChain (next_pairs elements) x → (results : ResultsValue) × AreResults elements x results
-  chain_results x (xs, chain) = (results, are)
+  chain_results x (xs, chain) = ((λ request. option_and_then (number_of elements) (first request)), λ request. (first request, (xs, chain, refl), refl))
     where
       first : RequestKind → Option IdValue
-      first request = first_of_list (single_pairs (label_of request) elements) xs
-
-      result : RequestKind → Option ℕ
-      result request = option_and_then (number_of elements) (first request)
-
-      results : ResultsValue
-      results = record {
-        definition = result requests.Definition;
-        references = result requests.References;
-        hover = result requests.Hover;
-        declaration = result requests.Declaration;
-        implementation = result requests.Implementation;
-      }
-
-      is : (request : RequestKind) → IsResult elements request x (result request)
-      is request = (first request, (xs, chain, refl), refl)
-
-      are : AreResults elements x results
-      are requests.Definition = is requests.Definition
-      are requests.References = is requests.References
-      are requests.Hover = is requests.Hover
-      are requests.Declaration = is requests.Declaration
-      are requests.Implementation = is requests.Implementation
+      first request = first_of_list (single_pairs (Request request) elements) xs
 
   pub each_results : (x : IdValue) → (results : ResultsValue) × AreResults elements x results
   each_results x = chain_results x (each_ends elements sound x)
@@ -215,7 +195,7 @@ module _ (m : State) (free : AreFaultless m) where
                 finds = j.kinds.1;
                 its_project = refl;
                 its_line = refl;
-                its_result = same_result second.elements sure request y (result_for request results.0) (Some n) (results.1 request) is;
+                its_result = same_result second.elements sure request y (results.0 request) (Some n) (results.1 request) is;
               },
             ),
           ),
@@ -243,7 +223,7 @@ module _ (m : State) (free : AreFaultless m) where
       results_from (inr (second, y, j, h)) =
           let sure = free found.project second j.is_there in
           let results = each_results second.elements sure y in
-          let f = first_number second.elements sure request y h.0 (result_for request results.0) (results.1 request) h.1 in
+          let f = first_number second.elements sure request y h.0 (results.0 request) (results.1 request) h.1 in
           let is : IsResult second.elements request y (Some f.0) = subst (IsResult second.elements request y) f.1 (results.1 request) in
           let b = joined_from found.project f.0 second y j is in
           (record { project = found.project; number = f.0 }, inr (record { project = found.project; line = b.0; number = f.0 }, b.2, refl), (refl, place_from request other in_roles found.project second j.is_there y f.0 is found.place h))

@@ -18,7 +18,7 @@ use Rattle.dump.specs.declared.role.Role.TheVariants.{Definitions, References}
 use Rattle.dump.specs.Places.{IsListing, PlaceValue, place_cmp}
 use Rattle.dump.specs.Progress.{DumpValue}
 use Rattle.flatten.specs.Flat.{RangeRowValue, ItemRowValue, MarkRowValue, HoverRowValue, BearerRowValue, IsRangeRow, IsItemRow, IsMarkRow, IsHoverRow, IsBearerRow, by_line, item_cmp, mark_cmp, by_result, bearer_cmp, role_index, kind_index}
-use Rattle.tables.specs.Selections.{MarkText, mark_text_cmp, BearerFound, bearer_row}
+use Rattle.machine.specs.Selections.{MarkText, mark_text_cmp, BearerFound, bearer_row}
 use Rattle.tables.specs.Steps.Climbs.{IsCoverRow}
 use Rattle.desk.specs.Steps.Selected.{item_row, item_wanted, IsItemOf, mark_row, mark_wanted, IsMarkOf, hover_row, hover_wanted, IsHoverOf, bearer_wanted, bearer_in_cmp, IsBearerOf, range_wanted}
 use Rattle.machine.proofs.Covers.{covers_of, covers_from}

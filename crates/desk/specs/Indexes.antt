@@ -5,7 +5,7 @@ use Rattle.dump.specs.Fault.{IsFaultless}
 use Rattle.dump.specs.Progress.{DumpValue}
 use Rattle.machine.specs.FoundTags.{FoundTag}
 use Rattle.machine.specs.State.{State, accepted_text}
-use Rattle.tables.specs.Names.{FindsNamed, FindsPrefixed}
+use Rattle.machine.specs.Selections.{FindsNamed, FindsPrefixed}
 use Rattle.desk.specs.declared.index.IndexFault.{IndexFault}
 use Rattle.desk.specs.declared.index.IndexFault.TheVariants.{Refused}
 use Rattle.desk.specs.declared.index.Wanted.{Wanted}

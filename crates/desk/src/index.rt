@@ -1,18 +1,16 @@
 //! What a desk needs of an index: the selections of which its answers are made, and the changes
 //! that commands make. A desk over a database and one in memory differ in nothing else.
-//! `tables/specs/Selections` and `Names` say what selections find, `specs/Indexes` what calls
-//! leave. `Tables` are an index (`table_index`).
+//! `machine/specs/Selections` says what selections find, `specs/Indexes` what calls leave. `Tables`
+//! are an index (`table_index`).
 ghost use Rattle.std.specs.Prelude.{◌≡◌};
-ghost use Rattle.desk.specs.Steps.Indexes.{fault_of};
 ghost use Rattle.desk.specs.declared.index.IndexFault.TheVariants.{Memory};
 
-use dump::{CheckedDump, RequestKind, Role};
+use dump::{CheckedDump, Role};
 use flatten::FlattenFault;
-use lsif::{OUT_OF_MEMORY, Profile};
-use machine::{FoundProject, FoundTag, TagsPart};
+use lsif::{OUT_OF_MEMORY, Profile, RequestKind, STORE_REFUSED};
+use machine::{Covering, FoundBearer, FoundItem, FoundMark, FoundProject, FoundTag, TagsPart};
 use positions::Position;
 use std::alloc::{AllocError, Global};
-use tables::{Covering, FoundBearer, FoundItem, FoundMark, TablesFault};
 use thiserror::Error;
 
 /// Why an index refuses: S01 and S02 of a reply.
@@ -20,7 +18,7 @@ use thiserror::Error;
 pub enum IndexFault {
     /// The store refused for another cause than memory, or a row isn't one that this product
     /// writes.
-    #[error("{}", TablesFault::Refused)]
+    #[error("{}", STORE_REFUSED)]
     Refused,
     /// Memory was refused, also to a database in memory.
     #[error("{}", OUT_OF_MEMORY)]
@@ -43,19 +41,6 @@ impl From<FlattenFault> for IndexFault {
     }
 }
 
-impl From<TablesFault> for IndexFault {
-    ghost from_gives = { λ fault given. given ≡ fault_of fault };
-
-    fn from(fault: TablesFault) -> IndexFault {
-        match fault {
-            TablesFault::Memory => IndexFault::Memory,
-            TablesFault::Refused | TablesFault::Foreign | TablesFault::OldFormat => {
-                IndexFault::Refused
-            }
-        }
-    }
-}
-
 /// Which names of tags are asked for: those that are equal to a text, or that begin with it.
 #[derive(Clone, Copy)]
 pub enum Wanted<'a> {
@@ -69,9 +54,8 @@ pub enum Wanted<'a> {
 pub trait Index {
     ghost use Rattle.std.specs.Prelude.{◌≡◌, Bool, true, ◌||◌, ◌∷◌, [], ◌++◌, List, None, IfOk, IfErr, OnOk, is_some, map, option_map, string_bytes};
     ghost use Rattle.machine.specs.Found.{project_found, tag_found};
-    ghost use Rattle.tables.specs.Stands.{IsNew};
-    ghost use Rattle.machine.specs.State.{State, changed, clear, set_dump, set_tags};
-    ghost use Rattle.tables.specs.Selections.{FindsBearers, FindsCovering, FindsHover, FindsItems, FindsMarks, FindsProjects, bearer_found, item_found, mark_found};
+    ghost use Rattle.machine.specs.State.{IsNew, State, changed, clear, set_dump, set_tags};
+    ghost use Rattle.machine.specs.Selections.{FindsBearers, FindsCovering, FindsHover, FindsItems, FindsMarks, FindsProjects, bearer_found, item_found, mark_found};
     ghost use Rattle.desk.specs.Indexes.{AreFaultless, Changes, FindsTags, Reads, kept_text};
     ghost use Rattle.desk.specs.declared.index.IndexFault.TheVariants.{Refused};
 

@@ -12,13 +12,15 @@ use crate::kept::{dump_in, has_part, kept_in};
 use crate::listed::{list_projects, list_tags, order_tags};
 use crate::project::Project;
 use crate::selected::{bearers_in, covering_of, hover_of, items_of, marks_of};
-use dump::{CheckedDump, RequestKind, Role};
-use lsif::Profile;
-use machine::{Change, FoundProject, FoundTag, TagsPart, removal_text};
+use dump::{CheckedDump, Role};
+use lsif::{Profile, RequestKind};
+use machine::{
+    Change, Covering, FoundBearer, FoundItem, FoundMark, FoundProject, FoundTag, TagsPart,
+    removal_text,
+};
 use positions::Position;
 use std::alloc::{AllocError, Global};
 use std::collections::BTreeMap;
-use tables::{Covering, FoundBearer, FoundItem, FoundMark};
 
 /// Keeps in memory the dump and the tags that each project has, and the replies of accepted
 /// commands under their keys. A dump or tags that are replaced are dropped.

@@ -7,19 +7,20 @@ ghost use Rattle.std.specs.List.{filter_map};
 ghost use Rattle.std.specs.List.Sorted.{IsStrictlySortedBy};
 ghost use Rattle.dump.specs.Places.{IsListing, place_cmp};
 ghost use Rattle.flatten.specs.Rows.{range_value};
-ghost use Rattle.tables.specs.Selections.{FindsCover, bearer_found, bearer_found_cmp, item_found, mark_found, mark_text_cmp, range_found};
+ghost use Rattle.machine.specs.Selections.{FindsCover, bearer_found, bearer_found_cmp, item_found, mark_found, mark_text_cmp, range_found};
 ghost use Rattle.machine.specs.Steps.Covers.{inner_order};
 ghost use Rattle.desk.specs.Steps.Selected.{IsBearerAmong, IsBearerOf, IsItemOf, IsMarkOf, IsHoverOf, bearer_in_cmp, by_span, range_found_of, range_wanted};
 
 use crate::project::Project;
-use dump::{CheckedDump, RequestKind, Role, nesting_law, uri_law};
+use dump::{CheckedDump, Role, nesting_law, uri_law};
 use flatten::{FlattenFault, RangeRow, flatten};
+use lsif::RequestKind;
+use machine::{FoundBearer, FoundItem, FoundMark, FoundRange};
 use positions::{Position, Span};
 use std::alloc::{AllocError, Global};
 use std::cmp::Ordering;
 use std::collections::BTreeMap;
 use std::rc::RcStr;
-use tables::{FoundBearer, FoundItem, FoundMark, FoundRange};
 
 /// The places that the result of this number has in a role, each once.
 pub(crate) fn items_of(
@@ -101,11 +102,7 @@ pub(crate) fn bearers_of(
                 project,
                 line: row.line,
                 kind: row.kind,
-                def: row.def,
-                refs: row.refs,
-                hover: row.hover,
-                decl: row.decl,
-                imp: row.imp,
+                results: row.results,
             })?;
         }
     }
@@ -153,17 +150,10 @@ fn list_rows(rows: &mut Vec<RangeRow<'_>>)
 fn found_range(row: &RangeRow<'_>, request: RequestKind) -> FoundRange
     ensures { range_found result ≡ range_found_of request row.now }
 {
-    let result = match request {
-        RequestKind::Definition => row.def,
-        RequestKind::References => row.refs,
-        RequestKind::Hover => row.hover,
-        RequestKind::Declaration => row.decl,
-        RequestKind::Implementation => row.imp,
-    };
     FoundRange {
         line: row.line,
         span: *row.span,
-        result,
+        result: row.results.of(request),
     }
 }
 

@@ -1,20 +1,34 @@
 //! Tables are an index. Each call first asks whether their store is open, since nothing is known of
 //! a store that a fault has shut, and then makes one selection or one change. `specs/TableStates`
 //! says which states the tables then represent.
-ghost use Rattle.std.specs.Prelude.{IfOk};
+ghost use Rattle.std.specs.Prelude.{◌≡◌, IfOk};
 ghost use Rattle.flatten.specs.Rows.{rows_value};
+ghost use Rattle.desk.specs.Steps.Indexes.{fault_of};
 ghost use Rattle.tables.specs.Columns.{dump_rows};
 ghost use Rattle.tables.specs.Stands.{IsDump};
 
 use crate::index::{Index, IndexFault, Wanted};
-use dump::{CheckedDump, RequestKind, Role};
+use dump::{CheckedDump, Role};
 use flatten::{FlattenFault, Rows, flatten};
-use lsif::Profile;
-use machine::{FoundProject, FoundTag, TagsPart};
+use lsif::{Profile, RequestKind};
+use machine::{Covering, FoundBearer, FoundItem, FoundMark, FoundProject, FoundTag, TagsPart};
 use positions::Position;
 use sqlite::Alter;
 use std::alloc::Global;
-use tables::{Covering, FoundBearer, FoundItem, FoundMark, Tables};
+use tables::{Tables, TablesFault};
+
+impl From<TablesFault> for IndexFault {
+    ghost from_gives = { λ fault given. given ≡ fault_of fault };
+
+    fn from(fault: TablesFault) -> IndexFault {
+        match fault {
+            TablesFault::Memory => IndexFault::Memory,
+            TablesFault::Refused | TablesFault::Foreign | TablesFault::OldFormat => {
+                IndexFault::Refused
+            }
+        }
+    }
+}
 
 /// The rows of a dump, as tables keep them.
 fn rows_of<'a>(alloc: Global, dump: &'a CheckedDump) -> Result<Rows<'a>, FlattenFault>

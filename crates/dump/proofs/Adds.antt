@@ -5,7 +5,7 @@ use Rattle.std.specs.List.{list_any, list_all, position}
 use Rattle.std.proofs.lemmas.List.{get_or_append_left}
 use Rattle.std.proofs.Math.Seq.{get_or-append_seam}
 use Rattle.std.proofs.lemmas.Option.{slice_get_within}
-use Rattle.lsif.specs.Element.{IdValue, same_id, VertexValue, meta_data, project, document, range, result_set, definition_result, reference_result, declaration_result, implementation_result, hover_result, moniker, package_information, event, other_vertex, begin_event, end_event, other_event, contains, next, definition, references, declaration, implementation, hover, moniker_edge, package_edge, attach, item, other_edge, ElementValue, vertex, edge, element_id}
+use Rattle.lsif.specs.Element.{IdValue, same_id, VertexValue, meta_data, project, document, range, result_set, request_result, hover_result, moniker, package_information, event, other_vertex, begin_event, end_event, other_event, contains, next, request_edge, moniker_edge, package_edge, attach, item, other_edge, ElementValue, vertex, edge, element_id}
 use Rattle.dump.specs.declared.links.Link.{Link}
 use Rattle.dump.specs.declared.index_map.IndexMap.{IndexMap}
 use Rattle.dump.specs.Conditions.{are_vertices}
@@ -100,11 +100,7 @@ NamesVertices d o = elim o as (λ _. Type 0) [ Some n ↦ are_vertices d n.1 ≡
 pub named_known : (d : List ElementValue) (x : ElementValue) → HasNoCode d x → NamesVertices d (named_by d x)
 named_known d (edge i (contains a bs)) free = named_targets d (is_document (vertex_at d a)) bs (and_both (is_some (vertex_at d a)) (are_vertices d bs) (not_false (are_vertices d (a ∷ bs)) free.ends)).1
 named_known d (edge i (next a b)) free = only_source d a (b ∷ []) (not_false (are_vertices d (a ∷ b ∷ [])) free.ends)
-named_known d (edge i (definition a b)) free = only_source d a (b ∷ []) (not_false (are_vertices d (a ∷ b ∷ [])) free.ends)
-named_known d (edge i (references a b)) free = only_source d a (b ∷ []) (not_false (are_vertices d (a ∷ b ∷ [])) free.ends)
-named_known d (edge i (declaration a b)) free = only_source d a (b ∷ []) (not_false (are_vertices d (a ∷ b ∷ [])) free.ends)
-named_known d (edge i (implementation a b)) free = only_source d a (b ∷ []) (not_false (are_vertices d (a ∷ b ∷ [])) free.ends)
-named_known d (edge i (hover a b)) free = only_source d a (b ∷ []) (not_false (are_vertices d (a ∷ b ∷ [])) free.ends)
+named_known d (edge i (request_edge kind a b)) free = only_source d a (b ∷ []) (not_false (are_vertices d (a ∷ b ∷ [])) free.ends)
 named_known d (edge i (package_edge a b)) free = only_source d a (b ∷ []) (not_false (are_vertices d (a ∷ b ∷ [])) free.ends)
 named_known d (edge i (moniker_edge a b)) free = tt
 named_known d (edge i (attach a b)) free = tt
@@ -120,10 +116,7 @@ named_known d (vertex i project) free = tt
 named_known d (vertex i (document s)) free = tt
 named_known d (vertex i (range s)) free = tt
 named_known d (vertex i result_set) free = tt
-named_known d (vertex i definition_result) free = tt
-named_known d (vertex i reference_result) free = tt
-named_known d (vertex i declaration_result) free = tt
-named_known d (vertex i implementation_result) free = tt
+named_known d (vertex i (request_result kind)) free = tt
 named_known d (vertex i (hover_result s)) free = tt
 named_known d (vertex i (moniker m)) free = tt
 named_known d (vertex i (package_information p)) free = tt

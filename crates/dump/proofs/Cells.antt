@@ -1,5 +1,5 @@
 -- Indices that are entered in the rows of ids.
-use Rattle.std.proofs.Common.{◌++◌, ◌≡◌, ◌≢◌, ◌∙◌, ◌&&◌, ◌<◌, ℕ, Bool, true, false, nat_eq, List, [], ◌∷◌, length, get_or, set, Option, Some, None, refl, sym, ap, arith, option_and_then}
+use Rattle.std.proofs.Common.{◌++◌, ◌≡◌, ◌≢◌, ◌∙◌, ◌&&◌, ◌<◌, ℕ, ◌+◌, Bool, true, false, nat_eq, List, [], ◌∷◌, length, get_or, set, Option, Some, None, refl, sym, ap, arith, option_and_then}
 use Rattle.std.specs.Prelude.{is_some}
 use Rattle.std.specs.List.{list_all}
 use Rattle.std.proofs.lemmas.List.{get_or-set_other}
@@ -9,7 +9,12 @@ use Rattle.dump.specs.declared.links.Link.{Link}
 use Rattle.dump.specs.declared.index_map.IndexMap.{IndexMap}
 use Rattle.dump.specs.Graph.{is_among}
 use Rattle.dump.specs.Steps.Ids.{index_at, entered, HasRows}
-use Rattle.dump.specs.Steps.Links.{link_index, same_link, cell, link_at}
+use Rattle.lsif.specs.RequestKinds.{kind_number}
+use Rattle.dump.specs.declared.links.Link.TheVariants.{Contained, Begun, Ended, Single}
+use Rattle.dump.specs.declared.single.SingleLabel.{SingleLabel}
+use Rattle.dump.specs.declared.single.SingleLabel.TheVariants.{Next, PackageInformation, Request}
+use Rattle.dump.specs.Walks.{same_label}
+use Rattle.dump.specs.Steps.Links.{label_index, link_index, same_link, cell, link_at}
 use Rattle.dump.proofs.Bools.{and_both}
 use Rattle.dump.proofs.Repeats.{entered_more}
 use Rattle.dump.proofs.SameIds.{same_id_eq, same_id_self}
@@ -29,6 +34,42 @@ entered_some : {V : Type 0} (here : Bool) (new : V) (o : Option V) → is_some o
 entered_some here new None e = cc
 entered_some here new (Some old) e = refl
 
+-- ways are told apart by their numbers
+index_link : (a b : Link) → nat_eq (link_index a) (link_index b) ≡ same_link a b
+index_link Contained Contained = refl
+index_link Contained Begun = refl
+index_link Contained Ended = refl
+index_link Contained (Single n) = grind arith
+index_link Begun Contained = refl
+index_link Begun Begun = refl
+index_link Begun Ended = refl
+index_link Begun (Single n) = grind arith
+index_link Ended Contained = refl
+index_link Ended Begun = refl
+index_link Ended Ended = refl
+index_link Ended (Single n) = grind arith
+index_link (Single m) Contained = grind arith
+index_link (Single m) Begun = grind arith
+index_link (Single m) Ended = grind arith
+index_link (Single m) (Single n) = three_more (label_index m) (label_index n) ∙ index_label m n
+  where
+    three_more : (a b : ℕ) → nat_eq (3 + a) (3 + b) ≡ nat_eq a b
+    three_more a b = grind arith
+
+    two_more : (a b : ℕ) → nat_eq (2 + a) (2 + b) ≡ nat_eq a b
+    two_more a b = grind arith
+
+    index_label : (m n : SingleLabel) → nat_eq (label_index m) (label_index n) ≡ same_label m n
+    index_label Next Next = refl
+    index_label Next PackageInformation = refl
+    index_label Next (Request k) = grind arith
+    index_label PackageInformation Next = refl
+    index_label PackageInformation PackageInformation = refl
+    index_label PackageInformation (Request k) = grind arith
+    index_label (Request j) Next = grind arith
+    index_label (Request j) PackageInformation = grind arith
+    index_label (Request j) (Request k) = two_more (kind_number j) (kind_number k)
+
 -- an index is entered in a row that has none there
 module _ (rows : List (List (Option ℕ))) (r : ℕ) (l : Link) (row : List (Option ℕ)) (here_is : get_or rows r [] ≡ row) (within : r < length rows) where
   pub cell_enters : (ix index : ℕ) → ix ≡ link_index l → ix < length row → get_or row ix None ≡ None → (n : ℕ) (other : Link)
@@ -47,7 +88,7 @@ module _ (rows : List (List (Option ℕ))) (r : ℕ) (l : Link) (row : List (Opt
       by true same =
           let here : n ≡ r = sym (same_number r n same) in
           ap (λ (cells : List (Option ℕ)). get_or cells (link_index other) None) (get_or-set_at rows r n (set row ix (Some index)) [] here within)
-          ∙ column (same_link l other) refl
+          ∙ column (same_link l other) (index_link l other)
           ∙ ap (λ (cells : List (Option ℕ)). entered (same_link l other) index (get_or cells (link_index other) None)) (sym (ap (λ j. get_or rows j []) here ∙ here_is))
       by false apart =
           ap (λ (cells : List (Option ℕ)). get_or cells (link_index other) None) (get_or-set_other rows r n (set row ix (Some index)) [] (other_number r n apart))
@@ -55,9 +96,9 @@ module _ (rows : List (List (Option ℕ))) (r : ℕ) (l : Link) (row : List (Opt
 
   pub cell_stays : (ix index : ℕ) → ix ≡ link_index l → is_some (get_or row ix None) ≡ true → (n : ℕ) (other : Link)
       → cell rows n other ≡ entered (nat_eq r n && same_link l other) index (cell rows n other)
-  cell_stays ix index is has n other = by (nat_eq r n) (same_link l other) refl refl
+  cell_stays ix index is has n other = by (nat_eq r n) (same_link l other) refl (index_link l other)
     where
-      by : (b c : Bool) → nat_eq r n ≡ b → same_link l other ≡ c → cell rows n other ≡ entered (b && c) index (cell rows n other)
+      by : (b c : Bool) → nat_eq r n ≡ b → nat_eq (link_index l) (link_index other) ≡ c → cell rows n other ≡ entered (b && c) index (cell rows n other)
       by true true row_same link_same =
           let same : cell rows n other ≡ get_or row ix None =
           ap (λ j. get_or (get_or rows j []) (link_index other) None) (sym (same_number r n row_same))

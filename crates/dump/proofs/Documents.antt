@@ -2,7 +2,7 @@
 use Rattle.std.proofs.Common.{◌≡◌, ℕ, true, List, find, refl, sym, ap, subst}
 use Rattle.std.specs.Prelude.{Contains, Option, Some, None, IfSome, IfNone, option_map}
 use Rattle.std.proofs.lemmas.Slice.Eq.{bytes_eq-Decides}
-use Rattle.lsif.specs.Element.{IdValue, meta_data, project, document, range, result_set, definition_result, reference_result, declaration_result, implementation_result, hover_result, moniker, package_information, event, other_vertex, ElementValue, vertex, edge, element_id}
+use Rattle.lsif.specs.Element.{IdValue, meta_data, project, document, range, result_set, request_result, hover_result, moniker, package_information, event, other_vertex, ElementValue, vertex, edge, element_id}
 use Rattle.dump.specs.Conditions.{is_document_of}
 use Rattle.dump.specs.Graph.{vertex_at}
 use Rattle.dump.specs.Places.{HasDocument}
@@ -16,10 +16,7 @@ document_is uri (vertex i (meta_data b)) e = cc
 document_is uri (vertex i project) e = cc
 document_is uri (vertex i (range s)) e = cc
 document_is uri (vertex i result_set) e = cc
-document_is uri (vertex i definition_result) e = cc
-document_is uri (vertex i reference_result) e = cc
-document_is uri (vertex i declaration_result) e = cc
-document_is uri (vertex i implementation_result) e = cc
+document_is uri (vertex i (request_result kind)) e = cc
 document_is uri (vertex i (hover_result s)) e = cc
 document_is uri (vertex i (moniker m)) e = cc
 document_is uri (vertex i (package_information p)) e = cc

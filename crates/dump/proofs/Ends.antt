@@ -6,13 +6,13 @@ use Rattle.std.specs.List.{flat_map}
 use Rattle.std.proofs.lemmas.List.Elements.{Contains-push_cases}
 use Rattle.lsif.specs.declared.code.Code.{Code}
 use Rattle.lsif.specs.declared.code.Code.TheVariants.{L04, L06, L09, L10, L11, L12, L13, L14, L16, L17, L18, L19, L20}
-use Rattle.lsif.specs.Element.{IdValue, same_id, contains, next, definition, references, declaration, implementation, hover, moniker_edge, package_edge, attach, item, other_edge, ElementValue, vertex, edge}
+use Rattle.lsif.specs.Element.{IdValue, same_id, contains, next, request_edge, moniker_edge, package_edge, attach, item, other_edge, ElementValue, vertex, edge}
 use Rattle.dump.specs.Walks.{Pair, first_to, IsChain, ends, links, HasChain, Path, stays, goes, single_in, next_pairs}
 use Rattle.dump.specs.declared.single.SingleLabel.TheVariants.{Next}
 use Rattle.dump.specs.Conditions.{order_code, order_condition, has_used_id, joins_no_vertex, may_not_join, is_contained_again, is_conflicting, leaves_again, closes_cycle, has_used_uri}
 use Rattle.dump.specs.Ended.{is_bad_event}
 use Rattle.dump.specs.Progress as steps
-use Rattle.dump.specs.Progress.{Progress, running, stopped, advance, progress, IsSound}
+use Rattle.dump.specs.Progress.{running, advance, IsSound, Progress, stopped, progress}
 use Rattle.dump.proofs.Bools.{absurd_true}
 use Rattle.dump.proofs.SameIds.{same_id_eq, same_id_self}
 use Rattle.dump.proofs.Members.{contains_head, contains_tail, not_in_nil}
@@ -166,11 +166,7 @@ one_more before (edge i (next a b)) free each v =
     let apart = λ (path : Path (next_pairs before) b a). let yes = reaches_of (next_pairs before) b a path in absurd (absurd_true (sym yes ∙ free.cycle)) in
     subst (λ ps. HasChain ps v) (sym (pairs_more (single_in Next) before (edge i (next a b)))) (all_end (next_pairs before) a b (none_of (first_to (next_pairs before) a) free.single) apart each v)
 one_more before (edge i (contains a bs)) e each v = same_pairs before (edge i (contains a bs)) refl each v
-one_more before (edge i (definition a b)) e each v = same_pairs before (edge i (definition a b)) refl each v
-one_more before (edge i (references a b)) e each v = same_pairs before (edge i (references a b)) refl each v
-one_more before (edge i (declaration a b)) e each v = same_pairs before (edge i (declaration a b)) refl each v
-one_more before (edge i (implementation a b)) e each v = same_pairs before (edge i (implementation a b)) refl each v
-one_more before (edge i (hover a b)) e each v = same_pairs before (edge i (hover a b)) refl each v
+one_more before (edge i (request_edge kind a b)) e each v = same_pairs before (edge i (request_edge kind a b)) refl each v
 one_more before (edge i (moniker_edge a b)) e each v = same_pairs before (edge i (moniker_edge a b)) refl each v
 one_more before (edge i (package_edge a b)) e each v = same_pairs before (edge i (package_edge a b)) refl each v
 one_more before (edge i (attach a b)) e each v = same_pairs before (edge i (attach a b)) refl each v
@@ -204,11 +200,7 @@ single_one : (before : List ElementValue) (x : ElementValue) → HasNoCode befor
 single_one before (edge i (next a b)) free one =
     subst Single (sym (pairs_more (single_in Next) before (edge i (next a b)))) (single_more (next_pairs before) a b (none_of (first_to (next_pairs before) a) free.single) one)
 single_one before (edge i (contains a bs)) e one = same_single before (edge i (contains a bs)) refl one
-single_one before (edge i (definition a b)) e one = same_single before (edge i (definition a b)) refl one
-single_one before (edge i (references a b)) e one = same_single before (edge i (references a b)) refl one
-single_one before (edge i (declaration a b)) e one = same_single before (edge i (declaration a b)) refl one
-single_one before (edge i (implementation a b)) e one = same_single before (edge i (implementation a b)) refl one
-single_one before (edge i (hover a b)) e one = same_single before (edge i (hover a b)) refl one
+single_one before (edge i (request_edge kind a b)) e one = same_single before (edge i (request_edge kind a b)) refl one
 single_one before (edge i (moniker_edge a b)) e one = same_single before (edge i (moniker_edge a b)) refl one
 single_one before (edge i (package_edge a b)) e one = same_single before (edge i (package_edge a b)) refl one
 single_one before (edge i (attach a b)) e one = same_single before (edge i (attach a b)) refl one

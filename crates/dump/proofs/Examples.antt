@@ -5,8 +5,8 @@ use Rattle.positions.specs.Span.{SpanValue}
 use Rattle.lsif.specs.declared.element.MonikerKind.{MonikerKind}
 use Rattle.lsif.specs.declared.element.MonikerKind.TheVariants.{Import, Export}
 use Rattle.lsif.specs.declared.element.Property.TheVariants as properties
-use Rattle.lsif.specs.Element.{IdValue, number, meta_data, document, range, result_set, definition_result, reference_result, moniker, package_information, contains, next, definition, moniker_edge, package_edge, ItemValue, item, ElementValue, vertex, edge}
-use Rattle.dump.specs.declared.request_kind.RequestKind.TheVariants as requests
+use Rattle.lsif.specs.Element.{IdValue, number, meta_data, document, range, result_set, request_result, moniker, package_information, contains, next, request_edge, moniker_edge, package_edge, ItemValue, item, ElementValue, vertex, edge}
+use Rattle.lsif.specs.declared.request_kind.RequestKind.TheVariants as requests
 use Rattle.dump.specs.declared.role.Role.TheVariants as roles
 use Rattle.dump.specs.Graph.{element_at}
 use Rattle.dump.specs.Monikers.{MonikerKey, MarkValue, Bears}
@@ -32,8 +32,8 @@ base =
     ∷ vertex (number 5) result_set
     ∷ edge (number 6) (next (number 3) (number 5))
     ∷ edge (number 7) (next (number 4) (number 5))
-    ∷ vertex (number 8) definition_result
-    ∷ edge (number 9) (definition (number 5) (number 8))
+    ∷ vertex (number 8) (request_result requests.Definition)
+    ∷ edge (number 9) (request_edge requests.Definition (number 5) (number 8))
     ∷ edge (number 10) (item (joins (number 8) (number 3 ∷ [])))
     ∷ edge (number 11) (contains (number 2) (number 3 ∷ number 4 ∷ []))
     ∷ []
@@ -66,8 +66,8 @@ leads source target = record { source = source; targets = target ∷ []; propert
 
 abbrev round : List ElementValue
 round =
-    vertex (number 5) reference_result
-    ∷ vertex (number 6) reference_result
+    vertex (number 5) (request_result requests.References)
+    ∷ vertex (number 6) (request_result requests.References)
     ∷ edge (number 8) (item (leads (number 5) (number 6)))
     ∷ edge (number 9) (item (leads (number 6) (number 5)))
     ∷ []

@@ -5,7 +5,7 @@ use Rattle.std.specs.List.{list_any, list_all, flat_map, cons_option}
 use Rattle.std.proofs.lemmas.List.Sorted.{IsPermutation-refl, IsPermutation-trans, IsPermutation-append_left, list_any-IsPermutation}
 use Rattle.std.specs.declared.alloc.Global.{Global}
 use Rattle.positions.specs.Span.{SpanValue}
-use Rattle.lsif.specs.Element.{IdValue, same_id, VertexValue, meta_data, project, document, range, result_set, definition_result, reference_result, declaration_result, implementation_result, hover_result, moniker, package_information, event, other_vertex, contains, next, definition, references, declaration, implementation, hover, moniker_edge, package_edge, attach, item, other_edge, ElementValue, vertex, edge}
+use Rattle.lsif.specs.Element.{IdValue, same_id, VertexValue, meta_data, project, document, range, result_set, request_result, hover_result, moniker, package_information, event, other_vertex, contains, next, request_edge, moniker_edge, package_edge, attach, item, other_edge, ElementValue, vertex, edge}
 use Rattle.dump.specs.Graph.{vertex_at, span_of, is_among, ends}
 use Rattle.dump.specs.Kinds.{is_document}
 use Rattle.dump.specs.Conditions.{are_vertices, may_not_join}
@@ -31,11 +31,7 @@ among_by false i to = refl
 pub ranges_test : (d : List ElementValue) (x : ElementValue) (i : IdValue) → is_among i (ranges_in d x) ≡ contains_range d i x
 ranges_test d (edge j (contains from to)) i = among_by (is_document (vertex_at d from)) i to
 ranges_test d (edge j (next a b)) i = refl
-ranges_test d (edge j (definition a b)) i = refl
-ranges_test d (edge j (references a b)) i = refl
-ranges_test d (edge j (declaration a b)) i = refl
-ranges_test d (edge j (implementation a b)) i = refl
-ranges_test d (edge j (hover a b)) i = refl
+ranges_test d (edge j (request_edge kind a b)) i = refl
 ranges_test d (edge j (moniker_edge a b)) i = refl
 ranges_test d (edge j (package_edge a b)) i = refl
 ranges_test d (edge j (attach a b)) i = refl
@@ -70,11 +66,7 @@ named_stay : (d : List ElementValue) (x y : ElementValue) → are_vertices d (en
 named_stay d x (edge i (contains from to)) e v =
     ap (λ ss. if same_id from v then ss else []) (spans_stay d x to (and_both (is_some (vertex_at d from)) (are_vertices d to) e).1)
 named_stay d x (edge i (next a b)) e v = refl
-named_stay d x (edge i (definition a b)) e v = refl
-named_stay d x (edge i (references a b)) e v = refl
-named_stay d x (edge i (declaration a b)) e v = refl
-named_stay d x (edge i (implementation a b)) e v = refl
-named_stay d x (edge i (hover a b)) e v = refl
+named_stay d x (edge i (request_edge kind a b)) e v = refl
 named_stay d x (edge i (moniker_edge a b)) e v = refl
 named_stay d x (edge i (package_edge a b)) e v = refl
 named_stay d x (edge i (attach a b)) e v = refl
@@ -109,10 +101,7 @@ document_spans d (i ∷ is) e =
     no_span (Some project) h = refl
     no_span (Some (range s)) h = cc
     no_span (Some result_set) h = refl
-    no_span (Some definition_result) h = refl
-    no_span (Some reference_result) h = refl
-    no_span (Some declaration_result) h = refl
-    no_span (Some implementation_result) h = refl
+    no_span (Some (request_result kind)) h = refl
     no_span (Some (hover_result s)) h = refl
     no_span (Some (moniker m)) h = refl
     no_span (Some (package_information q)) h = refl
@@ -173,11 +162,7 @@ pub fills : (d : List ElementValue) (x : ElementValue) → HasNoCode d x → Are
     → (v : IdValue) → IsPermutation (spans_in (d ++ x ∷ []) v) (kept (new v)) × (has_conflict (kept (new v)) ≡ false)
 fills d (edge i (contains from to)) free known old new had now v = edge_fills d i from to free known old new had now v
 fills d (edge i (next a b)) free known old new had now v = other_fills d (edge i (next a b)) (not_false (are_vertices d (ends (edge i (next a b)))) free.ends) known old new (λ u. refl) had now v
-fills d (edge i (definition a b)) free known old new had now v = other_fills d (edge i (definition a b)) (not_false (are_vertices d (ends (edge i (definition a b)))) free.ends) known old new (λ u. refl) had now v
-fills d (edge i (references a b)) free known old new had now v = other_fills d (edge i (references a b)) (not_false (are_vertices d (ends (edge i (references a b)))) free.ends) known old new (λ u. refl) had now v
-fills d (edge i (declaration a b)) free known old new had now v = other_fills d (edge i (declaration a b)) (not_false (are_vertices d (ends (edge i (declaration a b)))) free.ends) known old new (λ u. refl) had now v
-fills d (edge i (implementation a b)) free known old new had now v = other_fills d (edge i (implementation a b)) (not_false (are_vertices d (ends (edge i (implementation a b)))) free.ends) known old new (λ u. refl) had now v
-fills d (edge i (hover a b)) free known old new had now v = other_fills d (edge i (hover a b)) (not_false (are_vertices d (ends (edge i (hover a b)))) free.ends) known old new (λ u. refl) had now v
+fills d (edge i (request_edge kind a b)) free known old new had now v = other_fills d (edge i (request_edge kind a b)) (not_false (are_vertices d (ends (edge i (request_edge kind a b)))) free.ends) known old new (λ u. refl) had now v
 fills d (edge i (moniker_edge a b)) free known old new had now v = other_fills d (edge i (moniker_edge a b)) (not_false (are_vertices d (ends (edge i (moniker_edge a b)))) free.ends) known old new (λ u. refl) had now v
 fills d (edge i (package_edge a b)) free known old new had now v = other_fills d (edge i (package_edge a b)) (not_false (are_vertices d (ends (edge i (package_edge a b)))) free.ends) known old new (λ u. refl) had now v
 fills d (edge i (attach a b)) free known old new had now v = other_fills d (edge i (attach a b)) (not_false (are_vertices d (ends (edge i (attach a b)))) free.ends) known old new (λ u. refl) had now v

@@ -4,7 +4,7 @@ use Rattle.std.proofs.lemmas.List.Sums.{fold-append}
 use Rattle.std.proofs.lemmas.Bool.{lt-ltb}
 use Rattle.lsif.specs.Element.{ElementValue, Reading, element_value, reading_value}
 use Rattle.lsif.specs.Lines.{GivesLine, HasLongLine, LineBufferValue}
-use Rattle.lsif.specs.Reading.{reading, reading_by, longest_line}
+use Rattle.lsif.specs.Reading.{reading, longest_line}
 use Rattle.lsif.specs.declared.element.Profile.{Profile}
 use Rattle.lsif.specs.declared.element.Element.{Element}
 use Rattle.lsif.specs.declared.code.Code.{Code}
@@ -24,7 +24,7 @@ use Rattle.dump.specs.declared.reading.DumpFault.TheVariants as dumps
 -- ---- the reading of the next line
 
 pub long_reading : (profile : Profile) (line : List ℕ) → longest_line < length line → reading profile line ≡ Err L01
-unfolding reading reading_by
+unfolding reading
 long_reading profile line lt = rw (lt-ltb longest_line (length line) lt) refl
 
 pub given_reading : (profile : Profile) (left new : Option (List ℕ)) (line : List ℕ) (has_feed : Bool) (r : Reading) → GivesLine left line has_feed new → r ≡ reading profile line → ReadsNext profile left (Some r) new

@@ -5,7 +5,7 @@ use Rattle.std.specs.Prelude.{Contains, ◌↔◌}
 use Rattle.std.specs.List.{list_any}
 use Rattle.std.proofs.lemmas.List.Elements.{Contains-push_cases}
 use Rattle.std.proofs.lemmas.List.Folds.{list_any-append}
-use Rattle.lsif.specs.Element.{IdValue, same_id, VertexValue, meta_data, project, document, range, result_set, definition_result, reference_result, declaration_result, implementation_result, hover_result, moniker, package_information, event, other_vertex, begin_event, end_event, other_event, contains, next, definition, references, declaration, implementation, hover, moniker_edge, package_edge, attach, item, other_edge, ElementValue, vertex, edge}
+use Rattle.lsif.specs.Element.{IdValue, same_id, VertexValue, meta_data, project, document, range, result_set, request_result, hover_result, moniker, package_information, event, other_vertex, begin_event, end_event, other_event, contains, next, request_edge, moniker_edge, package_edge, attach, item, other_edge, ElementValue, vertex, edge}
 use Rattle.dump.specs.Graph.{vertex_at, is_among, ends}
 use Rattle.dump.specs.Kinds.{is_document}
 use Rattle.dump.specs.Contained.{contains_range, is_contained, places_range, is_in}
@@ -49,11 +49,7 @@ same_contained d x (edge i (contains from to)) e r =
     let w = vertex_there (vertex_at d from) both.0 in
     ap (λ o. is_document o && is_among r to) (kept_vertex d x from w.0 w.1)
 same_contained d x (edge i (next a b)) e r = refl
-same_contained d x (edge i (definition a b)) e r = refl
-same_contained d x (edge i (references a b)) e r = refl
-same_contained d x (edge i (declaration a b)) e r = refl
-same_contained d x (edge i (implementation a b)) e r = refl
-same_contained d x (edge i (hover a b)) e r = refl
+same_contained d x (edge i (request_edge kind a b)) e r = refl
 same_contained d x (edge i (moniker_edge a b)) e r = refl
 same_contained d x (edge i (package_edge a b)) e r = refl
 same_contained d x (edge i (attach a b)) e r = refl
@@ -86,10 +82,7 @@ ends_document d (vertex i project) free v at = cc
 ends_document d (vertex i (document s)) free v at = cc
 ends_document d (vertex i (range s)) free v at = cc
 ends_document d (vertex i result_set) free v at = cc
-ends_document d (vertex i definition_result) free v at = cc
-ends_document d (vertex i reference_result) free v at = cc
-ends_document d (vertex i declaration_result) free v at = cc
-ends_document d (vertex i implementation_result) free v at = cc
+ends_document d (vertex i (request_result kind)) free v at = cc
 ends_document d (vertex i (hover_result s)) free v at = cc
 ends_document d (vertex i (moniker m)) free v at = cc
 ends_document d (vertex i (package_information p)) free v at = cc
@@ -121,11 +114,7 @@ new_contained d (edge i (contains from to)) free r e =
     let again = or_none _ _ (and_rest (is_document (vertex_at d from)) _ both.0 free.again) in
     any_among (is_contained d) to r again.0 both.1
 new_contained d (edge i (next a b)) free r e = cc
-new_contained d (edge i (definition a b)) free r e = cc
-new_contained d (edge i (references a b)) free r e = cc
-new_contained d (edge i (declaration a b)) free r e = cc
-new_contained d (edge i (implementation a b)) free r e = cc
-new_contained d (edge i (hover a b)) free r e = cc
+new_contained d (edge i (request_edge kind a b)) free r e = cc
 new_contained d (edge i (moniker_edge a b)) free r e = cc
 new_contained d (edge i (package_edge a b)) free r e = cc
 new_contained d (edge i (attach a b)) free r e = cc
@@ -219,11 +208,7 @@ contains_it d r (edge i (contains from to)) e =
     let both = and_both (is_document (vertex_at d from)) (is_among r to) e in
     record { source = from; is = refl; document = both.0; places = λ v. true_right (same_id from v) (is_among r to) both.1; closes = true_left (is_among r to) (has_ended d from) both.1 }
 contains_it d r (edge i (next a b)) e = cc
-contains_it d r (edge i (definition a b)) e = cc
-contains_it d r (edge i (references a b)) e = cc
-contains_it d r (edge i (declaration a b)) e = cc
-contains_it d r (edge i (implementation a b)) e = cc
-contains_it d r (edge i (hover a b)) e = cc
+contains_it d r (edge i (request_edge kind a b)) e = cc
 contains_it d r (edge i (moniker_edge a b)) e = cc
 contains_it d r (edge i (package_edge a b)) e = cc
 contains_it d r (edge i (attach a b)) e = cc
@@ -236,11 +221,7 @@ contained_if_placed d v r doc (edge i (contains from to)) e =
     let both = and_both (same_id from v) (is_among r to) e in
     and_of (is_document (vertex_at d from)) (is_among r to) (subst (λ u. is_document (vertex_at d u) ≡ true) (sym (same_id_eq from v both.0)) doc) both.1
 contained_if_placed d v r doc (edge i (next a b)) e = cc
-contained_if_placed d v r doc (edge i (definition a b)) e = cc
-contained_if_placed d v r doc (edge i (references a b)) e = cc
-contained_if_placed d v r doc (edge i (declaration a b)) e = cc
-contained_if_placed d v r doc (edge i (implementation a b)) e = cc
-contained_if_placed d v r doc (edge i (hover a b)) e = cc
+contained_if_placed d v r doc (edge i (request_edge kind a b)) e = cc
 contained_if_placed d v r doc (edge i (moniker_edge a b)) e = cc
 contained_if_placed d v r doc (edge i (package_edge a b)) e = cc
 contained_if_placed d v r doc (edge i (attach a b)) e = cc
@@ -253,11 +234,7 @@ contained_if_closed d known r (edge i (contains from to)) e =
     let both = and_both (is_among r to) (has_ended d from) e in
     and_of (is_document (vertex_at d from)) (is_among r to) (known from both.1) both.0
 contained_if_closed d known r (edge i (next a b)) e = cc
-contained_if_closed d known r (edge i (definition a b)) e = cc
-contained_if_closed d known r (edge i (references a b)) e = cc
-contained_if_closed d known r (edge i (declaration a b)) e = cc
-contained_if_closed d known r (edge i (implementation a b)) e = cc
-contained_if_closed d known r (edge i (hover a b)) e = cc
+contained_if_closed d known r (edge i (request_edge kind a b)) e = cc
 contained_if_closed d known r (edge i (moniker_edge a b)) e = cc
 contained_if_closed d known r (edge i (package_edge a b)) e = cc
 contained_if_closed d known r (edge i (attach a b)) e = cc

@@ -5,7 +5,7 @@ use Rattle.std.specs.Option.{option_or}
 use Rattle.std.proofs.lemmas.List.Folds.{find-append, list_any-append}
 use Rattle.positions.specs.Position.{PositionValue, is_before, later_of, earlier_of}
 use Rattle.positions.specs.Span.{SpanValue, nests, overlaps}
-use Rattle.lsif.specs.Element.{IdValue, same_id, VertexValue, meta_data, project, document, range, result_set, definition_result, reference_result, declaration_result, implementation_result, hover_result, moniker, package_information, event, other_vertex, contains, next, definition, references, declaration, implementation, hover, moniker_edge, package_edge, attach, item, other_edge, ElementValue, vertex, edge, element_id}
+use Rattle.lsif.specs.Element.{IdValue, same_id, VertexValue, meta_data, project, document, range, result_set, request_result, hover_result, moniker, package_information, event, other_vertex, contains, next, request_edge, moniker_edge, package_edge, attach, item, other_edge, ElementValue, vertex, edge, element_id}
 use Rattle.dump.specs.Graph.{element_at, vertex_of, vertex_at, span_of, is_among}
 use Rattle.dump.specs.Kinds.{is_document}
 use Rattle.dump.specs.Contained.{places_range, spans_of, spans_named, spans_in, conflicts, any_conflicts, has_conflict, IsNested}
@@ -98,11 +98,7 @@ named_fails_by d p to r e false none at has = cc
 named_fails : (d : List ElementValue) (p : SpanValue → Bool) (v : IdValue) (x : ElementValue) (r : IdValue) (e : SpanValue) → list_any p (spans_named d v x) ≡ false → places_range v r x ≡ true → span_of (vertex_at d r) ≡ Some e → p e ≡ false
 named_fails d p v (edge i (contains from to)) r e none at has = named_fails_by d p to r e (same_id from v) none at has
 named_fails d p v (edge i (next from to)) r e none at has = cc
-named_fails d p v (edge i (definition from to)) r e none at has = cc
-named_fails d p v (edge i (references from to)) r e none at has = cc
-named_fails d p v (edge i (declaration from to)) r e none at has = cc
-named_fails d p v (edge i (implementation from to)) r e none at has = cc
-named_fails d p v (edge i (hover from to)) r e none at has = cc
+named_fails d p v (edge i (request_edge kind from to)) r e none at has = cc
 named_fails d p v (edge i (moniker_edge from to)) r e none at has = cc
 named_fails d p v (edge i (package_edge from to)) r e none at has = cc
 named_fails d p v (edge i (attach from to)) r e none at has = cc
@@ -178,11 +174,7 @@ known_here d (edge i (contains from to)) free v r at =
     let all = and_both (is_some (vertex_at d from)) (are_vertices d to) (not_false (are_vertices d (from ∷ to)) free.ends) in
     vertex_there (vertex_at d r) (all_among (λ j. is_some (vertex_at d j)) to r all.1 (and_both (same_id from v) (is_among r to) at).1)
 known_here d (edge i (next from to)) free v r at = cc
-known_here d (edge i (definition from to)) free v r at = cc
-known_here d (edge i (references from to)) free v r at = cc
-known_here d (edge i (declaration from to)) free v r at = cc
-known_here d (edge i (implementation from to)) free v r at = cc
-known_here d (edge i (hover from to)) free v r at = cc
+known_here d (edge i (request_edge kind from to)) free v r at = cc
 known_here d (edge i (moniker_edge from to)) free v r at = cc
 known_here d (edge i (package_edge from to)) free v r at = cc
 known_here d (edge i (attach from to)) free v r at = cc
@@ -207,10 +199,7 @@ range_is_no_document (Some (meta_data b)) e h t = cc
 range_is_no_document (Some project) e h t = cc
 range_is_no_document (Some (range s)) e h t = cc
 range_is_no_document (Some result_set) e h t = cc
-range_is_no_document (Some definition_result) e h t = cc
-range_is_no_document (Some reference_result) e h t = cc
-range_is_no_document (Some declaration_result) e h t = cc
-range_is_no_document (Some implementation_result) e h t = cc
+range_is_no_document (Some (request_result kind)) e h t = cc
 range_is_no_document (Some (hover_result w)) e h t = cc
 range_is_no_document (Some (moniker w)) e h t = cc
 range_is_no_document (Some (package_information w)) e h t = cc
@@ -248,11 +237,7 @@ new_and_old d (edge i (contains from to)) free v r s e f at_r at_s has_r has_s =
     let fails = span_fails d (λ t. list_any (conflicts t) (spans_in d from)) to r e clear.before here.1 has_r in
     in_fails d (conflicts e) from d s f fails old has_s
 new_and_old d (edge i (next from to)) free v r s e f at_r at_s has_r has_s = cc
-new_and_old d (edge i (definition from to)) free v r s e f at_r at_s has_r has_s = cc
-new_and_old d (edge i (references from to)) free v r s e f at_r at_s has_r has_s = cc
-new_and_old d (edge i (declaration from to)) free v r s e f at_r at_s has_r has_s = cc
-new_and_old d (edge i (implementation from to)) free v r s e f at_r at_s has_r has_s = cc
-new_and_old d (edge i (hover from to)) free v r s e f at_r at_s has_r has_s = cc
+new_and_old d (edge i (request_edge kind from to)) free v r s e f at_r at_s has_r has_s = cc
 new_and_old d (edge i (moniker_edge from to)) free v r s e f at_r at_s has_r has_s = cc
 new_and_old d (edge i (package_edge from to)) free v r s e f at_r at_s has_r has_s = cc
 new_and_old d (edge i (attach from to)) free v r s e f at_r at_s has_r has_s = cc
@@ -269,11 +254,7 @@ new_and_new d (edge i (contains from to)) free v r s e f at_r at_s has_r has_s a
     let clear = clear_of d i from to free r e here_r.1 has_r in
     beside d to r s e f clear.beside here_r.1 here_s.1 has_r has_s apart
 new_and_new d (edge i (next from to)) free v r s e f at_r at_s has_r has_s apart = cc
-new_and_new d (edge i (definition from to)) free v r s e f at_r at_s has_r has_s apart = cc
-new_and_new d (edge i (references from to)) free v r s e f at_r at_s has_r has_s apart = cc
-new_and_new d (edge i (declaration from to)) free v r s e f at_r at_s has_r has_s apart = cc
-new_and_new d (edge i (implementation from to)) free v r s e f at_r at_s has_r has_s apart = cc
-new_and_new d (edge i (hover from to)) free v r s e f at_r at_s has_r has_s apart = cc
+new_and_new d (edge i (request_edge kind from to)) free v r s e f at_r at_s has_r has_s apart = cc
 new_and_new d (edge i (moniker_edge from to)) free v r s e f at_r at_s has_r has_s apart = cc
 new_and_new d (edge i (package_edge from to)) free v r s e f at_r at_s has_r has_s apart = cc
 new_and_new d (edge i (attach from to)) free v r s e f at_r at_s has_r has_s apart = cc

@@ -11,9 +11,10 @@ use Rattle.std.specs.declared.cmp.Ordering.TheVariants.{Less, Greater}
 use Rattle.std.proofs.lemmas.List.Elements.{All-contains, All-from_recursion}
 use Rattle.positions.specs.Position.{PositionValue, IsAtOrBefore}
 use Rattle.lsif.specs.Element.{IdValue, ElementValue}
-use Rattle.dump.specs.declared.request_kind.RequestKind.{RequestKind}
+use Rattle.lsif.specs.declared.request_kind.RequestKind.{RequestKind}
 use Rattle.dump.specs.Places.{IsListing, IsCovering, PlaceValue, position_cmp, place_cmp}
-use Rattle.dump.specs.Requests.{RangeValue, IsWithin, Cover, First, IsFirst, nobody, here, later, label_of, Pick, Speaks}
+use Rattle.dump.specs.declared.single.SingleLabel.TheVariants.{Request}
+use Rattle.dump.specs.Requests.{RangeValue, IsWithin, Cover, First, IsFirst, nobody, here, later, Pick, Speaks}
 use Rattle.dump.specs.Walks.{first_of_list, single_pairs, next_pairs}
 use Rattle.dump.proofs.Chains.{unique}
 use Rattle.dump.proofs.Members.{contains_head, contains_tail, contains_cases, not_in_nil}
@@ -81,7 +82,7 @@ one_place_list places others a b same =
 
 pub one_result : (request : RequestKind) (d : List ElementValue) (x : IdValue) (r s : Option IdValue) → First request d x r → First request d x s → r ≡ s
 one_result request d x r s (xs, chain, is) (ys, other, says) =
-    is ∙ ap (first_of_list (single_pairs (label_of request) d)) (unique (next_pairs d) x xs ys chain other) ∙ sym says
+    is ∙ ap (first_of_list (single_pairs (Request request) d)) (unique (next_pairs d) x xs ys chain other) ∙ sym says
 
 -- ---- the ranges that cover a position
 

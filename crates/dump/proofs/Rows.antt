@@ -3,7 +3,7 @@ use Rattle.std.proofs.Common.{◌≡◌, ◌⊎◌, inl, inr, ⊎_elim, ◌∙�
 use Rattle.std.specs.List.{list_all, list_any}
 use Rattle.lsif.specs.Element.{IdValue, VertexValue, EdgeValue, contains, ends_of, ElementValue, edge}
 use Rattle.dump.specs.declared.vertices.Kind.{Kind}
-use Rattle.dump.specs.declared.vertices.Kind.TheVariants.{Any, Project, Document, Range, ResultSet, DefinitionResult, ReferenceResult, DeclarationResult, ImplementationResult, HoverResult, Moniker, Package, Other, Asked, Shard}
+use Rattle.dump.specs.declared.vertices.Kind.TheVariants.{Any, Project, Document, Range, ResultSet, Result, OneRole, HoverResult, Moniker, Package, Other, Asked, Shard}
 use Rattle.dump.specs.Conditions.{are_vertices, fits_row, may_not_join}
 use Rattle.dump.specs.Graph.{vertex_at}
 use Rattle.dump.specs.Kinds.{Row, is_of_kind, is_document, rows_of}
@@ -18,10 +18,8 @@ kind_known Project None e = e
 kind_known Document None e = e
 kind_known Range None e = e
 kind_known ResultSet None e = e
-kind_known DefinitionResult None e = e
-kind_known ReferenceResult None e = e
-kind_known DeclarationResult None e = e
-kind_known ImplementationResult None e = e
+kind_known (Result kind) None e = e
+kind_known OneRole None e = e
 kind_known HoverResult None e = e
 kind_known Moniker None e = e
 kind_known Package None e = e

@@ -7,7 +7,7 @@ use Rattle.std.proofs.Math.Seq.{get_or-append_seam}
 use Rattle.std.proofs.lemmas.Grind.{get_or-set_at}
 use Rattle.std.proofs.lemmas.Option.{slice_get_within, slice_get-get_or, get_or_from_slice_get}
 use Rattle.lsif.specs.declared.element.Element.{Element}
-use Rattle.lsif.specs.Element.{IdValue, same_id, element_value, contains, next, definition, references, declaration, implementation, hover, moniker_edge, package_edge, attach, item, other_edge, ElementValue, vertex, edge, element_id}
+use Rattle.lsif.specs.Element.{IdValue, same_id, element_value, contains, next, request_edge, moniker_edge, package_edge, attach, item, other_edge, ElementValue, vertex, edge, element_id}
 use Rattle.dump.specs.declared.single.SingleLabel.{SingleLabel}
 use Rattle.dump.specs.declared.single.SingleLabel.TheVariants.{Next}
 use Rattle.dump.specs.Steps.Chains.{index_in, Shortens, HasShortcuts, IsIndexIn, IsEnd, CanJoin}
@@ -236,11 +236,7 @@ edge_shortcuts ps d shortcuts from to end_index has can last a b at_a at_b =
 source_known : (d : List ElementValue) (y : ElementValue) (i : IdValue) → is_single Next i y ≡ true → are_vertices d (ends y) ≡ true → is_some (vertex_at d i) ≡ true
 source_known d (edge j (next a b)) i e known = subst (λ v. is_some (vertex_at d v) ≡ true) (same_id_eq a i e) (and_both (is_some (vertex_at d a)) (are_vertices d (b ∷ [])) known).0
 source_known d (edge j (contains a bs)) i e known = cc
-source_known d (edge j (definition a b)) i e known = cc
-source_known d (edge j (references a b)) i e known = cc
-source_known d (edge j (declaration a b)) i e known = cc
-source_known d (edge j (implementation a b)) i e known = cc
-source_known d (edge j (hover a b)) i e known = cc
+source_known d (edge j (request_edge kind a b)) i e known = cc
 source_known d (edge j (moniker_edge a b)) i e known = cc
 source_known d (edge j (package_edge a b)) i e known = cc
 source_known d (edge j (attach a b)) i e known = cc
@@ -304,6 +300,13 @@ shortcuts_more ps d x shortcuts free known same has = subst (λ qs. HasShortcuts
 pub same_pairs : (d : List ElementValue) (x : ElementValue) (ps : List Pair) → single_in Next x ≡ ps → next_pairs d ++ ps ≡ next_pairs (d ++ x ∷ [])
 same_pairs d x ps e = sym (pairs_more (single_in Next) d x ∙ ap (λ qs. next_pairs d ++ qs) e)
 
+abbrev is_next : Option (SingleLabel × Pair) → Bool
+is_next None = false
+is_next (Some e) = same_label e.0 Next
+
+other_label : {m : SingleLabel} {p q : Pair} → ◌≡◌ {A = Option (SingleLabel × Pair)} (Some (m, p)) (Some (Next, q)) → same_label m Next ≡ false → ⊥
+other_label e other = absurd_true (sym (ap is_next e) ∙ other)
+
 -- the source of a `next` edge without a code has none yet
 pub source_free : (d : List ElementValue) (x : ElementValue) (a b : IdValue) → HasNoCode d x → single_in Next x ≡ (a, b) ∷ [] → first_to (next_pairs d) a ≡ None
 source_free d (edge j (next p q)) a b free e =
@@ -314,11 +317,7 @@ source_free d (edge j (next p q)) a b free e =
     first_pair [] = (p, q)
     first_pair (r ∷ rs) = r
 source_free d (edge j (contains p qs)) a b free e = cc
-source_free d (edge j (definition p q)) a b free e = cc
-source_free d (edge j (references p q)) a b free e = cc
-source_free d (edge j (declaration p q)) a b free e = cc
-source_free d (edge j (implementation p q)) a b free e = cc
-source_free d (edge j (hover p q)) a b free e = cc
+source_free d (edge j (request_edge kind p q)) a b free e = let none : ◌≡◌ {A = List Pair} [] ((a, b) ∷ []) = e in cc
 source_free d (edge j (moniker_edge p q)) a b free e = cc
 source_free d (edge j (package_edge p q)) a b free e = cc
 source_free d (edge j (attach p q)) a b free e = cc
@@ -333,13 +332,6 @@ read_at xs k o lt e = same (sym (slice_get-get_or xs k None lt) ∙ slice_get-ge
     same : {x y : Option ℕ} → ◌≡◌ {A = Option (Option ℕ)} (Some x) (Some y) → x ≡ y
     same h = cc
 
-abbrev is_next : Option (SingleLabel × Pair) → Bool
-is_next None = false
-is_next (Some e) = same_label e.0 Next
-
-other_label : {m : SingleLabel} {p q : Pair} → ◌≡◌ {A = Option (SingleLabel × Pair)} (Some (m, p)) (Some (Next, q)) → same_label m Next ≡ false → ⊥
-other_label e other = absurd_true (sym (ap is_next e) ∙ other)
-
 -- the ends of a `next` edge without a code are vertices
 pub next_ends : (d : List ElementValue) (x : ElementValue) (a b : IdValue) → HasNoCode d x → single_of x ≡ Some (Next, (a, b)) → (is_some (vertex_at d a) ≡ true) × (is_some (vertex_at d b) ≡ true)
 next_ends d (edge j (next p q)) a b free e =
@@ -350,11 +342,7 @@ next_ends d (edge j (next p q)) a b free e =
     pair_in : Option (SingleLabel × Pair) → Pair
     pair_in None = (p, q)
     pair_in (Some r) = r.1
-next_ends d (edge j (definition p q)) a b free e = absurd (other_label e refl)
-next_ends d (edge j (references p q)) a b free e = absurd (other_label e refl)
-next_ends d (edge j (declaration p q)) a b free e = absurd (other_label e refl)
-next_ends d (edge j (implementation p q)) a b free e = absurd (other_label e refl)
-next_ends d (edge j (hover p q)) a b free e = absurd (other_label e refl)
+next_ends d (edge j (request_edge kind p q)) a b free e = absurd (other_label e refl)
 next_ends d (edge j (package_edge p q)) a b free e = absurd (other_label e refl)
 next_ends d (edge j (contains p qs)) a b free e = absurd (cc)
 next_ends d (edge j (moniker_edge p q)) a b free e = absurd (cc)

@@ -1,19 +1,19 @@
 -- What tables say of elements, and what an element more makes of them.
-use Rattle.std.proofs.Common.{◌≡◌, ◌∙◌, ◌&&◌, ◌||◌, ◌+◌, ◌<◌, ◌++◌, ◌∷◌, [], ℕ, nat_eq, Bool, true, false, cond, List, length, refl, sym, ap, arith, Option, Some, None, option_and_then, is_some, if◌then◌else◌}
+use Rattle.std.proofs.Common.{◌≡◌, ◌∙◌, ◌&&◌, ◌||◌, ◌+◌, ◌<◌, ◌++◌, ◌∷◌, [], ℕ, Bool, true, false, cond, List, length, refl, sym, ap, Option, Some, None, option_and_then, is_some, if◌then◌else◌}
 use Rattle.std.specs.Prelude.{Contains, option_map}
 use Rattle.std.specs.List.{list_any, position}
-use Rattle.lsif.specs.Element.{IdValue, same_id, meta_data, project, document, range, result_set, definition_result, reference_result, declaration_result, implementation_result, hover_result, moniker, package_information, event, other_vertex, begin_event, end_event, other_event, contains, next, definition, references, declaration, implementation, hover, moniker_edge, package_edge, attach, item, other_edge, ElementValue, vertex, edge}
+use Rattle.lsif.specs.Element.{IdValue, same_id, meta_data, project, document, range, result_set, request_result, hover_result, moniker, package_information, event, other_vertex, begin_event, end_event, other_event, contains, next, request_edge, moniker_edge, package_edge, attach, item, other_edge, ElementValue, vertex, edge}
 use Rattle.dump.specs.declared.links.Link.{Link}
 use Rattle.dump.specs.declared.links.Link.TheVariants.{Contained, Begun, Ended, Single}
 use Rattle.dump.specs.declared.single.SingleLabel.{SingleLabel}
-use Rattle.dump.specs.declared.single.SingleLabel.TheVariants.{Next, Definition, References, Hover, PackageInformation, Declaration, Implementation}
+use Rattle.dump.specs.declared.single.SingleLabel.TheVariants.{Next, PackageInformation, Request}
 use Rattle.dump.specs.Conditions.{is_document_of, has_used_uri, are_vertices}
 use Rattle.dump.specs.Contained.{contains_range}
 use Rattle.dump.specs.Ended.{begins, finishes}
 use Rattle.dump.specs.Graph.{ends}
 use Rattle.dump.specs.Steps.Ids.{IsTable, entered}
 use Rattle.dump.specs.Steps.Links.{is_single, is_link, named_by, is_named}
-use Rattle.dump.specs.Walks.{label_index, same_label}
+use Rattle.dump.specs.Walks.{same_label}
 use Rattle.dump.proofs.Fills.{ranges_test}
 use Rattle.dump.proofs.Known.{same_contained}
 use Rattle.dump.proofs.Members.{contains_head, contains_tail}
@@ -64,13 +64,9 @@ each_link P c b e s Begun = b
 each_link P c b e s Ended = e
 each_link P c b e s (Single label) = s label
 
-no_single : (n : ℕ) (label : SingleLabel) (b : Bool) → n < 3 → false ≡ (nat_eq n (3 + label_index label) && b)
-no_single n label b lt = let apart : nat_eq n (3 + label_index label) ≡ false = grind (arith, lt) in rw apart refl
-
-one_single : (m label : SingleLabel) (a i : IdValue) → (same_label m label && same_id a i) ≡ (nat_eq (3 + label_index m) (3 + label_index label) && (same_id a i || false))
+one_single : (m label : SingleLabel) (a i : IdValue) → (same_label m label && same_id a i) ≡ (same_label m label && (same_id a i || false))
 one_single m label a i =
-    let same : nat_eq (3 + label_index m) (3 + label_index label) ≡ same_label m label = grind arith in
-    rw same (ap (λ b. same_label m label && b) (once (same_id a i)))
+    ap (λ b. same_label m label && b) (once (same_id a i))
 
 named_nothing : (d : List ElementValue) (x : ElementValue) (i : IdValue) → contains_range d i x ≡ false → begins i x ≡ false → finishes i x ≡ false → ((label : SingleLabel) → is_single label i x ≡ false)
     → (l : Link) → is_link d l i x ≡ false
@@ -78,32 +74,25 @@ named_nothing d x i c b e s = each_link (λ l. is_link d l i x ≡ false) c b e 
 
 pub named_test : (d : List ElementValue) (x : ElementValue) (l : Link) (i : IdValue) → is_link d l i x ≡ is_named (named_by d x) l i
 named_test d (edge j (contains a bs)) l i = each_link (λ l. is_link d l i (edge j (contains a bs)) ≡ is_named (named_by d (edge j (contains a bs))) l i)
-    (sym (ranges_test d (edge j (contains a bs)) i)) refl refl (λ label. no_single 0 label _ (omega arith)) l
+    (sym (ranges_test d (edge j (contains a bs)) i)) refl refl (λ label. refl) l
 named_test d (edge j (next a b)) l i = each_link (λ l. is_link d l i (edge j (next a b)) ≡ is_named (named_by d (edge j (next a b))) l i) refl refl refl (λ label. one_single Next label a i) l
-named_test d (edge j (definition a b)) l i = each_link (λ l. is_link d l i (edge j (definition a b)) ≡ is_named (named_by d (edge j (definition a b))) l i) refl refl refl (λ label. one_single Definition label a i) l
-named_test d (edge j (references a b)) l i = each_link (λ l. is_link d l i (edge j (references a b)) ≡ is_named (named_by d (edge j (references a b))) l i) refl refl refl (λ label. one_single References label a i) l
-named_test d (edge j (declaration a b)) l i = each_link (λ l. is_link d l i (edge j (declaration a b)) ≡ is_named (named_by d (edge j (declaration a b))) l i) refl refl refl (λ label. one_single Declaration label a i) l
-named_test d (edge j (implementation a b)) l i = each_link (λ l. is_link d l i (edge j (implementation a b)) ≡ is_named (named_by d (edge j (implementation a b))) l i) refl refl refl (λ label. one_single Implementation label a i) l
-named_test d (edge j (hover a b)) l i = each_link (λ l. is_link d l i (edge j (hover a b)) ≡ is_named (named_by d (edge j (hover a b))) l i) refl refl refl (λ label. one_single Hover label a i) l
+named_test d (edge j (request_edge kind a b)) l i = each_link (λ l. is_link d l i (edge j (request_edge kind a b)) ≡ is_named (named_by d (edge j (request_edge kind a b))) l i) refl refl refl (λ label. one_single (Request kind) label a i) l
 named_test d (edge j (package_edge a b)) l i = each_link (λ l. is_link d l i (edge j (package_edge a b)) ≡ is_named (named_by d (edge j (package_edge a b))) l i) refl refl refl (λ label. one_single PackageInformation label a i) l
 named_test d (edge j (moniker_edge a b)) l i = named_nothing d (edge j (moniker_edge a b)) i refl refl refl (λ label. refl) l
 named_test d (edge j (attach a b)) l i = named_nothing d (edge j (attach a b)) i refl refl refl (λ label. refl) l
 named_test d (edge j (item a)) l i = named_nothing d (edge j (item a)) i refl refl refl (λ label. refl) l
 named_test d (edge j (other_edge a bs)) l i = named_nothing d (edge j (other_edge a bs)) i refl refl refl (λ label. refl) l
 named_test d (vertex j (event (begin_event v))) l i = each_link (λ l. is_link d l i (vertex j (event (begin_event v))) ≡ is_named (named_by d (vertex j (event (begin_event v)))) l i)
-    refl (once (same_id v i)) refl (λ label. no_single 1 label _ (omega arith)) l
+    refl (once (same_id v i)) refl (λ label. refl) l
 named_test d (vertex j (event (end_event v))) l i = each_link (λ l. is_link d l i (vertex j (event (end_event v))) ≡ is_named (named_by d (vertex j (event (end_event v)))) l i)
-    refl refl (once (same_id v i)) (λ label. no_single 2 label _ (omega arith)) l
+    refl refl (once (same_id v i)) (λ label. refl) l
 named_test d (vertex j (event other_event)) l i = named_nothing d (vertex j (event other_event)) i refl refl refl (λ label. refl) l
 named_test d (vertex j (meta_data b)) l i = named_nothing d (vertex j (meta_data b)) i refl refl refl (λ label. refl) l
 named_test d (vertex j project) l i = named_nothing d (vertex j project) i refl refl refl (λ label. refl) l
 named_test d (vertex j (document s)) l i = named_nothing d (vertex j (document s)) i refl refl refl (λ label. refl) l
 named_test d (vertex j (range s)) l i = named_nothing d (vertex j (range s)) i refl refl refl (λ label. refl) l
 named_test d (vertex j result_set) l i = named_nothing d (vertex j result_set) i refl refl refl (λ label. refl) l
-named_test d (vertex j definition_result) l i = named_nothing d (vertex j definition_result) i refl refl refl (λ label. refl) l
-named_test d (vertex j reference_result) l i = named_nothing d (vertex j reference_result) i refl refl refl (λ label. refl) l
-named_test d (vertex j declaration_result) l i = named_nothing d (vertex j declaration_result) i refl refl refl (λ label. refl) l
-named_test d (vertex j implementation_result) l i = named_nothing d (vertex j implementation_result) i refl refl refl (λ label. refl) l
+named_test d (vertex j (request_result kind)) l i = named_nothing d (vertex j (request_result kind)) i refl refl refl (λ label. refl) l
 named_test d (vertex j (hover_result s)) l i = named_nothing d (vertex j (hover_result s)) i refl refl refl (λ label. refl) l
 named_test d (vertex j (moniker m)) l i = named_nothing d (vertex j (moniker m)) i refl refl refl (λ label. refl) l
 named_test d (vertex j (package_information p)) l i = named_nothing d (vertex j (package_information p)) i refl refl refl (λ label. refl) l

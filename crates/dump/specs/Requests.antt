@@ -1,57 +1,27 @@
 -- What a request at a vertex or at a position is answered by (LSIF 0.6.0, "Request": a range or
 -- result set names a result by an edge of the request's label, or forwards the request along
--- `next`; "Multiple Projects": import and export monikers).
-use Rattle.std.specs.Prelude.{◌≡◌, ◌≢◌, ◌↔◌, ◌⊎◌, ◌||◌, ℕ, Bool, true, false, List, [], ◌∷◌, Option, Some, None, Contains}
+-- `next`).
+use Rattle.std.specs.Prelude.{◌≡◌, ◌≢◌, ◌↔◌, ◌⊎◌, ℕ, true, List, [], ◌∷◌, Option, Some, None, Contains}
 use Rattle.std.specs.List.{AllPairs}
 use Rattle.positions.specs.Position.{PositionValue}
 use Rattle.positions.specs.Span.{SpanValue, Nests}
-use Rattle.lsif.specs.declared.element.MonikerKind.{MonikerKind}
-use Rattle.lsif.specs.declared.element.MonikerKind.TheVariants as kinds
 use Rattle.lsif.specs.Element.{IdValue, ElementValue}
-use Rattle.dump.specs.declared.request_kind.RequestKind.{RequestKind}
-use Rattle.dump.specs.declared.request_kind.RequestKind.TheVariants as requests
+use Rattle.lsif.specs.RequestKinds.{follows}
+use Rattle.lsif.specs.declared.request_kind.RequestKind.{RequestKind}
+use Rattle.lsif.specs.declared.request_kind.RequestKind.TheVariants as requests
 use Rattle.dump.specs.declared.role.Role.{Role}
 use Rattle.dump.specs.declared.role.Role.TheVariants as roles
-use Rattle.dump.specs.declared.single.SingleLabel.{SingleLabel}
-use Rattle.dump.specs.declared.single.SingleLabel.TheVariants as labels
+use Rattle.dump.specs.declared.single.SingleLabel.TheVariants.{Request}
 use Rattle.dump.specs.Monikers.{MarkValue, Marks}
 use Rattle.dump.specs.Places.{IsCovering}
 use Rattle.dump.specs.Walks.{IsChain, first_of_list, single_pairs, next_pairs}
 
 -- ---- at a vertex
 
--- the label of the edges that name the results of a request
-abbrev pub label_of : RequestKind → SingleLabel
-label_of requests.Definition = labels.Definition
-label_of requests.References = labels.References
-label_of requests.Hover = labels.Hover
-label_of requests.Declaration = labels.Declaration
-label_of requests.Implementation = labels.Implementation
-
 -- the first result of the vertex: that of the first member of its chain that has one
 abbrev pub First : RequestKind → List ElementValue → IdValue → Option IdValue → Type 0
 First request elements x result =
-    (xs : List IdValue) × IsChain (next_pairs elements) x xs × (result ≡ first_of_list (single_pairs (label_of request) elements) xs)
-
-abbrev pub is_import : MonikerKind → Bool
-is_import kinds.Import = true
-is_import kinds.Export = false
-is_import kinds.Local = false
-
-abbrev pub is_export : MonikerKind → Bool
-is_export kinds.Import = false
-is_export kinds.Export = true
-is_export kinds.Local = false
-
--- the kinds of marks by which a request goes on to other projects
-abbrev pub follows : RequestKind → MonikerKind → Bool
-follows requests.References kind = is_import kind || is_export kind
-follows request kind = is_import kind
-
--- the kinds of marks that it looks for there
-abbrev pub finds : RequestKind → MonikerKind → Bool
-finds requests.References kind = is_import kind || is_export kind
-finds request kind = is_export kind
+    (xs : List IdValue) × IsChain (next_pairs elements) x xs × (result ≡ first_of_list (single_pairs (Request request) elements) xs)
 
 -- the roles of the places that it asks for
 abbrev pub roles_of : RequestKind → List Role

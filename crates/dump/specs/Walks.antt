@@ -1,34 +1,25 @@
 -- Paths and chains over the pairs of vertices that edges of one label join (LSIF 0.6.0, "next": a
 -- request that a range or a result set doesn't answer is forwarded along the `next` edge).
-use Rattle.std.specs.Prelude.{◌≡◌, ℕ, nat_eq, Bool, List, [], ◌∷◌, if◌then◌else◌, ◌||◌, ◌&&◌, Option, Some, None, Contains}
+use Rattle.std.specs.Prelude.{◌≡◌, Bool, true, false, List, [], ◌∷◌, if◌then◌else◌, ◌||◌, ◌&&◌, Option, Some, None, Contains}
 use Rattle.std.specs.List.{flat_map}
-use Rattle.lsif.specs.Element.{IdValue, same_id, next, definition, references, declaration, implementation, hover, package_edge, ElementValue, vertex, edge}
+use Rattle.lsif.specs.Element.{IdValue, same_id, next, request_edge, package_edge, ElementValue, vertex, edge}
+use Rattle.lsif.specs.RequestKinds.{same_kind}
 use Rattle.dump.specs.declared.single.SingleLabel.{SingleLabel}
-use Rattle.dump.specs.declared.single.SingleLabel.TheVariants.{Next, Definition, References, Hover, PackageInformation, Declaration, Implementation}
+use Rattle.dump.specs.declared.single.SingleLabel.TheVariants.{Next, PackageInformation, Request}
 
 abbrev pub Pair : Type 0
 Pair = IdValue × IdValue
 
-abbrev pub label_index : SingleLabel → ℕ
-label_index Next = 0
-label_index Definition = 1
-label_index References = 2
-label_index Hover = 3
-label_index PackageInformation = 4
-label_index Declaration = 5
-label_index Implementation = 6
-
 abbrev pub same_label : SingleLabel → SingleLabel → Bool
-same_label a b = nat_eq (label_index a) (label_index b)
+same_label Next Next = true
+same_label PackageInformation PackageInformation = true
+same_label (Request j) (Request k) = same_kind j k
+same_label a b = false
 
 -- an edge of a label that leaves a vertex once at most: the label, and the source with the target
 abbrev pub single_of : ElementValue → Option (SingleLabel × Pair)
 single_of (edge i (next from to)) = Some (Next, (from, to))
-single_of (edge i (definition from to)) = Some (Definition, (from, to))
-single_of (edge i (references from to)) = Some (References, (from, to))
-single_of (edge i (declaration from to)) = Some (Declaration, (from, to))
-single_of (edge i (implementation from to)) = Some (Implementation, (from, to))
-single_of (edge i (hover from to)) = Some (Hover, (from, to))
+single_of (edge i (request_edge kind from to)) = Some (Request kind, (from, to))
 single_of (edge i (package_edge from to)) = Some (PackageInformation, (from, to))
 single_of (edge i e) = None
 single_of (vertex i v) = None

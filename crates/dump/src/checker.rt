@@ -9,11 +9,10 @@ use crate::fault::{FeedFault, LineFault};
 use crate::graph::Graph;
 use crate::laws::chain_law;
 use crate::order::{add, end_fault};
-use crate::request_kind::RequestKind;
 use crate::single::SingleLabel;
 use crate::vertices::vertex_at;
 use crate::walks::first_result;
-use lsif::{Code, Element, Id, IdRef, Profile, Vertex};
+use lsif::{Code, Element, Id, IdRef, Profile, RequestKind, Vertex};
 use std::alloc::Global;
 use std::marker::Model;
 
@@ -148,9 +147,9 @@ impl CheckedDump {
     ghost use Rattle.dump.specs.Places.{HasDocument};
     ghost use Rattle.dump.specs.Contained.{container, is_in};
     ghost use Rattle.dump.specs.Fault.{IsFaultless};
-    ghost use Rattle.dump.specs.Requests.{First, label_of};
+    ghost use Rattle.dump.specs.Requests.{First};
     ghost use Rattle.dump.specs.Walks.{first_to, next_pairs, single_pairs};
-    ghost use Rattle.dump.specs.declared.single.SingleLabel.TheVariants.{PackageInformation};
+    ghost use Rattle.dump.specs.declared.single.SingleLabel.TheVariants.{PackageInformation, Request};
 
     /// The profile that the dump was read by.
     pub fn profile(&self) -> Profile
@@ -177,7 +176,7 @@ impl CheckedDump {
         ensures faultless { IsFaultless (map Ok self.now.elements) }
     {
         chain_law();
-        first_result(&self.graph, request.label(), vertex)
+        first_result(&self.graph, SingleLabel::Request(request), vertex)
     }
 
     /// The vertex that the `next` edge out of this one leads to (LSIF 0.6.0, "next").
@@ -189,9 +188,10 @@ impl CheckedDump {
 
     /// The result that the vertex itself has for a request, whatever its chain has.
     pub fn result(&self, request: RequestKind, vertex: &Id) -> Option<&Id>
-        ensures { option_map (λ i. id_value i.now) result ≡ first_to (single_pairs (label_of request) self.now.elements) (id_value vertex.now) }
+        ensures { option_map (λ i. id_value i.now) result ≡ first_to (single_pairs (Request request) self.now.elements) (id_value vertex.now) }
     {
-        self.graph.target_of(request.label(), vertex.lent())
+        self.graph
+            .target_of(SingleLabel::Request(request), vertex.lent())
     }
 
     /// The package that a `packageInformation` edge out of this moniker names.

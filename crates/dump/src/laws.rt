@@ -10,8 +10,8 @@ ghost use Rattle.dump.specs.Fault.{AreSoundLines, IsFault, IsFaultless, IsLineFa
 ghost use Rattle.dump.specs.Places.{PlaceValue, IsItemPlace, Places, place_cmp};
 ghost use Rattle.dump.specs.Requests.{Cover, First, Pick, RangeValue};
 ghost use Rattle.std.specs.List.Sorted.{IsStrictlySortedBy};
-ghost use Rattle.dump.specs.declared.request_kind.RequestKind.{RequestKind};
-ghost use Rattle.dump.specs.declared.request_kind.RequestKind.TheVariants.{Hover, References};
+ghost use Rattle.lsif.specs.declared.request_kind.RequestKind.{RequestKind};
+ghost use Rattle.lsif.specs.declared.request_kind.RequestKind.TheVariants.{Hover, References};
 ghost use Rattle.dump.specs.declared.role.Role.{Role};
 ghost use Rattle.dump.specs.Progress.{progress, running, stopped, finished};
 ghost use Rattle.dump.specs.Graph.{vertex_at, ends, line_of};

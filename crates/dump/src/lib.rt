@@ -14,7 +14,6 @@ mod laws;
 mod links;
 mod order;
 mod reading;
-mod request_kind;
 mod role;
 mod single;
 mod sorted_spans;
@@ -30,5 +29,4 @@ pub use laws::{
     own_law, path_law, pick_law, uri_law, vertex_law,
 };
 pub use reading::{DumpFault, read_dump, read_line};
-pub use request_kind::RequestKind;
-pub use role::{Role, role_of};
+pub use role::{Role, role_of, roles_of};

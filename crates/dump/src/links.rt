@@ -6,10 +6,10 @@ ghost use Rattle.lsif.specs.Element.{IdValue, same_id};
 ghost use Rattle.lsif.specs.Lent.{lent_value};
 ghost use Rattle.dump.specs.Graph.{is_among};
 ghost use Rattle.dump.specs.Steps.Ids.{index_at, entered, HasRows};
-ghost use Rattle.dump.specs.Steps.Links.{link_index, same_link, cell, link_at};
+ghost use Rattle.dump.specs.Steps.Links.{link_index, links, same_link, cell, link_at};
 
 use crate::index_map::{IndexMap, list_index};
-use crate::single::SingleLabel;
+use crate::single::{SINGLE_LABELS, SingleLabel};
 use lsif::{IdRef, IdsIter};
 
 /// A way in which an element names a vertex.
@@ -26,7 +26,7 @@ pub(crate) enum Link {
 }
 
 /// How many ways there are.
-pub(crate) const LINKS: usize = 10;
+pub(crate) const LINKS: usize = 3 + SINGLE_LABELS;
 
 /// The index of the first element that names a vertex in each way.
 pub(crate) type Row = [Option<u32>; LINKS];
@@ -34,13 +34,13 @@ pub(crate) type Row = [Option<u32>; LINKS];
 impl Link {
     fn index(self) -> usize
         ensures value { result ≡ link_index self }
-        ensures within { result < 10 }
+        ensures within { result < links }
     {
         match self {
             Link::Contained => 0,
             Link::Begun => 1,
             Link::Ended => 2,
-            Link::Single(label) => 3 + label as usize,
+            Link::Single(label) => 3 + label.index(),
         }
     }
 }
@@ -58,7 +58,7 @@ pub(crate) fn cell(rows: &[Row], row: usize, link: Link) -> Option<usize>
 fn row_at(rows: &[Row], row: usize) -> Row
     requires { row < length rows.now }
     ensures value { result ≡ get_or rows.now row [] }
-    ensures length { length result ≡ 10 }
+    ensures length { length result ≡ links }
 {
     rows[row]
 }

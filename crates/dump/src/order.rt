@@ -6,7 +6,7 @@ ghost use Rattle.lsif.specs.Element.{edge_value, element_value};
 ghost use Rattle.dump.specs.Conditions.{is_misplaced, joins_no_vertex, fits_row, may_not_join, is_contained_again, is_conflicting, leaves_again, closes_cycle, has_no_shard, is_misplaced_item, has_used_uri, order_code, is_uncontained, end_code, most_elements};
 ghost use Rattle.dump.specs.Ended.{is_bad_event, is_closed, leaves_ended, is_late};
 ghost use Rattle.dump.specs.Graph.{ends};
-ghost use Rattle.dump.specs.Kinds.{item_rows, rows_of};
+ghost use Rattle.dump.specs.Kinds.{item_rows, result_kind, rows_of};
 ghost use Rattle.dump.specs.Progress.{end_fault_from, IsSound};
 
 use crate::contained::{any_contained, are_in};
@@ -16,7 +16,7 @@ use crate::graph::Graph;
 use crate::single::single_of;
 use crate::vertices::{Kind, are_of_kind, is_of_kind};
 use crate::walks::leads;
-use lsif::{Code, Edge, Element, Property, Vertex};
+use lsif::{Code, Edge, Element, Property, RequestKind, Vertex};
 use std::alloc::AllocError;
 
 /// The greatest number of elements of a dump.
@@ -51,28 +51,41 @@ fn joins_no_vertex(graph: &Graph, element: &Element) -> bool
     }
 }
 
+const DEFINITION_RESULT: Kind = Kind::Result(RequestKind::Definition);
+
+const REFERENCE_RESULT: Kind = Kind::Result(RequestKind::References);
+
+/// The kind of what an edge of the request leads to.
+fn result_kind(kind: RequestKind) -> Kind
+    ensures { result ≡ result_kind kind }
+{
+    if kind.gives_places() {
+        Kind::Result(kind)
+    } else {
+        Kind::HoverResult
+    }
+}
+
 /// Whether an `item` edge with this property has the kinds of a row.
 fn fits_item_row(graph: &Graph, edge: &Edge, property: Option<Property>) -> bool
     ensures { result ≡ list_any (fits_row graph.now (edge_value edge.now)) (item_rows property) }
 {
     match property {
         None => {
-            fits_row(graph, edge, Kind::DefinitionResult, Kind::Range)
-                || fits_row(graph, edge, Kind::DeclarationResult, Kind::Range)
-                || fits_row(graph, edge, Kind::ImplementationResult, Kind::Range)
+            fits_row(graph, edge, Kind::OneRole, Kind::Range)
                 || fits_row(graph, edge, Kind::Other, Kind::Any)
         }
         Some(Property::Definitions) => {
-            fits_row(graph, edge, Kind::ReferenceResult, Kind::Range)
-                || fits_row(graph, edge, Kind::DefinitionResult, Kind::Range)
+            fits_row(graph, edge, REFERENCE_RESULT, Kind::Range)
+                || fits_row(graph, edge, DEFINITION_RESULT, Kind::Range)
                 || fits_row(graph, edge, Kind::Other, Kind::Any)
         }
         Some(Property::References) => {
-            fits_row(graph, edge, Kind::ReferenceResult, Kind::Range)
+            fits_row(graph, edge, REFERENCE_RESULT, Kind::Range)
                 || fits_row(graph, edge, Kind::Other, Kind::Any)
         }
         Some(Property::ReferenceResults) => {
-            fits_row(graph, edge, Kind::ReferenceResult, Kind::ReferenceResult)
+            fits_row(graph, edge, REFERENCE_RESULT, REFERENCE_RESULT)
                 || fits_row(graph, edge, Kind::Other, Kind::Any)
         }
     }
@@ -88,16 +101,7 @@ fn fits_any_row(graph: &Graph, edge: &Edge) -> bool
                 || fits_row(graph, edge, Kind::Project, Kind::Document)
         }
         Edge::Next(_, _) => fits_row(graph, edge, Kind::Asked, Kind::ResultSet),
-        Edge::Definition(_, _) => fits_row(graph, edge, Kind::Asked, Kind::DefinitionResult),
-        Edge::References(_, _) => fits_row(graph, edge, Kind::Asked, Kind::ReferenceResult),
-        Edge::Declaration(_, _) => fits_row(graph, edge, Kind::Asked, Kind::DeclarationResult),
-        Edge::Implementation(_, _) => fits_row(
-            graph,
-            edge,
-            Kind::Asked,
-            Kind::ImplementationResult,
-        ),
-        Edge::Hover(_, _) => fits_row(graph, edge, Kind::Asked, Kind::HoverResult),
+        Edge::Request(kind, _, _) => fits_row(graph, edge, Kind::Asked, result_kind(*kind)),
         Edge::Moniker(_, _) => fits_row(graph, edge, Kind::Asked, Kind::Moniker),
         Edge::Package(_, _) => fits_row(graph, edge, Kind::Moniker, Kind::Package),
         Edge::Attach(_, _) => fits_row(graph, edge, Kind::Moniker, Kind::Moniker),

@@ -8,7 +8,7 @@ ghost use Rattle.dump.specs.Graph.{vertex_at};
 ghost use Rattle.dump.specs.Kinds.{is_of_kind};
 
 use crate::graph::Graph;
-use lsif::{Element, IdRef, IdsIter, Vertex};
+use lsif::{Element, IdRef, IdsIter, RequestKind, Vertex};
 
 /// What the vertex of this id says.
 pub(crate) fn vertex_at<'a>(graph: &'a Graph, id: IdRef<'_>) -> Option<&'a Vertex>
@@ -29,10 +29,11 @@ pub(crate) enum Kind {
     Document,
     Range,
     ResultSet,
-    DefinitionResult,
-    ReferenceResult,
-    DeclarationResult,
-    ImplementationResult,
+    /// The result of this request, where it's answered by places.
+    Result(RequestKind),
+    /// A result of a request for definitions alone: `item` edges out of it need no property, since
+    /// its places have one role.
+    OneRole,
     HoverResult,
     Moniker,
     Package,
@@ -55,10 +56,8 @@ pub(crate) fn is_of_kind(graph: &Graph, kind: Kind, id: IdRef<'_>) -> bool
         Kind::Document => matches!(vertex, Some(Vertex::Document(_))),
         Kind::Range => matches!(vertex, Some(Vertex::Range(_))),
         Kind::ResultSet => matches!(vertex, Some(Vertex::ResultSet)),
-        Kind::DefinitionResult => matches!(vertex, Some(Vertex::DefinitionResult)),
-        Kind::ReferenceResult => matches!(vertex, Some(Vertex::ReferenceResult)),
-        Kind::DeclarationResult => matches!(vertex, Some(Vertex::DeclarationResult)),
-        Kind::ImplementationResult => matches!(vertex, Some(Vertex::ImplementationResult)),
+        Kind::Result(kind) => matches!(vertex, Some(Vertex::Result(other)) if *other == kind),
+        Kind::OneRole => matches!(vertex, Some(Vertex::Result(kind)) if !kind.asks_for_uses()),
         Kind::HoverResult => matches!(vertex, Some(Vertex::HoverResult(_))),
         Kind::Moniker => matches!(vertex, Some(Vertex::Moniker(_))),
         Kind::Package => matches!(vertex, Some(Vertex::Package(_))),

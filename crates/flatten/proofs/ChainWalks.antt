@@ -6,12 +6,11 @@ use Rattle.std.specs.Option.{option_or}
 use Rattle.std.proofs.lemmas.List.{map-append, reverse-append}
 use Rattle.std.proofs.lemmas.List.Elements.{Contains-append_cases}
 use Rattle.lsif.specs.Element.{IdValue, ElementValue}
-use Rattle.dump.specs.Requests.{label_of}
-use Rattle.dump.specs.declared.request_kind.RequestKind.{RequestKind}
-use Rattle.dump.specs.declared.request_kind.RequestKind.TheVariants.{Definition, References, Hover, Declaration, Implementation}
+use Rattle.dump.specs.declared.single.SingleLabel.TheVariants.{Request}
+use Rattle.lsif.specs.declared.request_kind.RequestKind.{RequestKind}
 use Rattle.dump.specs.Walks.{Pair, IsChain, ends, links, first_to, first_of_list, next_pairs, single_in, single_pairs}
-use Rattle.flatten.specs.Flat.{AreResults, IsResult, number_of, result_for}
-use Rattle.flatten.specs.Steps.Chains.{AlongValue, AreAlong, AreFound, IsAfter, IsWalkBack, Leads, VertexAlongValue, first_by, nothing, or_later, own_number, own_of, own_result, results_of}
+use Rattle.flatten.specs.Flat.{AreResults, number_of}
+use Rattle.flatten.specs.Steps.Chains.{AlongValue, AreAlong, AreFound, IsAfter, IsWalkBack, Leads, VertexAlongValue, first_by, nothing, or_later, own_number, own_of, own_result}
 use Rattle.flatten.proofs.Listing.{eq_of}
 use Rattle.flatten.proofs.Members.{contains_cases, contains_head, contains_one, contains_tail, not_in_nil}
 use Rattle.dump.proofs.Ends.{pair_of_first}
@@ -47,7 +46,7 @@ or_nothing (Some x) = refl
 or_nothing None = refl
 
 own_alone : (a : AlongValue) → a ≡ or_later a nothing
-own_alone a i = record { def = or_nothing a.def i; refs = or_nothing a.refs i; hover = or_nothing a.hover i; decl = or_nothing a.decl i; imp = or_nothing a.imp i; bearer = or_nothing a.bearer i }
+own_alone a i = record { results = λ kind. or_nothing (a.results kind) i; bearer = or_nothing a.bearer i }
 
 module _ (elements : List ElementValue) (borne : List (ℕ × ℕ)) where
   pub along_by : (x : IdValue) (along : AlongValue) (o : Option IdValue) → first_to (next_pairs elements) x ≡ o → IsAfter elements borne o along → AreAlong elements borne x (or_later (own_of elements borne x) along)
@@ -142,7 +141,7 @@ first_by_list own (x ∷ xs) = by (first_by_list own xs) (first_to own x)
 
 module _ (elements : List ElementValue) (has : HasEnds elements) (lined : HasVertexNumbers elements) where
   result_number : (request : RequestKind) (x y : IdValue) → own_result elements request x ≡ Some y → HasNumber elements y
-  result_number request x y e = (have_numbers (single_in (label_of request)) elements (single_ends (label_of request)) has lined x y (pair_of_first (single_pairs (label_of request) elements) x y e)).1
+  result_number request x y e = (have_numbers (single_in (Request request)) elements (single_ends (Request request)) has lined x y (pair_of_first (single_pairs (Request request) elements) x y e)).1
 
   -- the number of the first result is the first number of a result
   first_number : (request : RequestKind) (xs : List IdValue) → first_by (own_number elements request) xs ≡ option_and_then (number_of elements) (first_by (own_result elements request) xs)
@@ -157,18 +156,9 @@ module _ (elements : List ElementValue) (has : HasEnds elements) (lined : HasVer
       by None e rest = rest
       by (Some y) e rest = let n = result_number request x y e in ap (λ m. option_or m later) n.1 ∙ sym n.1
 
-  pub results_along : (borne : List (ℕ × ℕ)) (x : IdValue) (along : AlongValue) → AreAlong elements borne x along → AreResults elements x (results_of along)
-  results_along borne x along (xs, chain, is) = each
-    where
-      first : (request : RequestKind) (o : Option ℕ) → o ≡ first_by (own_number elements request) xs → IsResult elements request x o
-      first request o e = (first_by (own_result elements request) xs, (xs, chain, first_by_list (single_pairs (label_of request) elements) xs), e ∙ first_number request xs)
-
-      each : (request : RequestKind) → IsResult elements request x (result_for request (results_of along))
-      each Definition = first Definition along.def (ap (λ (a : AlongValue). a.def) is)
-      each References = first References along.refs (ap (λ (a : AlongValue). a.refs) is)
-      each Hover = first Hover along.hover (ap (λ (a : AlongValue). a.hover) is)
-      each Declaration = first Declaration along.decl (ap (λ (a : AlongValue). a.decl) is)
-      each Implementation = first Implementation along.imp (ap (λ (a : AlongValue). a.imp) is)
+  pub results_along : (borne : List (ℕ × ℕ)) (x : IdValue) (along : AlongValue) → AreAlong elements borne x along → AreResults elements x along.results
+  results_along borne x along (xs, chain, is) request =
+      (first_by (own_result elements request) xs, (xs, chain, first_by_list (single_pairs (Request request) elements) xs), ap (λ (a : AlongValue). a.results request) is ∙ first_number request xs)
 
 -- whether a vertex is the source of a pair, by what its pairs lead to
 pub is_source_by : (pairs : List (ℕ × ℕ)) (n : ℕ) (o : Option ℕ) → IfSome o (λ m. Contains pairs (n, m)) → IfNone o ((m : ℕ) → Contains pairs (n, m) → ⊥) → is_some o ≡ list_any (λ p. p.0 == n) pairs

@@ -5,7 +5,7 @@ use Rattle.std.specs.List.{flat_map}
 use Rattle.std.specs.List.Sorted.{IsStrictlySortedBy}
 use Rattle.std.specs.Ordering.{nat_cmp}
 use Rattle.std.proofs.lemmas.List.{map-append}
-use Rattle.lsif.specs.Element.{IdValue, VertexValue, meta_data, project, document, range, result_set, definition_result, reference_result, declaration_result, implementation_result, hover_result, moniker, package_information, event, other_vertex, ElementValue, vertex, edge}
+use Rattle.lsif.specs.Element.{IdValue, VertexValue, meta_data, project, document, range, result_set, request_result, hover_result, moniker, package_information, event, other_vertex, ElementValue, vertex, edge}
 use Rattle.dump.specs.Fault.{IsFaultless}
 use Rattle.dump.specs.Graph.{vertex_at}
 use Rattle.dump.specs.Places.{HasDocument, IsListing}
@@ -26,10 +26,7 @@ module _ (d : List ElementValue) (vertices : (i : IdValue) (v : VertexValue) →
   document_in (vertex i project) uri here at = absurd (not_in_nil uri at)
   document_in (vertex i (range s)) uri here at = absurd (not_in_nil uri at)
   document_in (vertex i result_set) uri here at = absurd (not_in_nil uri at)
-  document_in (vertex i definition_result) uri here at = absurd (not_in_nil uri at)
-  document_in (vertex i reference_result) uri here at = absurd (not_in_nil uri at)
-  document_in (vertex i declaration_result) uri here at = absurd (not_in_nil uri at)
-  document_in (vertex i implementation_result) uri here at = absurd (not_in_nil uri at)
+  document_in (vertex i (request_result kind)) uri here at = absurd (not_in_nil uri at)
   document_in (vertex i (hover_result t)) uri here at = absurd (not_in_nil uri at)
   document_in (vertex i (moniker m)) uri here at = absurd (not_in_nil uri at)
   document_in (vertex i (package_information p)) uri here at = absurd (not_in_nil uri at)
@@ -58,10 +55,7 @@ module _ (d : List ElementValue) (vertices : (i : IdValue) (v : VertexValue) →
   hover_in (vertex i (document u)) r here at = absurd (not_in_nil r at)
   hover_in (vertex i (range s)) r here at = absurd (not_in_nil r at)
   hover_in (vertex i result_set) r here at = absurd (not_in_nil r at)
-  hover_in (vertex i definition_result) r here at = absurd (not_in_nil r at)
-  hover_in (vertex i reference_result) r here at = absurd (not_in_nil r at)
-  hover_in (vertex i declaration_result) r here at = absurd (not_in_nil r at)
-  hover_in (vertex i implementation_result) r here at = absurd (not_in_nil r at)
+  hover_in (vertex i (request_result kind)) r here at = absurd (not_in_nil r at)
   hover_in (vertex i (moniker m)) r here at = absurd (not_in_nil r at)
   hover_in (vertex i (package_information p)) r here at = absurd (not_in_nil r at)
   hover_in (vertex i (event v)) r here at = absurd (not_in_nil r at)
@@ -87,10 +81,7 @@ module _ (d : List ElementValue) (vertices : (i : IdValue) (v : VertexValue) →
   says (vertex i (document u)) = inl refl
   says (vertex i (range s)) = inl refl
   says (vertex i result_set) = inl refl
-  says (vertex i definition_result) = inl refl
-  says (vertex i reference_result) = inl refl
-  says (vertex i declaration_result) = inl refl
-  says (vertex i implementation_result) = inl refl
+  says (vertex i (request_result kind)) = inl refl
   says (vertex i (moniker m)) = inl refl
   says (vertex i (package_information p)) = inl refl
   says (vertex i (event v)) = inl refl

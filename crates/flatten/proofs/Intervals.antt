@@ -13,7 +13,7 @@ use Rattle.std.proofs.lemmas.Map.Keys.{Less-from_sorted}
 use Rattle.positions.specs.Position.{PositionValue, IsBefore, IsPosition, is_before, packed_of}
 use Rattle.positions.specs.Span.{SpanValue, Covers, Nests, nests, overlaps}
 use Rattle.positions.proofs.Overlaps.{covered-overlaps}
-use Rattle.lsif.specs.Element.{IdValue, VertexValue, meta_data, project, document, range, result_set, definition_result, reference_result, declaration_result, implementation_result, hover_result, moniker, package_information, event, other_vertex, ElementValue, vertex, edge}
+use Rattle.lsif.specs.Element.{IdValue, VertexValue, meta_data, project, document, range, result_set, request_result, hover_result, moniker, package_information, event, other_vertex, ElementValue, vertex, edge}
 use Rattle.dump.specs.Graph.{vertex_at}
 use Rattle.dump.specs.Kinds.{is_document}
 use Rattle.dump.specs.Contained.{IsNested, conflicts, container, is_in}
@@ -196,10 +196,7 @@ module _ (d : List ElementValue) (within : All IsWithinLimit d) (vertices : (i :
   interval_in (vertex i project) s here at = absurd (not_in_nil s at)
   interval_in (vertex i (document u)) s here at = absurd (not_in_nil s at)
   interval_in (vertex i result_set) s here at = absurd (not_in_nil s at)
-  interval_in (vertex i definition_result) s here at = absurd (not_in_nil s at)
-  interval_in (vertex i reference_result) s here at = absurd (not_in_nil s at)
-  interval_in (vertex i declaration_result) s here at = absurd (not_in_nil s at)
-  interval_in (vertex i implementation_result) s here at = absurd (not_in_nil s at)
+  interval_in (vertex i (request_result kind)) s here at = absurd (not_in_nil s at)
   interval_in (vertex i (hover_result t)) s here at = absurd (not_in_nil s at)
   interval_in (vertex i (moniker m)) s here at = absurd (not_in_nil s at)
   interval_in (vertex i (package_information p)) s here at = absurd (not_in_nil s at)

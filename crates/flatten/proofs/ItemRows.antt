@@ -7,7 +7,7 @@ use Rattle.std.proofs.lemmas.List.Elements.{All-contains_itself, All-weaker, Con
 use Rattle.std.proofs.lemmas.List.Sorted.{Contains-permutation, IsPermutation-sym}
 use Rattle.std.proofs.lemmas.Map.Views.{exact_unsigned_eq}
 use Rattle.positions.specs.Span.{SpanValue}
-use Rattle.lsif.specs.Element.{IdValue, VertexValue, meta_data, project, document, range, result_set, definition_result, reference_result, declaration_result, implementation_result, hover_result, moniker, package_information, event, other_vertex, ItemValue, contains, next, definition, references, declaration, implementation, hover, moniker_edge, package_edge, attach, item, other_edge, ElementValue, vertex, edge}
+use Rattle.lsif.specs.Element.{IdValue, VertexValue, meta_data, project, document, range, result_set, request_result, hover_result, moniker, package_information, event, other_vertex, ItemValue, contains, next, request_edge, moniker_edge, package_edge, attach, item, other_edge, ElementValue, vertex, edge}
 use Rattle.dump.specs.Fault.{IsFaultless}
 use Rattle.dump.specs.Graph.{vertex_at, line_of}
 use Rattle.dump.specs.Places.{PlaceValue, IsAt, IsItem, result_pairs, result_pairs_of, role_of}
@@ -115,11 +115,7 @@ module _ (role : Role) where
       (i, e, refl, ap (λ (p : Pair). p.0) m.2, subst (Contains e.targets) (ap (λ (p : Pair). p.1) m.2) m.1, has_role_is role (role_of e.property) h.0)
   item_ends (edge i (contains from to)) x y at = absurd (not_in_nil (x, y) at)
   item_ends (edge i (next from to)) x y at = absurd (not_in_nil (x, y) at)
-  item_ends (edge i (definition from to)) x y at = absurd (not_in_nil (x, y) at)
-  item_ends (edge i (references from to)) x y at = absurd (not_in_nil (x, y) at)
-  item_ends (edge i (declaration from to)) x y at = absurd (not_in_nil (x, y) at)
-  item_ends (edge i (implementation from to)) x y at = absurd (not_in_nil (x, y) at)
-  item_ends (edge i (hover from to)) x y at = absurd (not_in_nil (x, y) at)
+  item_ends (edge i (request_edge kind from to)) x y at = absurd (not_in_nil (x, y) at)
   item_ends (edge i (moniker_edge from to)) x y at = absurd (not_in_nil (x, y) at)
   item_ends (edge i (package_edge from to)) x y at = absurd (not_in_nil (x, y) at)
   item_ends (edge i (attach from to)) x y at = absurd (not_in_nil (x, y) at)
@@ -228,10 +224,7 @@ module _ (d : List ElementValue) (free : IsFaultless (map Ok d)) (vertices : (i 
   place_by_to r (Some (meta_data b)) place is h = cc
   place_by_to r (Some project) place is h = cc
   place_by_to r (Some result_set) place is h = cc
-  place_by_to r (Some definition_result) place is h = cc
-  place_by_to r (Some reference_result) place is h = cc
-  place_by_to r (Some declaration_result) place is h = cc
-  place_by_to r (Some implementation_result) place is h = cc
+  place_by_to r (Some (request_result kind)) place is h = cc
   place_by_to r (Some (hover_result t)) place is h = cc
   place_by_to r (Some (moniker m)) place is h = cc
   place_by_to r (Some (package_information p)) place is h = cc

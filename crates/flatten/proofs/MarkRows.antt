@@ -4,7 +4,7 @@ use Rattle.std.specs.Prelude.{◌↔◌, ◌||◌, Contains, Option, Some, None,
 use Rattle.std.specs.List.{All, list_any}
 use Rattle.std.proofs.lemmas.List.Sorted.{Contains-permutation, IsPermutation-sym}
 use Rattle.positions.specs.Span.{SpanValue}
-use Rattle.lsif.specs.Element.{IdValue, MonikerValue, PackageValue, VertexValue, meta_data, project, document, range, result_set, definition_result, reference_result, declaration_result, implementation_result, hover_result, moniker, package_information, event, other_vertex, contains, next, definition, references, declaration, implementation, hover, moniker_edge, package_edge, attach, item, other_edge, ElementValue, vertex, edge, element_id}
+use Rattle.lsif.specs.Element.{IdValue, MonikerValue, PackageValue, VertexValue, meta_data, project, document, range, result_set, request_result, hover_result, moniker, package_information, event, other_vertex, contains, next, request_edge, moniker_edge, package_edge, attach, item, other_edge, ElementValue, vertex, edge, element_id}
 use Rattle.dump.specs.Fault.{IsFaultless}
 use Rattle.dump.specs.Graph.{vertex_at, line_of}
 use Rattle.dump.specs.Monikers.{MarkValue, Bears, attach_pairs, attach_pairs_of, mark_of, mark_with, moniker_pairs, moniker_pairs_of, package_of}
@@ -42,11 +42,7 @@ module _ (d : List ElementValue) (ones : AreOnes d) (has : HasEnds d) (lined : H
       record { vertex = a; bound = b; near = n.0; at_vertex = at; is_bound = flat_from moniker_pairs_of d (edge i (moniker_edge a b)) (a, b) here (contains_head (a, b) []); is_near = n.2; at_near = n.1 }
   borne_by (edge i (contains a b)) p here h = absurd h
   borne_by (edge i (next a b)) p here h = absurd h
-  borne_by (edge i (definition a b)) p here h = absurd h
-  borne_by (edge i (references a b)) p here h = absurd h
-  borne_by (edge i (declaration a b)) p here h = absurd h
-  borne_by (edge i (implementation a b)) p here h = absurd h
-  borne_by (edge i (hover a b)) p here h = absurd h
+  borne_by (edge i (request_edge kind a b)) p here h = absurd h
   borne_by (edge i (package_edge a b)) p here h = absurd h
   borne_by (edge i (attach a b)) p here h = absurd h
   borne_by (edge i (item e)) p here h = absurd h
@@ -59,11 +55,7 @@ module _ (d : List ElementValue) (ones : AreOnes d) (has : HasEnds d) (lined : H
       (m, ap (number_of d) s.0 ∙ f, ap (number_of d) s.1 ∙ g, path)
   by_edge (edge i (contains c e)) a b p m at f g path = absurd (not_in_nil {X = Pair} (a, b) at)
   by_edge (edge i (next c e)) a b p m at f g path = absurd (not_in_nil {X = Pair} (a, b) at)
-  by_edge (edge i (definition c e)) a b p m at f g path = absurd (not_in_nil {X = Pair} (a, b) at)
-  by_edge (edge i (references c e)) a b p m at f g path = absurd (not_in_nil {X = Pair} (a, b) at)
-  by_edge (edge i (declaration c e)) a b p m at f g path = absurd (not_in_nil {X = Pair} (a, b) at)
-  by_edge (edge i (implementation c e)) a b p m at f g path = absurd (not_in_nil {X = Pair} (a, b) at)
-  by_edge (edge i (hover c e)) a b p m at f g path = absurd (not_in_nil {X = Pair} (a, b) at)
+  by_edge (edge i (request_edge kind c e)) a b p m at f g path = absurd (not_in_nil {X = Pair} (a, b) at)
   by_edge (edge i (package_edge c e)) a b p m at f g path = absurd (not_in_nil {X = Pair} (a, b) at)
   by_edge (edge i (attach c e)) a b p m at f g path = absurd (not_in_nil {X = Pair} (a, b) at)
   by_edge (edge i (item e)) a b p m at f g path = absurd (not_in_nil {X = Pair} (a, b) at)
@@ -147,10 +139,7 @@ marked p (Some (meta_data b)) mark e = cc
 marked p (Some project) mark e = cc
 marked p (Some (range s)) mark e = cc
 marked p (Some result_set) mark e = cc
-marked p (Some definition_result) mark e = cc
-marked p (Some reference_result) mark e = cc
-marked p (Some declaration_result) mark e = cc
-marked p (Some implementation_result) mark e = cc
+marked p (Some (request_result kind)) mark e = cc
 marked p (Some (hover_result t)) mark e = cc
 marked p (Some (package_information q)) mark e = cc
 marked p (Some (event v)) mark e = cc
@@ -163,10 +152,7 @@ says_mark d (vertex i (meta_data b)) m h = cc
 says_mark d (vertex i project) m h = cc
 says_mark d (vertex i (range s)) m h = cc
 says_mark d (vertex i result_set) m h = cc
-says_mark d (vertex i definition_result) m h = cc
-says_mark d (vertex i reference_result) m h = cc
-says_mark d (vertex i declaration_result) m h = cc
-says_mark d (vertex i implementation_result) m h = cc
+says_mark d (vertex i (request_result kind)) m h = cc
 says_mark d (vertex i (hover_result t)) m h = cc
 says_mark d (vertex i (package_information q)) m h = cc
 says_mark d (vertex i (event v)) m h = cc
@@ -231,10 +217,7 @@ module _ (d : List ElementValue) (free : IsFaultless (map Ok d)) (vertices : (i 
   range_to (vertex i (meta_data b)) row here h = absurd h
   range_to (vertex i project) row here h = absurd h
   range_to (vertex i result_set) row here h = absurd h
-  range_to (vertex i definition_result) row here h = absurd h
-  range_to (vertex i reference_result) row here h = absurd h
-  range_to (vertex i declaration_result) row here h = absurd h
-  range_to (vertex i implementation_result) row here h = absurd h
+  range_to (vertex i (request_result kind)) row here h = absurd h
   range_to (vertex i (hover_result t)) row here h = absurd h
   range_to (vertex i (moniker m)) row here h = absurd h
   range_to (vertex i (package_information p)) row here h = absurd h

@@ -4,7 +4,7 @@ use Rattle.std.specs.Prelude.{ℕ, Contains, Option, Some, None, option_map, sli
 use Rattle.std.specs.List.{flat_map}
 use Rattle.lsif.specs.declared.element.Property.{Property}
 use Rattle.lsif.specs.declared.element.Property.TheVariants.{Definitions, References, ReferenceResults}
-use Rattle.lsif.specs.Element.{IdValue, VertexValue, ItemValue, contains, next, definition, references, declaration, implementation, hover, moniker_edge, package_edge, attach, item, other_edge, ElementValue, vertex, edge}
+use Rattle.lsif.specs.Element.{IdValue, VertexValue, ItemValue, contains, next, request_edge, moniker_edge, package_edge, attach, item, other_edge, ElementValue, vertex, edge}
 use Rattle.dump.specs.Graph.{vertex_at, ends, line_of}
 use Rattle.dump.specs.Monikers.{attach_pairs_of, moniker_pairs_of}
 use Rattle.dump.specs.Places.{joined_results, result_pairs_of}
@@ -124,11 +124,7 @@ swapped x y from to at = ⊎_elim
 pub attach_ends : AreEnds attach_pairs_of
 attach_ends (edge i (contains from to)) x y at = absurd (not_in_nil (x, y) at)
 attach_ends (edge i (next from to)) x y at = absurd (not_in_nil (x, y) at)
-attach_ends (edge i (definition from to)) x y at = absurd (not_in_nil (x, y) at)
-attach_ends (edge i (references from to)) x y at = absurd (not_in_nil (x, y) at)
-attach_ends (edge i (declaration from to)) x y at = absurd (not_in_nil (x, y) at)
-attach_ends (edge i (implementation from to)) x y at = absurd (not_in_nil (x, y) at)
-attach_ends (edge i (hover from to)) x y at = absurd (not_in_nil (x, y) at)
+attach_ends (edge i (request_edge kind from to)) x y at = absurd (not_in_nil (x, y) at)
 attach_ends (edge i (moniker_edge from to)) x y at = absurd (not_in_nil (x, y) at)
 attach_ends (edge i (package_edge from to)) x y at = absurd (not_in_nil (x, y) at)
 attach_ends (edge i (attach from to)) x y at = ⊎_elim (λ (e : ◌≡◌ {A = Pair} (from, to) (x, y)). two_ends from to x y e) (λ (e : ◌≡◌ {A = Pair} (from, to) (y, x)). let t = two_ends from to y x e in (t.1, t.0)) (swapped x y from to at)
@@ -143,11 +139,7 @@ joined_by b from to x y at = two_ends from to x y (contains_one {X = Pair} (from
 pub single_ends : (label : SingleLabel) → AreEnds (single_in label)
 single_ends label (edge i (contains from to)) x y at = absurd (not_in_nil (x, y) at)
 single_ends label (edge i (next from to)) x y at = joined_by (same_label singles.Next label) from to x y at
-single_ends label (edge i (definition from to)) x y at = joined_by (same_label singles.Definition label) from to x y at
-single_ends label (edge i (references from to)) x y at = joined_by (same_label singles.References label) from to x y at
-single_ends label (edge i (declaration from to)) x y at = joined_by (same_label singles.Declaration label) from to x y at
-single_ends label (edge i (implementation from to)) x y at = joined_by (same_label singles.Implementation label) from to x y at
-single_ends label (edge i (hover from to)) x y at = joined_by (same_label singles.Hover label) from to x y at
+single_ends label (edge i (request_edge kind from to)) x y at = joined_by (same_label (singles.Request kind) label) from to x y at
 single_ends label (edge i (moniker_edge from to)) x y at = absurd (not_in_nil (x, y) at)
 single_ends label (edge i (package_edge from to)) x y at = joined_by (same_label singles.PackageInformation label) from to x y at
 single_ends label (edge i (attach from to)) x y at = absurd (not_in_nil (x, y) at)
@@ -168,11 +160,7 @@ path_on elements pairs numbers are ones x i j at (goes {y = k} l path here) =
 pub moniker_ends : AreEnds moniker_pairs_of
 moniker_ends (edge i (contains from to)) x y at = absurd (not_in_nil (x, y) at)
 moniker_ends (edge i (next from to)) x y at = absurd (not_in_nil (x, y) at)
-moniker_ends (edge i (definition from to)) x y at = absurd (not_in_nil (x, y) at)
-moniker_ends (edge i (references from to)) x y at = absurd (not_in_nil (x, y) at)
-moniker_ends (edge i (declaration from to)) x y at = absurd (not_in_nil (x, y) at)
-moniker_ends (edge i (implementation from to)) x y at = absurd (not_in_nil (x, y) at)
-moniker_ends (edge i (hover from to)) x y at = absurd (not_in_nil (x, y) at)
+moniker_ends (edge i (request_edge kind from to)) x y at = absurd (not_in_nil (x, y) at)
 moniker_ends (edge i (moniker_edge from to)) x y at = two_ends from to x y (contains_one {X = Pair} (from, to) (x, y) at)
 moniker_ends (edge i (package_edge from to)) x y at = absurd (not_in_nil (x, y) at)
 moniker_ends (edge i (attach from to)) x y at = absurd (not_in_nil (x, y) at)
@@ -194,11 +182,7 @@ joined_ends e (Some ReferenceResults) x y at =
 pub result_ends : AreEnds result_pairs_of
 result_ends (edge i (contains from to)) x y at = absurd (not_in_nil (x, y) at)
 result_ends (edge i (next from to)) x y at = absurd (not_in_nil (x, y) at)
-result_ends (edge i (definition from to)) x y at = absurd (not_in_nil (x, y) at)
-result_ends (edge i (references from to)) x y at = absurd (not_in_nil (x, y) at)
-result_ends (edge i (declaration from to)) x y at = absurd (not_in_nil (x, y) at)
-result_ends (edge i (implementation from to)) x y at = absurd (not_in_nil (x, y) at)
-result_ends (edge i (hover from to)) x y at = absurd (not_in_nil (x, y) at)
+result_ends (edge i (request_edge kind from to)) x y at = absurd (not_in_nil (x, y) at)
 result_ends (edge i (moniker_edge from to)) x y at = absurd (not_in_nil (x, y) at)
 result_ends (edge i (package_edge from to)) x y at = absurd (not_in_nil (x, y) at)
 result_ends (edge i (attach from to)) x y at = absurd (not_in_nil (x, y) at)

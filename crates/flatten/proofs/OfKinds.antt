@@ -5,7 +5,7 @@ use Rattle.std.specs.Borrow.{Bor}
 use Rattle.std.specs.List.{flat_map}
 use Rattle.std.proofs.lemmas.List.{append_assoc}
 use Rattle.lsif.specs.declared.element.Element.{Element}
-use Rattle.lsif.specs.Element.{meta_data, project, document, range, result_set, definition_result, reference_result, declaration_result, implementation_result, hover_result, moniker, package_information, event, other_vertex, contains, next, definition, references, declaration, implementation, hover, moniker_edge, package_edge, attach, item, other_edge, ElementValue, vertex, edge}
+use Rattle.lsif.specs.Element.{meta_data, project, document, range, result_set, request_result, hover_result, moniker, package_information, event, other_vertex, contains, next, request_edge, moniker_edge, package_edge, attach, item, other_edge, ElementValue, vertex, edge}
 use Rattle.dump.specs.Fault.{IsFaultless}
 use Rattle.dump.specs.Monikers.{attach_pairs_of}
 use Rattle.dump.specs.Places.{result_pairs_of}
@@ -108,10 +108,7 @@ no_document (vertex i project) e = refl
 no_document (vertex i (document u)) e = cc
 no_document (vertex i (range s)) e = refl
 no_document (vertex i result_set) e = refl
-no_document (vertex i definition_result) e = refl
-no_document (vertex i reference_result) e = refl
-no_document (vertex i declaration_result) e = refl
-no_document (vertex i implementation_result) e = refl
+no_document (vertex i (request_result kind)) e = refl
 no_document (vertex i (hover_result t)) e = refl
 no_document (vertex i (moniker m)) e = refl
 no_document (vertex i (package_information p)) e = refl
@@ -125,11 +122,7 @@ documents_of d list those = flat_those documents_in is_document no_document d li
 no_attached : (d : List ElementValue) (x : ElementValue) → is_moniker_edge x ≡ false → pairs_in attach_pairs_of d x ≡ []
 no_attached d (edge i (contains a b)) e = refl
 no_attached d (edge i (next a b)) e = refl
-no_attached d (edge i (definition a b)) e = refl
-no_attached d (edge i (references a b)) e = refl
-no_attached d (edge i (declaration a b)) e = refl
-no_attached d (edge i (implementation a b)) e = refl
-no_attached d (edge i (hover a b)) e = refl
+no_attached d (edge i (request_edge kind a b)) e = refl
 no_attached d (edge i (moniker_edge a b)) e = cc
 no_attached d (edge i (package_edge a b)) e = refl
 no_attached d (edge i (attach a b)) e = cc
@@ -151,11 +144,7 @@ one_of_those P is d list those passes row = (
 borne_by_edge : (d : List ElementValue) (attached : List (ℕ × ℕ)) (x : ElementValue) (row : ℕ × ℕ) → IsBorneBy d attached x row → is_moniker_edge x ≡ true
 borne_by_edge d attached (edge i (contains a b)) row h = absurd h
 borne_by_edge d attached (edge i (next a b)) row h = absurd h
-borne_by_edge d attached (edge i (definition a b)) row h = absurd h
-borne_by_edge d attached (edge i (references a b)) row h = absurd h
-borne_by_edge d attached (edge i (declaration a b)) row h = absurd h
-borne_by_edge d attached (edge i (implementation a b)) row h = absurd h
-borne_by_edge d attached (edge i (hover a b)) row h = absurd h
+borne_by_edge d attached (edge i (request_edge kind a b)) row h = absurd h
 borne_by_edge d attached (edge i (moniker_edge a b)) row h = refl
 borne_by_edge d attached (edge i (package_edge a b)) row h = absurd h
 borne_by_edge d attached (edge i (attach a b)) row h = absurd h
@@ -172,10 +161,7 @@ mark_of_range d borne marks (vertex i project) row h = absurd h
 mark_of_range d borne marks (vertex i (document u)) row h = absurd h
 mark_of_range d borne marks (vertex i (range s)) row h = refl
 mark_of_range d borne marks (vertex i result_set) row h = absurd h
-mark_of_range d borne marks (vertex i definition_result) row h = absurd h
-mark_of_range d borne marks (vertex i reference_result) row h = absurd h
-mark_of_range d borne marks (vertex i declaration_result) row h = absurd h
-mark_of_range d borne marks (vertex i implementation_result) row h = absurd h
+mark_of_range d borne marks (vertex i (request_result kind)) row h = absurd h
 mark_of_range d borne marks (vertex i (hover_result t)) row h = absurd h
 mark_of_range d borne marks (vertex i (moniker m)) row h = absurd h
 mark_of_range d borne marks (vertex i (package_information p)) row h = absurd h

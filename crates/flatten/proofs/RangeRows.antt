@@ -4,16 +4,15 @@ use Rattle.std.specs.Prelude.{◌↔◌, ◌&&◌, ◌||◌, Contains, IfSome, I
 use Rattle.std.specs.List.{All, flat_map}
 use Rattle.positions.specs.Position.{PositionValue, IsBefore, is_before}
 use Rattle.positions.specs.Span.{SpanValue, Nests, nests, overlaps}
-use Rattle.lsif.specs.Element.{IdValue, VertexValue, meta_data, project, document, range, result_set, definition_result, reference_result, declaration_result, implementation_result, hover_result, moniker, package_information, event, other_vertex, ElementValue, vertex, edge}
-use Rattle.dump.specs.declared.request_kind.RequestKind.{RequestKind}
-use Rattle.dump.specs.declared.request_kind.RequestKind.TheVariants.{Definition, References, Hover, Declaration, Implementation}
+use Rattle.lsif.specs.Element.{IdValue, VertexValue, meta_data, project, document, range, result_set, request_result, hover_result, moniker, package_information, event, other_vertex, ElementValue, vertex, edge}
+use Rattle.lsif.specs.declared.request_kind.RequestKind.{RequestKind}
 use Rattle.dump.specs.Fault.{IsFaultless}
 use Rattle.dump.specs.Graph.{line_of, vertex_at}
 use Rattle.dump.specs.Contained.{IsNested, container, is_in}
 use Rattle.dump.specs.Places.{PlaceValue, IsAt, IsListing}
 use Rattle.dump.specs.Requests.{First}
 use Rattle.std.specs.Ordering.{nat_cmp}
-use Rattle.flatten.specs.Flat.{HasEachRange, RangeRowValue, ResultsValue, AreResults, IsParent, IsRangeRow, LiesIn, by_line, number_of, result_for}
+use Rattle.flatten.specs.Flat.{HasEachRange, RangeRowValue, ResultsValue, AreResults, IsParent, IsRangeRow, LiesIn, by_line, number_of}
 use Rattle.flatten.specs.Steps.Parents.{AreParents}
 use Rattle.flatten.specs.Steps.Ranges.{IsFoundRange, line_with, range_lines}
 use Rattle.flatten.specs.Steps.Tables.{container_uri, uri_of}
@@ -27,9 +26,9 @@ abbrev pub AreFirsts : List ElementValue → Type 0
 AreFirsts elements = (request : RequestKind) (x : IdValue) (found other : Option IdValue) → First request elements x found → First request elements x other → found ≡ other
 
 pub results_one : (elements : List ElementValue) → AreFirsts elements → (x : IdValue) (r s : ResultsValue) → AreResults elements x r → AreResults elements x s → r ≡ s
-results_one elements firsts x r s f g = λ i. record { definition = one Definition i; references = one References i; hover = one Hover i; declaration = one Declaration i; implementation = one Implementation i }
+results_one elements firsts x r s f g = λ i request. one request i
   where
-    one : (request : RequestKind) → result_for request r ≡ result_for request s
+    one : (request : RequestKind) → r request ≡ s request
     one request = (f request).2 ∙ ap (option_and_then (number_of elements)) (firsts request x (f request).0 (g request).0 (f request).1 (g request).1) ∙ sym (g request).2
 
 -- ---- one parent
@@ -99,10 +98,7 @@ uri_is (Some (meta_data b)) uri e = cc
 uri_is (Some project) uri e = cc
 uri_is (Some (range s)) uri e = cc
 uri_is (Some result_set) uri e = cc
-uri_is (Some definition_result) uri e = cc
-uri_is (Some reference_result) uri e = cc
-uri_is (Some declaration_result) uri e = cc
-uri_is (Some implementation_result) uri e = cc
+uri_is (Some (request_result kind)) uri e = cc
 uri_is (Some (hover_result t)) uri e = cc
 uri_is (Some (moniker m)) uri e = cc
 uri_is (Some (package_information p)) uri e = cc
@@ -160,10 +156,7 @@ module _ (elements : List ElementValue) (containers : HasContainers elements) wh
         says (vertex i (meta_data b)) = inl refl
         says (vertex i project) = inl refl
         says (vertex i result_set) = inl refl
-        says (vertex i definition_result) = inl refl
-        says (vertex i reference_result) = inl refl
-        says (vertex i declaration_result) = inl refl
-        says (vertex i implementation_result) = inl refl
+        says (vertex i (request_result kind)) = inl refl
         says (vertex i (hover_result t)) = inl refl
         says (vertex i (moniker m)) = inl refl
         says (vertex i (package_information p)) = inl refl

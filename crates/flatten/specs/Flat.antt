@@ -8,14 +8,13 @@ use Rattle.positions.specs.Position.{IsBefore, IsPosition}
 use Rattle.positions.specs.Span.{SpanValue, Nests}
 use Rattle.lsif.specs.declared.element.MonikerKind.{MonikerKind}
 use Rattle.lsif.specs.declared.element.MonikerKind.TheVariants as kinds
-use Rattle.lsif.specs.Element.{IdValue, VertexValue, range as range_vertex, definition_result, reference_result, declaration_result, implementation_result, hover_result, ElementValue}
+use Rattle.lsif.specs.Element.{IdValue, VertexValue, range as range_vertex, request_result, hover_result, ElementValue}
 use Rattle.dump.specs.Graph.{line_of, vertex_at}
 use Rattle.dump.specs.Contained.{is_in}
 use Rattle.dump.specs.Monikers.{MarkValue, Bears, Marks}
 use Rattle.dump.specs.Places.{PlaceValue, HasDocument, IsAt, IsListing, Places, place_cmp}
 use Rattle.dump.specs.Requests.{First}
-use Rattle.dump.specs.declared.request_kind.RequestKind.{RequestKind}
-use Rattle.dump.specs.declared.request_kind.RequestKind.TheVariants as requests
+use Rattle.lsif.specs.declared.request_kind.RequestKind.{RequestKind}
 use Rattle.dump.specs.declared.role.Role.{Role}
 use Rattle.dump.specs.declared.role.Role.TheVariants as roles
 use Rattle.flatten.specs.KeyTexts.{key_text}
@@ -27,19 +26,8 @@ number_of elements i = option_map (λ k. k + 1) (line_of elements i)
 -- ---- the results of a vertex
 
 -- the numbers of results, request by request
-pub record ResultsValue : Type 0 where
-  pub definition : Option ℕ
-  pub references : Option ℕ
-  pub hover : Option ℕ
-  pub declaration : Option ℕ
-  pub implementation : Option ℕ
-
-abbrev pub result_for : RequestKind → ResultsValue → Option ℕ
-result_for requests.Definition r = r.definition
-result_for requests.References r = r.references
-result_for requests.Hover r = r.hover
-result_for requests.Declaration r = r.declaration
-result_for requests.Implementation r = r.implementation
+abbrev pub ResultsValue : Type 0
+ResultsValue = RequestKind → Option ℕ
 
 -- the number of the first result that the request finds along the vertex's chain, or none where it
 -- finds none
@@ -48,7 +36,7 @@ IsResult elements request x number = (first : Option IdValue) × First request e
 
 -- those of all requests
 abbrev pub AreResults : List ElementValue → IdValue → ResultsValue → Type 0
-AreResults elements x results = (request : RequestKind) → IsResult elements request x (result_for request results)
+AreResults elements x results = (request : RequestKind) → IsResult elements request x (results request)
 
 -- ---- the parent of a range
 
@@ -100,10 +88,7 @@ pub record ItemRowValue : Type 0 where
   pub place : PlaceValue
 
 abbrev pub is_result : Option VertexValue → Bool
-is_result (Some definition_result) = true
-is_result (Some reference_result) = true
-is_result (Some declaration_result) = true
-is_result (Some implementation_result) = true
+is_result (Some (request_result kind)) = true
 is_result (Some v) = false
 is_result None = false
 

@@ -1,6 +1,8 @@
 -- The rows without where they lie in memory.
-use Rattle.std.specs.Prelude.{map, List, ℕ}
+use Rattle.std.specs.Prelude.{map, List, ℕ, None, get_or}
 use Rattle.std.specs.Rc.{rc_str_bytes}
+use Rattle.lsif.specs.RequestKinds.{kind_number}
+use Rattle.flatten.specs.declared.results.Results.{Results}
 use Rattle.flatten.specs.declared.rows.DocRow.{DocRow}
 use Rattle.flatten.specs.declared.rows.RangeRow.{RangeRow}
 use Rattle.flatten.specs.declared.rows.ItemRow.{ItemRow}
@@ -8,7 +10,11 @@ use Rattle.flatten.specs.declared.rows.HoverRow.{HoverRow}
 use Rattle.flatten.specs.declared.rows.MarkRow.{MarkRow}
 use Rattle.flatten.specs.declared.rows.BearerRow.{BearerRow}
 use Rattle.flatten.specs.declared.rows.Rows.{Rows}
-use Rattle.flatten.specs.Flat.{RangeRowValue, ItemRowValue, HoverRowValue, MarkRowValue, BearerRowValue, RowsValue}
+use Rattle.flatten.specs.Flat.{ResultsValue, RangeRowValue, ItemRowValue, HoverRowValue, MarkRowValue, BearerRowValue, RowsValue}
+
+-- the numbers at the indices of the kinds
+abbrev pub results_value : Results → ResultsValue
+results_value r = λ kind. get_or r.numbers (kind_number kind) None
 
 abbrev pub document_value : DocRow → List ℕ
 document_value r = r.uri.now
@@ -18,7 +24,7 @@ range_value r = record {
   line = r.line;
   place = record { uri = r.uri.now; span = r.span.now };
   parent = r.parent;
-  results = record { definition = r.def; references = r.refs; hover = r.hover; declaration = r.decl; implementation = r.imp };
+  results = results_value r.results;
 }
 
 abbrev pub item_value : ItemRow → ItemRowValue
@@ -39,7 +45,7 @@ bearer_value r = record {
   line = r.line;
   key = rc_str_bytes r.key;
   kind = r.kind;
-  results = record { definition = r.def; references = r.refs; hover = r.hover; declaration = r.decl; implementation = r.imp };
+  results = results_value r.results;
 }
 
 abbrev pub rows_value : Rows → RowsValue

@@ -4,23 +4,22 @@
 ghost use Rattle.std.specs.Prelude.{◌≡◌, IfOk, IfSome, OnOk, get_or, map, option_map};
 ghost use Rattle.std.specs.List.Sorted.{IsNonDecreasingBy};
 ghost use Rattle.lsif.specs.Element.{id_value};
+ghost use Rattle.lsif.specs.declared.request_kind.RequestKind.{RequestKind};
+ghost use Rattle.flatten.specs.Rows.{results_value};
 ghost use Rattle.flatten.specs.Steps.Chains.{AreAlong, AreChains, IsWalk, is_bearing, along_value, nothing, or_later, own_number, own_of};
 
 use crate::closure::target_of;
 use crate::numbers::number_of;
-use dump::{CheckedDump, RequestKind, chain_law, line_law};
-use lsif::Id;
+use crate::results::Results;
+use dump::{CheckedDump, chain_law, line_law};
+use lsif::{Id, REQUESTS, RequestKind};
 use std::alloc::{AllocError, Global};
 
 /// What a vertex has from the first member of its chain that has it: the number of the result of
 /// each request, and the first member that has marks itself.
 #[derive(Clone, Copy)]
 pub(crate) struct Along<'a> {
-    pub(crate) def: Option<u32>,
-    pub(crate) refs: Option<u32>,
-    pub(crate) hover: Option<u32>,
-    pub(crate) decl: Option<u32>,
-    pub(crate) imp: Option<u32>,
+    pub(crate) results: Results,
     pub(crate) bearer: Option<&'a Id>,
 }
 
@@ -55,11 +54,7 @@ fn nothing<'a>() -> Along<'a>
     ensures { along_value result ≡ nothing }
 {
     Along {
-        def: None,
-        refs: None,
-        hover: None,
-        decl: None,
-        imp: None,
+        results: Results::none(),
         bearer: None,
     }
 }
@@ -69,11 +64,7 @@ fn or_later<'a>(own: Along<'a>, later: Along<'a>) -> Along<'a>
     ensures { along_value result ≡ or_later (along_value own.entry) (along_value later.entry) }
 {
     Along {
-        def: own.def.or(later.def),
-        refs: own.refs.or(later.refs),
-        hover: own.hover.or(later.hover),
-        decl: own.decl.or(later.decl),
-        imp: own.imp.or(later.imp),
+        results: own.results.or(later.results),
         bearer: own.bearer.or(later.bearer),
     }
 }
@@ -96,17 +87,24 @@ fn own_number(dump: &CheckedDump, request: RequestKind, vertex: &Id) -> Option<u
     number_of(dump, dump.result(request, vertex)?.lent())
 }
 
+/// The numbers of the results of the vertex itself.
+fn own_results(dump: &CheckedDump, vertex: &Id) -> Results
+    ensures { (kind : RequestKind) → results_value result kind ≡ own_number dump.now.elements kind (id_value vertex.now) }
+{
+    let mut results = Results::none();
+    for kind in REQUESTS {
+        results = results.with(kind, own_number(dump, kind, vertex));
+    }
+    results
+}
+
 /// What the vertex itself has.
 fn own_of<'a>(dump: &'a CheckedDump, borne: &[(u32, u32)], vertex: &'a Id) -> Along<'a>
     requires { IsNonDecreasingBy (λ p. p.0) borne.now }
     ensures { along_value result ≡ own_of dump.now.elements borne.now (id_value vertex.now) }
 {
     Along {
-        def: own_number(dump, RequestKind::Definition, vertex),
-        refs: own_number(dump, RequestKind::References, vertex),
-        hover: own_number(dump, RequestKind::Hover, vertex),
-        decl: own_number(dump, RequestKind::Declaration, vertex),
-        imp: own_number(dump, RequestKind::Implementation, vertex),
+        results: own_results(dump, vertex),
         bearer: is_bearing(dump, borne, vertex).then_some(vertex),
     }
 }

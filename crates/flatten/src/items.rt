@@ -31,13 +31,7 @@ use std::cmp::Ordering;
 fn is_result(vertex: &Vertex) -> bool
     ensures { result ≡ is_result (Some (vertex_value vertex.now)) }
 {
-    matches!(
-        vertex,
-        Vertex::DefinitionResult
-            | Vertex::ReferenceResult
-            | Vertex::DeclarationResult
-            | Vertex::ImplementationResult
-    )
+    matches!(vertex, Vertex::Result(_))
 }
 
 /// The number of the element, where it's such a result.

@@ -18,10 +18,12 @@ mod numbers;
 mod parents;
 mod places;
 mod ranges;
+mod results;
 mod rows;
 
 pub use closure::reach;
 pub use fault::FlattenFault;
 pub use flattening::{flatten, flatten_within};
 pub use keys::{key_law, key_text};
+pub use results::Results;
 pub use rows::{BearerRow, DocRow, HoverRow, ItemRow, MarkRow, RangeRow, Rows};

@@ -273,11 +273,7 @@ fn add_bearer<'a>(
         line: range,
         key,
         kind,
-        def: along.def,
-        refs: along.refs,
-        hover: along.hover,
-        decl: along.decl,
-        imp: along.imp,
+        results: along.results,
     })?;
     Ok(())
 }

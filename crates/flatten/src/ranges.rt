@@ -52,11 +52,7 @@ fn found_range<'a>(
         uri,
         span,
         parent: None,
-        def: along.def,
-        refs: along.refs,
-        hover: along.hover,
-        decl: along.decl,
-        imp: along.imp,
+        results: along.results,
     })
 }
 

@@ -1,5 +1,6 @@
 //! The types of rows, and the rows of a whole dump. `specs/Flat` defines which rows a dump has,
 //! `specs/Rows` their values.
+use crate::results::Results;
 use dump::Role;
 use lsif::{MonikerKind, Profile};
 use positions::Span;
@@ -24,14 +25,8 @@ pub struct RangeRow<'a> {
     /// The line of the smallest other nonempty range of the document in which it nests, where it
     /// isn't empty itself.
     pub parent: Option<u32>,
-    /// The numbers of the first results along its chain of `next` edges: of a definition, of
-    /// references, of a hover, of a declaration and of an implementation. A result's number is its
-    /// line in the dump, counted from 1.
-    pub def: Option<u32>,
-    pub refs: Option<u32>,
-    pub hover: Option<u32>,
-    pub decl: Option<u32>,
-    pub imp: Option<u32>,
+    /// The numbers of its first results.
+    pub results: Results,
 }
 
 /// A place of a result: that of a range that is an item of it, or of a result that it leads to.
@@ -75,12 +70,8 @@ pub struct BearerRow {
     /// As `key_text` makes it, shared among the rows of a moniker.
     pub key: RcStr,
     pub kind: MonikerKind,
-    /// The numbers of its first results, as those of a range.
-    pub def: Option<u32>,
-    pub refs: Option<u32>,
-    pub hover: Option<u32>,
-    pub decl: Option<u32>,
-    pub imp: Option<u32>,
+    /// The numbers of its first results.
+    pub results: Results,
 }
 
 /// What a dump says, as rows: those of each kind in order, each once.

@@ -17,7 +17,7 @@ use Rattle.matchit.specs.Route.{Scan, parse_route}
 use Rattle.matchit.specs.Router.{RouteOf, InsertsRead}
 use Rattle.matchit.specs.declared.error.InsertError.{InsertError}
 use Rattle.matchit.proofs.OnLiterals.{matchit_on_literals}
-use Rattle.dump.specs.declared.request_kind.RequestKind.TheVariants.{Definition}
+use Rattle.lsif.specs.declared.request_kind.RequestKind.TheVariants.{Definition}
 use Rattle.http_edge.specs.Steps.Routes.{routes, template_text, template_of, with_scan, with_routes}
 use Rattle.http_edge.specs.Routes.{Form, fixed, of_project, form_of, HasForm, IsPathOf, NoSlash, all_routes, first_segment, after_segment, after_prefix, where_follows, segment_before, project_in, found_or, route_among, route_of}
 use Rattle.http_edge.specs.declared.route.Route.{Route}

@@ -7,10 +7,10 @@ use Rattle.lsif.specs.Vertices.{serialized}
 use Rattle.lsif.specs.declared.element.Profile as profiles
 use Rattle.lsif.specs.declared.element.Profile.TheVariants.{One, Two}
 use Rattle.machine.specs.Names.{is_project_name, is_key, is_without_nul, where_so, number_in}
-use Rattle.machine.specs.Requests.{ActionValue, put_dump, put_tags, remove, CommandValue, DocumentPositionValue, at_value, QueryValue, position_query, references, names, prefix, projects, profile, RequestValue}
+use Rattle.machine.specs.Requests.{ActionValue, put_dump, put_tags, remove, DocumentPositionValue, at_value, QueryValue, position_query, references, names, prefix, projects, profile, RequestValue, CommandValue}
 use Rattle.machine.specs.Requests as requests
-use Rattle.dump.specs.declared.request_kind.RequestKind.{RequestKind}
-use Rattle.dump.specs.declared.request_kind.RequestKind.TheVariants.{References}
+use Rattle.lsif.specs.declared.request_kind.RequestKind.{RequestKind}
+use Rattle.lsif.specs.declared.request_kind.RequestKind.TheVariants.{References}
 use Rattle.http_edge.specs.Values.{Values, absent, single, several}
 use Rattle.http_edge.specs.Parameters.{parameter, parameters}
 use Rattle.http_edge.specs.Routes.{route_of, method_of}

@@ -1,7 +1,7 @@
 -- The routes, and the route of a path.
 use Rattle.std.specs.Prelude.{◌≡◌, ◌≢◌, ℕ, Bool, List, [], ◌∷◌, ◌++◌, Option, Some, None, option_and_then, codes, if◌then◌else◌, ◌==◌}
 use Rattle.std.specs.Str.{bytes_eq}
-use Rattle.dump.specs.declared.request_kind.RequestKind.TheVariants.{Definition, References, Hover, Declaration, Implementation}
+use Rattle.lsif.specs.declared.request_kind.RequestKind.TheVariants.{Definition, References, Hover, Declaration, Implementation}
 use Rattle.http_edge.specs.declared.route.Route.{Route}
 use Rattle.http_edge.specs.declared.route.Route.TheVariants.{Lsif, Tags, Project, At, Profile, Names, Projects}
 

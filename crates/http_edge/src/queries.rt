@@ -1,5 +1,5 @@
 //! The queries of routes. None means that a parameter is missing, there twice, or not of its form.
-ghost use Rattle.std.specs.Prelude.{◌≡◌, ℕ, List, Option, IfOk, codes, option_map};
+ghost use Rattle.std.specs.Prelude.{◌≡◌, Option, IfOk, codes, option_map, ℕ, List};
 ghost use Rattle.machine.specs.Requests.{position_query, profile, query_value};
 ghost use Rattle.http_edge.specs.Parameters.{parameter};
 ghost use Rattle.http_edge.specs.Requests.{both, declaration_in, names_of, place_in, prefix_of, project_name, query_at, references_of, searched_in, tags_of, is_tag_text};
@@ -8,7 +8,7 @@ ghost use Rattle.http_edge.specs.Steps.Requests.{place_value};
 
 use crate::forms::{read_declaration, read_position, read_searched, read_tag_text, read_uri};
 use crate::parameters::{ParameterValue, Parameters};
-use dump::RequestKind;
+use lsif::RequestKind;
 use machine::{DocUri, ProjectName, Query};
 use positions::Position;
 use std::alloc::{AllocError, Global};

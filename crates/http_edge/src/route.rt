@@ -4,8 +4,8 @@ ghost use Rattle.std.specs.Prelude.{◌≡◌, ◌≤◌, ◌↔◌, ℕ, length
 ghost use Rattle.http_edge.specs.Steps.Routes.{routes, named_route, template_of};
 ghost use Rattle.http_edge.specs.Routes.{method_of, route_of, IsPathOf};
 
-use dump::RequestKind;
 use http::Method;
+use lsif::RequestKind;
 use matchit::{InsertError, Router};
 use std::alloc::Global;
 

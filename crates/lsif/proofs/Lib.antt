@@ -5,6 +5,7 @@ pub mod ItemLists
 pub mod LinesOf
 pub mod NextLines
 pub mod Profiles
+pub mod RequestKinds
 pub mod Seen
 pub mod Sendings
 pub mod Slices

@@ -1,16 +1,19 @@
 -- What edges of each label join (LSIF 0.6.0, "Edges").
 use Rattle.std.specs.Prelude.{ℕ, List, [], ◌∷◌, codes, bytes_eq, Option, Some, None, is_some, option_map, option_and_then, Result, Ok, if◌then◌else◌}
+use Rattle.std.specs.Option.{option_map_or}
 use Rattle.serde_json.specs.Data.{Data}
 use Rattle.serde_json.specs.Find.{get, as_str, as_array}
 use Rattle.lsif.specs.declared.code.Code.{Code}
 use Rattle.lsif.specs.declared.code.Code.TheVariants.{L08, L15}
 use Rattle.lsif.specs.declared.edges.EdgeLabel.{EdgeLabel}
 use Rattle.lsif.specs.declared.edges.EdgeLabel.TheVariants as labels
+use Rattle.lsif.specs.declared.element.Profile.{Profile}
 use Rattle.lsif.specs.declared.element.Property.{Property}
 use Rattle.lsif.specs.declared.element.Property.TheVariants.{Definitions, References, ReferenceResults}
-use Rattle.lsif.specs.Element.{IdValue, ItemValue, EdgeValue, contains, next, definition, references, declaration, implementation, hover, moniker_edge, package_edge, attach, item, other_edge}
+use Rattle.lsif.specs.Element.{IdValue, ItemValue, EdgeValue, contains, next, request_edge, moniker_edge, package_edge, attach, item, other_edge}
 use Rattle.lsif.specs.Shape.{◌>>=◌, some_or}
 use Rattle.lsif.specs.Ids.{ids_in, id_at}
+use Rattle.lsif.specs.RequestKinds.{named_by_edge}
 
 abbrev pub ids_at : List ℕ → Data → Option (List IdValue)
 ids_at name d = option_and_then ids_in (option_and_then as_array (get name d))
@@ -56,36 +59,22 @@ item_in from d = do
   shard ← some_or L15 (shard_in d)
   Ok (record { source = from; targets = to; property = property; shard = shard })
 
--- which label a text is in profile 1
-abbrev pub edge_label : List ℕ → EdgeLabel
-edge_label text =
+-- which label a text is in a profile
+abbrev pub edge_label : Profile → List ℕ → EdgeLabel
+edge_label profile text =
     if bytes_eq text (codes "contains") then labels.Contains
     else if bytes_eq text (codes "next") then labels.Next
-    else if bytes_eq text (codes "textDocument/definition") then labels.Definition
-    else if bytes_eq text (codes "textDocument/references") then labels.References
-    else if bytes_eq text (codes "textDocument/hover") then labels.Hover
     else if bytes_eq text (codes "moniker") then labels.Moniker
     else if bytes_eq text (codes "packageInformation") then labels.Package
     else if bytes_eq text (codes "attach") then labels.Attach
     else if bytes_eq text (codes "item") then labels.Item
-    else labels.Other
-
--- which label a text is in profile 2: one of two more, or that of profile 1
-abbrev pub wider_edge_label : List ℕ → EdgeLabel
-wider_edge_label text =
-    if bytes_eq text (codes "textDocument/declaration") then labels.Declaration
-    else if bytes_eq text (codes "textDocument/implementation") then labels.Implementation
-    else edge_label text
+    else option_map_or labels.Request (named_by_edge profile text) labels.Other
 
 -- what an edge of this label out of this source joins
 unfoldable pub edge_from : EdgeLabel → IdValue → Data → Result EdgeValue Code
 edge_from labels.Contains from d = some_or L08 (option_map (contains from) (targets_in d))
 edge_from labels.Next from d = some_or L08 (option_map (next from) (target_in d))
-edge_from labels.Definition from d = some_or L08 (option_map (definition from) (target_in d))
-edge_from labels.References from d = some_or L08 (option_map (references from) (target_in d))
-edge_from labels.Declaration from d = some_or L08 (option_map (declaration from) (target_in d))
-edge_from labels.Implementation from d = some_or L08 (option_map (implementation from) (target_in d))
-edge_from labels.Hover from d = some_or L08 (option_map (hover from) (target_in d))
+edge_from (labels.Request kind) from d = some_or L08 (option_map (request_edge kind from) (target_in d))
 edge_from labels.Moniker from d = some_or L08 (option_map (moniker_edge from) (target_in d))
 edge_from labels.Package from d = some_or L08 (option_map (package_edge from) (target_in d))
 edge_from labels.Attach from d = some_or L08 (option_map (attach from) (target_in d))

@@ -16,6 +16,7 @@ use Rattle.lsif.specs.declared.element.Edge.{Edge}
 use Rattle.lsif.specs.declared.element.Edge.TheVariants as edges
 use Rattle.lsif.specs.declared.element.Item.{Item}
 use Rattle.lsif.specs.declared.element.Property.{Property}
+use Rattle.lsif.specs.declared.request_kind.RequestKind.{RequestKind}
 use Rattle.lsif.specs.declared.element.Element.{Element}
 use Rattle.lsif.specs.declared.element.Element.TheVariants as elements
 
@@ -38,17 +39,15 @@ pub data EventValue : Type 0 where
   other_event : EventValue
 
 -- what a vertex says: of metaData whether its version and encoding are supported, of a document its
--- serialized URL, of a hover result its contents as compact JSON
+-- serialized URL, of the result of a request that is answered by places the request's kind, and of
+-- a hover result its contents as compact JSON
 pub data VertexValue : Type 0 where
   meta_data : Bool → VertexValue
   project : VertexValue
   document : List ℕ → VertexValue
   range : SpanValue → VertexValue
   result_set : VertexValue
-  definition_result : VertexValue
-  reference_result : VertexValue
-  declaration_result : VertexValue
-  implementation_result : VertexValue
+  request_result : RequestKind → VertexValue
   hover_result : List ℕ → VertexValue
   moniker : MonikerValue → VertexValue
   package_information : PackageValue → VertexValue
@@ -66,11 +65,7 @@ pub record ItemValue : Type 0 where
 pub data EdgeValue : Type 0 where
   contains : IdValue → List IdValue → EdgeValue
   next : IdValue → IdValue → EdgeValue
-  definition : IdValue → IdValue → EdgeValue
-  references : IdValue → IdValue → EdgeValue
-  declaration : IdValue → IdValue → EdgeValue
-  implementation : IdValue → IdValue → EdgeValue
-  hover : IdValue → IdValue → EdgeValue
+  request_edge : RequestKind → IdValue → IdValue → EdgeValue
   moniker_edge : IdValue → IdValue → EdgeValue
   package_edge : IdValue → IdValue → EdgeValue
   attach : IdValue → IdValue → EdgeValue
@@ -101,11 +96,7 @@ element_id (edge i e) = i
 abbrev pub ends_of : EdgeValue → IdValue × List IdValue
 ends_of (contains from to) = (from, to)
 ends_of (next from to) = (from, to ∷ [])
-ends_of (definition from to) = (from, to ∷ [])
-ends_of (references from to) = (from, to ∷ [])
-ends_of (declaration from to) = (from, to ∷ [])
-ends_of (implementation from to) = (from, to ∷ [])
-ends_of (hover from to) = (from, to ∷ [])
+ends_of (request_edge kind from to) = (from, to ∷ [])
 ends_of (moniker_edge from to) = (from, to ∷ [])
 ends_of (package_edge from to) = (from, to ∷ [])
 ends_of (attach from to) = (from, to ∷ [])
@@ -135,10 +126,7 @@ vertex_value vertices.Project = project
 vertex_value (vertices.Document s) = document (string_bytes s)
 vertex_value (vertices.Range e) = range e
 vertex_value vertices.ResultSet = result_set
-vertex_value vertices.DefinitionResult = definition_result
-vertex_value vertices.ReferenceResult = reference_result
-vertex_value vertices.DeclarationResult = declaration_result
-vertex_value vertices.ImplementationResult = implementation_result
+vertex_value (vertices.Result kind) = request_result kind
 vertex_value (vertices.HoverResult s) = hover_result (string_bytes s)
 vertex_value (vertices.Moniker m) = moniker (moniker_value m)
 vertex_value (vertices.Package p) = package_information (package_value p)
@@ -156,11 +144,7 @@ item_value i = record {
 abbrev pub edge_value : Edge → EdgeValue
 edge_value (edges.Contains from to) = contains (id_value from) to
 edge_value (edges.Next from to) = next (id_value from) (id_value to)
-edge_value (edges.Definition from to) = definition (id_value from) (id_value to)
-edge_value (edges.References from to) = references (id_value from) (id_value to)
-edge_value (edges.Declaration from to) = declaration (id_value from) (id_value to)
-edge_value (edges.Implementation from to) = implementation (id_value from) (id_value to)
-edge_value (edges.Hover from to) = hover (id_value from) (id_value to)
+edge_value (edges.Request kind from to) = request_edge kind (id_value from) (id_value to)
 edge_value (edges.Moniker from to) = moniker_edge (id_value from) (id_value to)
 edge_value (edges.Package from to) = package_edge (id_value from) (id_value to)
 edge_value (edges.Attach from to) = attach (id_value from) (id_value to)

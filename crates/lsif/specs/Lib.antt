@@ -11,6 +11,7 @@ pub mod Lines
 pub mod Monikers
 pub mod Pieces
 pub mod Reading
+pub mod RequestKinds
 pub mod Sending
 pub mod Shape
 pub mod Steps

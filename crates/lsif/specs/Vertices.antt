@@ -10,8 +10,11 @@ use Rattle.positions.specs.Position.{PositionValue, number_limit}
 use Rattle.positions.specs.Span.{SpanValue, is_span}
 use Rattle.lsif.specs.declared.vertices.VertexLabel.{VertexLabel}
 use Rattle.lsif.specs.declared.vertices.VertexLabel.TheVariants as labels
-use Rattle.lsif.specs.Element.{VertexValue, meta_data, project, document, range, result_set, definition_result, reference_result, declaration_result, implementation_result, hover_result, moniker, package_information, event, other_vertex}
+use Rattle.lsif.specs.Element.{VertexValue, meta_data, project, document, range, result_set, request_result, hover_result, moniker, package_information, event, other_vertex}
 use Rattle.lsif.specs.Ids.{whole_number_in, text_at}
+use Rattle.lsif.specs.declared.element.Profile.{Profile}
+use Rattle.lsif.specs.declared.request_kind.RequestKind.TheVariants.{Hover}
+use Rattle.lsif.specs.RequestKinds.{named_by_vertex}
 use Rattle.lsif.specs.Hovers.{hover_in}
 use Rattle.lsif.specs.Monikers.{moniker_in, package_in}
 use Rattle.lsif.specs.Events.{event_in}
@@ -60,28 +63,18 @@ is_supported d =
     is_text (codes "0.6.0") (get (codes "version") d)
     && is_absent_or_text (codes "utf-16") (get (codes "positionEncoding") d)
 
--- which label a text is in profile 1
-abbrev pub vertex_label : List ℕ → VertexLabel
-vertex_label text =
+-- which label a text is in a profile
+abbrev pub vertex_label : Profile → List ℕ → VertexLabel
+vertex_label profile text =
     if bytes_eq text (codes "metaData") then labels.MetaData
     else if bytes_eq text (codes "project") then labels.Project
     else if bytes_eq text (codes "document") then labels.Document
     else if bytes_eq text (codes "range") then labels.Range
     else if bytes_eq text (codes "resultSet") then labels.ResultSet
-    else if bytes_eq text (codes "definitionResult") then labels.DefinitionResult
-    else if bytes_eq text (codes "referenceResult") then labels.ReferenceResult
-    else if bytes_eq text (codes "hoverResult") then labels.HoverResult
     else if bytes_eq text (codes "moniker") then labels.Moniker
     else if bytes_eq text (codes "packageInformation") then labels.Package
     else if bytes_eq text (codes "$event") then labels.Event
-    else labels.Other
-
--- which label a text is in profile 2: one of two more, or that of profile 1
-abbrev pub wider_vertex_label : List ℕ → VertexLabel
-wider_vertex_label text =
-    if bytes_eq text (codes "declarationResult") then labels.DeclarationResult
-    else if bytes_eq text (codes "implementationResult") then labels.ImplementationResult
-    else vertex_label text
+    else option_map_or labels.Result (named_by_vertex profile text) labels.Other
 
 -- what a vertex of this label says, where the members that are read are of their forms
 unfoldable pub vertex_of : VertexLabel → Data → Option VertexValue
@@ -90,11 +83,8 @@ vertex_of labels.Project d = Some project
 vertex_of labels.Document d = option_map document (uri_in d)
 vertex_of labels.Range d = option_map range (span_in d)
 vertex_of labels.ResultSet d = Some result_set
-vertex_of labels.DefinitionResult d = Some definition_result
-vertex_of labels.ReferenceResult d = Some reference_result
-vertex_of labels.DeclarationResult d = Some declaration_result
-vertex_of labels.ImplementationResult d = Some implementation_result
-vertex_of labels.HoverResult d = option_map hover_result (hover_in d)
+vertex_of (labels.Result Hover) d = option_map hover_result (hover_in d)
+vertex_of (labels.Result kind) d = Some (request_result kind)
 vertex_of labels.Moniker d = option_map moniker (moniker_in d)
 vertex_of labels.Package d = option_map package_information (package_in d)
 vertex_of labels.Event d = option_map event (event_in d)

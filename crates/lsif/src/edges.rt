@@ -2,8 +2,7 @@
 //! join it is checked in the crate `dump`. `specs/Edges`.
 ghost use Rattle.std.specs.Prelude.{◌≡◌, IfOk, IfErr, option_map, codes};
 ghost use Rattle.lsif.specs.Element.{id_value, item_value, edge_value};
-ghost use Rattle.lsif.specs.Edges.{targets_in, ends_in, target_in, property_of, property_in, shard_in, item_in, edge_label, wider_edge_label, edge_from, edge_in};
-ghost use Rattle.lsif.specs.Reading.{labels_of};
+ghost use Rattle.lsif.specs.Edges.{targets_in, ends_in, target_in, property_of, property_in, shard_in, item_in, edge_label, edge_from, edge_in};
 ghost use Rattle.lsif.specs.Shape.{Gives, IsShapeFault, some_or};
 ghost use Rattle.serde_json.specs.View.{view};
 
@@ -12,6 +11,7 @@ use crate::element::{Edge, Item, Profile, Property};
 use crate::fault::ReadFault;
 use crate::id::{Id, lent_member, member_id};
 use crate::ids::{Ids, id_alone, read_ids};
+use crate::request_kind::RequestKind;
 use serde_json::Value;
 use std::alloc::{AllocError, Global};
 
@@ -20,11 +20,7 @@ use std::alloc::{AllocError, Global};
 pub(crate) enum EdgeLabel {
     Contains,
     Next,
-    Definition,
-    References,
-    Declaration,
-    Implementation,
-    Hover,
+    Request(RequestKind),
     Moniker,
     Package,
     Attach,
@@ -32,20 +28,14 @@ pub(crate) enum EdgeLabel {
     Other,
 }
 
-/// Which label a text is in profile 1.
-fn edge_label(text: &str) -> EdgeLabel
-    ensures { result ≡ edge_label text.now }
+/// Which label a text is in a profile.
+pub(crate) fn edge_label(profile: Profile, text: &str) -> EdgeLabel
+    ensures { result ≡ edge_label profile text.now }
 {
     if text == "contains" {
         EdgeLabel::Contains
     } else if text == "next" {
         EdgeLabel::Next
-    } else if text == "textDocument/definition" {
-        EdgeLabel::Definition
-    } else if text == "textDocument/references" {
-        EdgeLabel::References
-    } else if text == "textDocument/hover" {
-        EdgeLabel::Hover
     } else if text == "moniker" {
         EdgeLabel::Moniker
     } else if text == "packageInformation" {
@@ -55,30 +45,10 @@ fn edge_label(text: &str) -> EdgeLabel
     } else if text == "item" {
         EdgeLabel::Item
     } else {
-        EdgeLabel::Other
-    }
-}
-
-/// Which label a text is in profile 2.
-fn wider_edge_label(text: &str) -> EdgeLabel
-    ensures { result ≡ wider_edge_label text.now }
-{
-    if text == "textDocument/declaration" {
-        EdgeLabel::Declaration
-    } else if text == "textDocument/implementation" {
-        EdgeLabel::Implementation
-    } else {
-        edge_label(text)
-    }
-}
-
-/// Which label a text is.
-pub(crate) fn label_of_edge(profile: Profile, text: &str) -> EdgeLabel
-    ensures { result ≡ (labels_of profile).of_edge text.now }
-{
-    match profile {
-        Profile::One => edge_label(text),
-        Profile::Two => wider_edge_label(text),
+        match RequestKind::named_by_edge(profile, text) {
+            Some(kind) => EdgeLabel::Request(kind),
+            None => EdgeLabel::Other,
+        }
     }
 }
 
@@ -204,15 +174,9 @@ fn edge_from(alloc: Global, label: EdgeLabel, from: Id, value: &Value) -> Result
     match label {
         EdgeLabel::Contains => joined(targets(alloc, value)?.map(|to| Edge::Contains(from, to))),
         EdgeLabel::Next => joined(target(alloc, value)?.map(|to| Edge::Next(from, to))),
-        EdgeLabel::Definition => joined(target(alloc, value)?.map(|to| Edge::Definition(from, to))),
-        EdgeLabel::References => joined(target(alloc, value)?.map(|to| Edge::References(from, to))),
-        EdgeLabel::Declaration => {
-            joined(target(alloc, value)?.map(|to| Edge::Declaration(from, to)))
+        EdgeLabel::Request(kind) => {
+            joined(target(alloc, value)?.map(|to| Edge::Request(kind, from, to)))
         }
-        EdgeLabel::Implementation => {
-            joined(target(alloc, value)?.map(|to| Edge::Implementation(from, to)))
-        }
-        EdgeLabel::Hover => joined(target(alloc, value)?.map(|to| Edge::Hover(from, to))),
         EdgeLabel::Moniker => joined(target(alloc, value)?.map(|to| Edge::Moniker(from, to))),
         EdgeLabel::Package => joined(target(alloc, value)?.map(|to| Edge::Package(from, to))),
         EdgeLabel::Attach => joined(target(alloc, value)?.map(|to| Edge::Attach(from, to))),

@@ -7,6 +7,7 @@ ghost use Rattle.lsif.specs.Lent.{lent_value};
 
 use crate::id::{Id, IdRef};
 use crate::ids::{Ids, IdsIter};
+use crate::request_kind::RequestKind;
 use positions::Span;
 
 /// The part of LSIF that a dump is read by: which labels are read, and not as other labels.
@@ -69,14 +70,8 @@ pub enum Vertex {
     Range(Span),
     /// `resultSet`.
     ResultSet,
-    /// `definitionResult`.
-    DefinitionResult,
-    /// `referenceResult`.
-    ReferenceResult,
-    /// `declarationResult`, of profile 2 alone.
-    DeclarationResult,
-    /// `implementationResult`, of profile 2 alone.
-    ImplementationResult,
+    /// The result of a request that is answered by places, as `definitionResult`.
+    Result(RequestKind),
     /// `hoverResult`, and its contents as compact JSON with the members of objects in the order of
     /// their names' bytes: a text; an object with `kind` and `value`, or with `language` and
     /// `value`; or an array of texts and of objects with `language` and `value` (Language Server
@@ -120,16 +115,8 @@ pub enum Edge {
     Contains(Id, Ids),
     /// `next`.
     Next(Id, Id),
-    /// `textDocument/definition`.
-    Definition(Id, Id),
-    /// `textDocument/references`.
-    References(Id, Id),
-    /// `textDocument/declaration`, of profile 2 alone.
-    Declaration(Id, Id),
-    /// `textDocument/implementation`, of profile 2 alone.
-    Implementation(Id, Id),
-    /// `textDocument/hover`.
-    Hover(Id, Id),
+    /// An edge that names the result of a request, as `textDocument/definition`.
+    Request(RequestKind, Id, Id),
     /// `moniker`.
     Moniker(Id, Id),
     /// `packageInformation`.
@@ -154,11 +141,7 @@ impl Edge {
                 (source.lent(), targets.iter())
             }
             Edge::Next(source, target)
-            | Edge::Definition(source, target)
-            | Edge::References(source, target)
-            | Edge::Declaration(source, target)
-            | Edge::Implementation(source, target)
-            | Edge::Hover(source, target)
+            | Edge::Request(_, source, target)
             | Edge::Moniker(source, target)
             | Edge::Package(source, target)
             | Edge::Attach(source, target) => (source.lent(), IdsIter::one(target.lent())),

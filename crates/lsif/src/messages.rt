@@ -3,6 +3,9 @@
 /// Memory was refused.
 pub const OUT_OF_MEMORY: &str = "out of memory";
 
+/// A store refused, for another cause than memory.
+pub const STORE_REFUSED: &str = "store refused";
+
 /// A reader failed, or a file can't be opened.
 pub const CANNOT_READ: &str = "cannot read the file";
 

@@ -3,16 +3,17 @@
 //! `specs/Reading`.
 ghost use Rattle.std.specs.Prelude.{◌≡◌, ℕ, List, IfErr};
 ghost use Rattle.lsif.specs.Element.{element_value};
-ghost use Rattle.lsif.specs.Reading.{base_labels, labels_of, element_in, json_of, reading_by, reading, IsAddedLabel, IsOtherLabel, HasNoAddedLabel};
+ghost use Rattle.lsif.specs.Reading.{element_in, json_of, reading, IsAddedLabel, IsLabelInOne, IsOfProfileOne, IsOtherLabel, HasNoAddedLabel};
+ghost use Rattle.lsif.specs.declared.request_kind.RequestKind.{RequestKind};
 ghost use Rattle.lsif.specs.Shape.{Gives, IsShapeFault, some_or};
 ghost use Rattle.serde_json.specs.View.{view};
 
 use crate::code::Code;
-use crate::edges::{edge, label_of_edge};
+use crate::edges::{edge, edge_label};
 use crate::element::{Element, Profile};
 use crate::fault::ReadFault;
 use crate::id::member_id;
-use crate::vertices::{label_of_vertex, vertex};
+use crate::vertices::{vertex, vertex_label};
 use serde_json::{Category, Value};
 use std::alloc::Global;
 
@@ -22,7 +23,7 @@ pub const LONGEST_LINE: usize = 1048576;
 /// The element that a JSON value is.
 #[tactic(auto, unfolding(crate::specs::Reading::element_in))]
 fn element(alloc: Global, profile: Profile, value: &Value) -> Result<Element, ReadFault>
-    ensures reading { Gives element_value result (element_in (labels_of profile) (view value.now)) }
+    ensures reading { Gives element_value result (element_in profile (view value.now)) }
     ensures shape { IfErr result IsShapeFault }
 {
     let Some(id) = member_id(alloc, value, "id")? else {
@@ -35,12 +36,12 @@ fn element(alloc: Global, profile: Profile, value: &Value) -> Result<Element, Re
         return Err(ReadFault::Shape(Code::L05));
     };
     if kind == "vertex" {
-        match vertex(alloc, label_of_vertex(profile, label), value)? {
+        match vertex(alloc, vertex_label(profile, label), value)? {
             Some(vertex) => Ok(Element::Vertex(id, vertex)),
             None => Err(ReadFault::Shape(Code::L07)),
         }
     } else if kind == "edge" {
-        let edge = edge(alloc, label_of_edge(profile, label), value)?;
+        let edge = edge(alloc, edge_label(profile, label), value)?;
         Ok(Element::Edge(id, edge))
     } else {
         Err(ReadFault::Shape(Code::L05))
@@ -63,17 +64,18 @@ fn json(alloc: Global, line: &[u8]) -> Result<Value, ReadFault>
     }
 }
 
-/// Profile 1 reads by its own labels alone, and the four labels that profile 2 adds are other
-/// labels to it. Each line that has none of the four is read alike in both profiles.
+/// Profile 1 reads the labels of definitions, references and hovers, and of no other request: the
+/// four labels that profile 2 adds are other labels to it. Each line that has none of the four is
+/// read alike in both profiles.
 pub fn profile_law()
-    ensures base { (line : List ℕ) → reading Profile.One line ≡ reading_by base_labels line }
+    ensures base { (kind : RequestKind) (text : List ℕ) → IsLabelInOne kind text → IsOfProfileOne kind }
     ensures added { (text : List ℕ) → IsAddedLabel text → IsOtherLabel text }
     ensures alike { (line : List ℕ) → HasNoAddedLabel line → reading Profile.Two line ≡ reading Profile.One line }
 {}
 
 /// The element that a line of a dump is in a profile, given without its line feed, or the least
 /// fault of its shape.
-#[tactic(auto, unfolding(crate::specs::Reading::reading, crate::specs::Reading::reading_by))]
+#[tactic(auto, unfolding(crate::specs::Reading::reading))]
 pub fn read_element(alloc: Global, profile: Profile, line: &[u8]) -> Result<Element, ReadFault>
     ensures reading { Gives element_value result (reading profile line.now) }
     ensures shape { IfErr result IsShapeFault }

@@ -1,15 +1,15 @@
 //! The vertices that lines spell: their labels in each profile, and what they say. Hovers, monikers
 //! and events have files of their own. `specs/Vertices`.
-ghost use Rattle.std.specs.Prelude.{◌≡◌, IfOk, option_map, codes, string_bytes};
+ghost use Rattle.std.specs.Prelude.{◌≡◌, IfOk, option_map, string_bytes, codes};
 ghost use Rattle.lsif.specs.Element.{vertex_value};
-ghost use Rattle.lsif.specs.Vertices.{coordinate_at, position_in, span_in, is_supported, uri_in, vertex_label, wider_vertex_label, vertex_of};
-ghost use Rattle.lsif.specs.Reading.{labels_of};
+ghost use Rattle.lsif.specs.Vertices.{coordinate_at, position_in, span_in, is_supported, uri_in, vertex_label, vertex_of};
 ghost use Rattle.serde_json.specs.View.{view};
 
 use crate::element::{Profile, Vertex};
 use crate::events::event;
 use crate::hovers::hover;
 use crate::monikers::{moniker, package};
+use crate::request_kind::RequestKind;
 use positions::{Position, Span};
 use serde_json::Value;
 use std::alloc::{AllocError, Global};
@@ -85,20 +85,16 @@ pub(crate) enum VertexLabel {
     Document,
     Range,
     ResultSet,
-    DefinitionResult,
-    ReferenceResult,
-    DeclarationResult,
-    ImplementationResult,
-    HoverResult,
+    Result(RequestKind),
     Moniker,
     Package,
     Event,
     Other,
 }
 
-/// Which label a text is in profile 1.
-fn vertex_label(text: &str) -> VertexLabel
-    ensures { result ≡ vertex_label text.now }
+/// Which label a text is in a profile.
+pub(crate) fn vertex_label(profile: Profile, text: &str) -> VertexLabel
+    ensures { result ≡ vertex_label profile text.now }
 {
     if text == "metaData" {
         VertexLabel::MetaData
@@ -110,12 +106,6 @@ fn vertex_label(text: &str) -> VertexLabel
         VertexLabel::Range
     } else if text == "resultSet" {
         VertexLabel::ResultSet
-    } else if text == "definitionResult" {
-        VertexLabel::DefinitionResult
-    } else if text == "referenceResult" {
-        VertexLabel::ReferenceResult
-    } else if text == "hoverResult" {
-        VertexLabel::HoverResult
     } else if text == "moniker" {
         VertexLabel::Moniker
     } else if text == "packageInformation" {
@@ -123,30 +113,10 @@ fn vertex_label(text: &str) -> VertexLabel
     } else if text == "$event" {
         VertexLabel::Event
     } else {
-        VertexLabel::Other
-    }
-}
-
-/// Which label a text is in profile 2.
-fn wider_vertex_label(text: &str) -> VertexLabel
-    ensures { result ≡ wider_vertex_label text.now }
-{
-    if text == "declarationResult" {
-        VertexLabel::DeclarationResult
-    } else if text == "implementationResult" {
-        VertexLabel::ImplementationResult
-    } else {
-        vertex_label(text)
-    }
-}
-
-/// Which label a text is.
-pub(crate) fn label_of_vertex(profile: Profile, text: &str) -> VertexLabel
-    ensures { result ≡ (labels_of profile).of_vertex text.now }
-{
-    match profile {
-        Profile::One => vertex_label(text),
-        Profile::Two => wider_vertex_label(text),
+        match RequestKind::named_by_vertex(profile, text) {
+            Some(kind) => VertexLabel::Result(kind),
+            None => VertexLabel::Other,
+        }
     }
 }
 
@@ -165,11 +135,10 @@ pub(crate) fn vertex(
         VertexLabel::Document => Ok(uri(alloc, value)?.map(Vertex::Document)),
         VertexLabel::Range => Ok(span(value).map(Vertex::Range)),
         VertexLabel::ResultSet => Ok(Some(Vertex::ResultSet)),
-        VertexLabel::DefinitionResult => Ok(Some(Vertex::DefinitionResult)),
-        VertexLabel::ReferenceResult => Ok(Some(Vertex::ReferenceResult)),
-        VertexLabel::DeclarationResult => Ok(Some(Vertex::DeclarationResult)),
-        VertexLabel::ImplementationResult => Ok(Some(Vertex::ImplementationResult)),
-        VertexLabel::HoverResult => Ok(hover(alloc, value)?.map(Vertex::HoverResult)),
+        VertexLabel::Result(RequestKind::Hover) => {
+            Ok(hover(alloc, value)?.map(Vertex::HoverResult))
+        }
+        VertexLabel::Result(kind) => Ok(Some(Vertex::Result(kind))),
         VertexLabel::Moniker => Ok(moniker(alloc, value)?.map(Vertex::Moniker)),
         VertexLabel::Package => Ok(package(alloc, value)?.map(Vertex::Package)),
         VertexLabel::Event => Ok(event(alloc, value)?.map(Vertex::Event)),

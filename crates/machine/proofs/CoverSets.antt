@@ -10,8 +10,8 @@ use Rattle.std.proofs.lemmas.List.Elements.{All-from_recursion}
 use Rattle.std.proofs.lemmas.List.Kept.{AllPairs-cons}
 use Rattle.positions.specs.Position.{PositionValue}
 use Rattle.positions.specs.Span.{covers}
-use Rattle.lsif.specs.Element.{IdValue, VertexValue, meta_data, project, document, range, result_set, definition_result, reference_result, declaration_result, implementation_result, hover_result, moniker, package_information, event, other_vertex, ElementValue, vertex, edge}
-use Rattle.dump.specs.declared.request_kind.RequestKind.{RequestKind}
+use Rattle.lsif.specs.Element.{IdValue, VertexValue, meta_data, project, document, range, result_set, request_result, hover_result, moniker, package_information, event, other_vertex, ElementValue, vertex, edge}
+use Rattle.lsif.specs.declared.request_kind.RequestKind.{RequestKind}
 use Rattle.dump.specs.Contained.{is_in, IsNested}
 use Rattle.dump.specs.Fault.{IsFaultless}
 use Rattle.dump.specs.Graph.{vertex_at}
@@ -53,10 +53,7 @@ module _ (d : List ElementValue) (doc : IdValue) (p : PositionValue) (vertices :
   lies_of (vertex i (meta_data b)) r inside at = absurd (not_in_nil r at)
   lies_of (vertex i project) r inside at = absurd (not_in_nil r at)
   lies_of (vertex i result_set) r inside at = absurd (not_in_nil r at)
-  lies_of (vertex i definition_result) r inside at = absurd (not_in_nil r at)
-  lies_of (vertex i declaration_result) r inside at = absurd (not_in_nil r at)
-  lies_of (vertex i implementation_result) r inside at = absurd (not_in_nil r at)
-  lies_of (vertex i reference_result) r inside at = absurd (not_in_nil r at)
+  lies_of (vertex i (request_result kind)) r inside at = absurd (not_in_nil r at)
   lies_of (vertex i (hover_result t)) r inside at = absurd (not_in_nil r at)
   lies_of (vertex i (moniker m)) r inside at = absurd (not_in_nil r at)
   lies_of (vertex i (package_information k)) r inside at = absurd (not_in_nil r at)

@@ -3,15 +3,17 @@
 use Rattle.std.proofs.Common.{◌≡◌, ◌⊎◌, inl, inr, ⊎_elim, ℕ, true, List, [], ◌∷◌, map, refl, sym, ap, subst, zero, suc, slice_get}
 use Rattle.std.specs.Prelude.{Contains, Option, Some, None, Ok, bytes_eq}
 use Rattle.std.proofs.lemmas.Slice.Eq.{bytes_eq-Decides}
-use Rattle.lsif.specs.Element.{IdValue, same_id, VertexValue, meta_data, project, document, range, result_set, definition_result, reference_result, declaration_result, implementation_result, hover_result, moniker, package_information, event, other_vertex, ElementValue, vertex, edge}
-use Rattle.dump.specs.declared.request_kind.RequestKind.{RequestKind}
-use Rattle.dump.specs.declared.request_kind.RequestKind.TheVariants as requests
+use Rattle.lsif.specs.Element.{IdValue, same_id, VertexValue, meta_data, project, document, range, result_set, request_result, hover_result, moniker, package_information, event, other_vertex, ElementValue, vertex, edge}
+use Rattle.lsif.specs.declared.request_kind.RequestKind.{RequestKind}
+use Rattle.lsif.specs.declared.request_kind.RequestKind.TheVariants as requests
 use Rattle.dump.specs.Fault.{IsFaultless}
 use Rattle.dump.specs.Graph.{vertex_at}
 use Rattle.dump.specs.Monikers.{MarkValue, Bears, Marks, Near, attach_pairs, mark_of, moniker_pairs}
 use Rattle.dump.specs.Places.{HasDocument}
 use Rattle.dump.specs.Progress.{IsSound}
-use Rattle.dump.specs.Requests.{First, Speaks, follows, label_of}
+use Rattle.lsif.specs.RequestKinds.{follows}
+use Rattle.dump.specs.declared.single.SingleLabel.TheVariants.{Request}
+use Rattle.dump.specs.Requests.{First, Speaks}
 use Rattle.dump.specs.Walks.{Pair, Path, stays, goes, IsChain, first_of_list, single_pairs, next_pairs, reaches}
 use Rattle.dump.proofs.Chains.{unique}
 use Rattle.dump.proofs.Ends.{each_ends}
@@ -108,10 +110,7 @@ is_document uri (vertex i (meta_data b)) = inr (λ (j, e). cc)
 is_document uri (vertex i project) = inr (λ (j, e). cc)
 is_document uri (vertex i (range s)) = inr (λ (j, e). cc)
 is_document uri (vertex i result_set) = inr (λ (j, e). cc)
-is_document uri (vertex i definition_result) = inr (λ (j, e). cc)
-is_document uri (vertex i declaration_result) = inr (λ (j, e). cc)
-is_document uri (vertex i implementation_result) = inr (λ (j, e). cc)
-is_document uri (vertex i reference_result) = inr (λ (j, e). cc)
+is_document uri (vertex i (request_result kind)) = inr (λ (j, e). cc)
 is_document uri (vertex i (hover_result t)) = inr (λ (j, e). cc)
 is_document uri (vertex i (moniker m)) = inr (λ (j, e). cc)
 is_document uri (vertex i (package_information k)) = inr (λ (j, e). cc)
@@ -130,7 +129,7 @@ module _ (d : List ElementValue) (free : IsFaultless (map Ok d)) where
 
   -- each vertex has a first result or has none
   pub has_first : (request : RequestKind) (x : IdValue) → (result : Option IdValue) × First request d x result
-  has_first request x = (first_of_list (single_pairs (label_of request) d) (chain_of x).0, ((chain_of x).0, (chain_of x).1, refl))
+  has_first request x = (first_of_list (single_pairs (Request request) d) (chain_of x).0, ((chain_of x).0, (chain_of x).1, refl))
 
   pub first_results : (request : RequestKind) (x : IdValue) → Finite (λ r. First request d x (Some r))
   first_results request x =

@@ -1,15 +1,16 @@
 -- From each state whose dumps and tags were judged a query has a reply.
-use Rattle.std.proofs.Common.{◌≡◌, ⊎_elim, List, [], map, refl}
+use Rattle.std.proofs.Common.{◌≡◌, ⊎_elim, Bool, true, false, List, [], map, refl}
 use Rattle.std.specs.Prelude.{Option, Some, None, Ok}
-use Rattle.dump.specs.declared.request_kind.RequestKind.{RequestKind}
-use Rattle.dump.specs.declared.request_kind.RequestKind.TheVariants as requests
+use Rattle.lsif.specs.RequestKinds.{gives_places}
+use Rattle.lsif.specs.declared.request_kind.RequestKind.{RequestKind}
+use Rattle.lsif.specs.declared.request_kind.RequestKind.TheVariants as requests
 use Rattle.dump.specs.declared.role.Role.{Role}
 use Rattle.dump.specs.Fault.{IsFaultless}
 use Rattle.dump.specs.Places.{HasDocument}
 use Rattle.dump.specs.Progress.{DumpValue}
 use Rattle.dump.specs.Requests.{Pick, RangeValue, roles_of}
 use Rattle.machine.specs.State.{State}
-use Rattle.machine.specs.Answers.{AnswersKind, Answers, AnswersAt, AnswersHover, AnswersPlaces, no_dump, no_such_document, answered, picked, picked_hover, unpicked, unpicked_hover, profile_reply, reference_roles}
+use Rattle.machine.specs.Answers.{AnswersKind, AnswersSo, Answers, AnswersAt, AnswersHover, AnswersPlaces, no_dump, no_such_document, answered, picked, picked_hover, unpicked, unpicked_hover, profile_reply, reference_roles}
 use Rattle.machine.specs.Moments.{IsIndex}
 use Rattle.machine.specs.Reply.{ReplyValue, hover_found, places_found, projects_found, refused, tags_found}
 use Rattle.machine.specs.Requests.{DocumentPositionValue, QueryValue, position_query, references, names, prefix, projects, profile}
@@ -59,11 +60,11 @@ module _ (m : State) (index : IsIndex m) where
   -- ---- queries
 
   of_kind : (kind : RequestKind) (target : DocumentPositionValue) (dump : DumpValue) → IsFaultless (map Ok dump.elements) → HasDocument dump.elements target.uri → (r : ReplyValue) × AnswersKind m kind target dump r
-  of_kind requests.Definition target = places requests.Definition (roles_of requests.Definition) target
-  of_kind requests.References target = places requests.References (roles_of requests.References) target
-  of_kind requests.Hover target = contents target
-  of_kind requests.Declaration target = places requests.Declaration (roles_of requests.Declaration) target
-  of_kind requests.Implementation target = places requests.Implementation (roles_of requests.Implementation) target
+  of_kind kind target dump free has = by (gives_places kind)
+    where
+      by : (b : Bool) → (r : ReplyValue) × AnswersSo b m kind target dump r
+      by true = places kind (roles_of kind) target dump free has
+      by false = contents target dump free has
 
   pub has_reply : (query : QueryValue) → (r : ReplyValue) × Answers m query r
   has_reply (position_query kind target) = at_position target (AnswersKind m kind target) (of_kind kind target)

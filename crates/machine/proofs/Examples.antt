@@ -7,7 +7,7 @@ use Rattle.lsif.specs.declared.element.MonikerKind.TheVariants.{Import, Export}
 use Rattle.lsif.specs.declared.element.Profile.TheVariants.{One}
 use Rattle.lsif.specs.Lines.{ended}
 use Rattle.lsif.specs.Element.{IdValue, Reading, number, result_set, moniker, moniker_edge, vertex, edge}
-use Rattle.dump.specs.declared.request_kind.RequestKind.TheVariants.{Definition}
+use Rattle.lsif.specs.declared.request_kind.RequestKind.TheVariants.{Definition}
 use Rattle.dump.specs.Graph.{element_at}
 use Rattle.dump.specs.Monikers.{MarkValue}
 use Rattle.dump.specs.Progress.{DumpValue}

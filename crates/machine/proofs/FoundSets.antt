@@ -7,14 +7,15 @@ use Rattle.std.specs.Ordering.{nat_cmp, ordering_reverse, ordering_then}
 use Rattle.std.specs.declared.cmp.Ordering.{Ordering}
 use Rattle.std.specs.declared.cmp.Ordering.TheVariants.{Less, Equal, Greater}
 use Rattle.lsif.specs.Element.{IdValue, PackageValue, VertexValue, vertex}
-use Rattle.dump.specs.declared.request_kind.RequestKind.{RequestKind}
-use Rattle.dump.specs.declared.request_kind.RequestKind.TheVariants as requests
+use Rattle.lsif.specs.declared.request_kind.RequestKind.{RequestKind}
+use Rattle.lsif.specs.declared.request_kind.RequestKind.TheVariants as requests
 use Rattle.dump.specs.declared.role.Role.{Role}
 use Rattle.dump.specs.Fault.{IsFaultless}
 use Rattle.dump.specs.Monikers.{Bears, MonikerKey, MarkValue, Marks, moniker_pairs}
 use Rattle.dump.specs.Places.{IsListing}
 use Rattle.dump.specs.Progress.{DumpValue}
-use Rattle.dump.specs.Requests.{First, finds, follows}
+use Rattle.lsif.specs.RequestKinds.{finds, follows}
+use Rattle.dump.specs.Requests.{First}
 use Rattle.dump.specs.Walks.{Pair}
 use Rattle.dump.proofs.OnePicks.{one_result}
 use Rattle.machine.specs.Projects.{text_cmp}

@@ -2,7 +2,7 @@
 use Rattle.std.proofs.Common.{◌≡◌, ◌∙◌, true, List, [], refl, sym, ap, subst}
 use Rattle.std.specs.Prelude.{◌↔◌, Contains, Option, Some, None}
 use Rattle.positions.specs.Span.{SpanValue}
-use Rattle.lsif.specs.Element.{IdValue, VertexValue, meta_data, project, document, range, result_set, definition_result, reference_result, declaration_result, implementation_result, hover_result, moniker, package_information, event, other_vertex, ElementValue}
+use Rattle.lsif.specs.Element.{IdValue, VertexValue, meta_data, project, document, range, result_set, request_result, hover_result, moniker, package_information, event, other_vertex, ElementValue}
 use Rattle.dump.specs.Graph.{vertex_at}
 use Rattle.dump.specs.Contained.{is_in, container}
 use Rattle.dump.specs.Places.{PlaceValue, IsAt}
@@ -23,10 +23,7 @@ at_to (Some (meta_data b)) span place at = absurd (not_in_nil place at)
 at_to (Some project) span place at = absurd (not_in_nil place at)
 at_to (Some (range s)) span place at = absurd (not_in_nil place at)
 at_to (Some result_set) span place at = absurd (not_in_nil place at)
-at_to (Some definition_result) span place at = absurd (not_in_nil place at)
-at_to (Some declaration_result) span place at = absurd (not_in_nil place at)
-at_to (Some implementation_result) span place at = absurd (not_in_nil place at)
-at_to (Some reference_result) span place at = absurd (not_in_nil place at)
+at_to (Some (request_result kind)) span place at = absurd (not_in_nil place at)
 at_to (Some (hover_result t)) span place at = absurd (not_in_nil place at)
 at_to (Some (moniker m)) span place at = absurd (not_in_nil place at)
 at_to (Some (package_information p)) span place at = absurd (not_in_nil place at)
@@ -54,10 +51,7 @@ spanned_to d law r place (Some (document s)) is at = absurd (not_in_nil place at
 spanned_to d law r place (Some (meta_data b)) is at = absurd (not_in_nil place at)
 spanned_to d law r place (Some project) is at = absurd (not_in_nil place at)
 spanned_to d law r place (Some result_set) is at = absurd (not_in_nil place at)
-spanned_to d law r place (Some definition_result) is at = absurd (not_in_nil place at)
-spanned_to d law r place (Some declaration_result) is at = absurd (not_in_nil place at)
-spanned_to d law r place (Some implementation_result) is at = absurd (not_in_nil place at)
-spanned_to d law r place (Some reference_result) is at = absurd (not_in_nil place at)
+spanned_to d law r place (Some (request_result kind)) is at = absurd (not_in_nil place at)
 spanned_to d law r place (Some (hover_result t)) is at = absurd (not_in_nil place at)
 spanned_to d law r place (Some (moniker m)) is at = absurd (not_in_nil place at)
 spanned_to d law r place (Some (package_information p)) is at = absurd (not_in_nil place at)

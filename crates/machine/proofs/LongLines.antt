@@ -4,7 +4,7 @@ use Rattle.std.specs.Borrow.{Bor}
 use Rattle.std.specs.Option.{ok_or}
 use Rattle.std.proofs.lemmas.Bool.{lt-ltb}
 use Rattle.lsif.specs.Reading as dumps
-use Rattle.lsif.specs.Reading.{reading, reading_by}
+use Rattle.lsif.specs.Reading.{reading}
 use Rattle.lsif.specs.declared.code.Code.TheVariants.{L01}
 use Rattle.lsif.specs.declared.element.Profile.{Profile}
 use Rattle.tags.specs.Faults.{result_map}
@@ -21,7 +21,7 @@ use Rattle.dump.specs.Judging.{IsHanded}
 
 -- of a dump such a line has the code L01
 pub long_element : (profile : Profile) (line : List ℕ) → dumps.longest_line < length line → reading profile line ≡ Err L01
-unfolding reading reading_by
+unfolding reading
 long_element profile line lt = rw (lt-ltb dumps.longest_line (length line) lt) refl
 
 -- of a tags file the code T01

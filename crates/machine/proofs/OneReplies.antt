@@ -1,5 +1,5 @@
 -- From each state a query has one reply at most.
-use Rattle.std.proofs.Common.{◌≡◌, ◌≢◌, ◌∙◌, ℕ, List, refl, sym, ap, subst}
+use Rattle.std.proofs.Common.{◌≡◌, ◌≢◌, ◌∙◌, ℕ, Bool, true, false, List, refl, sym, ap, subst}
 use Rattle.std.specs.Prelude.{Option, Some, None, slice_get}
 use Rattle.std.specs.Cmp.{IsTotalOrder, then_total, on_total, nat_cmp_total, unsigned_ties}
 use Rattle.std.specs.Cmp.Lexicographic.{on_texts, texts_ties}
@@ -8,15 +8,16 @@ use Rattle.std.specs.declared.cmp.Ordering.{Ordering}
 use Rattle.std.specs.declared.cmp.Ordering.TheVariants.{Less, Equal, Greater}
 use Rattle.positions.specs.Position.{PositionValue}
 use Rattle.lsif.specs.Element.{IdValue, hover_result, ElementValue, vertex, edge}
-use Rattle.dump.specs.declared.request_kind.RequestKind.{RequestKind}
-use Rattle.dump.specs.declared.request_kind.RequestKind.TheVariants as requests
+use Rattle.lsif.specs.RequestKinds.{gives_places}
+use Rattle.lsif.specs.declared.request_kind.RequestKind.{RequestKind}
+use Rattle.lsif.specs.declared.request_kind.RequestKind.TheVariants as requests
 use Rattle.dump.specs.declared.role.Role.{Role}
 use Rattle.dump.specs.Graph.{vertex_at}
 use Rattle.dump.specs.Places.{IsListing, HasDocument}
 use Rattle.dump.specs.Progress.{DumpValue}
 use Rattle.dump.specs.Requests.{First, Pick, RangeValue}
 use Rattle.dump.proofs.OnePicks.{one_listing, place_total}
-use Rattle.machine.specs.Answers.{AnswersKind, IsFound, found_cmp, AnswersPlaces, picked, unpicked, HasContents, HasJoinedContents, IsAtOrBefore, HoversAt, own, joined, bare, AnswersHover, picked_hover, unpicked_hover, AnswersAt, no_dump, no_such_document, answered, Answers}
+use Rattle.machine.specs.Answers.{AnswersKind, AnswersSo, IsFound, found_cmp, AnswersPlaces, picked, unpicked, HasContents, HasJoinedContents, IsAtOrBefore, HoversAt, own, joined, bare, AnswersHover, picked_hover, unpicked_hover, AnswersAt, no_dump, no_such_document, answered, Answers}
 use Rattle.machine.specs.FoundTags.{IsTag, BeginsWith, line_cmp, name_cmp, FoundTag}
 use Rattle.machine.specs.Projects.{text_cmp, IsProject, project_cmp, ProjectValue}
 use Rattle.machine.specs.State.{State}
@@ -156,11 +157,11 @@ module _ (first : OneFirst) (pick : OnePick) where
   -- ---- queries
 
   one_kind : (m : State) (kind : RequestKind) (target : DocumentPositionValue) (dump : DumpValue) (r s : ReplyValue) → AnswersKind m kind target dump r → AnswersKind m kind target dump s → r ≡ s
-  one_kind m requests.Definition target = one_places m _ _ target
-  one_kind m requests.References target = one_places m _ _ target
-  one_kind m requests.Hover target = one_hover_reply m target
-  one_kind m requests.Declaration target = one_places m _ _ target
-  one_kind m requests.Implementation target = one_places m _ _ target
+  one_kind m kind target dump r s = by (gives_places kind)
+    where
+      by : (b : Bool) → AnswersSo b m kind target dump r → AnswersSo b m kind target dump s → r ≡ s
+      by true = one_places m _ _ target dump r s
+      by false = one_hover_reply m target dump r s
 
   pub one_reply : (m : State) (q : QueryValue) (r s : ReplyValue) → Answers m q r → Answers m q s → r ≡ s
   one_reply m (position_query kind target) r s a b = one_at m target _ (one_kind m kind target) r s a b

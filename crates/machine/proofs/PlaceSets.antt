@@ -1,8 +1,8 @@
 -- The places of a result are a finite set.
 use Rattle.std.proofs.Common.{◌≡◌, true, List, map, refl, subst}
 use Rattle.std.specs.Prelude.{Contains, Some, Ok}
-use Rattle.lsif.specs.Element.{IdValue, ItemValue, contains, next, definition, references, declaration, implementation, hover, moniker_edge, package_edge, attach, item, other_edge, ElementValue, vertex, edge}
-use Rattle.dump.specs.declared.request_kind.RequestKind.{RequestKind}
+use Rattle.lsif.specs.Element.{IdValue, ItemValue, contains, next, request_edge, moniker_edge, package_edge, attach, item, other_edge, ElementValue, vertex, edge}
+use Rattle.lsif.specs.declared.request_kind.RequestKind.{RequestKind}
 use Rattle.dump.specs.declared.role.Role.{Role}
 use Rattle.dump.specs.Fault.{IsFaultless}
 use Rattle.dump.specs.Graph.{vertex_at}
@@ -33,11 +33,7 @@ joins : (in_roles : List Role) (result : IdValue) (x : ElementValue) → Finite 
 joins in_roles result (vertex i v) = no_joins in_roles result (vertex i v) (λ j e clash. cc)
 joins in_roles result (edge i (contains from to)) = no_joins in_roles result (edge i (contains from to)) (λ j e clash. cc)
 joins in_roles result (edge i (next from to)) = no_joins in_roles result (edge i (next from to)) (λ j e clash. cc)
-joins in_roles result (edge i (definition from to)) = no_joins in_roles result (edge i (definition from to)) (λ j e clash. cc)
-joins in_roles result (edge i (references from to)) = no_joins in_roles result (edge i (references from to)) (λ j e clash. cc)
-joins in_roles result (edge i (declaration from to)) = no_joins in_roles result (edge i (declaration from to)) (λ j e clash. cc)
-joins in_roles result (edge i (implementation from to)) = no_joins in_roles result (edge i (implementation from to)) (λ j e clash. cc)
-joins in_roles result (edge i (hover from to)) = no_joins in_roles result (edge i (hover from to)) (λ j e clash. cc)
+joins in_roles result (edge i (request_edge kind from to)) = no_joins in_roles result (edge i (request_edge kind from to)) (λ j e clash. cc)
 joins in_roles result (edge i (moniker_edge from to)) = no_joins in_roles result (edge i (moniker_edge from to)) (λ j e clash. cc)
 joins in_roles result (edge i (package_edge from to)) = no_joins in_roles result (edge i (package_edge from to)) (λ j e clash. cc)
 joins in_roles result (edge i (attach from to)) = no_joins in_roles result (edge i (attach from to)) (λ j e clash. cc)

@@ -1,11 +1,12 @@
 -- What answers a query, from a state of the machine.
-use Rattle.std.specs.Prelude.{◌≡◌, ◌≢◌, ◌⊎◌, ℕ, Bool, List, [], ◌∷◌, Option, Some, None, slice_get, if◌then◌else◌}
+use Rattle.std.specs.Prelude.{◌≡◌, ◌≢◌, ◌⊎◌, ℕ, Bool, true, false, List, [], ◌∷◌, Option, Some, None, slice_get, if◌then◌else◌}
 use Rattle.std.specs.declared.cmp.Ordering.{Ordering}
 use Rattle.std.specs.declared.cmp.Ordering.TheVariants.{Greater}
 use Rattle.std.specs.Ordering.{nat_cmp, ordering_then}
 use Rattle.lsif.specs.Element.{IdValue, VertexValue, hover_result, vertex}
-use Rattle.dump.specs.declared.request_kind.RequestKind.{RequestKind}
-use Rattle.dump.specs.declared.request_kind.RequestKind.TheVariants as requests
+use Rattle.lsif.specs.RequestKinds.{gives_places}
+use Rattle.lsif.specs.declared.request_kind.RequestKind.{RequestKind}
+use Rattle.lsif.specs.declared.request_kind.RequestKind.TheVariants as requests
 use Rattle.dump.specs.declared.role.Role.{Role}
 use Rattle.dump.specs.declared.role.Role.TheVariants as roles
 use Rattle.dump.specs.Graph.{vertex_at}
@@ -88,10 +89,13 @@ pub data AnswersAt (m : State) (target : DocumentPositionValue) (Answers : DumpV
 
 -- ---- queries
 
--- what answers it at a position of a dump
+-- what answers it at a position of a dump, where it's answered by places, or by a text
+abbrev pub AnswersSo : Bool → State → RequestKind → DocumentPositionValue → DumpValue → ReplyValue → Type 0
+AnswersSo true m kind target = AnswersPlaces m kind (roles_of kind) target
+AnswersSo false m kind target = AnswersHover m target
+
 abbrev pub AnswersKind : State → RequestKind → DocumentPositionValue → DumpValue → ReplyValue → Type 0
-AnswersKind m requests.Hover target = AnswersHover m target
-AnswersKind m kind target = AnswersPlaces m kind (roles_of kind) target
+AnswersKind m kind target = AnswersSo (gives_places kind) m kind target
 
 -- references with the declaration ask for definitions, too
 abbrev pub reference_roles : Bool → List Role

@@ -2,10 +2,10 @@
 -- that one project imports is found where another exports a moniker of the same key).
 use Rattle.std.specs.Prelude.{◌≡◌, ◌≢◌, true, List, ℕ, Some}
 use Rattle.lsif.specs.Element.{IdValue}
-use Rattle.dump.specs.declared.request_kind.RequestKind.{RequestKind}
+use Rattle.lsif.specs.declared.request_kind.RequestKind.{RequestKind}
 use Rattle.dump.specs.Monikers.{MarkValue, Bears, Marks}
 use Rattle.dump.specs.Progress.{DumpValue}
-use Rattle.dump.specs.Requests.{follows, finds}
+use Rattle.lsif.specs.RequestKinds.{follows, finds}
 use Rattle.machine.specs.State.{State}
 
 -- the vertex y there, in another project, is joined to the range r here, in this project's dump: a

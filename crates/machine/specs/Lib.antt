@@ -12,6 +12,7 @@ pub mod Reply
 pub mod Requests
 pub mod Retries
 pub mod Runs
+pub mod Selections
 pub mod State
 pub mod Steps
 pub mod Uploads

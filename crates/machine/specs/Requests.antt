@@ -1,7 +1,7 @@
 -- What requests say.
 use Rattle.std.specs.Prelude.{ℕ, Bool, List, map, Option, string_bytes}
 use Rattle.positions.specs.Position.{PositionValue}
-use Rattle.dump.specs.declared.request_kind.RequestKind.{RequestKind}
+use Rattle.lsif.specs.declared.request_kind.RequestKind.{RequestKind}
 use Rattle.lsif.specs.declared.element.Profile.{Profile}
 use Rattle.machine.specs.declared.request.Command.{Command}
 use Rattle.machine.specs.declared.request.Command.TheVariants as commands

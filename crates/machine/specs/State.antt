@@ -1,5 +1,5 @@
 -- What the index keeps, and how a command changes it.
-use Rattle.std.specs.Prelude.{◌&&◌, ◌||◌, ℕ, Bool, bytes_eq, List, length, codes, Option, Some, None, is_some, if◌then◌else◌}
+use Rattle.std.specs.Prelude.{◌≡◌, ◌&&◌, ◌||◌, ℕ, Bool, bytes_eq, List, length, codes, Option, Some, None, is_some, if◌then◌else◌}
 use Rattle.serde_json.specs.Data.{Data, boolean, number, string, object, unsigned, member, no_members}
 use Rattle.serde_json.specs.Written.{compact_text}
 use Rattle.dump.specs.Progress.{DumpValue}
@@ -77,3 +77,8 @@ changed m project key change = record {
 -- the text of the reply to the change
 abbrev pub text_after : State → List ℕ → Change → List ℕ
 text_after m project change = accepted_text (accepted change (m.dump project) (m.tags project))
+
+-- the key isn't kept yet, and this is the text of the reply to the change
+pub record IsNew (m : State) (project key reply : List ℕ) (change : Change) : Type 0 where
+  pub unkept : m.kept project key ≡ None
+  pub text : reply ≡ text_after m project change

@@ -16,6 +16,7 @@ mod names;
 mod reply;
 mod request;
 mod running;
+mod selections;
 mod tags_part;
 mod upload;
 
@@ -32,5 +33,6 @@ pub use names::{DocUri, Key, ProjectName, read_number};
 pub use reply::Reply;
 pub use request::{Command, Query, Request};
 pub use running::{RunFault, run};
+pub use selections::{Covering, FoundBearer, FoundItem, FoundMark, FoundRange};
 pub use tags_part::TagsPart;
 pub use upload::{BodyReader, Upload, UploadFault};

@@ -4,8 +4,7 @@ ghost use Rattle.std.specs.Prelude.{◌≡◌};
 ghost use Rattle.machine.specs.Requests.{command_value};
 
 use crate::names::{DocUri, Key, ProjectName};
-use dump::RequestKind;
-use lsif::Profile;
+use lsif::{Profile, RequestKind};
 use positions::Position;
 
 /// What changes a project. A command whose key is kept for its project is a repeat: it has the kept

@@ -12,6 +12,9 @@ use Rattle.sqlite_sql.specs.Program.{overlay}
 use Rattle.sqlite_trees.specs.Tree.{Trees}
 use Rattle.sqlite_rules.specs.Lists.{Has}
 use Rattle.sqlite_rules.proofs.ListLemmas.{has_contained, contains_had, has_filtered, has_kept}
+use Rattle.lsif.specs.declared.request_kind.RequestKind.{RequestKind}
+use Rattle.flatten.specs.Rows.{results_value}
+use Rattle.lsif.specs.declared.request_kind.RequestKind.TheVariants.{Definition, References, Hover, Declaration, Implementation}
 use Rattle.dump.specs.Places.{IsListing}
 use Rattle.flatten.proofs.Listing.{same_listing}
 use Rattle.tables.specs.declared.slots.Part.TheVariants.{Dump}
@@ -23,8 +26,8 @@ use Rattle.tables.specs.Columns.{number, optional, dump_rows, bearer_columns}
 use Rattle.tables.specs.Contents.{owned, slot_row}
 use Rattle.machine.specs.State.{State}
 use Rattle.tables.specs.Stands.{StandsFor}
-use Rattle.tables.specs.Selections.{BearerFound, Bears, FindsBearers, bearer_found, bearer_row, bearer_found_cmp}
-use Rattle.tables.specs.declared.bearers.FoundBearer.{FoundBearer}
+use Rattle.machine.specs.Selections.{BearerFound, Bears, FindsBearers, bearer_found, bearer_row, bearer_found_cmp}
+use Rattle.machine.specs.declared.selections.FoundBearer.{FoundBearer}
 use Rattle.tables.specs.Steps.SelectionTexts.{select_bearers}
 use Rattle.tables.specs.Steps.Selected.{AreRead, IsQuery}
 use Rattle.tables.specs.Steps.DumpEntries.{Entries, entry_values}
@@ -48,12 +51,13 @@ IsBearer dump row = IsBearerRow dump.elements row
 
 abbrev told_columns : FoundBearer → Row
 told_columns b =
-    Text (string_bytes b.project) ∷ number b.line ∷ number (kind_index b.kind) ∷ optional b.def ∷ optional b.refs ∷ optional b.hover ∷ optional b.decl ∷ optional b.imp ∷ []
+    Text (string_bytes b.project) ∷ number b.line ∷ number (kind_index b.kind) ∷ optional (results_value b.results Definition) ∷ optional (results_value b.results References) ∷ optional (results_value b.results Hover)
+    ∷ optional (results_value b.results Declaration) ∷ optional (results_value b.results Implementation) ∷ []
 
 abbrev told : BearerFound → Row
 told v =
-    Text v.project ∷ number v.line ∷ number (kind_index v.kind) ∷ optional v.results.definition ∷ optional v.results.references ∷ optional v.results.hover
-    ∷ optional v.results.declaration ∷ optional v.results.implementation ∷ []
+    Text v.project ∷ number v.line ∷ number (kind_index v.kind) ∷ optional (v.results Definition) ∷ optional (v.results References) ∷ optional (v.results Hover)
+    ∷ optional (v.results Declaration) ∷ optional (v.results Implementation) ∷ []
 
 are : (d : DumpValue) (flat : RowsValue) → IsFlat d.elements flat → (row : Row) → Has (dump_rows d.profile flat 15) row ↔ ((e : BearerRowValue) × IsBearer d e × (row ≡ bearer_columns e))
 are d flat is = listed_are (IsBearer d) bearer_columns flat.bearers is.bearers
@@ -61,22 +65,30 @@ are d flat is = listed_are (IsBearer d) bearer_columns flat.bearers is.bearers
 is_owned : Has owned 15
 is_owned = inr (inr (inr (inr (inr (inl refl)))))
 
+-- results with these numbers of each request are one
+one : (r s : ResultsValue) → r Definition ≡ s Definition → r References ≡ s References → r Hover ≡ s Hover → r Declaration ≡ s Declaration → r Implementation ≡ s Implementation → (request : RequestKind) → r request ≡ s request
+one r s d u h c i Definition = d
+one r s d u h c i References = u
+one r s d u h c i Hover = h
+one r s d u h c i Declaration = c
+one r s d u h c i Implementation = i
+
 -- what is read is what was shown
 is_found : (x : FoundBearer) (v : BearerFound) → told_columns x ≡ told v → bearer_found x ≡ v
 is_found x v h =
     let project : string_bytes x.project ≡ v.project = let a = h in cc in
     let line : x.line ≡ v.line = let a = h in cc in
     let kind = one_kind x.kind v.kind (let a = h in cc) in
-    let definition = one_optional x.def v.results.definition (let a = h in cc) in
-    let references = one_optional x.refs v.results.references (let a = h in cc) in
-    let hover = one_optional x.hover v.results.hover (let a = h in cc) in
-    let declaration = one_optional x.decl v.results.declaration (let a = h in cc) in
-    let implementation = one_optional x.imp v.results.implementation (let a = h in cc) in
+    let definition = one_optional (results_value x.results Definition) (v.results Definition) (let a = h in cc) in
+    let references = one_optional (results_value x.results References) (v.results References) (let a = h in cc) in
+    let hover = one_optional (results_value x.results Hover) (v.results Hover) (let a = h in cc) in
+    let declaration = one_optional (results_value x.results Declaration) (v.results Declaration) (let a = h in cc) in
+    let implementation = one_optional (results_value x.results Implementation) (v.results Implementation) (let a = h in cc) in
     λ i. record {
       project = project i;
       line = line i;
       kind = kind i;
-      results = record { definition = definition i; references = references i; hover = hover i; declaration = declaration i; implementation = implementation i };
+      results = λ request. one (results_value x.results) v.results definition references hover declaration implementation request i;
     }
 
 some_or_null : (l : List Row) → (r : Row) × Has (or_nulls l) r
@@ -118,7 +130,7 @@ module _ (key : List ℕ) (db : Trees) (m : State) (s : StandsFor db m) where
     of_this = mores params read_from (row_of id e) q
 
     abbrev Tells : Row → Type 0
-    Tells r = (column r 3 ≡ optional e.0.value.results.declaration) × (column r 4 ≡ optional e.0.value.results.implementation)
+    Tells r = (column r 3 ≡ optional (e.0.value.results Declaration)) × (column r 4 ≡ optional (e.0.value.results Implementation))
 
     -- no row of the line, where there's none of a match
     none_of : of_this ≡ [] → (v : MoreValue) → IsMore e.1.dump v → v.line ≡ e.0.value.line → ⊥
@@ -141,21 +153,21 @@ module _ (key : List ℕ) (db : Trees) (m : State) (s : StandsFor db m) where
         let v = w.1.0.value in
         let known = subst (λ n. IsKnown e.1.dump n is.results) line is.known in
         let same = one_known e.1.dump e.0.value.line is.results e.0.value.results known (inr (e.0.value, e.1.is, refl, refl)) in (
-          ap (λ x. column x 3) w.2 ∙ ap optional (sym is.declaration ∙ ap (λ (x : ResultsValue). x.declaration) same),
-          ap (λ x. column x 4) w.2 ∙ ap optional (sym is.implementation ∙ ap (λ (x : ResultsValue). x.implementation) same),
+          ap (λ x. column x 3) w.2 ∙ ap optional (sym is.declaration ∙ ap (λ (x : ResultsValue). x Declaration) same),
+          ap (λ x. column x 4) w.2 ∙ ap optional (sym is.implementation ∙ ap (λ (x : ResultsValue). x Implementation) same),
         )
 
     more_is : (l : List Row) → of_this ≡ l → (r : Row) → Has (or_nulls l) r → Tells r
     more_is [] none r (inl is) =
-        let neither = nothing e.0.value.line e.1.dump e.0.value.results (inr (e.0.value, e.1.is, refl, refl)) (none_of none) e.0.value.results.declaration e.0.value.results.implementation refl refl in
+        let neither = nothing e.0.value.line e.1.dump e.0.value.results (inr (e.0.value, e.1.is, refl, refl)) (none_of none) (e.0.value.results Declaration) (e.0.value.results Implementation) refl refl in
         (ap (λ x. column x 3) is ∙ ap optional (sym neither.0), ap (λ x. column x 4) is ∙ ap optional (sym neither.1))
     more_is [] none r (inr never) = absurd never
     more_is (x ∷ xs) is r h = more_of_row r (subst (λ l. Has l r) (sym is) h)
 
     shown_is : (r : Row) → Tells r → column q 2 ≡ Text e.1.project → shows params read_from (row_of id e) q r ≡ told (value_of e)
     shown_is r tells project = λ i.
-        project i ∷ number e.0.value.line ∷ number (kind_index e.0.value.kind) ∷ optional e.0.value.results.definition ∷ optional e.0.value.results.references
-        ∷ optional e.0.value.results.hover ∷ tells.0 i ∷ tells.1 i ∷ []
+        project i ∷ number e.0.value.line ∷ number (kind_index e.0.value.kind) ∷ optional (e.0.value.results Definition) ∷ optional (e.0.value.results References)
+        ∷ optional (e.0.value.results Hover) ∷ tells.0 i ∷ tells.1 i ∷ []
 
   module _ (rows : List Row) (a : IsAnswer joined read_from params rows) where
     each_bears : (row : Row) → Has rows row → (v : BearerFound) × Bears m key v × (row ≡ told v)

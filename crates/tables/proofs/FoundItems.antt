@@ -34,8 +34,8 @@ use Rattle.tables.specs.Columns.{number, dump_rows, position, item_columns}
 use Rattle.tables.specs.Contents.{owned, slot_row}
 use Rattle.machine.specs.State.{State}
 use Rattle.tables.specs.Stands.{StandsFor}
-use Rattle.tables.specs.Selections.{HasItem, FindsItems, item_found}
-use Rattle.tables.specs.declared.items.FoundItem.{FoundItem}
+use Rattle.machine.specs.Selections.{HasItem, FindsItems, item_found}
+use Rattle.machine.specs.declared.selections.FoundItem.{FoundItem}
 use Rattle.tables.specs.Steps.SelectionTexts.{select_items}
 use Rattle.tables.specs.Steps.Selected.{AreRead, IsQuery, equals}
 use Rattle.tables.specs.Steps.DumpEntries.{Entries, entry_values, SelectsOf}

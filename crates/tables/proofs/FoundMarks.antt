@@ -29,8 +29,8 @@ use Rattle.tables.specs.Columns.{number, dump_rows, mark_columns}
 use Rattle.tables.specs.Contents.{owned, slot_row}
 use Rattle.machine.specs.State.{State}
 use Rattle.tables.specs.Stands.{StandsFor}
-use Rattle.tables.specs.Selections.{MarkText, HasMark, FindsMarks, mark_text_cmp, mark_found}
-use Rattle.tables.specs.declared.marks.FoundMark.{FoundMark}
+use Rattle.machine.specs.Selections.{MarkText, HasMark, FindsMarks, mark_text_cmp, mark_found}
+use Rattle.machine.specs.declared.selections.FoundMark.{FoundMark}
 use Rattle.tables.specs.Steps.SelectionTexts.{select_marks}
 use Rattle.tables.specs.Steps.Selected.{AreRead, IsQuery, equals}
 use Rattle.tables.specs.Steps.DumpEntries.{Entries, entry_values, SelectsOf}

@@ -13,6 +13,7 @@ use Rattle.sqlite_rules.specs.Lists.{Has}
 use Rattle.positions.specs.Position.{IsPosition}
 use Rattle.positions.specs.Span.{SpanValue}
 use Rattle.lsif.specs.Element.{IdValue, range}
+use Rattle.lsif.specs.declared.request_kind.RequestKind.TheVariants.{Definition, References, Hover}
 use Rattle.dump.specs.Graph.{vertex_at}
 use Rattle.dump.specs.Progress.{DumpValue}
 use Rattle.flatten.specs.Flat.{RowsValue, IsFlat, RangeRowValue, IsRangeRow}
@@ -60,8 +61,8 @@ IsRange dump row = IsRangeRow dump.elements row
 
 abbrev pub range_shown : RangeRowValue → Row
 range_shown r =
-    number r.line ∷ position r.place.span.start ∷ position r.place.span.«end» ∷ optional r.parent ∷ optional r.results.definition ∷ optional r.results.references
-    ∷ optional r.results.hover ∷ []
+    number r.line ∷ position r.place.span.start ∷ position r.place.span.«end» ∷ optional r.parent ∷ optional (r.results Definition) ∷ optional (r.results References)
+    ∷ optional (r.results Hover) ∷ []
 
 abbrev pub found_columns : SlotRange → Row
 found_columns x = number x.line ∷ position x.span.start ∷ position x.span.«end» ∷ optional x.parent ∷ optional x.def ∷ optional x.refs ∷ optional x.hover ∷ []
@@ -93,9 +94,9 @@ tells x r sound real same =
       line = let a = same in cc;
       span = λ i. record { start = start i; «end» = stop i };
       parent = one_optional x.parent r.parent (let a = same in cc);
-      definition = one_optional x.def r.results.definition (let a = same in cc);
-      references = one_optional x.refs r.results.references (let a = same in cc);
-      hover = one_optional x.hover r.results.hover (let a = same in cc);
+      definition = one_optional x.def (r.results Definition) (let a = same in cc);
+      references = one_optional x.refs (r.results References) (let a = same in cc);
+      hover = one_optional x.hover (r.results Hover) (let a = same in cc);
     }
 
 -- ---- the range that is named

@@ -20,7 +20,7 @@ use Rattle.tables.specs.Columns.{number, dump_rows, hover_columns}
 use Rattle.tables.specs.Contents.{owned, slot_row}
 use Rattle.machine.specs.State.{State}
 use Rattle.tables.specs.Stands.{StandsFor}
-use Rattle.tables.specs.Selections.{FindsHover}
+use Rattle.machine.specs.Selections.{FindsHover}
 use Rattle.tables.specs.Steps.SelectionTexts.{select_hover}
 use Rattle.tables.specs.Steps.Selected.{IsFirstRead, IsQuery, equals}
 use Rattle.tables.specs.Steps.DumpEntries.{Entries, entry_values, ShowsOneOf}

@@ -18,6 +18,7 @@ use Rattle.sqlite.specs.Values.{or_null, bound_value}
 use Rattle.positions.specs.Position.{packed_of}
 use Rattle.lsif.specs.declared.element.Profile.{Profile}
 use Rattle.tags.specs.Values.{TagValue}
+use Rattle.lsif.specs.declared.request_kind.RequestKind.TheVariants.{Definition, References, Hover}
 use Rattle.flatten.specs.Flat.{RangeRowValue, ItemRowValue, HoverRowValue, MarkRowValue, BearerRowValue, role_index, kind_index}
 use Rattle.machine.specs.Reply.{profile_number}
 use Rattle.tables.specs.Columns.{number, optional, document_columns, range_columns, item_columns, hover_columns, mark_columns, bearer_columns, optional_text, columns_with, profile_columns}
@@ -181,7 +182,7 @@ unfolding same_name
 range_row_quiet row more = rw (some_rows row more) refl
 
 range_row_cast : (id : ℤ) (r : RangeRowValue) → cast_row range_row (Null ∷ Int id ∷ range_columns r) ≡ Null ∷ Int id ∷ range_columns r
-range_row_cast id r = rw (cast_null, cast_int id, cast_int (pos r.line), cast_int (pos (packed_of r.place.span.start)), cast_int (pos (packed_of r.place.span.«end»)), cast_optional (r.parent), cast_optional (r.results.definition), cast_optional (r.results.references), cast_optional (r.results.hover))
+range_row_cast id r = rw (cast_null, cast_int id, cast_int (pos r.line), cast_int (pos (packed_of r.place.span.start)), cast_int (pos (packed_of r.place.span.«end»)), cast_optional (r.parent), cast_optional (r.results Definition), cast_optional (r.results References), cast_optional (r.results Hover))
 
 pub range_row_put : (id : ℤ) (r : RangeRowValue) → Inserts insert_range_row range_row_tree (Int id ∷ range_columns r) ((Int id ∷ range_columns r) ∷ [])
 range_row_put id r =
@@ -373,7 +374,7 @@ unfolding same_name
 bearer_quiet row more = rw (some_rows row more) refl
 
 bearer_cast : (id : ℤ) (b : BearerRowValue) → cast_row bearer (Null ∷ Int id ∷ bearer_columns b) ≡ Null ∷ Int id ∷ bearer_columns b
-bearer_cast id b = rw (cast_null, cast_int id, cast_int (pos b.line), cast_int (pos (kind_index b.kind)), cast_optional (b.results.definition), cast_optional (b.results.references), cast_optional (b.results.hover))
+bearer_cast id b = rw (cast_null, cast_int id, cast_int (pos b.line), cast_int (pos (kind_index b.kind)), cast_optional (b.results Definition), cast_optional (b.results References), cast_optional (b.results Hover))
 
 pub bearer_put : (id : ℤ) (b : BearerRowValue) → Inserts insert_bearer bearer_tree (Int id ∷ bearer_columns b) ((Int id ∷ bearer_columns b) ∷ [])
 bearer_put id b =

@@ -12,6 +12,7 @@ use Rattle.sqlite_trees.specs.Tree.{Trees}
 use Rattle.sqlite_rules.specs.Lists.{Has}
 use Rattle.sqlite_rules.proofs.ListLemmas.{has_contained, contains_had, has_left, has_right, has_either}
 use Rattle.lsif.specs.Element.{IdValue}
+use Rattle.lsif.specs.declared.request_kind.RequestKind.TheVariants.{Declaration, Implementation}
 use Rattle.dump.specs.Progress.{DumpValue}
 use Rattle.dump.proofs.Lines.{one_line}
 use Rattle.dump.proofs.OnePicks.{one_result}
@@ -81,15 +82,15 @@ are d flat is row = (
     | inl a ↦
         let it = from_flat range_more flat.ranges row a in
         let r = it.0 in
-        let c = from_columns r.line r.results.declaration r.results.implementation row it.2 in
+        let c = from_columns r.line (r.results Declaration) (r.results Implementation) row it.2 in
         let is_row = (is.ranges.each r).0 (contains_had flat.ranges r it.1) in
-        (record { line = r.line; declaration = r.results.declaration; implementation = r.results.implementation }, record { results = r.results; known = inl (r, is_row, refl, refl); declaration = refl; implementation = refl; some = c.0 }, c.1)
+        (record { line = r.line; declaration = r.results Declaration; implementation = r.results Implementation }, record { results = r.results; known = inl (r, is_row, refl, refl); declaration = refl; implementation = refl; some = c.0 }, c.1)
     | inr b ↦
         let it = from_flat bearer_more flat.bearers row b in
         let r = it.0 in
-        let c = from_columns r.line r.results.declaration r.results.implementation row it.2 in
+        let c = from_columns r.line (r.results Declaration) (r.results Implementation) row it.2 in
         let is_row = (is.bearers.each r).0 (contains_had flat.bearers r it.1) in
-        (record { line = r.line; declaration = r.results.declaration; implementation = r.results.implementation }, record { results = r.results; known = inr (r, is_row, refl, refl); declaration = refl; implementation = refl; some = c.0 }, c.1)
+        (record { line = r.line; declaration = r.results Declaration; implementation = r.results Implementation }, record { results = r.results; known = inr (r, is_row, refl, refl); declaration = refl; implementation = refl; some = c.0 }, c.1)
   ]),
   (λ h.
       let v = h.0 in
@@ -97,15 +98,15 @@ are d flat is row = (
         | inl k ↦
             let at = has_contained flat.ranges k.0 ((is.ranges.each k.0).1 k.1) in
             has_left (flat_map range_more flat.ranges) (flat_map bearer_more flat.bearers) (more_values v) (flat_has range_more flat.ranges k.0 (more_values v) at
-            (told k.0.line k.0.results v k.2 (ap (λ (r : ResultsValue). r.declaration) k.3 ∙ h.1.declaration) (ap (λ (r : ResultsValue). r.implementation) k.3 ∙ h.1.implementation) h.1.some))
+            (told k.0.line k.0.results v k.2 (ap (λ (r : ResultsValue). r Declaration) k.3 ∙ h.1.declaration) (ap (λ (r : ResultsValue). r Implementation) k.3 ∙ h.1.implementation) h.1.some))
         | inr k ↦
             let at = has_contained flat.bearers k.0 ((is.bearers.each k.0).1 k.1) in
             has_right (flat_map range_more flat.ranges) (flat_map bearer_more flat.bearers) (more_values v) (flat_has bearer_more flat.bearers k.0 (more_values v) at
-            (told k.0.line k.0.results v k.2 (ap (λ (r : ResultsValue). r.declaration) k.3 ∙ h.1.declaration) (ap (λ (r : ResultsValue). r.implementation) k.3 ∙ h.1.implementation) h.1.some))
+            (told k.0.line k.0.results v k.2 (ap (λ (r : ResultsValue). r Declaration) k.3 ∙ h.1.declaration) (ap (λ (r : ResultsValue). r Implementation) k.3 ∙ h.1.implementation) h.1.some))
       ])),
 )
   where
-    told : (line : ℕ) (r : ResultsValue) (v : MoreValue) → line ≡ v.line → r.declaration ≡ v.declaration → r.implementation ≡ v.implementation → (is_some v.declaration || is_some v.implementation) ≡ true → Has (more_columns line r.declaration r.implementation) (more_values v)
+    told : (line : ℕ) (r : ResultsValue) (v : MoreValue) → line ≡ v.line → r Declaration ≡ v.declaration → r Implementation ≡ v.implementation → (is_some v.declaration || is_some v.implementation) ≡ true → Has (more_columns line (r Declaration) (r Implementation)) (more_values v)
     told line r v at decl imp some = rw (at, decl, imp) (to_columns v.line v.declaration v.implementation some)
 
 -- ---- the selection
@@ -152,21 +153,21 @@ module _ (line : ℕ) where
 
   -- what the answer says of the results of the line
   abbrev pub Says : Option LineMore → ResultsValue → Type 0
-  Says None results = (results.declaration ≡ None) × (results.implementation ≡ None)
-  Says (Some x) results = (x.decl ≡ results.declaration) × (x.imp ≡ results.implementation)
+  Says None results = (results Declaration ≡ None) × (results Implementation ≡ None)
+  Says (Some x) results = (x.decl ≡ results Declaration) × (x.imp ≡ results Implementation)
 
-  pub nothing : (d : DumpValue) (results : ResultsValue) → IsKnown d line results → ((v : MoreValue) → IsMore d v → IsAtLine v → ⊥) → (a b : Option ℕ) → results.declaration ≡ a → results.implementation ≡ b → (a ≡ None) × (b ≡ None)
+  pub nothing : (d : DumpValue) (results : ResultsValue) → IsKnown d line results → ((v : MoreValue) → IsMore d v → IsAtLine v → ⊥) → (a b : Option ℕ) → results Declaration ≡ a → results Implementation ≡ b → (a ≡ None) × (b ≡ None)
   nothing d results known none None None e f = (refl, refl)
   nothing d results known none (Some a) b e f = absurd (none (record { line = line; declaration = Some a; implementation = b }) (record { results = results; known = known; declaration = e; implementation = f; some = refl }) refl)
   nothing d results known none None (Some b) e f = absurd (none (record { line = line; declaration = None; implementation = Some b }) (record { results = results; known = known; declaration = e; implementation = f; some = refl }) refl)
 
   says : (d : DumpValue) (results : ResultsValue) → IsKnown d line results → (found : Option LineMore) → ShowsOneOf more_shown (IsMore d) IsAtLine more_read found → Says found results
-  says d results known None none = nothing d results known none results.declaration results.implementation refl refl
+  says d results known None none = nothing d results known none (results Declaration) (results Implementation) refl refl
   says d results known (Some x) one =
       let v = one.1 in
       let same = one_known d line v.results results (subst (λ n. IsKnown d n v.results) one.2 v.known) known in
       let read = first_optional one.3 in
-      (read.0 ∙ (sym v.declaration ∙ ap (λ (r : ResultsValue). r.declaration) same), read.1 ∙ (sym v.implementation ∙ ap (λ (r : ResultsValue). r.implementation) same))
+      (read.0 ∙ (sym v.declaration ∙ ap (λ (r : ResultsValue). r Declaration) same), read.1 ∙ (sym v.implementation ∙ ap (λ (r : ResultsValue). r Implementation) same))
 
   pub more_found : (m : State) (id : ℤ) (project : List ℕ) (dump : DumpValue) (old new : Store) (rows : List Row) (found : Option LineMore) → StandsFor old.now.trees m → old.now.schema ≡ schema_two → Has (old.now.trees slot_tree) (slot_row id project Dump)
       → m.dump project ≡ Some dump → Shown select_more (Int id ∷ number line ∷ []) old new rows → IsFirstRead more_read rows found → (results : ResultsValue) → IsKnown dump line results → Says found results

@@ -12,12 +12,14 @@ use Rattle.sqlite_value.specs.Order.{Row}
 use Rattle.sqlite_rules.specs.Lists.{Has}
 use Rattle.sqlite_rules.proofs.ListLemmas.{contains_had, has_left, has_right}
 use Rattle.lsif.specs.declared.element.Profile.TheVariants.{One}
+use Rattle.lsif.specs.declared.request_kind.RequestKind.TheVariants.{Declaration, Implementation}
 use Rattle.dump.specs.Progress.{DumpValue}
 use Rattle.flatten.specs.declared.rows.RangeRow.{RangeRow}
 use Rattle.flatten.specs.declared.rows.BearerRow.{BearerRow}
 use Rattle.flatten.specs.declared.rows.Rows.{Rows}
 use Rattle.flatten.specs.Flat.{ResultsValue, by_line, bearer_cmp}
-use Rattle.flatten.specs.Rows.{range_value, bearer_value}
+use Rattle.flatten.specs.declared.results.Results.{Results}
+use Rattle.flatten.specs.Rows.{range_value, bearer_value, results_value}
 use Rattle.tables.specs.Columns.{number, optional, more_columns, range_more, bearer_more}
 use Rattle.tables.specs.Steps.Known.{IsKnown}
 use Rattle.tables.specs.Steps.Next.{IsNext}
@@ -99,24 +101,29 @@ module _ (rows : Rows) (earlier : List BearerRow) (bearer : BearerRow) (next : I
   this_known : IsKnown dump bearer.line (bearer_value bearer).results
   this_known = known_bearer bearer (subst (λ l. Has l bearer) (sym next.are) (has_right earlier (bearer ∷ next.later) bearer (inl refl)))
 
+  -- the line is the bearer's, and so are the declaration and the implementation of these results
+  abbrev SameMore : ℕ → Results → Type 0
+  SameMore line results =
+      (bearer.line ≡ line) × (results_value bearer.results Declaration ≡ results_value results Declaration) × (results_value bearer.results Implementation ≡ results_value results Implementation)
+
   -- a range of the bearer's line has its declaration and its implementation
-  pub same_range : (r : RangeRow) → Has rows.ranges.items r → bearer.line ≡ r.line → (bearer.line ≡ r.line) × (bearer.decl ≡ r.decl) × (bearer.imp ≡ r.imp)
+  pub same_range : (r : RangeRow) → Has rows.ranges.items r → bearer.line ≡ r.line → SameMore r.line r.results
   same_range r there at =
       let same = one_known dump r.line (bearer_value bearer).results (range_value r).results (subst (λ n. IsKnown dump n (bearer_value bearer).results) at this_known) (known_range r there) in
-      (at, ap (λ (x : ResultsValue). x.declaration) same, ap (λ (x : ResultsValue). x.implementation) same)
+      (at, ap (λ (x : ResultsValue). x Declaration) same, ap (λ (x : ResultsValue). x Implementation) same)
 
-  same_bearer : (b : BearerRow) → Has earlier b → bearer.line ≡ b.line → (bearer.line ≡ b.line) × (bearer.decl ≡ b.decl) × (bearer.imp ≡ b.imp)
+  same_bearer : (b : BearerRow) → Has earlier b → bearer.line ≡ b.line → SameMore b.line b.results
   same_bearer b there at =
       let known = known_bearer b (subst (λ l. Has l b) (sym next.are) (has_left earlier (bearer ∷ next.later) b there)) in
       let same = one_known dump b.line (bearer_value bearer).results (bearer_value b).results (subst (λ n. IsKnown dump n (bearer_value bearer).results) at this_known) known in
-      (at, ap (λ (x : ResultsValue). x.declaration) same, ap (λ (x : ResultsValue). x.implementation) same)
+      (at, ap (λ (x : ResultsValue). x Declaration) same, ap (λ (x : ResultsValue). x Implementation) same)
 
   module _ (row : Row) (has : Has (bearer_more (bearer_value bearer)) row) where
     -- the range that has the row is of the bearer's line
     pub range_of_row : Has (flat_map (λ r. range_more (range_value r)) rows.ranges.items) row → (r : RangeRow) × Has rows.ranges.items r × (r.line ≡ bearer.line)
     range_of_row h =
         let it = from_flat (λ (r : RangeRow). range_more (range_value r)) rows.ranges.items row h in
-        (it.0, it.1, (one_row it.0.line bearer.line it.0.decl it.0.imp bearer.decl bearer.imp row it.2 has).0)
+        (it.0, it.1, (one_row it.0.line bearer.line (results_value it.0.results Declaration) (results_value it.0.results Implementation) (results_value bearer.results Declaration) (results_value bearer.results Implementation) row it.2 has).0)
 
     abbrev all : List BearerRow
     all = earlier ++ bearer ∷ next.later
@@ -150,10 +157,10 @@ module _ (rows : Rows) (earlier : List BearerRow) (bearer : BearerRow) (next : I
           above_by b k.0 k.1 (get_or_append_left earlier (bearer ∷ next.later) last k.0 k.1 ∙ k.2 last) (ltb k.0 n) refl
 
       -- where a bearer before has the row, the last before has what this one has
-      pub last_same : Has earlier last → Has (flat_map (λ b. bearer_more (bearer_value b)) earlier) row → (bearer.line ≡ last.line) × (bearer.decl ≡ last.decl) × (bearer.imp ≡ last.imp)
+      pub last_same : Has earlier last → Has (flat_map (λ b. bearer_more (bearer_value b)) earlier) row → SameMore last.line last.results
       last_same there h =
           let it = from_flat (λ (b : BearerRow). bearer_more (bearer_value b)) earlier row h in
-          let at = (one_row it.0.line bearer.line it.0.decl it.0.imp bearer.decl bearer.imp row it.2 has).0 in
+          let at = (one_row it.0.line bearer.line (results_value it.0.results Declaration) (results_value it.0.results Implementation) (results_value bearer.results Declaration) (results_value bearer.results Implementation) row it.2 has).0 in
           same_bearer last there (omega (arith, at, below, above it.0 it.1))
 
 -- ---- the last of some

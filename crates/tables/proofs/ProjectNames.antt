@@ -31,7 +31,7 @@ use Rattle.machine.specs.State.{State}
 use Rattle.tables.specs.Stands.{StandsFor}
 use Rattle.machine.specs.Projects.{ProjectValue, text_cmp}
 use Rattle.machine.specs.Found.{project_found}
-use Rattle.tables.specs.Selections.{FindsProjects}
+use Rattle.machine.specs.Selections.{FindsProjects}
 use Rattle.machine.specs.declared.found.FoundProject.{FoundProject}
 use Rattle.tables.specs.Steps.SelectionTexts.{select_projects}
 use Rattle.tables.specs.Steps.Selected.{AreRead, IsQuery, Selects, equals}

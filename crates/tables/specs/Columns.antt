@@ -12,6 +12,7 @@ use Rattle.serde_json.specs.Data.{array}
 use Rattle.serde_json.specs.View.{items_of}
 use Rattle.serde_json.specs.Written.{compact_text}
 use Rattle.tags.specs.Values.{FieldValue, TagValue}
+use Rattle.lsif.specs.declared.request_kind.RequestKind.TheVariants.{Definition, References, Hover, Declaration, Implementation}
 use Rattle.machine.specs.Reply.{field_data, profile_number}
 use Rattle.flatten.specs.Flat.{RangeRowValue, ItemRowValue, HoverRowValue, MarkRowValue, BearerRowValue, RowsValue, role_index, kind_index}
 use Rattle.tables.specs.TableTrees.{bearer_tree, document_tree, hover_tree, item_tree, mark_tree, more_tree, part_profile_tree, range_row_tree, tag_tree}
@@ -36,7 +37,7 @@ document_columns uri = Text uri ∷ []
 abbrev pub range_columns : RangeRowValue → Row
 range_columns r =
     number r.line ∷ Text r.place.uri ∷ position r.place.span.start ∷ position r.place.span.«end» ∷ optional r.parent
-    ∷ optional r.results.definition ∷ optional r.results.references ∷ optional r.results.hover ∷ []
+    ∷ optional (r.results Definition) ∷ optional (r.results References) ∷ optional (r.results Hover) ∷ []
 
 abbrev pub item_columns : ItemRowValue → Row
 item_columns i = number i.result ∷ number (role_index i.role) ∷ Text i.place.uri ∷ position i.place.span.start ∷ position i.place.span.«end» ∷ []
@@ -49,7 +50,7 @@ mark_columns m = number m.range ∷ number (kind_index m.kind) ∷ Text m.key �
 
 abbrev pub bearer_columns : BearerRowValue → Row
 bearer_columns b =
-    number b.line ∷ Text b.key ∷ number (kind_index b.kind) ∷ optional b.results.definition ∷ optional b.results.references ∷ optional b.results.hover ∷ []
+    number b.line ∷ Text b.key ∷ number (kind_index b.kind) ∷ optional (b.results Definition) ∷ optional (b.results References) ∷ optional (b.results Hover) ∷ []
 
 abbrev pub profile_columns : Profile → Row
 profile_columns profile = number (profile_number profile) ∷ []
@@ -61,10 +62,10 @@ more_columns line (Some declaration) implementation = (number line ∷ number de
 more_columns line None (Some implementation) = (number line ∷ Null ∷ number implementation ∷ []) ∷ []
 
 abbrev pub range_more : RangeRowValue → List Row
-range_more r = more_columns r.line r.results.declaration r.results.implementation
+range_more r = more_columns r.line (r.results Declaration) (r.results Implementation)
 
 abbrev pub bearer_more : BearerRowValue → List Row
-bearer_more b = more_columns b.line b.results.declaration b.results.implementation
+bearer_more b = more_columns b.line (b.results Declaration) (b.results Implementation)
 
 -- those of the ranges and of the bearers
 abbrev pub more_rows : RowsValue → List Row

@@ -3,11 +3,9 @@ pub mod Contents
 pub mod Databases
 pub mod Fault
 pub mod MemoryDisk
-pub mod Names
 pub mod Opening
 pub mod Parts
 pub mod Schema
-pub mod Selections
 pub mod Stands
 pub mod TableTrees
 pub mod Steps

@@ -18,7 +18,7 @@ use Rattle.tables.specs.Contents.{Contents, Replies, Keeps, KeepsOne}
 use Rattle.tables.specs.Databases.{IsListed}
 use Rattle.tables.specs.Fault.{IsStoreFault}
 use Rattle.tables.specs.Schema.{IsSchemaOne, schema_two}
-use Rattle.machine.specs.State.{State, Change, accepted_text, text_after}
+use Rattle.machine.specs.State.{State, accepted_text}
 use Rattle.tables.specs.TableTrees.{more_tree}
 use Rattle.tables.specs.declared.fault.TablesFault.{TablesFault}
 use Rattle.tables.specs.declared.slots.Part.TheVariants.{Dump, Tags}
@@ -102,11 +102,6 @@ pub record FindsOne (s : sqlite.State) (m : State) : Type 0 where
   pub stands : StandsForOne s.now.trees m
 
 -- ---- changes
-
--- the key isn't kept yet, and this is the text of the reply to the change
-pub record IsNew (m : State) (project key reply : List ℕ) (change : Change) : Type 0 where
-  pub unkept : m.kept project key ≡ None
-  pub text : reply ≡ text_after m project change
 
 -- what is shown and what is committed are as before
 abbrev pub IsAsBefore : sqlite.State → sqlite.State → Type 0

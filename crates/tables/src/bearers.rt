@@ -1,18 +1,21 @@
 //! The bearers of a moniker key in all projects, as they are selected, in order: by one join of
-//! `bearer`, `slot` and `more`, over the index of keys. `FindsBearers` in `specs/Selections`.
+//! `bearer`, `slot` and `more`, over the index of keys. `FindsBearers` in
+//! `machine/specs/Selections`.
 ghost use Rattle.std.specs.Prelude.{◌≡◌, ◌↔◌, ◌∷◌, [], List, ℕ, Contains, map, string_bytes, IfOk, OnOk};
 ghost use Rattle.std.specs.declared.cmp.Ordering.TheVariants.{Equal};
 ghost use Rattle.sqlite_value.specs.declared.value.Value.TheVariants.{Text};
 ghost use Rattle.sqlite.specs.State.{HasCleanDisk};
 ghost use Rattle.sqlite.specs.Held.{state};
 ghost use Rattle.dump.specs.Places.{IsListing};
+ghost use Rattle.lsif.specs.declared.request_kind.RequestKind.TheVariants.{Declaration, Definition, Hover, Implementation, References};
 ghost use Rattle.flatten.specs.Flat.{ResultsValue, kind_index};
+ghost use Rattle.flatten.specs.Rows.{results_value};
 ghost use Rattle.tables.specs.Schema.{schema_two};
 ghost use Rattle.tables.specs.Columns.{number, optional};
 ghost use Rattle.tables.specs.Contents.{Contents, HasSlot, Replies, Keeps};
 ghost use Rattle.machine.specs.State.{State};
 ghost use Rattle.tables.specs.Stands.{OnlySelects, Rests};
-ghost use Rattle.tables.specs.Selections.{BearerFound, Bears, FindsBearers, bearer_found, bearer_found_cmp};
+ghost use Rattle.machine.specs.Selections.{BearerFound, Bears, FindsBearers, bearer_found, bearer_found_cmp};
 ghost use Rattle.tables.specs.Steps.Known.{IsKnown};
 ghost use Rattle.tables.specs.Steps.Slots.{IsNamed};
 ghost use Rattle.tables.specs.Steps.Clauses.{OfDump, OfState, OnlyReads};
@@ -24,41 +27,31 @@ use crate::fault::{Refusal, TablesFault};
 use crate::parts::ProjectSlot;
 use crate::selection::{Listed, select_all, select_first};
 use crate::tables::Tables;
-use lsif::MonikerKind;
+use flatten::Results;
+use machine::FoundBearer;
 use sqlite::{Alter, Connection, Row, params};
 use std::alloc::Global;
 use std::cmp::Ordering;
 
-/// A bearer of a key: a vertex of a project's dump that has a moniker with the key itself.
-#[derive(Debug, PartialEq, Eq, Drop)]
-pub struct FoundBearer {
-    pub project: String,
-    /// The vertex's line in the dump, counted from 1.
-    pub line: u32,
-    pub kind: MonikerKind,
-    /// The numbers of its first results: of a definition, of references, of a hover, of a
-    /// declaration and of an implementation.
-    pub def: Option<u32>,
-    pub refs: Option<u32>,
-    pub hover: Option<u32>,
-    pub decl: Option<u32>,
-    pub imp: Option<u32>,
-}
-
 impl Listed for FoundBearer {
-    ghost columns = { λ b. Text (string_bytes b.project) ∷ number b.line ∷ number (kind_index b.kind) ∷ optional b.def ∷ optional b.refs ∷ optional b.hover
-        ∷ optional b.decl ∷ optional b.imp ∷ [] };
+    ghost columns = { λ b. Text (string_bytes b.project) ∷ number b.line ∷ number (kind_index b.kind) ∷ optional (results_value b.results Definition)
+        ∷ optional (results_value b.results References) ∷ optional (results_value b.results Hover) ∷ optional (results_value b.results Declaration)
+        ∷ optional (results_value b.results Implementation) ∷ [] };
 
     fn read(row: &Row) -> Result<FoundBearer, Refusal> {
         let kind = kind_of(column(row, 2)?)?;
         Ok(FoundBearer {
             kind,
             line: column(row, 1)?,
-            def: column(row, 3)?,
-            refs: column(row, 4)?,
-            hover: column(row, 5)?,
-            decl: column(row, 6)?,
-            imp: column(row, 7)?,
+            results: Results {
+                numbers: [
+                    column(row, 3)?,
+                    column(row, 4)?,
+                    column(row, 5)?,
+                    column(row, 6)?,
+                    column(row, 7)?,
+                ],
+            },
             project: column(row, 0)?,
         })
     }
@@ -89,7 +82,7 @@ pub(crate) fn more_of<S: Alter>(
     line: u32,
 ) -> Result<LineMore, Refusal>
     ensures more { OfDump S.Store conn.old conn.new slot (λ dump. (results : ResultsValue) → IsKnown dump line results
-        → IfOk result (λ more. (more.decl ≡ results.declaration) × (more.imp ≡ results.implementation))) }
+        → IfOk result (λ more. (more.decl ≡ results Declaration) × (more.imp ≡ results Implementation))) }
     ensures reads { OnlyReads S.Store result conn.old conn.new }
 {
     let found = select_first(
@@ -181,7 +174,7 @@ fn list_bearers(found: &mut Vec<FoundBearer>)
         → IsListing bearer_found_cmp (Contains (map bearer_found found.old.items)) (map bearer_found found.new.items) }
 {
     found.sort_unstable_by(|a, b| order(a, b));
-    found.dedup();
+    found.dedup_by(|a, b| order(a, b) == Ordering::Equal);
 }
 
 /// The bearers of a key, in all projects.

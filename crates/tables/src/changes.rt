@@ -1,7 +1,7 @@
 //! The changes of the index: a dump or tags replaced, and both removed. Each is one transaction
 //! with its kept reply, so that a crash leaves both or neither. `specs/Contents` says what they
 //! leave.
-ghost use Rattle.std.specs.Prelude.{◌≡◌, ◌||◌, ℕ, List, Option, Some, None, is_some, false, IsTrue, IfOk, OnOk, OnErr};
+ghost use Rattle.std.specs.Prelude.{◌≡◌, ◌||◌, Some, None, is_some, false, IsTrue, IfOk, OnOk, OnErr, ℕ, List, Option};
 ghost use Rattle.sqlite.specs.State.{HasCleanDisk, Survives};
 ghost use Rattle.sqlite.specs.Held.{state};
 ghost use Rattle.tables.specs.Steps.Clauses.{CommitsNothing, EndsTransaction};
@@ -12,7 +12,8 @@ ghost use Rattle.tables.specs.Schema.{schema_two};
 ghost use Rattle.tables.specs.Columns.{dump_rows, tag_rows};
 ghost use Rattle.tables.specs.Contents.{Contents, Replies, Keeps, changed as replaced, kept};
 ghost use Rattle.tables.specs.Databases.{IsListed};
-ghost use Rattle.tables.specs.Stands.{IsAsBefore, IsDump, IsNew, MayChange, Rests, StandsFor, replies_of};
+ghost use Rattle.tables.specs.Stands.{IsAsBefore, IsDump, MayChange, Rests, StandsFor, replies_of};
+ghost use Rattle.machine.specs.State.{IsNew};
 ghost use Rattle.machine.specs.State.{State, parts_removed, accepted_text, set_dump, set_tags, clear, changed};
 ghost use Rattle.tables.specs.Steps.Puts.{GoesOn};
 ghost use Rattle.tables.specs.declared.slots.Part.TheVariants.{Dump, Tags};
@@ -201,7 +202,8 @@ impl<S: Alter> Tables<S> {
     ghost use Rattle.dump.specs.Progress.{DumpValue};
     ghost use Rattle.tags.specs.Views.{tag_values};
     ghost use Rattle.tables.specs.Columns.{dump_rows};
-    ghost use Rattle.tables.specs.Stands.{IsAsBefore, IsDump, IsNew, MayChange, Rests, StandsFor};
+    ghost use Rattle.tables.specs.Stands.{IsAsBefore, IsDump, MayChange, Rests, StandsFor};
+    ghost use Rattle.machine.specs.State.{IsNew};
     ghost use Rattle.machine.specs.State.{State, set_dump, set_tags, clear, changed};
 
     /// Replaces the rows of the project's dump, where it has one, and keeps the text of the reply

@@ -4,11 +4,11 @@
 ghost use Rattle.std.specs.Prelude.{◌≡◌, List, ℕ, Some, map, IfOk, OnOk};
 ghost use Rattle.sqlite.specs.State.{HasCleanDisk};
 ghost use Rattle.sqlite.specs.Held.{state};
-ghost use Rattle.flatten.specs.Flat.{RangeRowValue, IsRangeRow, result_for};
+ghost use Rattle.flatten.specs.Flat.{RangeRowValue, IsRangeRow};
 ghost use Rattle.tables.specs.Contents.{HasSlot};
 ghost use Rattle.machine.specs.State.{State};
 ghost use Rattle.tables.specs.Stands.{OnlySelects, Rests};
-ghost use Rattle.tables.specs.Selections.{FindsCover, FindsCovering, range_found};
+ghost use Rattle.machine.specs.Selections.{FindsCover, FindsCovering, range_found};
 ghost use Rattle.tables.specs.Steps.Slots.{IsKnown};
 ghost use Rattle.tables.specs.Steps.Climbs.{IsClimbed, TellsRange, row_found};
 ghost use Rattle.tables.specs.declared.slots.Part.TheVariants.{Dump};
@@ -20,32 +20,11 @@ use crate::fault::{Refusal, TablesFault};
 use crate::parts::{ProjectSlot, dump_slot};
 use crate::range_rows::{SlotRange, parent_of, start_of};
 use crate::tables::Tables;
-use dump::RequestKind;
-use positions::{Position, Span};
+use lsif::RequestKind;
+use machine::{Covering, FoundRange};
+use positions::Position;
 use sqlite::{Alter, Connection};
 use std::alloc::Global;
-
-/// A range that covers a position.
-#[derive(Clone, Copy, Debug, PartialEq, Eq, Drop)]
-pub struct FoundRange {
-    /// The range's line in the dump, counted from 1.
-    pub line: u32,
-    /// Its start and its end, which is exclusive.
-    pub span: Span,
-    /// The number of its first result for the request.
-    pub result: Option<u32>,
-}
-
-/// What covers a position of a document.
-#[derive(Debug, PartialEq, Eq, Drop)]
-pub enum Covering {
-    /// The project has no dump.
-    NoDump,
-    /// The dump has no such document.
-    NoDocument,
-    /// The ranges of the document that cover the position, the smallest first.
-    Ranges(Vec<FoundRange>),
-}
 
 /// The rows of the ranges of a document that cover the position, in the dump that has this slot,
 /// the smallest range first.
@@ -79,7 +58,7 @@ fn result_of<S: Alter>(
     row: &SlotRange,
 ) -> Result<Option<u32>, Refusal>
     ensures result { OfDump S.Store conn.old conn.new slot (λ dump. (r : RangeRowValue) → IsRangeRow dump.elements r
-        → TellsRange row.now r → IfOk result (λ number. number ≡ result_for request r.results)) }
+        → TellsRange row.now r → IfOk result (λ number. number ≡ r.results request)) }
     ensures reads { OnlyReads S.Store result conn.old conn.new }
 {
     match request {

@@ -2,14 +2,15 @@
 //! of these. What they hold is in `specs/Columns`.
 ghost use Rattle.std.specs.Prelude.{◌≡◌};
 ghost use Rattle.flatten.specs.Flat.{role_index, kind_index};
-ghost use Rattle.flatten.specs.Rows.{document_value, range_value, item_value, hover_value, mark_value, bearer_value};
+ghost use Rattle.lsif.specs.declared.request_kind.RequestKind.TheVariants.{Definition, References, Hover};
+ghost use Rattle.flatten.specs.Rows.{document_value, range_value, results_value, item_value, hover_value, mark_value, bearer_value};
 ghost use Rattle.tables.specs.Columns.{document_columns, range_columns, item_columns, hover_columns, mark_columns, bearer_columns};
 ghost use Rattle.tables.specs.TableTrees.{document_tree, range_row_tree, item_tree, hover_tree, mark_tree, bearer_tree};
 
 use crate::part_rows::PartRow;
 use dump::Role;
-use flatten::{BearerRow, DocRow, HoverRow, ItemRow, MarkRow, RangeRow};
-use lsif::MonikerKind;
+use flatten::{BearerRow, DocRow, HoverRow, ItemRow, MarkRow, RangeRow, Results};
+use lsif::{MonikerKind, RequestKind};
 use sqlite::params;
 use sqlite::types::ValueRef;
 use std::alloc::AllocError;
@@ -69,6 +70,20 @@ pub(crate) const INSERT_BEARER: &str =
 pub(crate) const INSERT_EIGHT_BEARERS: &str =
     "INSERT INTO bearer (slot, line, keytext, kind, def, refs, hover) VALUES (?,?,?,?,?,?,?),(?,?,?,?,?,?,?),(?,?,?,?,?,?,?),(?,?,?,?,?,?,?),(?,?,?,?,?,?,?),(?,?,?,?,?,?,?),(?,?,?,?,?,?,?),(?,?,?,?,?,?,?)";
 
+/// The results that the rows of ranges and of bearers have themselves. The others are in rows of
+/// their own (`more.rt`).
+fn own_results(results: Results) -> (Option<u32>, Option<u32>, Option<u32>)
+    ensures def { result.0 ≡ results_value results Definition }
+    ensures refs { result.1 ≡ results_value results References }
+    ensures hover { result.2 ≡ results_value results Hover }
+{
+    (
+        results.of(RequestKind::Definition),
+        results.of(RequestKind::References),
+        results.of(RequestKind::Hover),
+    )
+}
+
 // ---- the rows
 
 impl PartRow for DocRow<'_> {
@@ -88,6 +103,7 @@ impl PartRow for RangeRow<'_> {
 
     fn bind<'a>(&'a self, slot: i64, values: &mut Vec<ValueRef<'a>>) -> Result<(), AllocError> {
         let (first, last) = (self.span.start().pack(), self.span.end().pack());
+        let (def, refs, hover) = own_results(self.results);
         values.extend_from_slice(params![
             slot,
             self.line,
@@ -95,9 +111,9 @@ impl PartRow for RangeRow<'_> {
             first,
             last,
             self.parent,
-            self.def,
-            self.refs,
-            self.hover
+            def,
+            refs,
+            hover
         ])
     }
 }
@@ -142,8 +158,7 @@ impl PartRow for BearerRow {
 
     fn bind<'a>(&'a self, slot: i64, values: &mut Vec<ValueRef<'a>>) -> Result<(), AllocError> {
         let (kind, key) = (kind_number(self.kind), self.key.as_str());
-        values.extend_from_slice(params![
-            slot, self.line, key, kind, self.def, self.refs, self.hover
-        ])
+        let (def, refs, hover) = own_results(self.results);
+        values.extend_from_slice(params![slot, self.line, key, kind, def, refs, hover])
     }
 }

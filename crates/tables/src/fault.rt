@@ -5,7 +5,7 @@ ghost use Rattle.tables.specs.Fault.{IsStoreFault, name_of, fault_of};
 ghost use Rattle.tables.specs.Steps.Refusals.{told_fault};
 ghost use Rattle.tables.specs.declared.fault.Refusal.TheVariants.{Memory, Store};
 
-use lsif::OUT_OF_MEMORY;
+use lsif::{OUT_OF_MEMORY, STORE_REFUSED};
 use sqlite::{Error, ErrorCode};
 use std::alloc::{AllocError, AllocFailed};
 
@@ -14,7 +14,7 @@ use std::alloc::{AllocError, AllocFailed};
 pub enum TablesFault {
     /// The store or a statement refused for another cause than memory, or a row isn't one that this
     /// product writes.
-    #[error("store refused")]
+    #[error("{}", STORE_REFUSED)]
     Refused,
     /// Memory was refused, also to the store of a database in memory (`Tables::in_memory`).
     #[error("{}", OUT_OF_MEMORY)]

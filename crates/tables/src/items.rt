@@ -1,5 +1,5 @@
 //! The items of results, as they are selected by the key of their table: the places of a result in
-//! a role, then sorted. `FindsItems` in `specs/Selections`.
+//! a role, then sorted. `FindsItems` in `machine/specs/Selections`.
 ghost use Rattle.std.specs.Prelude.{◌≡◌, ◌∷◌, [], List, ℕ, Contains, map, IfOk, OnOk};
 ghost use Rattle.std.specs.Rc.{rc_str_bytes};
 ghost use Rattle.sqlite_value.specs.declared.value.Value.TheVariants.{Text};
@@ -11,7 +11,7 @@ ghost use Rattle.tables.specs.Columns.{position, IsWritten};
 ghost use Rattle.tables.specs.Contents.{HasSlot};
 ghost use Rattle.machine.specs.State.{State};
 ghost use Rattle.tables.specs.Stands.{OnlySelects, Rests};
-ghost use Rattle.tables.specs.Selections.{FindsItems, item_found};
+ghost use Rattle.machine.specs.Selections.{FindsItems, item_found};
 ghost use Rattle.tables.specs.Steps.Slots.{IsKnown};
 ghost use Rattle.tables.specs.declared.slots.Part.TheVariants.{Dump};
 ghost use Rattle.tables.specs.Steps.Clauses.{OfState, OnlyReads};
@@ -23,20 +23,11 @@ use crate::parts::{ProjectSlot, dump_slot};
 use crate::selection::{Listed, select_all};
 use crate::tables::Tables;
 use dump::Role;
-use positions::Span;
+use machine::FoundItem;
 use sqlite::{Alter, Connection, Row, params};
 use std::alloc::{AllocError, Global};
 use std::cmp::Ordering;
 use std::rc::RcStr;
-
-/// A place of a result: that of a range that is an item of it, or of a result that it leads to.
-#[derive(Debug, PartialEq, Eq, Drop)]
-pub struct FoundItem {
-    /// The serialized URL of the document, shared among items of one answer.
-    pub uri: RcStr,
-    /// The start of the range and its end, which is exclusive.
-    pub span: Span,
-}
 
 impl Listed for FoundItem {
     ghost columns = { λ item. Text (rc_str_bytes item.uri) ∷ position item.span.start ∷ position item.span.«end» ∷ [] };

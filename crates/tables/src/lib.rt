@@ -31,12 +31,7 @@ mod statements;
 mod tables;
 mod tags_part;
 
-pub use bearers::FoundBearer;
-pub use covering::{Covering, FoundRange};
 pub use fault::TablesFault;
-pub use items::FoundItem;
-pub use machine::{FoundProject, FoundTag};
-pub use marks::FoundMark;
 pub use memory_disk::MemoryDisk;
 pub use migration::migrate;
 pub use tables::Tables;

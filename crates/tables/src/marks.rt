@@ -1,4 +1,5 @@
-//! The marks of a range, as they are selected, by kind and key. `FindsMarks` in `specs/Selections`.
+//! The marks of a range, as they are selected, by kind and key. `FindsMarks` in
+//! `machine/specs/Selections`.
 ghost use Rattle.std.specs.Prelude.{◌≡◌, ◌∷◌, [], List, ℕ, Contains, map, string_bytes, IfOk, OnOk};
 ghost use Rattle.sqlite_value.specs.declared.value.Value.TheVariants.{Text};
 ghost use Rattle.sqlite.specs.State.{HasCleanDisk};
@@ -9,7 +10,7 @@ ghost use Rattle.tables.specs.Columns.{number};
 ghost use Rattle.tables.specs.Contents.{HasSlot};
 ghost use Rattle.machine.specs.State.{State};
 ghost use Rattle.tables.specs.Stands.{OnlySelects, Rests};
-ghost use Rattle.tables.specs.Selections.{FindsMarks, mark_text_cmp, mark_found};
+ghost use Rattle.machine.specs.Selections.{FindsMarks, mark_text_cmp, mark_found};
 ghost use Rattle.tables.specs.Steps.Slots.{IsKnown};
 ghost use Rattle.tables.specs.declared.slots.Part.TheVariants.{Dump};
 ghost use Rattle.tables.specs.Steps.Clauses.{OfState, OnlyReads};
@@ -20,19 +21,10 @@ use crate::fault::{Refusal, TablesFault};
 use crate::parts::{ProjectSlot, dump_slot};
 use crate::selection::{Listed, select_all};
 use crate::tables::Tables;
-use lsif::MonikerKind;
+use machine::FoundMark;
 use sqlite::{Alter, Connection, Row, params};
 use std::alloc::Global;
 use std::cmp::Ordering;
-
-/// A mark of a range: the kind and the text of the key of a moniker that the range, or another
-/// member of its chain, has.
-#[derive(Debug, PartialEq, Eq, Drop)]
-pub struct FoundMark {
-    pub kind: MonikerKind,
-    /// As `flatten::key_text` makes it.
-    pub key: String,
-}
 
 impl Listed for FoundMark {
     ghost columns = { λ mark. number (kind_index mark.kind) ∷ Text (string_bytes mark.key) ∷ [] };

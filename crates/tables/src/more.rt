@@ -9,7 +9,8 @@ ghost use Rattle.sqlite.specs.State.{HasCleanDisk};
 ghost use Rattle.sqlite.specs.Held.{state};
 ghost use Rattle.flatten.specs.declared.rows.Rows.{Rows};
 ghost use Rattle.flatten.specs.declared.rows.BearerRow.{BearerRow};
-ghost use Rattle.flatten.specs.Rows.{range_value, bearer_value, rows_value};
+ghost use Rattle.flatten.specs.Rows.{range_value, bearer_value, results_value, rows_value};
+ghost use Rattle.lsif.specs.declared.request_kind.RequestKind.TheVariants.{Declaration, Implementation};
 ghost use Rattle.tables.specs.Schema.{schema_two};
 ghost use Rattle.tables.specs.Databases.{Holds};
 ghost use Rattle.tables.specs.Columns.{number, optional, more_columns, more_rows, range_more, bearer_more};
@@ -19,8 +20,20 @@ ghost use Rattle.tables.specs.Steps.Clauses.{CommitsNothing, Edits};
 ghost use Rattle.tables.specs.TableTrees.{more_tree};
 
 use crate::statements::run;
-use flatten::{BearerRow, RangeRow, Rows};
+use flatten::{BearerRow, RangeRow, Results, Rows};
+use lsif::RequestKind;
 use sqlite::{Alter, Error, Transaction, params};
+
+/// The declaration and the implementation of some results.
+fn more_results(results: Results) -> (Option<u32>, Option<u32>)
+    ensures decl { result.0 ≡ results_value results Declaration }
+    ensures imp { result.1 ≡ results_value results Implementation }
+{
+    (
+        results.of(RequestKind::Declaration),
+        results.of(RequestKind::Implementation),
+    )
+}
 
 /// Puts the row of a line that has a declaration or an implementation.
 fn insert_row<S: Alter>(
@@ -46,13 +59,14 @@ fn insert_line<S: Alter>(
     tx: &mut Transaction<'_, S>,
     slot: i64,
     line: u32,
-    decl: Option<u32>,
-    imp: Option<u32>,
+    results: Results,
 ) -> Result<(), Error>
     ensures put { Edits S.Store result tx.old.conn tx.new.conn
-        (PutsAll more_tree (map (λ columns. Int slot ∷ columns) (more_columns line decl imp))) }
+        (PutsAll more_tree (map (λ columns. Int slot ∷ columns)
+        (more_columns line (results_value results Declaration) (results_value results Implementation)))) }
     ensures uncommitted { CommitsNothing S.Store tx.old.conn tx.new.conn }
 {
+    let (decl, imp) = more_results(results);
     if decl.is_none() && imp.is_none() {
         return Ok(());
     }
@@ -71,17 +85,19 @@ fn insert_ranges<S: Alter>(
     ensures uncommitted { CommitsNothing S.Store tx.old.conn tx.new.conn }
 {
     for row in ranges {
-        insert_line(tx, slot, row.line, row.decl, row.imp)?;
+        insert_line(tx, slot, row.line, row.results)?;
     }
     Ok(())
 }
 
 /// Whether a bearer has the line, the declaration and the implementation of these.
-fn has_same(bearer: &BearerRow, line: u32, decl: Option<u32>, imp: Option<u32>) -> bool
-    ensures is { IsTrue result ↔ ((bearer.now.line ≡ line) × (bearer.now.decl ≡ decl) × (bearer.now.imp ≡ imp)) }
-    ensures more { IsTrue result → more_columns line decl imp ≡ bearer_more (bearer_value bearer.now) }
+fn has_same(bearer: &BearerRow, line: u32, results: Results) -> bool
+    ensures is { IsTrue result ↔ ((bearer.now.line ≡ line) × (results_value bearer.now.results Declaration ≡ results_value results Declaration)
+        × (results_value bearer.now.results Implementation ≡ results_value results Implementation)) }
+    ensures more { IsTrue result → more_columns line (results_value results Declaration) (results_value results Implementation)
+        ≡ bearer_more (bearer_value bearer.now) }
 {
-    bearer.line == line && bearer.decl == decl && bearer.imp == imp
+    bearer.line == line && more_results(bearer.results) == more_results(results)
 }
 
 /// Whether a range has the line, the declaration and the implementation of a bearer.
@@ -96,7 +112,7 @@ fn is_of_range(rows: &Rows<'_>, bearer: &BearerRow) -> bool
         .binary_search_by(|range| range.line.cmp(&bearer.line))
     {
         Ok(found) => match rows.ranges.get(found) {
-            Some(range) => has_same(bearer, range.line, range.decl, range.imp),
+            Some(range) => has_same(bearer, range.line, range.results),
             None => false,
         },
         Err(_) => false,
@@ -112,7 +128,7 @@ fn is_of_last(earlier: &[BearerRow], bearer: &BearerRow) -> bool
         → Has (flat_map (λ b. bearer_more (bearer_value b)) earlier.now) row → IsTrue result }
 {
     match earlier.last() {
-        Some(before) => has_same(bearer, before.line, before.decl, before.imp),
+        Some(before) => has_same(bearer, before.line, before.results),
         None => false,
     }
 }
@@ -153,7 +169,7 @@ fn insert_bearer<S: Alter>(
     if is_listed(rows, at, bearer) {
         return Ok(());
     }
-    insert_line(tx, slot, bearer.line, bearer.decl, bearer.imp)
+    insert_line(tx, slot, bearer.line, bearer.results)
 }
 
 /// Puts what the bearers have of declarations and implementations, where what the ranges have is

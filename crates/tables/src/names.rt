@@ -1,5 +1,6 @@
 //! Tags by their names, as they are selected: of one name, or of a prefix. Both are ranges of the
-//! index on names, so that no tag of another name is read. `specs/Names`.
+//! index on names, so that no tag of another name is read. `FindsNamed` and
+//! `FindsPrefixed` in `machine/specs/Selections`.
 ghost use Rattle.std.specs.Prelude.{◌≡◌, Contains, map, option_map, IfOk, OnOk};
 ghost use Rattle.sqlite.specs.State.{HasCleanDisk};
 ghost use Rattle.sqlite.specs.Held.{state};
@@ -8,7 +9,7 @@ ghost use Rattle.machine.specs.State.{State};
 ghost use Rattle.tables.specs.Stands.{OnlySelects, Rests};
 ghost use Rattle.machine.specs.FoundTags.{BeginsWith, line_cmp, name_cmp};
 ghost use Rattle.machine.specs.Found.{tag_found};
-ghost use Rattle.tables.specs.Names.{FindsNamed, FindsPrefixed};
+ghost use Rattle.machine.specs.Selections.{FindsNamed, FindsPrefixed};
 ghost use Rattle.tables.specs.Steps.TagRows.{IsBehind, TellNamed};
 ghost use Rattle.tables.specs.Steps.Clauses.{OfState, OnlyReads};
 

@@ -1,4 +1,5 @@
-//! The projects with a part, as they are selected, by name. `FindsProjects` in `specs/Selections`.
+//! The projects with a part, as they are selected, by name. `FindsProjects` in
+//! `machine/specs/Selections`.
 ghost use Rattle.std.specs.Prelude.{◌≡◌, Contains, is_some, map, string_bytes, IfOk};
 ghost use Rattle.sqlite.specs.State.{HasCleanDisk};
 ghost use Rattle.sqlite.specs.Held.{state};
@@ -9,7 +10,7 @@ ghost use Rattle.machine.specs.State.{State};
 ghost use Rattle.tables.specs.Stands.{OnlySelects, Rests};
 ghost use Rattle.machine.specs.Projects.{text_cmp};
 ghost use Rattle.machine.specs.Found.{project_found};
-ghost use Rattle.tables.specs.Selections.{FindsProjects};
+ghost use Rattle.machine.specs.Selections.{FindsProjects};
 ghost use Rattle.tables.specs.Steps.Slots.{HasPart, IsTold};
 ghost use Rattle.tables.specs.Steps.Clauses.{OfState, OnlyReads};
 

@@ -1,12 +1,12 @@
 //! The contents of hover results, selected by the number of the result. `FindsHover` in
-//! `specs/Selections`.
+//! `machine/specs/Selections`.
 ghost use Rattle.std.specs.Prelude.{List, ℕ, Some, option_map, string_bytes, IfOk};
 ghost use Rattle.sqlite.specs.State.{HasCleanDisk};
 ghost use Rattle.sqlite.specs.Held.{state};
 ghost use Rattle.tables.specs.Contents.{HasSlot};
 ghost use Rattle.machine.specs.State.{State};
 ghost use Rattle.tables.specs.Stands.{OnlySelects, Rests};
-ghost use Rattle.tables.specs.Selections.{FindsHover};
+ghost use Rattle.machine.specs.Selections.{FindsHover};
 ghost use Rattle.tables.specs.Steps.Slots.{IsKnown};
 ghost use Rattle.tables.specs.declared.slots.Part.TheVariants.{Dump};
 ghost use Rattle.tables.specs.Steps.Clauses.{OfState, OnlyReads};

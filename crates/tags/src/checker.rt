@@ -4,7 +4,7 @@
 ghost use Rattle.std.specs.Prelude.{◌≡◌, ◌+◌, ◌<◌, ◌≤◌, IfNone, OnErr, OnOk};
 ghost use Rattle.tags.specs.Steps.Contents.{IsContent, Reads};
 ghost use Rattle.tags.specs.Faults.{result_map};
-ghost use Rattle.tags.specs.Fault.{Reading};
+ghost use Rattle.tags.specs.Fault.{Reading, most_lines};
 ghost use Rattle.tags.specs.Lines.{IsHanded, line_text};
 ghost use Rattle.tags.specs.Steps.Readings.{handed};
 ghost use Rattle.tags.specs.Values.{ContentValue};
@@ -54,7 +54,7 @@ impl Counted {
     /// The least of T09 to T11 that holds of the next line.
     fn order_code(&self, content: Content<'_>) -> Option<Code>
         ensures value { (x : ContentValue) → IsContent content.entry x → result ≡ order_in (count_of self.now) x }
-        ensures room { IfNone result (self.now.order.count < 100000) }
+        ensures room { IfNone result (self.now.order.count < most_lines) }
     {
         match content {
             Content::Ordinary(cut) => self.order.code(Some(cut.name)),
@@ -64,11 +64,11 @@ impl Counted {
 
     /// Takes the next line. An `Err` changes nothing.
     fn add(&mut self, alloc: Global, content: Content<'_>) -> Result<(), AllocError>
-        requires room { self.old.order.count < 100000 }
+        requires room { self.old.order.count < most_lines }
         requires fewer { self.old.tags ≤ self.old.order.count }
         ensures ok { OnOk result ((x : ContentValue) → IsContent content.entry x → count_of self.new ≡ add counted (count_of self.old) x) }
         ensures err { OnErr result (count_of self.new ≡ count_of self.old) }
-        ensures room { self.new.order.count ≤ 100000 }
+        ensures room { self.new.order.count ≤ most_lines }
         ensures fewer { self.new.tags ≤ self.new.order.count }
     {
         match content {
@@ -95,6 +95,7 @@ pub struct TagChecker {
 
 impl Model for TagChecker {
     ghost use Rattle.std.specs.Prelude.{◌≤◌, ℕ};
+    ghost use Rattle.tags.specs.Fault.{most_lines};
     ghost use Rattle.tags.specs.States.{State};
     ghost use Rattle.tags.specs.Steps.Views.{checked_state};
 
@@ -102,7 +103,7 @@ impl Model for TagChecker {
 
     ghost view = { λ c. checked_state c.fault c.counted };
 
-    ghost invariant = { λ c. (c.counted.tags ≤ c.counted.order.count) × (c.counted.order.count ≤ 100000) };
+    ghost invariant = { λ c. (c.counted.tags ≤ c.counted.order.count) × (c.counted.order.count ≤ most_lines) };
 }
 
 impl TagChecker {

@@ -1,7 +1,7 @@
 //! What the lines before a line forbid: a pseudo-tag after a tag, names that descend, too many
 //! lines. What a line says by itself is judged in `content.rt`. `specs/Fault`.
 ghost use Rattle.std.specs.Prelude.{◌≡◌, ◌<◌, IfNone, OnErr, OnOk, Some, None, false, length, option_map, vec_capacity};
-ghost use Rattle.tags.specs.Fault.{descends, order_by, written_in};
+ghost use Rattle.tags.specs.Fault.{descends, most_lines, order_by, written_in};
 ghost use Rattle.tags.specs.Values.{ContentValue};
 
 use crate::code::Code;
@@ -62,7 +62,7 @@ impl Order {
     pub fn code(&self, written: Option<&[u8]>) -> Option<Code>
         ensures value { (x : ContentValue) → written_in x ≡ option_map (λ name. name.now) written.entry
             → result ≡ order_by (last_of self.now) self.now.checked self.now.count x }
-        ensures room { IfNone result (self.now.count < 100000) }
+        ensures room { IfNone result (self.now.count < most_lines) }
     {
         let last = self.last.as_deref();
         match written {

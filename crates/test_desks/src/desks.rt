@@ -7,8 +7,7 @@ use desk::{
     Command, Desk, DocUri, Key, PlainDesk, ProjectName, Query, Reply, Request, TableDesk,
     answer_law, judgement_law, read_number, reply_law, retry_law, run,
 };
-use dump::RequestKind;
-use lsif::Profile;
+use lsif::{Profile, RequestKind};
 use positions::Position;
 use sample_stores::opened;
 use samples::{dump_text, parted, there};

@@ -6,11 +6,11 @@ mod spans;
 
 use crate::asserts::{expect_equal, expect_equal_text};
 use dump::{
-    CheckedDump, Checker, RequestKind, Role, chain_law, container_law, ends_law, fault_law,
-    hover_law, line_law, listing_law, nesting_law, own_law, path_law, pick_law, read_dump,
-    read_line, role_of, uri_law, vertex_law,
+    CheckedDump, Checker, Role, chain_law, container_law, ends_law, fault_law, hover_law, line_law,
+    listing_law, nesting_law, own_law, path_law, pick_law, read_dump, read_line, role_of, uri_law,
+    vertex_law,
 };
-use lsif::{Counted, Id, IdRef, Profile, Property, Vertex};
+use lsif::{Counted, Id, IdRef, Profile, Property, REQUESTS, Vertex};
 use samples::{made_dump, text_of};
 use std::alloc::Global;
 use std::process::Abort;
@@ -125,26 +125,17 @@ fn number(found: Option<&Id>) -> u64 {
     }
 }
 
-/// The kinds of requests.
-const REQUESTS: &[RequestKind] = &[
-    RequestKind::Definition,
-    RequestKind::References,
-    RequestKind::Hover,
-    RequestKind::Declaration,
-    RequestKind::Implementation,
-];
-
 /// Of this vertex the first result for each request along its chain, and its package; what its
 /// `next` edge leads to; and the results that it has itself.
 fn found_of(alloc: Global, dump: &CheckedDump, vertex: u64) -> Result<String, Fail> {
     let id = Id::Number(vertex);
     let mut found = format!(in alloc; "{vertex}:")?;
-    for &request in REQUESTS {
+    for request in REQUESTS {
         write!(found, " {}", number(dump.first(request, &id)))?;
     }
     let (package, next) = (number(dump.package_of(&id)), number(dump.next(&id)));
     write!(found, " {package}, next {next}, own")?;
-    for &request in REQUESTS {
+    for request in REQUESTS {
         write!(found, " {}", number(dump.result(request, &id)))?;
     }
     found.push('\n')?;

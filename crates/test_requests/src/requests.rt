@@ -3,9 +3,8 @@
 ghost use Rattle.std.specs.Prelude.{◌≡◌, is_err, true};
 
 use crate::asserts::expect_equal_text;
-use dump::RequestKind;
 use http_edge::serve_stream;
-use lsif::Counted;
+use lsif::{Counted, RequestKind};
 use machine::{Change, Command, Desk, DocUri, Key, ProjectName, Query, Reply, Upload};
 use positions::Position;
 use samples::{Slow, parted, slow_writer};

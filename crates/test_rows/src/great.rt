@@ -1,7 +1,7 @@
 //! The rows of dumps with a long chain, a ring of results, many items and ranges of many levels.
 use crate::asserts::expect_equal;
 use flatten::{ItemRow, RangeRow, Rows, flatten};
-use lsif::Profile;
+use lsif::{Profile, RequestKind};
 use samples::great::{contains, levels, long_chain, many_edges, ring};
 use samples::{NUMBERS, dump_of, made_dump, parted, push_line, push_made, text_of};
 use std::alloc::Global;
@@ -20,7 +20,11 @@ fn expect_one<R: AllocGlobal + Abort>(rt: &R, rows: &Rows<'_>) {
     for row in &rows.ranges {
         expect_equal(
             rt,
-            &(row.line, row.def, row.refs),
+            &(
+                row.line,
+                row.results.of(RequestKind::Definition),
+                row.results.of(RequestKind::References),
+            ),
             &(3, Some(99_996), None),
             "range",
         );

@@ -1,8 +1,10 @@
 //! The rows of a dump by a plain walk, to compare with those of `flatten`. Whatever is looked up,
 //! all elements are walked; so it's quadratic, for small dumps.
-use dump::{CheckedDump, RequestKind, Role, role_of};
-use flatten::{BearerRow, DocRow, HoverRow, ItemRow, MarkRow, RangeRow, Rows, key_text};
-use lsif::{Edge, Element, IdRef, Ids, MonikerKind, Package, Property, Vertex};
+use dump::{CheckedDump, Role, role_of};
+use flatten::{BearerRow, DocRow, HoverRow, ItemRow, MarkRow, RangeRow, Results, Rows, key_text};
+use lsif::{
+    Edge, Element, IdRef, Ids, MonikerKind, Package, Property, REQUESTS, RequestKind, Vertex,
+};
 use positions::Span;
 use std::alloc::{AllocError, Global};
 use std::rc::RcStr;
@@ -44,27 +46,7 @@ fn joined(edge: &Edge) -> Option<(Label, IdRef<'_>, IdRef<'_>)> {
     match edge {
         Edge::Next(from, to) => Some((Label::Next, from.lent(), to.lent())),
         Edge::Package(from, to) => Some((Label::Package, from.lent(), to.lent())),
-        Edge::Definition(from, to) => Some((
-            Label::Result(RequestKind::Definition),
-            from.lent(),
-            to.lent(),
-        )),
-        Edge::References(from, to) => Some((
-            Label::Result(RequestKind::References),
-            from.lent(),
-            to.lent(),
-        )),
-        Edge::Hover(from, to) => Some((Label::Result(RequestKind::Hover), from.lent(), to.lent())),
-        Edge::Declaration(from, to) => Some((
-            Label::Result(RequestKind::Declaration),
-            from.lent(),
-            to.lent(),
-        )),
-        Edge::Implementation(from, to) => Some((
-            Label::Result(RequestKind::Implementation),
-            from.lent(),
-            to.lent(),
-        )),
+        Edge::Request(kind, from, to) => Some((Label::Result(*kind), from.lent(), to.lent())),
         _ => None,
     }
 }
@@ -108,6 +90,15 @@ fn first(elements: &[Element], members: &[IdRef<'_>], request: RequestKind) -> O
         }
     }
     None
+}
+
+/// The numbers of the first results that requests have along the chain.
+fn first_results(elements: &[Element], members: &[IdRef<'_>]) -> Results {
+    let mut results = Results::none();
+    for kind in REQUESTS {
+        results = results.with(kind, first(elements, members, kind));
+    }
+    results
 }
 
 /// A range that a document contains.
@@ -201,11 +192,7 @@ fn range_rows<'a>(
             uri: range.uri,
             span: range.span,
             parent: parent(ranges, range),
-            def: first(elements, &members, RequestKind::Definition),
-            refs: first(elements, &members, RequestKind::References),
-            hover: first(elements, &members, RequestKind::Hover),
-            decl: first(elements, &members, RequestKind::Declaration),
-            imp: first(elements, &members, RequestKind::Implementation),
+            results: first_results(elements, &members),
         })?;
     }
     Ok(rows)
@@ -453,11 +440,7 @@ fn bearer_row(
         line,
         key,
         kind,
-        def: first(elements, members, RequestKind::Definition),
-        refs: first(elements, members, RequestKind::References),
-        hover: first(elements, members, RequestKind::Hover),
-        decl: first(elements, members, RequestKind::Declaration),
-        imp: first(elements, members, RequestKind::Implementation),
+        results: first_results(elements, members),
     }
 }
 
@@ -492,10 +475,7 @@ fn add_rows<'a>(
             result: line,
             contents: contents.as_str(),
         })?,
-        Vertex::DefinitionResult
-        | Vertex::ReferenceResult
-        | Vertex::DeclarationResult
-        | Vertex::ImplementationResult => {
+        Vertex::Result(_) => {
             add_items(alloc, &mut rows.items, elements, ranges, (line, id))?;
         }
         _ => {}

@@ -133,11 +133,11 @@ const WORKED: &[(&str, &str)] = &[
     ),
     (
         IMPORT,
-        "[(3, None)] [] [MarkRow { range: 3, kind: Import, key: \"3:npm6:lib::f13:npm3:lib5:1.0.0\" }] [BearerRow { line: 3, key: \"3:npm6:lib::f13:npm3:lib5:1.0.0\", kind: Import, def: None, refs: None, hover: None, decl: None, imp: None }]",
+        "[(3, None)] [] [MarkRow { range: 3, kind: Import, key: \"3:npm6:lib::f13:npm3:lib5:1.0.0\" }] [BearerRow { line: 3, key: \"3:npm6:lib::f13:npm3:lib5:1.0.0\", kind: Import, results: Results { numbers: [None, None, None, None, None] } }]",
     ),
     (
         EXPORT,
-        "[(3, None)] [ItemRow { result: 8, role: Definitions, uri: \"file:///lib.ts\", span: Span { start: Position { line: 0, character: 9 }, end: Position { line: 0, character: 10 } } }] [MarkRow { range: 3, kind: Export, key: \"3:npm6:lib::f13:npm3:lib5:1.0.0\" }] [BearerRow { line: 3, key: \"3:npm6:lib::f13:npm3:lib5:1.0.0\", kind: Export, def: Some(8), refs: None, hover: None, decl: None, imp: None }]",
+        "[(3, None)] [ItemRow { result: 8, role: Definitions, uri: \"file:///lib.ts\", span: Span { start: Position { line: 0, character: 9 }, end: Position { line: 0, character: 10 } } }] [MarkRow { range: 3, kind: Export, key: \"3:npm6:lib::f13:npm3:lib5:1.0.0\" }] [BearerRow { line: 3, key: \"3:npm6:lib::f13:npm3:lib5:1.0.0\", kind: Export, results: Results { numbers: [Some(8), None, None, None, None] } }]",
     ),
 ];
 

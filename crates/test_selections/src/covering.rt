@@ -1,8 +1,8 @@
 //! Which ranges cover a position, as rows of ranges say it, and which rows are refused.
 use crate::asserts::expect_equal;
 use crate::selections::filled;
-use dump::RequestKind;
-use lsif::Profile;
+use lsif::{Profile, RequestKind};
+use machine::{Covering, FoundRange};
 use positions::Position;
 use sample_stores::{opened, put_dump};
 use samples::great::levels;
@@ -10,7 +10,7 @@ use samples::there;
 use sqlite::{Connection, MemStore};
 use std::alloc::Global;
 use std::test::Fail;
-use tables::{Covering, FoundRange, Tables, TablesFault};
+use tables::{Tables, TablesFault};
 
 /// `n` has a range of 0:0 to 0:20, and in it one of 0:5 to 0:8; `u` a range up to 0:5, one from
 /// there, and an empty one at it; `b` a range of its line 0 and one of its line 2. `tagged` has

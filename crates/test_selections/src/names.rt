@@ -1,12 +1,13 @@
 //! Which tags are found by their names.
 use crate::asserts::expect_equal_text;
+use machine::FoundTag;
 use sample_stores::{opened, put_tags, tags_of};
 use samples::there;
 use sqlite::{Connection, MemStore};
 use std::alloc::Global;
 use std::process::Abort;
 use std::test::Fail;
-use tables::{FoundTag, Tables, TablesFault};
+use tables::{Tables, TablesFault};
 
 /// The projects, each with its tags file.
 const PROJECTS: &[(&str, &str)] = &[

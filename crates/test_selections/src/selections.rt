@@ -165,7 +165,7 @@ const ROWS: &[Row] = &[
         change: "",
         ask: Ask::Bearers("f"),
         found: Some(
-            "[FoundBearer { project: \"app\", line: 12, kind: Import, def: Some(2), refs: Some(3), hover: None, decl: None, imp: Some(4) }, FoundBearer { project: \"app\", line: 13, kind: Import, def: None, refs: None, hover: None, decl: None, imp: None }, FoundBearer { project: \"lib\", line: 11, kind: Export, def: Some(9), refs: None, hover: Some(7), decl: Some(8), imp: None }]",
+            "[FoundBearer { project: \"app\", line: 12, kind: Import, results: Results { numbers: [Some(2), Some(3), None, None, Some(4)] } }, FoundBearer { project: \"app\", line: 13, kind: Import, results: Results { numbers: [None, None, None, None, None] } }, FoundBearer { project: \"lib\", line: 11, kind: Export, results: Results { numbers: [Some(9), None, Some(7), Some(8), None] } }]",
         ),
     },
     Row {

@@ -3,10 +3,10 @@ use Rattle.std.specs.Prelude.{◌≡◌, ◌≢◌, ◌⊎◌, ℕ, List, Option
 use Rattle.std.specs.declared.cmp.Ordering.{Ordering}
 use Rattle.std.specs.declared.cmp.Ordering.TheVariants.{Greater}
 use Rattle.std.specs.Ordering.{nat_cmp, ordering_then}
-use Rattle.dump.specs.declared.request_kind.RequestKind.TheVariants.{Hover}
+use Rattle.lsif.specs.declared.request_kind.RequestKind.TheVariants.{Hover}
 use Rattle.machine.specs.State.{State}
 use Rattle.machine.specs.Projects.{text_cmp}
-use Rattle.tables.specs.Selections.{FindsHover, RangeFound}
+use Rattle.machine.specs.Selections.{FindsHover, RangeFound}
 use Rattle.desk.specs.Steps.Rows.{IsRowJoined, JoinedValue}
 
 -- by project, then by line, then by number

@@ -3,17 +3,17 @@ use Rattle.std.specs.Prelude.{◌≡◌, ◌≢◌, ◌↔◌, ◌⊎◌, ℕ, t
 use Rattle.std.specs.declared.cmp.Ordering.{Ordering}
 use Rattle.std.specs.Ordering.{nat_cmp, ordering_then}
 use Rattle.lsif.specs.Element.{range, ElementValue}
-use Rattle.dump.specs.declared.request_kind.RequestKind.{RequestKind}
+use Rattle.lsif.specs.declared.request_kind.RequestKind.{RequestKind}
 use Rattle.dump.specs.declared.role.Role.{Role}
 use Rattle.dump.specs.Graph.{vertex_at}
 use Rattle.dump.specs.Places.{HasDocument, PlaceValue}
 use Rattle.dump.specs.Progress.{DumpValue}
-use Rattle.dump.specs.Requests.{Pick, RangeValue, follows, finds}
+use Rattle.lsif.specs.RequestKinds.{follows, finds}
+use Rattle.dump.specs.Requests.{Pick, RangeValue}
 use Rattle.positions.specs.Position.{PositionValue}
-use Rattle.flatten.specs.Flat.{result_for}
 use Rattle.machine.specs.State.{State}
 use Rattle.machine.specs.Projects.{text_cmp}
-use Rattle.tables.specs.Selections.{BearerFound, Bears, HasItem, HasMark, IsRangeFound, MarkText, RangeFound, range_found}
+use Rattle.machine.specs.Selections.{BearerFound, Bears, HasItem, HasMark, IsRangeFound, MarkText, RangeFound, range_found}
 use Rattle.machine.specs.Reply.{FoundPlace}
 use Rattle.desk.specs.declared.rows.ranges.Picked.{Picked}
 use Rattle.desk.specs.declared.rows.ranges.Picked.TheVariants as picks
@@ -86,7 +86,7 @@ pub record OfBearer (request : RequestKind) (own : List ℕ) (bearer : BearerFou
   pub finds : finds request bearer.kind ≡ true
   pub its_project : bearer.project ≡ j.project
   pub its_line : bearer.line ≡ j.line
-  pub its_result : result_for request bearer.results ≡ Some j.number
+  pub its_result : bearer.results request ≡ Some j.number
 
 -- one that has a mark with the key of this text
 abbrev pub IsKeyJoined : State → RequestKind → List ℕ → List ℕ → JoinedValue → Type 0

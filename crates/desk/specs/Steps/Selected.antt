@@ -8,7 +8,7 @@ use Rattle.std.specs.Ordering.{nat_cmp, ordering_then}
 use Rattle.positions.specs.Position.{PositionValue}
 use Rattle.positions.specs.Span.{covers}
 use Rattle.lsif.specs.Element.{ElementValue}
-use Rattle.dump.specs.declared.request_kind.RequestKind.{RequestKind}
+use Rattle.lsif.specs.declared.request_kind.RequestKind.{RequestKind}
 use Rattle.dump.specs.contracts.role.RolePartialEq.TheImpl as role_eq
 use Rattle.dump.specs.declared.role.Role.{Role}
 use Rattle.dump.specs.Places.{IsListing, PlaceValue}
@@ -16,7 +16,7 @@ use Rattle.dump.specs.Progress.{DumpValue}
 use Rattle.flatten.specs.Flat.{RangeRowValue, ItemRowValue, HoverRowValue, MarkRowValue, BearerRowValue, kind_index, IsItemRow, IsHoverRow, IsMarkRow, IsBearerRow}
 use Rattle.flatten.specs.Rows.{range_value}
 use Rattle.flatten.specs.declared.rows.RangeRow.{RangeRow}
-use Rattle.tables.specs.Selections.{MarkText, RangeFound, BearerFound, bearer_found_cmp, bearer_row}
+use Rattle.machine.specs.Selections.{MarkText, RangeFound, BearerFound, bearer_found_cmp, bearer_row}
 use Rattle.tables.specs.Steps.Climbs.{row_found}
 use Rattle.desk.specs.declared.project.Project.{Project}
 use Rattle.machine.specs.Steps.Covers.{inner_order}

@@ -2,16 +2,15 @@
 //! its keys (`IsJoined` of `specs/Joins`). They are found by the rows of the bearers, one selection
 //! for each key.
 ghost use Rattle.std.specs.Prelude.{◌≡◌, Contains, IfOk, IfSome, IfNone, OnOk, map, string_bytes};
-ghost use Rattle.flatten.specs.Flat.{result_for};
-ghost use Rattle.tables.specs.Selections.{BearerFound, bearer_found};
+ghost use Rattle.machine.specs.Selections.{BearerFound, bearer_found};
 ghost use Rattle.machine.specs.State.{State};
 ghost use Rattle.desk.specs.Steps.Clauses.{OnlyReads};
 ghost use Rattle.desk.specs.Steps.Rows.{Adds, AreJoined, AreThose, IsKeyJoined, JoinedValue, OfBearer, joined_value};
 
 use crate::index::{Index, IndexFault};
-use dump::RequestKind;
+use lsif::RequestKind;
+use machine::FoundBearer;
 use std::alloc::{AllocError, Global};
-use tables::FoundBearer;
 
 /// A vertex of another project that is joined to a range, and has a first result.
 #[derive(Debug, PartialEq, Eq, PartialOrd, Ord, Drop)]
@@ -23,19 +22,6 @@ pub(crate) struct JoinedBearer {
     pub(crate) number: u32,
 }
 
-/// The number of the bearer's first result for the request.
-fn result_of(bearer: &FoundBearer, request: RequestKind) -> Option<u32>
-    ensures { result ≡ result_for request (bearer_found bearer.now).results }
-{
-    match request {
-        RequestKind::Definition => bearer.def,
-        RequestKind::References => bearer.refs,
-        RequestKind::Hover => bearer.hover,
-        RequestKind::Declaration => bearer.decl,
-        RequestKind::Implementation => bearer.imp,
-    }
-}
-
 /// The joined vertex of a bearer's row. None where it's of the project itself, or of a kind that
 /// the request doesn't look for there, or has no result.
 fn joined_of(request: RequestKind, own: &str, bearer: FoundBearer) -> Option<JoinedBearer>
@@ -45,7 +31,7 @@ fn joined_of(request: RequestKind, own: &str, bearer: FoundBearer) -> Option<Joi
     if bearer.project.as_str() == own || !request.finds(bearer.kind) {
         return None;
     }
-    match result_of(&bearer, request) {
+    match bearer.results.of(request) {
         Some(number) => Some(JoinedBearer {
             project: bearer.project,
             line: bearer.line,

@@ -2,7 +2,7 @@
 //! those of the first vertex that is joined to it, by project and line (`HoversAt` of
 //! `specs/Answers`).
 ghost use Rattle.std.specs.Prelude.{IfOk, option_map, string_bytes};
-ghost use Rattle.tables.specs.Selections.{range_found};
+ghost use Rattle.machine.specs.Selections.{range_found};
 ghost use Rattle.machine.specs.State.{State};
 ghost use Rattle.desk.specs.Steps.Clauses.{OnlyReads};
 ghost use Rattle.machine.specs.Answers.{AnswersAt, AnswersHover};
@@ -12,11 +12,10 @@ ghost use Rattle.desk.specs.Steps.RowHovers.{RowHovers};
 use crate::index::{Index, IndexFault};
 use crate::rows::bearers::joined_bearers;
 use crate::rows::ranges::{Picked, keys_at, pick};
-use dump::RequestKind;
-use machine::{Code, DocUri, ProjectName, Reply, hover_found};
+use lsif::RequestKind;
+use machine::{Code, DocUri, FoundRange, ProjectName, Reply, hover_found};
 use positions::Position;
 use std::alloc::Global;
-use tables::FoundRange;
 
 /// The contents that answer a hover query at the range of this row: those of its own result, and
 /// where it has none, those of the least vertex that is joined to it (by project, line and number).

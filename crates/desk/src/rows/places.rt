@@ -2,7 +2,7 @@
 //! sorted, each once.
 ghost use Rattle.std.specs.Prelude.{◌≡◌, Contains, IfOk, OnOk, map, string_bytes};
 ghost use Rattle.dump.specs.Places.{IsListing, PlaceValue};
-ghost use Rattle.tables.specs.Selections.{item_found};
+ghost use Rattle.machine.specs.Selections.{item_found};
 ghost use Rattle.machine.specs.State.{State};
 ghost use Rattle.desk.specs.Steps.Clauses.{OnlyReads};
 ghost use Rattle.machine.specs.Answers.{found_cmp};
@@ -14,11 +14,10 @@ ghost use Rattle.desk.specs.Steps.RowPlaces.{item_place};
 use crate::index::{Index, IndexFault};
 use crate::rows::results::ProjectResult;
 use dump::Role;
-use machine::{END, FoundPlace, PLACES, Reply, add_place};
+use machine::{END, FoundItem, FoundPlace, PLACES, Reply, add_place};
 use positions::Span;
 use std::alloc::{AllocError, Global};
 use std::rc::RcStr;
-use tables::FoundItem;
 
 /// A place in a project, whose uri other places of the same document may share.
 #[derive(Debug, PartialEq, Eq, PartialOrd, Ord, Drop)]

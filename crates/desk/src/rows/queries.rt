@@ -1,7 +1,7 @@
 //! The replies to queries, each made of what the selections of an index find, whether that is in a
 //! database or in memory.
 ghost use Rattle.std.specs.Prelude.{◌≡◌, ◌≢◌, IfOk};
-ghost use Rattle.dump.specs.declared.request_kind.RequestKind.TheVariants as requests;
+ghost use Rattle.lsif.specs.declared.request_kind.RequestKind.TheVariants as requests;
 ghost use Rattle.machine.specs.State.{State};
 ghost use Rattle.desk.specs.Steps.Clauses.{OnlyReads};
 ghost use Rattle.machine.specs.Answers.{Answers, AnswersAt, AnswersKind, AnswersPlaces, reference_roles};
@@ -14,7 +14,8 @@ use crate::rows::hovers::hover;
 use crate::rows::places::{places_of, places_reply};
 use crate::rows::ranges::{Picked, pick};
 use crate::rows::results::answering_results;
-use dump::{RequestKind, Role};
+use dump::{Role, roles_of};
+use lsif::RequestKind;
 use machine::{Code, DocUri, ProjectName, Query, Reply, profile_found, projects_found, tags_found};
 use positions::Position;
 use std::alloc::{AllocError, Global};
@@ -24,7 +25,7 @@ fn reference_roles(declaration: bool) -> &'static [Role]
     ensures { result.now ≡ reference_roles declaration }
 {
     if declaration {
-        RequestKind::References.roles()
+        roles_of(RequestKind::References)
     } else {
         &[Role::References]
     }
@@ -109,14 +110,10 @@ fn answer_at<I: Index>(
         → IfOk result (λ r. AnswersAt m (at_value project.now uri.now at) (AnswersKind m kind (at_value project.now uri.now at)) r) }
     ensures reads { OnlyReads I.Index result index.old index.new }
 {
-    match kind {
-        RequestKind::Hover => hover(alloc, index, project, uri, at),
-        RequestKind::Definition
-        | RequestKind::References
-        | RequestKind::Declaration
-        | RequestKind::Implementation => {
-            places(alloc, index, kind, kind.roles(), project, uri, at)
-        }
+    if kind.gives_places() {
+        places(alloc, index, kind, roles_of(kind), project, uri, at)
+    } else {
+        hover(alloc, index, project, uri, at)
     }
 }
 

@@ -3,17 +3,17 @@
 //! smallest first, so the search ends at the first that does.
 ghost use Rattle.std.specs.Prelude.{◌↔◌, IsTrue, IfOk, OnOk, map, option_map, string_bytes};
 ghost use Rattle.dump.specs.Requests.{IsFirst};
-ghost use Rattle.tables.specs.Selections.{mark_found, range_found};
+ghost use Rattle.machine.specs.Selections.{mark_found, range_found};
 ghost use Rattle.machine.specs.State.{State};
 ghost use Rattle.desk.specs.Indexes.{AreFaultless};
 ghost use Rattle.desk.specs.Steps.Clauses.{OnlyReads};
 ghost use Rattle.desk.specs.Steps.Rows.{AreFollowed, AreKeys, Picks, RowSpeaks};
 
 use crate::index::{Index, IndexFault};
-use dump::RequestKind;
+use lsif::RequestKind;
+use machine::{Covering, FoundMark, FoundRange};
 use positions::Position;
 use std::alloc::{AllocError, Global};
-use tables::{Covering, FoundMark, FoundRange};
 
 /// What answers a request at a position.
 #[derive(Clone, Copy)]

@@ -3,7 +3,7 @@
 //! line in the project's dump.
 ghost use Rattle.std.specs.Prelude.{◌≡◌, Contains, IfOk, OnOk, map};
 ghost use Rattle.dump.specs.Places.{IsListing};
-ghost use Rattle.tables.specs.Selections.{range_found};
+ghost use Rattle.machine.specs.Selections.{range_found};
 ghost use Rattle.machine.specs.State.{State};
 ghost use Rattle.desk.specs.Steps.Clauses.{OnlyReads};
 ghost use Rattle.desk.specs.Steps.Rows.{Adds, AreThose, IsAnsweringResult, IsOwnResult, JoinedValue, joined_value, project_result_cmp, project_result_value, result_of_joined};
@@ -11,9 +11,9 @@ ghost use Rattle.desk.specs.Steps.Rows.{Adds, AreThose, IsAnsweringResult, IsOwn
 use crate::index::{Index, IndexFault};
 use crate::rows::bearers::{JoinedBearer, joined_bearers};
 use crate::rows::ranges::keys_at;
-use dump::RequestKind;
+use lsif::RequestKind;
+use machine::FoundRange;
 use std::alloc::{AllocError, Global};
-use tables::FoundRange;
 
 /// A result, by its number in the dump of a project.
 #[derive(Debug, PartialEq, Eq, PartialOrd, Ord, Drop)]

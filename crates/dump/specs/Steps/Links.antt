@@ -1,16 +1,28 @@
 -- The ways in which an element names a vertex, and tables of the elements that do.
-use Rattle.std.specs.Prelude.{ℕ, ◌+◌, Bool, false, nat_eq, ◌&&◌, List, [], ◌∷◌, Option, Some, None, option_and_then, option_map, get_or, if◌then◌else◌}
+use Rattle.std.specs.Prelude.{ℕ, ◌+◌, Bool, true, false, ◌&&◌, List, [], ◌∷◌, length, Option, Some, None, option_and_then, option_map, get_or, if◌then◌else◌}
 use Rattle.lsif.specs.Element.{IdValue, same_id, begin_event, end_event, event, contains, ElementValue, vertex, edge}
 use Rattle.dump.specs.declared.links.Link.{Link}
 use Rattle.dump.specs.declared.links.Link.TheVariants.{Contained, Begun, Ended, Single}
 use Rattle.dump.specs.declared.index_map.IndexMap.{IndexMap}
+use Rattle.lsif.specs.RequestKinds.{kind_number, kinds}
 use Rattle.dump.specs.declared.single.SingleLabel.{SingleLabel}
+use Rattle.dump.specs.declared.single.SingleLabel.TheVariants.{Next, PackageInformation, Request}
 use Rattle.dump.specs.Contained.{contains_of, contains_range}
 use Rattle.dump.specs.Ended.{begins, finishes}
 use Rattle.dump.specs.Graph.{vertex_at, is_among}
 use Rattle.dump.specs.Kinds.{is_document}
 use Rattle.dump.specs.Steps.Ids.{index_at}
-use Rattle.dump.specs.Walks.{label_index, same_label, single_of}
+use Rattle.dump.specs.Walks.{same_label, single_of}
+
+-- the number of a label, from 0
+abbrev pub label_index : SingleLabel → ℕ
+label_index Next = 0
+label_index PackageInformation = 1
+label_index (Request kind) = 2 + kind_number kind
+
+-- how many labels there are
+abbrev pub single_labels : ℕ
+single_labels = 2 + length kinds
 
 abbrev pub link_index : Link → ℕ
 link_index Contained = 0
@@ -18,8 +30,16 @@ link_index Begun = 1
 link_index Ended = 2
 link_index (Single label) = 3 + label_index label
 
+-- how many ways there are
+abbrev pub links : ℕ
+links = 3 + single_labels
+
 abbrev pub same_link : Link → Link → Bool
-same_link a b = nat_eq (link_index a) (link_index b)
+same_link Contained Contained = true
+same_link Begun Begun = true
+same_link Ended Ended = true
+same_link (Single a) (Single b) = same_label a b
+same_link a b = false
 
 -- the target of an edge of a single label
 abbrev pub single_target : ElementValue → Option IdValue

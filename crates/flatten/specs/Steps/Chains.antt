@@ -4,46 +4,31 @@ use Rattle.std.specs.List.{list_any}
 use Rattle.std.specs.Option.{option_or}
 use Rattle.std.specs.List.Sorted.{IsNonDecreasingBy}
 use Rattle.lsif.specs.Element.{IdValue, id_value, ElementValue}
-use Rattle.dump.specs.Requests.{label_of}
-use Rattle.dump.specs.declared.request_kind.RequestKind.TheVariants.{Definition, References, Hover, Declaration, Implementation}
-use Rattle.dump.specs.declared.request_kind.RequestKind.{RequestKind}
+use Rattle.dump.specs.declared.single.SingleLabel.TheVariants.{Request}
+use Rattle.lsif.specs.declared.request_kind.RequestKind.{RequestKind}
 use Rattle.dump.specs.Walks.{IsChain, first_to, next_pairs, single_pairs}
 use Rattle.flatten.specs.Flat.{ResultsValue, number_of}
+use Rattle.flatten.specs.Rows.{results_value}
 use Rattle.flatten.specs.declared.chains.Along.{Along}
 use Rattle.flatten.specs.declared.chains.Chains.{Chains}
 use Rattle.flatten.specs.declared.chains.VertexAlong.{VertexAlong}
 
 pub record AlongValue : Type 0 where
-  pub def : Option ℕ
-  pub refs : Option ℕ
-  pub hover : Option ℕ
-  pub decl : Option ℕ
-  pub imp : Option ℕ
+  pub results : ResultsValue
   pub bearer : Option IdValue
 
 abbrev pub along_value : Along → AlongValue
 along_value a = record {
-  def = a.def;
-  refs = a.refs;
-  hover = a.hover;
-  decl = a.decl;
-  imp = a.imp;
+  results = results_value a.results;
   bearer = option_map (λ i. id_value i.now) a.bearer;
 }
 
-abbrev pub results_of : AlongValue → ResultsValue
-results_of a = record { definition = a.def; references = a.refs; hover = a.hover; declaration = a.decl; implementation = a.imp }
-
 abbrev pub nothing : AlongValue
-nothing = record { def = None; refs = None; hover = None; decl = None; imp = None; bearer = None }
+nothing = record { results = λ kind. None; bearer = None }
 
 abbrev pub or_later : AlongValue → AlongValue → AlongValue
 or_later a b = record {
-  def = option_or a.def b.def;
-  refs = option_or a.refs b.refs;
-  hover = option_or a.hover b.hover;
-  decl = option_or a.decl b.decl;
-  imp = option_or a.imp b.imp;
+  results = λ kind. option_or (a.results kind) (b.results kind);
   bearer = option_or a.bearer b.bearer;
 }
 
@@ -57,7 +42,7 @@ abbrev pub is_bearing : List ElementValue → List (ℕ × ℕ) → IdValue → 
 is_bearing elements borne x = is_source borne (number_of elements x)
 
 abbrev pub own_result : List ElementValue → RequestKind → IdValue → Option IdValue
-own_result elements request x = first_to (single_pairs (label_of request) elements) x
+own_result elements request x = first_to (single_pairs (Request request) elements) x
 
 -- the number of the request's result of the vertex itself
 abbrev pub own_number : List ElementValue → RequestKind → IdValue → Option ℕ
@@ -69,11 +54,7 @@ own_bearer elements borne x = if is_bearing elements borne x then Some x else No
 -- what the vertex itself has
 abbrev pub own_of : List ElementValue → List (ℕ × ℕ) → IdValue → AlongValue
 own_of elements borne x = record {
-  def = own_number elements Definition x;
-  refs = own_number elements References x;
-  hover = own_number elements Hover x;
-  decl = own_number elements Declaration x;
-  imp = own_number elements Implementation x;
+  results = λ kind. own_number elements kind x;
   bearer = own_bearer elements borne x;
 }
 
@@ -84,11 +65,7 @@ first_by own (x ∷ xs) = option_or (own x) (first_by own xs)
 
 abbrev pub firsts_by : List ElementValue → List (ℕ × ℕ) → List IdValue → AlongValue
 firsts_by elements borne xs = record {
-  def = first_by (own_number elements Definition) xs;
-  refs = first_by (own_number elements References) xs;
-  hover = first_by (own_number elements Hover) xs;
-  decl = first_by (own_number elements Declaration) xs;
-  imp = first_by (own_number elements Implementation) xs;
+  results = λ kind. first_by (own_number elements kind) xs;
   bearer = first_by (own_bearer elements borne) xs;
 }
 

@@ -3,11 +3,12 @@ use Rattle.std.specs.Prelude.{◌≡◌, ◌⊎◌, ◌↔◌, ◌+◌, ◌*◌,
 use Rattle.std.specs.List.{AllByRecursion, AllZip}
 use Rattle.positions.specs.Position.{PositionValue, IsBefore, IsAtOrBefore, packed_of}
 use Rattle.positions.specs.Span.{SpanValue, Covers}
-use Rattle.dump.specs.declared.request_kind.RequestKind.{RequestKind}
+use Rattle.lsif.specs.declared.request_kind.RequestKind.{RequestKind}
+use Rattle.lsif.specs.declared.request_kind.RequestKind.TheVariants.{Definition, References, Hover}
 use Rattle.dump.specs.Progress.{DumpValue}
 use Rattle.dump.specs.Requests.{IsWithin}
-use Rattle.flatten.specs.Flat.{RangeRowValue, IsRangeRow, result_for}
-use Rattle.tables.specs.Selections.{RangeFound}
+use Rattle.flatten.specs.Flat.{RangeRowValue, IsRangeRow}
+use Rattle.machine.specs.Selections.{RangeFound}
 use Rattle.tables.specs.declared.range_rows.SlotRange.{SlotRange}
 
 -- what is read of the row of this range: all but the uri, the declaration and the implementation
@@ -15,9 +16,9 @@ pub record TellsRange (x : SlotRange) (r : RangeRowValue) : Type 0 where
   pub line : x.line ≡ r.line
   pub span : x.span ≡ r.place.span
   pub parent : x.parent ≡ r.parent
-  pub definition : x.def ≡ r.results.definition
-  pub references : x.refs ≡ r.results.references
-  pub hover : x.hover ≡ r.results.hover
+  pub definition : x.def ≡ r.results Definition
+  pub references : x.refs ≡ r.results References
+  pub hover : x.hover ≡ r.results Hover
 
 -- the row of a range of the document of this uri
 abbrev pub IsRowOf : DumpValue → List ℕ → RangeRowValue → Type 0
@@ -69,4 +70,4 @@ pub record IsClimbed (dump : DumpValue) (uri : List ℕ) (position : PositionVal
 
 -- what a request finds of the range of this row
 abbrev pub row_found : RequestKind → RangeRowValue → RangeFound
-row_found request r = record { line = r.line; span = r.place.span; result = result_for request r.results }
+row_found request r = record { line = r.line; span = r.place.span; result = r.results request }

@@ -1,6 +1,7 @@
 -- What is known of the results of a line.
 use Rattle.std.specs.Prelude.{◌≡◌, ◌⊎◌, ◌||◌, ℕ, true, [], ◌∷◌, Option, is_some}
 use Rattle.sqlite_value.specs.Order.{Row}
+use Rattle.lsif.specs.declared.request_kind.RequestKind.TheVariants.{Declaration, Implementation}
 use Rattle.dump.specs.Progress.{DumpValue}
 use Rattle.flatten.specs.Flat.{ResultsValue, RangeRowValue, BearerRowValue, IsRangeRow, IsBearerRow}
 use Rattle.tables.specs.Columns.{number, optional}
@@ -21,8 +22,8 @@ pub record MoreValue : Type 0 where
 pub record IsMore (dump : DumpValue) (v : MoreValue) : Type 0 where
   pub results : ResultsValue
   pub known : IsKnown dump v.line results
-  pub declaration : results.declaration ≡ v.declaration
-  pub implementation : results.implementation ≡ v.implementation
+  pub declaration : results Declaration ≡ v.declaration
+  pub implementation : results Implementation ≡ v.implementation
   pub some : (is_some v.declaration || is_some v.implementation) ≡ true
 
 abbrev pub more_values : MoreValue → Row

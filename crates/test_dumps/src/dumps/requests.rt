@@ -1,7 +1,7 @@
 //! By which monikers requests join dumps, and what they ask for (LSIF 0.6.0, "Multiple Projects").
 use crate::asserts::expect_equal;
-use dump::{RequestKind, Role};
-use lsif::MonikerKind;
+use dump::{Role, roles_of};
+use lsif::{MonikerKind, RequestKind};
 use std::test::Fail;
 
 /// A request and a kind of monikers: whether the request goes on to other projects by them, and
@@ -62,7 +62,12 @@ fn joined_by_kind(rt: HostRuntime) -> Result<(), Fail> {
         );
     }
     for (request, roles) in ROLES {
-        expect_equal(&rt, &(*request, request.roles()), &(*request, *roles), "");
+        expect_equal(
+            &rt,
+            &(*request, roles_of(*request)),
+            &(*request, *roles),
+            "",
+        );
     }
     Ok(())
 }

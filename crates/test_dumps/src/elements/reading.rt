@@ -4,7 +4,8 @@
 //! where that differs.
 use crate::asserts::expect_equal_text;
 use lsif::{
-    Edge, Element, Id, IdRef, MonikerKind, Profile, ReadFault, Vertex, profile_law, read_element,
+    Edge, Element, Id, IdRef, MonikerKind, Profile, ReadFault, RequestKind, Vertex, profile_law,
+    read_element,
 };
 use samples::parted;
 use std::alloc::Global;
@@ -156,8 +157,8 @@ fn said(vertex: &Vertex) -> &str {
         },
         Vertex::Package(package) if package.version.is_empty() => "no version",
         Vertex::Package(package) => package.version.as_str(),
-        Vertex::DeclarationResult => "a declaration result",
-        Vertex::ImplementationResult => "an implementation result",
+        Vertex::Result(RequestKind::Declaration) => "a declaration result",
+        Vertex::Result(RequestKind::Implementation) => "an implementation result",
         Vertex::Other => "another vertex",
         _ => "an element",
     }
@@ -168,15 +169,21 @@ fn are_one_and_two(from: &Id, to: &Id) -> bool {
     from.lent().is(IdRef::Number(1)) && to.lent().is(IdRef::Number(2))
 }
 
+/// What the edge of a request is, and whether it's from 1 to 2.
+fn requested(kind: RequestKind, is_from_one_to_two: bool) -> &'static str {
+    match (kind, is_from_one_to_two) {
+        (RequestKind::Declaration, true) => "a declaration from 1 to 2",
+        (RequestKind::Declaration, false) => "a declaration",
+        (RequestKind::Implementation, true) => "an implementation from 1 to 2",
+        (RequestKind::Implementation, false) => "an implementation",
+        _ => "an element",
+    }
+}
+
 /// What an edge is, of the labels that the tables ask of.
 fn joined(edge: &Edge) -> &str {
     match edge {
-        Edge::Declaration(from, to) if are_one_and_two(from, to) => "a declaration from 1 to 2",
-        Edge::Declaration(_, _) => "a declaration",
-        Edge::Implementation(from, to) if are_one_and_two(from, to) => {
-            "an implementation from 1 to 2"
-        }
-        Edge::Implementation(_, _) => "an implementation",
+        Edge::Request(kind, from, to) => requested(*kind, are_one_and_two(from, to)),
         Edge::Other(_, _) => "another edge",
         _ => "an element",
     }

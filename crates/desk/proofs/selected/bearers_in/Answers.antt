@@ -1,7 +1,7 @@
 use Rattle.std.proofs.Common.{rules, ◌≡◌, ◌∙◌, ◌++◌, [], ◌∷◌, map, sym, ap, subst, string_bytes}
 use Rattle.std.specs.Prelude.{Some, None}
 use Rattle.std.proofs.lemmas.List.{map-append}
-use Rattle.tables.specs.Selections.{bearer_found}
+use Rattle.machine.specs.Selections.{bearer_found}
 use Rattle.desk.specs.Steps.Selected.{AddsBearers, FoundSoFar}
 use Rattle.desk.proofs.KeyBearers.{adds_none, adds_some, way_next, way_end}
 use Rattle.desk.proofs.selected.bearers_in.Goals as goal

@@ -1,5 +1,5 @@
 use Rattle.std.proofs.Common.{map}
-use Rattle.tables.specs.Selections.{bearer_found}
+use Rattle.machine.specs.Selections.{bearer_found}
 use Rattle.desk.specs.Steps.Selected.{FoundSoFar}
 use Rattle.desk.proofs.selected.bearers_in.Given as goal
 

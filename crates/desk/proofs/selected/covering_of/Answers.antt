@@ -3,7 +3,7 @@ use Rattle.std.specs.List.{filter_map}
 use Rattle.dump.specs.Places.{IsListing}
 use Rattle.flatten.specs.Flat.{by_line}
 use Rattle.flatten.specs.Rows.{range_value, rows_value}
-use Rattle.tables.specs.Selections.{FindsCover, range_found}
+use Rattle.machine.specs.Selections.{FindsCover, range_found}
 use Rattle.tables.specs.Steps.Climbs.{IsCoverRow}
 use Rattle.desk.specs.Steps.Selected.{range_wanted, range_found_of}
 use Rattle.desk.proofs.CoverRows.{rows_cover, rows_told}

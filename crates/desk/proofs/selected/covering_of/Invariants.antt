@@ -1,5 +1,5 @@
 use Rattle.std.proofs.Common.{◌≡◌, ◌++◌, map, drop}
-use Rattle.tables.specs.Selections.{range_found}
+use Rattle.machine.specs.Selections.{range_found}
 use Rattle.desk.specs.Steps.Selected.{range_found_of}
 use Rattle.desk.proofs.selected.covering_of.Given as goal
 

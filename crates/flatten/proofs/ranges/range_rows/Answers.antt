@@ -39,7 +39,7 @@ loop-row-preserved c =
     let rows = c.loop-row.row-items in
     let k = c.loop-row.row-index in
     let old = get_or rows k c.row-item.result in
-    let row : RangeRow = record { line = old.line; uri = old.uri; span = old.span; parent = c.target_of-row.result; def = old.def; refs = old.refs; hover = old.hover; decl = old.decl; imp = old.imp } in
+    let row : RangeRow = record { line = old.line; uri = old.uri; span = old.span; parent = c.target_of-row.result; results = old.results } in
     let lt : k < length rows = omega (arith, c.loop-row-test.true, c.loop-row.auto.row-items) in
     let at : get_or (map range_value rows) k (range_value old) ≡ range_value old = get_or-map range_value rows k c.row-item.result (range_value old) lt in
     let here : IsFoundRange d (range_value old) = subst (IsFoundRange d) at (All-get_or (IsFoundRange d) (map range_value rows) k (range_value old) (omega (arith, lt, length-map rows range_value)) c.loop-row.invariant.0.each) in

@@ -1,5 +1,5 @@
 use Rattle.std.proofs.Common.{map}
-use Rattle.tables.specs.Selections.{bearer_found}
+use Rattle.machine.specs.Selections.{bearer_found}
 use Rattle.tables.proofs.FoundBearers.{bearers_are}
 use Rattle.tables.proofs.bearers.find_bearers.Goals as goal
 

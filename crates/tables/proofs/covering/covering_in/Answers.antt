@@ -4,7 +4,7 @@ use Rattle.sqlite.specs.Held.{state}
 use Rattle.sqlite_rules.specs.Lists.{Has}
 use Rattle.tables.specs.declared.slots.Part.TheVariants.{Dump}
 use Rattle.tables.specs.Contents.{slot_row}
-use Rattle.tables.specs.Selections.{range_found}
+use Rattle.machine.specs.Selections.{range_found}
 use Rattle.tables.specs.Stands.{StandsFor}
 use Rattle.tables.specs.TableTrees.{slot_tree}
 use Rattle.tables.proofs.CoverLists.{document_covered}

@@ -6,7 +6,7 @@ use Rattle.sqlite_rules.specs.Lists.{Has}
 use Rattle.tables.specs.declared.slots.Part.TheVariants.{Dump}
 use Rattle.tables.specs.Stands.{StandsFor}
 use Rattle.tables.specs.Contents.{slot_row}
-use Rattle.tables.specs.Selections.{FindsCovering}
+use Rattle.machine.specs.Selections.{FindsCovering}
 use Rattle.tables.specs.Steps.Slots.{IsDumpSlot}
 use Rattle.tables.specs.TableTrees.{slot_tree}
 use Rattle.tables.proofs.Knowing.{known_after}

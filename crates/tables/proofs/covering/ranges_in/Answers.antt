@@ -5,7 +5,7 @@ use Rattle.sqlite_rules.specs.Lists.{Has}
 use Rattle.tables.specs.declared.slots.Part.TheVariants.{Dump}
 use Rattle.tables.specs.Contents.{slot_row}
 use Rattle.tables.specs.Stands.{StandsFor}
-use Rattle.tables.specs.Selections.{FindsCover, range_found}
+use Rattle.machine.specs.Selections.{FindsCover, range_found}
 use Rattle.tables.specs.Steps.Climbs.{TellsRange, row_found}
 use Rattle.tables.specs.TableTrees.{slot_tree}
 use Rattle.tables.proofs.CoverLists.{covers_all, taken_all, told_at, told_next, rows_are}

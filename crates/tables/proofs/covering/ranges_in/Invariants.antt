@@ -10,7 +10,7 @@ use Rattle.tables.specs.Schema.{schema_two}
 use Rattle.tables.specs.Contents.{slot_row}
 use Rattle.machine.specs.State.{State}
 use Rattle.tables.specs.Stands.{StandsFor}
-use Rattle.tables.specs.Selections.{range_found}
+use Rattle.machine.specs.Selections.{range_found}
 use Rattle.tables.specs.Steps.Climbs.{TellsRange, row_found}
 use Rattle.tables.specs.TableTrees.{slot_tree}
 use Rattle.tables.specs.Steps.Clauses.{Reads}

@@ -6,8 +6,8 @@ use Rattle.sqlite_rules.specs.Lists.{Has}
 use Rattle.tables.specs.declared.slots.Part.TheVariants.{Dump}
 use Rattle.tables.specs.Stands.{StandsFor}
 use Rattle.tables.specs.Contents.{slot_row}
-use Rattle.tables.specs.Selections.{FindsItems, item_found}
-use Rattle.tables.specs.declared.items.FoundItem.{FoundItem}
+use Rattle.machine.specs.Selections.{FindsItems, item_found}
+use Rattle.machine.specs.declared.selections.FoundItem.{FoundItem}
 use Rattle.tables.specs.Steps.Slots.{IsDumpSlot}
 use Rattle.tables.specs.TableTrees.{slot_tree}
 use Rattle.tables.proofs.Knowing.{known_after}

@@ -5,7 +5,7 @@ use Rattle.std.proofs.lemmas.List.Filters.{dedup_is}
 use Rattle.std.proofs.lemmas.List.Sorted.{ranks_by, answers_always}
 use Rattle.flatten.proofs.Listing.{sorted_listing, under}
 use Rattle.dump.specs.Places.{place_cmp}
-use Rattle.tables.specs.Selections.{item_found}
+use Rattle.machine.specs.Selections.{item_found}
 use Rattle.tables.proofs.FoundItems.{item_total, item_tie, item_one}
 use Rattle.tables.proofs.items.list_items.Goals as goal
 

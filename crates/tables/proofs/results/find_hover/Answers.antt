@@ -6,7 +6,7 @@ use Rattle.sqlite_rules.specs.Lists.{Has}
 use Rattle.tables.specs.declared.slots.Part.TheVariants.{Dump}
 use Rattle.tables.specs.Stands.{StandsFor}
 use Rattle.tables.specs.Contents.{slot_row}
-use Rattle.tables.specs.Selections.{FindsHover}
+use Rattle.machine.specs.Selections.{FindsHover}
 use Rattle.tables.specs.TableTrees.{slot_tree}
 use Rattle.tables.proofs.Looking.{reads_then, still, survives_clean}
 use Rattle.tables.proofs.FoundSlots.{no_slot, the_slot}

@@ -1,5 +1,5 @@
 use Rattle.std.proofs.Common.{sym, subst}
-use Rattle.tables.specs.Selections.{FindsProjects}
+use Rattle.machine.specs.Selections.{FindsProjects}
 use Rattle.desk.proofs.ProjectLists.{listing}
 use Rattle.desk.proofs.memory_index.MemoryIndexIndex.projects.Goals as goal
 

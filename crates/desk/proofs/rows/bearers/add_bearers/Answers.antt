@@ -1,6 +1,6 @@
 use Rattle.std.proofs.Common.{◌≡◌, ◌++◌, [], ◌∷◌, rules, arith}
 use Rattle.flatten.proofs.Members.{nil_of}
-use Rattle.tables.specs.Selections.{bearer_found}
+use Rattle.machine.specs.Selections.{bearer_found}
 use Rattle.desk.specs.Steps.Rows.{OfBearer, joined_value}
 use Rattle.desk.proofs.Finding.{iff_sym, iff_trans, or_none}
 use Rattle.desk.proofs.Popped.{none_left, pop_adds, pop_skips}

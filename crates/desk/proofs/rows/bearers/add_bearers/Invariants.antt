@@ -1,6 +1,6 @@
 use Rattle.std.proofs.Common.{◌⊎◌, length, map}
 use Rattle.std.specs.Prelude.{◌↔◌, Contains}
-use Rattle.tables.specs.Selections.{bearer_found}
+use Rattle.machine.specs.Selections.{bearer_found}
 use Rattle.desk.specs.Steps.Rows.{JoinedValue, OfBearer, joined_value}
 use Rattle.desk.proofs.Popped.{IsLeft}
 use Rattle.desk.proofs.rows.bearers.add_bearers.Given as goal

@@ -8,8 +8,8 @@ use Rattle.std.proofs.lemmas.Fn.{fronts}
 use Rattle.std.proofs.lemmas.Iterator.{YieldsList-from_slice}
 use Rattle.std.proofs.lemmas.Iterator.Consumers.{reduce_by_from_yields_List}
 use Rattle.std.proofs.lemmas.Result.{IfOk-weaker}
-use Rattle.dump.specs.declared.request_kind.RequestKind.TheVariants as requests
-use Rattle.tables.specs.Selections.{FindsHover, range_found}
+use Rattle.lsif.specs.declared.request_kind.RequestKind.TheVariants as requests
+use Rattle.machine.specs.Selections.{FindsHover, range_found}
 use Rattle.desk.specs.Steps.RowHovers.{IsLeast, joined_cmp}
 use Rattle.desk.specs.Steps.Rows.{AreKeys, IsRowJoined, joined_value}
 use Rattle.desk.specs.declared.rows.bearers.JoinedBearer.{JoinedBearer}

@@ -1,7 +1,7 @@
 use Rattle.std.proofs.Common.{Global, ◌≡◌, sym, subst, string_bytes, rules}
 use Rattle.std.specs.Prelude.{String, option_map}
-use Rattle.dump.specs.declared.request_kind.RequestKind.TheVariants as requests
-use Rattle.tables.specs.Selections.{range_found}
+use Rattle.lsif.specs.declared.request_kind.RequestKind.TheVariants as requests
+use Rattle.machine.specs.Selections.{range_found}
 use Rattle.machine.specs.Answers.{AnswersAt, AnswersHover, no_dump, no_such_document}
 use Rattle.machine.specs.Reply.{hover_found}
 use Rattle.machine.specs.Requests.{at_value}

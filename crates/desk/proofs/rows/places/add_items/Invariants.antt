@@ -1,7 +1,7 @@
 use Rattle.std.proofs.Common.{◌≡◌, ◌⊎◌, length, map}
 use Rattle.std.specs.Prelude.{◌↔◌, Contains}
 use Rattle.dump.specs.Places.{PlaceValue}
-use Rattle.tables.specs.Selections.{item_found}
+use Rattle.machine.specs.Selections.{item_found}
 use Rattle.machine.specs.Reply.{FoundPlace}
 use Rattle.machine.specs.Steps.Places.{found_in}
 use Rattle.desk.specs.Steps.RowPlaces.{item_place}

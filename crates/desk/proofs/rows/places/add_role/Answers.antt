@@ -1,5 +1,5 @@
 use Rattle.std.proofs.Common.{map}
-use Rattle.tables.specs.Selections.{item_found}
+use Rattle.machine.specs.Selections.{item_found}
 use Rattle.desk.specs.Steps.Rows.{project_result_value}
 use Rattle.desk.proofs.Finding.{or_other}
 use Rattle.desk.proofs.RowLists.{role_items}

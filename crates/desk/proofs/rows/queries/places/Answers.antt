@@ -1,7 +1,7 @@
 use Rattle.std.proofs.Common.{◌∙◌, map, sym, ap, subst}
 use Rattle.std.specs.Prelude.{Contains}
 use Rattle.dump.specs.Places.{IsListing}
-use Rattle.tables.specs.Selections.{range_found}
+use Rattle.machine.specs.Selections.{range_found}
 use Rattle.machine.specs.Answers.{AnswersAt, AnswersPlaces, found_cmp, no_dump, no_such_document}
 use Rattle.machine.specs.Reply.{places_found}
 use Rattle.machine.specs.Requests.{at_value}

@@ -1,7 +1,7 @@
 use Rattle.std.proofs.Common.{IsTrue, map, sym, subst, rules}
 use Rattle.std.specs.Prelude.{Some, None}
 use Rattle.dump.specs.Requests.{IsFirst, here, later, nobody}
-use Rattle.tables.specs.Selections.{range_found}
+use Rattle.machine.specs.Selections.{range_found}
 use Rattle.desk.specs.Steps.Rows.{RowSpeaks}
 use Rattle.machine.proofs.Members.{drop_next}
 use Rattle.desk.proofs.ReadingOnly.{reads_then}

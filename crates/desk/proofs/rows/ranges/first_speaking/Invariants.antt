@@ -1,6 +1,6 @@
 use Rattle.std.proofs.Common.{Option, map, drop}
 use Rattle.dump.specs.Requests.{IsFirst}
-use Rattle.tables.specs.Selections.{RangeFound, range_found}
+use Rattle.machine.specs.Selections.{RangeFound, range_found}
 use Rattle.machine.specs.State.{State}
 use Rattle.desk.specs.Steps.Rows.{RowSpeaks}
 use Rattle.desk.specs.Indexes.{ReadsOnly}

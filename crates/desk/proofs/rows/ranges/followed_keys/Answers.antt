@@ -1,8 +1,8 @@
 use Rattle.std.proofs.Common.{Global, ◌≡◌, ◌∙◌, ◌++◌, [], ◌∷◌, ℕ, List, true, false, sym, string_bytes, rules, arith}
-use Rattle.dump.specs.declared.request_kind.RequestKind.{RequestKind}
-use Rattle.dump.specs.Requests.{follows}
+use Rattle.lsif.specs.declared.request_kind.RequestKind.{RequestKind}
+use Rattle.lsif.specs.RequestKinds.{follows}
 use Rattle.flatten.proofs.Members.{nil_of}
-use Rattle.tables.specs.Selections.{MarkText, mark_found}
+use Rattle.machine.specs.Selections.{MarkText, mark_found}
 use Rattle.std.specs.Prelude.{String}
 use Rattle.desk.proofs.Finding.{iff_sym, iff_trans, or_none}
 use Rattle.desk.proofs.Popped.{none_left, pop_adds, pop_skips}

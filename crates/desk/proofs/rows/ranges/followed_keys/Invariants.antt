@@ -1,7 +1,7 @@
 use Rattle.std.proofs.Common.{◌≡◌, ◌⊎◌, ℕ, List, true, length, map, string_bytes}
 use Rattle.std.specs.Prelude.{◌↔◌, Contains}
-use Rattle.dump.specs.Requests.{follows}
-use Rattle.tables.specs.Selections.{MarkText, mark_found}
+use Rattle.lsif.specs.RequestKinds.{follows}
+use Rattle.machine.specs.Selections.{MarkText, mark_found}
 use Rattle.desk.proofs.Popped.{IsLeft}
 use Rattle.desk.proofs.rows.ranges.followed_keys.Given as goal
 

@@ -1,7 +1,7 @@
 use Rattle.std.proofs.Common.{◌≡◌, map, subst, rules}
 use Rattle.std.specs.Prelude.{Some, None, option_map}
 use Rattle.dump.specs.Requests.{IsFirst}
-use Rattle.tables.specs.Selections.{FindsCovering, range_found}
+use Rattle.machine.specs.Selections.{FindsCovering, range_found}
 use Rattle.desk.specs.Steps.Rows.{RowSpeaks}
 use Rattle.desk.proofs.RowWalks.{picked_row}
 use Rattle.desk.proofs.rows.ranges.pick.Goals as goal

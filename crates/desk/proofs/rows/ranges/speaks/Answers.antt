@@ -1,6 +1,6 @@
 use Rattle.std.proofs.Common.{Global, ◌≡◌, ◌∙◌, ◌≤◌, inr, ⊎_elim, ℕ, List, [], ◌∷◌, length, map, true, false, sym, string_bytes, rules, arith}
 use Rattle.std.specs.Prelude.{Contains, String, is_some}
-use Rattle.tables.specs.Selections.{range_found}
+use Rattle.machine.specs.Selections.{range_found}
 use Rattle.desk.specs.Steps.Rows.{IsRowKey}
 use Rattle.machine.proofs.Members.{contains_head, not_in_nil}
 use Rattle.desk.proofs.rows.ranges.speaks.Goals as goal

@@ -1,6 +1,6 @@
 use Rattle.std.proofs.Common.{map, string_bytes, subst, sym}
 use Rattle.std.proofs.lemmas.List.Filters.{dedup_is}
-use Rattle.tables.specs.Selections.{range_found}
+use Rattle.machine.specs.Selections.{range_found}
 use Rattle.desk.specs.Steps.Rows.{AreKeys, IsAnsweringResult, joined_value, project_result_cmp}
 use Rattle.desk.proofs.ListedRows.{project_results_listed}
 use Rattle.desk.proofs.RowLists.{results_are}

@@ -1,7 +1,7 @@
 use Rattle.std.proofs.Common.{rules, ◌≡◌, sym, subst}
 use Rattle.sqlite.specs.Held.{state}
 use Rattle.tags.specs.Views.{tag_values}
-use Rattle.tables.specs.Stands.{IsNew}
+use Rattle.machine.specs.State.{IsNew}
 use Rattle.machine.specs.State.{changed, set_tags}
 use Rattle.desk.specs.Indexes.{Commits, Refuses}
 use Rattle.desk.specs.TableStates.{LeavesOneOf, ServesFor}

@@ -1,6 +1,7 @@
 use Rattle.std.proofs.Common.{rules, ◌≡◌, to_z, of_z, w64, ◌∙◌, ◌∷◌, [], refl, to_z-of_z}
 use Rattle.sqlite_value.specs.declared.value.Value.TheVariants.{Int}
-use Rattle.flatten.specs.Rows.{range_value}
+use Rattle.flatten.specs.Rows.{range_value, results_value}
+use Rattle.lsif.specs.declared.request_kind.RequestKind.TheVariants.{Definition, References, Hover}
 use Rattle.tables.specs.Columns.{range_columns}
 use Rattle.tables.proofs.Puts.{bound_more}
 use Rattle.tables.proofs.Inserts.{bound_optional, optional_is}
@@ -11,4 +12,4 @@ returns c =
     let first : to_z w64 (of_z w64 c.pack-first.result) ≡ c.pack-first.result = search rules in
     let last : to_z w64 (of_z w64 c.pack-last.result) ≡ c.pack-last.result = search rules in
     bound_more c.extend_from_slice.result c.args.values.now.items c.extend_from_slice.new.self.items (c.params-to_sql.result ∷ c.params-to_sql-2.result ∷ c.params-to_sql-3.result ∷ c.params-to_sql-4.result ∷ c.params-to_sql-5.result ∷ c.params-to_sql-6.result ∷ c.params-to_sql-7.result ∷ c.params-to_sql-8.result ∷ c.params-to_sql-9.result ∷ []) (Int c.args.slot ∷ range_columns (range_value c.args.self.now)) c.extend_from_slice.ensures.items
-    (rw (c.params-to_sql.ensures, c.params-to_sql-2.ensures, c.params-to_sql-3.ensures, c.params-to_sql-4.ensures, c.params-to_sql-5.ensures, c.params-to_sql-6.ensures ∙ optional_is _ (λ n. refl) _, c.params-to_sql-7.ensures ∙ optional_is _ (λ n. refl) _, c.params-to_sql-8.ensures ∙ optional_is _ (λ n. refl) _, c.params-to_sql-9.ensures ∙ optional_is _ (λ n. refl) _, to_z-of_z c.ranges.slot, first, last, c.pack-first.ensures.value, c.pack-last.ensures.value, bound_optional c.args.self.now.parent, bound_optional c.args.self.now.def, bound_optional c.args.self.now.refs, bound_optional c.args.self.now.hover, c.start.ensures, c.end.ensures) refl)
+    (rw (c.params-to_sql.ensures, c.params-to_sql-2.ensures, c.params-to_sql-3.ensures, c.params-to_sql-4.ensures, c.params-to_sql-5.ensures, c.params-to_sql-6.ensures ∙ optional_is _ (λ n. refl) _, c.params-to_sql-7.ensures ∙ optional_is _ (λ n. refl) _, c.params-to_sql-8.ensures ∙ optional_is _ (λ n. refl) _, c.params-to_sql-9.ensures ∙ optional_is _ (λ n. refl) _, to_z-of_z c.ranges.slot, first, last, c.pack-first.ensures.value, c.pack-last.ensures.value, bound_optional c.args.self.now.parent, c.own_results-def.ensures.def, c.own_results-def.ensures.refs, c.own_results-def.ensures.hover, bound_optional (results_value c.args.self.now.results Definition), bound_optional (results_value c.args.self.now.results References), bound_optional (results_value c.args.self.now.results Hover), c.start.ensures, c.end.ensures) refl)

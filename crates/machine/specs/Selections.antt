@@ -1,4 +1,4 @@
--- What selections find, and what they leave.
+-- What the selections of an index find, from a state of the machine.
 use Rattle.std.specs.Prelude.{◌≡◌, ℕ, List, map, Option, Some, None, string_bytes}
 use Rattle.std.specs.declared.cmp.Ordering.{Ordering}
 use Rattle.std.specs.Ordering.{nat_cmp, ordering_then}
@@ -8,20 +8,22 @@ use Rattle.lsif.specs.declared.element.MonikerKind.{MonikerKind}
 use Rattle.positions.specs.Position.{PositionValue}
 use Rattle.positions.specs.Span.{SpanValue}
 use Rattle.lsif.specs.Element.{ElementValue}
-use Rattle.dump.specs.declared.request_kind.RequestKind.{RequestKind}
+use Rattle.lsif.specs.declared.request_kind.RequestKind.{RequestKind}
 use Rattle.dump.specs.declared.role.Role.{Role}
 use Rattle.dump.specs.Places.{PlaceValue, HasDocument, IsListing, place_cmp}
 use Rattle.dump.specs.Progress.{DumpValue}
 use Rattle.dump.specs.Requests.{Cover, RangeValue}
+use Rattle.flatten.specs.Rows.{results_value}
 use Rattle.flatten.specs.Flat.{ResultsValue, BearerRowValue, IsBearerRow, IsHoverRow, IsItemRow, IsMarkRow, IsResult, kind_index, number_of}
+use Rattle.machine.specs.FoundTags.{BeginsWith, FoundTag, IsTag, line_cmp, name_cmp}
 use Rattle.machine.specs.Projects.{IsProject, ProjectValue, project_cmp, text_cmp}
 use Rattle.machine.specs.State.{State}
-use Rattle.tables.specs.declared.bearers.FoundBearer.{FoundBearer}
-use Rattle.tables.specs.declared.covering.Covering.{Covering}
-use Rattle.tables.specs.declared.covering.Covering.TheVariants.{NoDump, NoDocument, Ranges}
-use Rattle.tables.specs.declared.covering.FoundRange.{FoundRange}
-use Rattle.tables.specs.declared.items.FoundItem.{FoundItem}
-use Rattle.tables.specs.declared.marks.FoundMark.{FoundMark}
+use Rattle.machine.specs.declared.selections.FoundBearer.{FoundBearer}
+use Rattle.machine.specs.declared.selections.Covering.{Covering}
+use Rattle.machine.specs.declared.selections.Covering.TheVariants.{NoDump, NoDocument, Ranges}
+use Rattle.machine.specs.declared.selections.FoundRange.{FoundRange}
+use Rattle.machine.specs.declared.selections.FoundItem.{FoundItem}
+use Rattle.machine.specs.declared.selections.FoundMark.{FoundMark}
 
 -- ---- projects
 
@@ -125,7 +127,7 @@ bearer_found b = record {
   project = string_bytes b.project;
   line = b.line;
   kind = b.kind;
-  results = record { definition = b.def; references = b.refs; hover = b.hover; declaration = b.decl; implementation = b.imp };
+  results = results_value b.results;
 }
 
 -- its row, of a mark with this key
@@ -143,3 +145,13 @@ bearer_found_cmp a b = ordering_then (text_cmp a.project b.project) (ordering_th
 -- the bearers of the key in all projects, each once
 abbrev pub FindsBearers : State → List ℕ → List BearerFound → Type 0
 FindsBearers m key = IsListing bearer_found_cmp (Bears m key)
+
+-- ---- tags
+
+-- the tags of this name: of the project that is asked for, where one is, and else of all
+abbrev pub FindsNamed : State → Option (List ℕ) → List ℕ → List FoundTag → Type 0
+FindsNamed m asked name = IsListing line_cmp (λ (f : FoundTag). IsTag m asked f × (f.tag.name ≡ name))
+
+-- those whose names begin with the text
+abbrev pub FindsPrefixed : State → Option (List ℕ) → List ℕ → List FoundTag → Type 0
+FindsPrefixed m asked prefix = IsListing name_cmp (λ (f : FoundTag). IsTag m asked f × BeginsWith f.tag.name prefix)
