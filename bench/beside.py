@@ -2,13 +2,14 @@
 
 The scripts ask, kill, fill and refuse the program, or try it in an editor or a browser.
 
-usage: bench/beside.py [--only NAME[,NAME..]] [--and 'N passed, M failed'] PROGRAM
+usage: bench/beside.py [--only NAME[,NAME..]] [--until FILE] PROGRAM
 
-The gate calls it behind `rt ci`, with that command's last line, which is added to its own. Parts
-run side by side, one processor less than there are, and beside them the one that mostly waits; one
-that measures a time runs at the end, alone. What needs a program that isn't here is left out, and
-said, with the command that installs it. The last line is `N passed, M failed`, and the status is 1
-where something failed.
+Parts run side by side, one processor less than there are, and beside them the one that mostly
+waits; one that measures a time runs at the end, alone. The gate calls it beside `rt ci`: then one
+part runs at a time, what measures a time waits for the end of that command, which the file says
+that has its last line, and this line is added to its own. What needs a program that isn't here is
+left out, and said, with the command that installs it. The last line is `N passed, M failed`, and
+the status is 1 where something failed.
 """
 
 import argparse
@@ -162,12 +163,23 @@ def run(part: Part) -> Result:
     return result
 
 
+def waited_for(file: str) -> str:
+    """The text of a file, once it's there."""
+    while not os.path.exists(file):
+        time.sleep(1)
+    return Path(file).read_text(encoding="utf-8", errors="replace")
+
+
 def main() -> int:
     """Answers 0 where nothing failed."""
     said = (__doc__ or "").strip().split("\n")
     options = argparse.ArgumentParser(description=said[0])
     options.add_argument("--only", help="these parts, by their names, with commas between them")
-    options.add_argument("--and", dest="also", default="", help="a line to add to the last one")
+    options.add_argument(
+        "--until",
+        metavar="FILE",
+        help="what runs beside this ends when the file is there, whose line is added to the last one",
+    )
     options.add_argument("program", help="the built program, as crates/codenav/out/codenav")
     given = options.parse_args()
     program = os.path.abspath(given.program)
@@ -184,7 +196,8 @@ def main() -> int:
     chosen = [part for part in every if part.name in wanted]
     left_out = {part.name: why for part in chosen if (why := lacking(part)) is not None}
     chosen = [part for part in chosen if part.name not in left_out]
-    lanes = max(len(os.sched_getaffinity(0)) - 1, 1)
+    runs_beside = given.until is not None and not os.path.exists(given.until)
+    lanes = 1 if runs_beside else max(len(os.sched_getaffinity(0)) - 1, 1)
     with ThreadPoolExecutor(1) as waiting, ThreadPoolExecutor(lanes) as working:
         jobs = [
             (waiting if part.waits else working).submit(run, part)
@@ -192,13 +205,14 @@ def main() -> int:
             if not part.runs_alone
         ]
         results = [job.result() for job in jobs]
+    said_before = waited_for(given.until) if given.until else ""
     results += [run(part) for part in chosen if part.runs_alone]
     for name, why in left_out.items():
         print(f"left out: {name}: {why}")
     for part in chosen:
         if why_some := missing_of(part.some_need, part):
             print(f"left out: some of {part.name}: {why_some}")
-    before = COUNTED.search(given.also)
+    before = COUNTED.search(said_before)
     passed = sum(result.passed for result in results) + (int(before[1]) if before else 0)
     failed = sum(result.failed for result in results) + (int(before[2]) if before else 0)
     print(f"{passed} passed, {failed} failed", flush=True)

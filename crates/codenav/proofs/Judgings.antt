@@ -3,7 +3,7 @@ use Rattle.std.proofs.Common.{◌≡◌, ◌∙◌, ℕ, List, length, map, Opti
 use Rattle.std.proofs.lemmas.List.{length-map}
 use Rattle.lsif.specs.Element.{element_value}
 use Rattle.lsif.specs.declared.element.Element.{Element}
-use Rattle.lsif.specs.declared.element.Profile.{Profile}
+use Rattle.lsif.specs.declared.profile.Profile.{Profile}
 use Rattle.dump.specs.Judging.{ReadsDump}
 use Rattle.dump.specs.Progress.{DumpValue}
 use Rattle.codenav.specs.Report.{ReportsDump}

@@ -7,8 +7,9 @@ use Rattle.clap.specs.Words.{App, Row, Rule, Text, fault_of, first_of, kind_of, 
 use Rattle.clap.specs.declared.builder.action.ArgAction.TheVariants.{Set}
 use Rattle.clap.specs.declared.builder.value_parser.ValueParser.TheVariants.{Signed}
 use Rattle.clap.specs.declared.error.kind.ErrorKind.TheVariants.{ValueValidation}
-use Rattle.lsif.specs.declared.element.Profile.{Profile}
-use Rattle.lsif.specs.declared.element.Profile.TheVariants.{One, Two}
+use Rattle.lsif.specs.Profiles.{profile_named, profiles}
+use Rattle.lsif.specs.declared.profile.Profile.{Profile}
+use Rattle.lsif.specs.declared.profile.Profile.TheVariants.{One}
 use Rattle.codenav.specs.declared.call.Call.{Call}
 use Rattle.codenav.specs.declared.call.Call.TheVariants.{CheckLsif, CheckTags, Replay, Serve, Migrate}
 use Rattle.codenav.specs.declared.call.CallFault.{CallFault}
@@ -59,7 +60,7 @@ required_number id least most = record (number_option id least most) { required 
 
 -- check-lsif FILE --profile N
 abbrev pub check_lsif_app : App
-check_lsif_app = with_rule (with_rule (new_app (codes "check-lsif")) (word (codes "file"))) (number_option (codes "profile") (pos 1) (pos 2))
+check_lsif_app = with_rule (with_rule (new_app (codes "check-lsif")) (word (codes "file"))) (number_option (codes "profile") (pos 1) (pos (length profiles)))
 
 -- check-tags FILE
 abbrev pub check_tags_app : App
@@ -90,10 +91,10 @@ app =
     let checks = with_subcommand (with_subcommand top_app check_lsif_app.top) check_tags_app.top in
     with_subcommand (with_subcommand (with_subcommand checks replay_app.top) serve_app.top) migrate_app.top
 
--- the profile of this number; profile 1 where none is given
-abbrev pub profile_named : Option Text → Option Profile
-profile_named None = Some One
-profile_named (Some number) = if bytes_eq number (codes "1") then Some One else if bytes_eq number (codes "2") then Some Two else None
+-- the profile that a value of --profile names; profile 1 where there is none
+abbrev pub profile_in : Option Text → Option Profile
+profile_in None = Some One
+profile_in (Some text) = profile_named text
 
 -- the call of check-lsif with these values, where both are there
 abbrev pub check_lsif_with : Option Text → Option Profile → Option CallValue
@@ -103,7 +104,7 @@ check_lsif_with None profile = None
 
 -- the call of check-lsif with these matches
 abbrev pub check_lsif_of : List Row → Option CallValue
-check_lsif_of rows = check_lsif_with (first_of (codes "file") rows) (profile_named (first_of (codes "profile") rows))
+check_lsif_of rows = check_lsif_with (first_of (codes "file") rows) (profile_in (first_of (codes "profile") rows))
 
 -- the call of check-tags with these matches
 abbrev pub check_tags_of : List Row → Option CallValue

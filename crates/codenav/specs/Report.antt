@@ -5,7 +5,7 @@ use Rattle.lsif.specs.Code as lsif_codes
 use Rattle.lsif.specs.Element as elements
 use Rattle.lsif.specs.Sending.{Writes, CutsShort}
 use Rattle.lsif.specs.Streams.{Output}
-use Rattle.lsif.specs.declared.element.Profile.{Profile}
+use Rattle.lsif.specs.declared.profile.Profile.{Profile}
 use Rattle.dump.specs.Fault.{IsFault}
 use Rattle.dump.specs.Lines.{dump_of}
 use Rattle.dump.specs.declared.fault.LineFault as dump_faults

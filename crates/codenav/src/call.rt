@@ -1,7 +1,7 @@
 //! What the program's words ask for, by what `clap` finds in them.
 ghost use Rattle.std.specs.Prelude.{◌≡◌, ◌≢◌, ◌≤◌, List, Option, Some, None, IfOk, IfSome, IfErr, MatchResult, map, option_map, false, codes, pos};
 ghost use Rattle.clap.specs.Words.{app_of, first_of, found_of, kind_of, one_of, rows_of, subcommand_rows_of};
-ghost use Rattle.codenav.specs.Call.{IsCall, IsRefused, IsWithinBounds, app, call_of, call_value, check_lsif_of, check_lsif_with, check_tags_of, migrate_of, most_connections, most_port, number_named, profile_named, replay_of, replay_with, serve_of, serve_with};
+ghost use Rattle.codenav.specs.Call.{IsCall, IsRefused, IsWithinBounds, app, call_of, call_value, check_lsif_of, check_lsif_with, check_tags_of, migrate_of, most_connections, most_port, number_named, profile_in, replay_of, replay_with, serve_of, serve_with};
 ghost use Rattle.codenav.specs.Steps.Call.{IsMissing, ShowsError, up_to};
 
 use crate::command_line::{MOST_CONNECTIONS, MOST_PORT, command};
@@ -82,15 +82,13 @@ fn file_of<'a>(found: &ArgMatches<'a>) -> Option<&'a str>
     found.get_str("file")
 }
 
-/// The profile of this number, or profile 1 where none is given.
-fn profile_named(number: Option<&str>) -> Option<Profile>
-    ensures { result ≡ profile_named (option_map (λ n. n.now) number.entry) }
+/// The profile that a value of `--profile` names, or profile 1 where there is none.
+fn read_profile(text: Option<&str>) -> Option<Profile>
+    ensures { result ≡ profile_in (option_map (λ t. t.now) text.entry) }
 {
-    match number {
+    match text {
         None => Some(Profile::One),
-        Some(number) if number == "1" => Some(Profile::One),
-        Some(number) if number == "2" => Some(Profile::Two),
-        Some(_) => None,
+        Some(text) => Profile::named(text),
     }
 }
 
@@ -117,7 +115,7 @@ fn read_check_lsif<'a>(found: &ArgMatches<'a>) -> Option<Call<'a>>
     ensures call { option_map call_value result ≡ check_lsif_of (rows_of (found_of found.now)) }
     ensures bounds { IfSome result (λ call. IsWithinBounds (call_value call)) }
 {
-    check_lsif_call(file_of(found), profile_named(profile_of(found)))
+    check_lsif_call(file_of(found), read_profile(profile_of(found)))
 }
 
 /// The call of `check-tags` with these matches.

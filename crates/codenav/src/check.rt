@@ -1,6 +1,6 @@
 //! `codenav check-lsif`: reads a dump and writes its report. The text of reports is in `report.rt`.
-ghost use Rattle.std.specs.Prelude.{◌≡◌, ◌-◌, ◌^◌, ◌<◌, IfOk};
-ghost use Rattle.lsif.specs.Streams.{CanCount};
+ghost use Rattle.std.specs.Prelude.{◌≡◌, IfOk};
+ghost use Rattle.lsif.specs.Streams.{CanCount, IsCountable};
 ghost use Rattle.codenav.specs.Report.{Checks, CountsCheck, ReportsDump};
 ghost use Rattle.codenav.specs.Steps.Judging.{CountsRead};
 
@@ -11,7 +11,7 @@ use std::alloc::Global;
 
 /// The report of a reader's bytes.
 fn judge<R: Source>(alloc: Global, profile: Profile, r: &mut R) -> Result<Report, CheckFault>
-    requires { R.failed r.old < 2 ^ 64 - 1 }
+    requires { IsCountable (R.failed r.old) }
     ensures report { IfOk result (λ report. ReportsDump profile (R.left r.old) report) }
     ensures counted { CountsRead (R.failed r.old) (R.failed r.new) result }
 {
@@ -37,7 +37,7 @@ pub fn check_lsif<R: Source, W: Sink>(
     r: &mut R,
     w: &mut W,
 ) -> Result<Status, CheckFault>
-    requires reads { R.failed r.old < 2 ^ 64 - 1 }
+    requires reads { IsCountable (R.failed r.old) }
     requires writes { CanCount (W.output w.old) }
     ensures checks { Checks (ReportsDump profile (R.left r.old)) (W.output w.old) result (W.output w.new) }
     ensures counted { CountsCheck (R.failed r.old) result (R.failed r.new) }

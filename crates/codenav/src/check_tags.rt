@@ -1,8 +1,8 @@
 //! `codenav check-tags`: reads a tags file and writes its report. The text of reports is in
 //! `report.rt`.
-ghost use Rattle.std.specs.Prelude.{◌-◌, ◌^◌, ◌<◌, IfOk};
+ghost use Rattle.std.specs.Prelude.{IfOk};
 ghost use Rattle.lsif.specs.Buffered.{unread};
-ghost use Rattle.lsif.specs.Streams.{CanCount};
+ghost use Rattle.lsif.specs.Streams.{CanCount, IsCountable};
 ghost use Rattle.tags.specs.Faults.{result_map};
 ghost use Rattle.tags.specs.Fault.{Reading};
 ghost use Rattle.tags.specs.Lines.{IsHanded};
@@ -60,7 +60,7 @@ fn take_line<R: Source>(
     r: &mut R,
     checker: &mut TagChecker,
 ) -> Result<Step, CheckFault>
-    requires count { R.failed r.old < 2 ^ 64 - 1 }
+    requires count { IsCountable (R.failed r.old) }
     requires ready { IsReady lines.old }
     ensures takes { IfOk result (λ step. Takes (unread lines.old.pending (R.left r.old)) checker.old step checker.new lines.new
         (unread lines.new.pending (R.left r.new))) }
@@ -89,7 +89,7 @@ fn conclude(checker: TagChecker) -> Report
 
 /// The report of a reader's bytes.
 fn judge<R: Source>(alloc: Global, r: &mut R) -> Result<Report, CheckFault>
-    requires { R.failed r.old < 2 ^ 64 - 1 }
+    requires { IsCountable (R.failed r.old) }
     ensures report { IfOk result (λ report. ReportsTags (R.left r.old) report) }
     ensures counted { CountsRead (R.failed r.old) (R.failed r.new) result }
 {
@@ -117,7 +117,7 @@ pub fn check_tags<R: Source, W: Sink>(
     r: &mut R,
     w: &mut W,
 ) -> Result<Status, CheckFault>
-    requires reads { R.failed r.old < 2 ^ 64 - 1 }
+    requires reads { IsCountable (R.failed r.old) }
     requires writes { CanCount (W.output w.old) }
     ensures checks { Checks (ReportsTags (R.left r.old)) (W.output w.old) result (W.output w.new) }
     ensures counted { CountsCheck (R.failed r.old) result (R.failed r.new) }

@@ -6,6 +6,7 @@ ghost use Rattle.codenav.specs.Call.{number_option, replay_app, required_number,
 
 use clap::builder::ValueParser;
 use clap::{Arg, ArgAction, Command};
+use lsif::PROFILES;
 use std::alloc::{AllocError, Global};
 
 /// The version of the program.
@@ -63,7 +64,7 @@ fn check_lsif<'a>(alloc: Global) -> Result<Command<'a>, AllocError>
             alloc,
             "profile",
             1,
-            2,
+            PROFILES.len() as i64,
             "The profile that the dump is read by: 1, or 2, which has declarations and implementations too [default: 1]",
         ))
 }

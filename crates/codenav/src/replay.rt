@@ -1,13 +1,13 @@
 //! `codenav replay`: the replies to the requests of a stream, over a database in memory or in a
 //! file. `specs/Replay`.
-ghost use Rattle.std.specs.Prelude.{◌≡◌, ◌-◌, ◌^◌, ◌<◌, false, true, List, Err, IfOk, IfErr};
+ghost use Rattle.std.specs.Prelude.{◌≡◌, false, true, List, Err, IfOk, IfErr};
 ghost use Rattle.sqlite_wal.specs.Files.{image_at};
 ghost use Rattle.sqlite.specs.Files.{file_state};
 ghost use Rattle.sqlite.specs.Held.{state};
 ghost use Rattle.sqlite.specs.State.{HasCleanDisk};
 ghost use Rattle.tables.specs.Stands.{Finds};
 ghost use Rattle.machine.specs.State.{State};
-ghost use Rattle.lsif.specs.Streams.{CanCount};
+ghost use Rattle.lsif.specs.Streams.{CanCount, IsCountable};
 ghost use Rattle.http_edge.specs.Replies.{AnswerValue};
 ghost use Rattle.http_edge.specs.Requests.{MessageValue};
 ghost use Rattle.http_edge.specs.Serving.{CountsRead, CountsWrite, Serves, session, after_a_stop_of_answers};
@@ -36,7 +36,7 @@ pub fn replay<S: Alter, R: Source, W: Sink>(
     r: &mut R,
     w: &mut W,
 ) -> Result<u32, ServeFault>
-    requires reads { R.failed r.old < 2 ^ 64 - 1 }
+    requires reads { IsCountable (R.failed r.old) }
     requires writes { CanCount (W.output w.old) }
     ensures reliable { ⟦<IndexDesk<Tables<S>> as Desk>⟧.is_reliable desk.new → ⟦<IndexDesk<Tables<S>> as Desk>⟧.is_reliable desk.old }
     ensures replays { (messages : List MessageValue) × (answers : List AnswerValue) × (⟦<IndexDesk<Tables<S>> as Desk>⟧.is_reliable desk.new → (m : State)
@@ -59,7 +59,7 @@ pub fn replay_in_memory<R: Source, W: Sink>(
     r: &mut R,
     w: &mut W,
 ) -> Result<u32, ServeFault>
-    requires reads { R.failed r.old < 2 ^ 64 - 1 }
+    requires reads { IsCountable (R.failed r.old) }
     requires writes { CanCount (W.output w.old) }
     ensures replays { Replays (R.left r.old) (R.left r.new) (W.output w.old) (W.output w.new) result }
     ensures memory { result ≡ Err Memory → (r.new ≡ r.old) × (w.new ≡ w.old) }
@@ -88,7 +88,7 @@ fn replay_database<S: Alter + Drop, R: Source, W: Sink>(
     w: &mut W,
 ) -> Result<DatabaseReplay<S>, TablesFault>
     requires mode { conn.in_transaction ≡ false }
-    requires reads { R.failed r.old < 2 ^ 64 - 1 }
+    requires reads { IsCountable (R.failed r.old) }
     requires writes { CanCount (W.output w.old) }
     ensures clean { IfOk result (λ o. HasCleanDisk (state S.Store o.1) → HasCleanDisk (state S.Store conn)) }
     ensures replays { IfOk result (λ o. HasCleanDisk (state S.Store o.1) → (m : State) → Finds (state S.Store conn) m
@@ -117,7 +117,7 @@ pub fn replay_file<S: Start, R: Source, W: Sink>(
     r: &mut R,
     w: &mut W,
 ) -> Result<FileReplay<S>, TablesFault>
-    requires reads { R.failed r.old < 2 ^ 64 - 1 }
+    requires reads { IsCountable (R.failed r.old) }
     requires writes { CanCount (W.output w.old) }
     ensures replays { IfOk result (λ o. HasCleanDisk (file_state o.1) → (m : State) → HoldsIndex (image_at S.Start) m
         → ReplaysFrom m (file_state o.1) (R.left r.old) (R.left r.new) (W.output w.old) (W.output w.new) o.0) }

@@ -1,8 +1,8 @@
 //! `codenav serve`: the replies to the requests of connections, one request each, one connection
 //! after the other. A stream is served in the crate `http_edge`. `specs/Serve`.
-ghost use Rattle.std.specs.Prelude.{◌≡◌, ◌+◌, ◌-◌, ◌^◌, ◌<◌, true, List, Err, IfErr, length};
+ghost use Rattle.std.specs.Prelude.{◌≡◌, ◌+◌, ◌^◌, ◌<◌, true, List, Err, IfErr, length};
 ghost use Rattle.machine.specs.State.{State};
-ghost use Rattle.lsif.specs.Streams.{CanCount};
+ghost use Rattle.lsif.specs.Streams.{CanCount, IsCountable};
 ghost use Rattle.http_edge.specs.Serving.{CountsRead, CountsWrite, Serves, session, after_a_stop_of_answers};
 ghost use Rattle.http_edge.specs.declared.serve.ServeFault.TheVariants as serve_fault;
 ghost use Rattle.codenav.specs.Serve.{ConnectionValue, CountsAccept, CountsServed, ServesConnection, ServesEach, most_requests};
@@ -53,7 +53,7 @@ impl<'a, L: OpenListener> CountedListener<'a, L> {
 
     /// The next connection, or none where it can't be accepted.
     fn accept(&mut self) -> Option<L::Stream>
-        requires { self.old.accepted < 2 ^ 64 - 1 }
+        requires { IsCountable self.old.accepted }
         ensures { CountsAccept self.old.accepted result self.new.accepted }
     {
         match self.listener.accept() {
@@ -76,7 +76,7 @@ pub fn serve_request<D: Desk, R: Source, W: Sink>(
     r: &mut R,
     w: &mut W,
 ) -> Result<u32, ServeFault>
-    requires reads { R.failed r.old < 2 ^ 64 - 1 }
+    requires reads { IsCountable (R.failed r.old) }
     requires writes { CanCount (W.output w.old) }
     ensures reliable { D.is_reliable desk.new → D.is_reliable desk.old }
     ensures served { (c : ConnectionValue) × (D.is_reliable desk.new → (m : State) → D.stands desk.old m → (n : State)

@@ -1,7 +1,7 @@
 -- The dump that a reader's bytes are.
 use Rattle.std.specs.Prelude.{ℕ, ◌+◌, ◌<◌, List, length, map, Option, Some, None, Result, Ok, Err, ⊤, ◌≡◌}
 use Rattle.std.specs.Borrow.{Bor}
-use Rattle.lsif.specs.declared.element.Profile.{Profile}
+use Rattle.lsif.specs.declared.profile.Profile.{Profile}
 use Rattle.dump.specs.declared.fault.FeedFault.{FeedFault}
 use Rattle.dump.specs.declared.fault.FeedFault.TheVariants as feeds
 use Rattle.dump.specs.declared.reading.DumpFault.{DumpFault}

@@ -3,7 +3,7 @@ use Rattle.std.specs.Prelude.{ℕ, List, map}
 use Rattle.lsif.specs.Element.{Reading}
 use Rattle.lsif.specs.Lines.{lines_of}
 use Rattle.lsif.specs.Reading.{reading}
-use Rattle.lsif.specs.declared.element.Profile.{Profile}
+use Rattle.lsif.specs.declared.profile.Profile.{Profile}
 
 -- the readings of the lines of a text
 abbrev pub dump_of : Profile → List ℕ → List Reading

@@ -3,7 +3,7 @@ use Rattle.std.specs.Prelude.{◌≡◌, ℕ, ◌+◌, List, [], ◌∷◌, ◌+
 use Rattle.lsif.specs.Element.{ElementValue, Reading}
 use Rattle.lsif.specs.declared.code.Code.{Code}
 use Rattle.lsif.specs.declared.code.Code.TheVariants.{L06}
-use Rattle.lsif.specs.declared.element.Profile.{Profile}
+use Rattle.lsif.specs.declared.profile.Profile.{Profile}
 use Rattle.dump.specs.declared.fault.LineFault.{LineFault}
 use Rattle.dump.specs.declared.fault.FeedFault.{FeedFault}
 use Rattle.dump.specs.declared.fault.FeedFault.TheVariants as faults

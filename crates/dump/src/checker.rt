@@ -9,6 +9,7 @@ use crate::fault::{FeedFault, LineFault};
 use crate::graph::Graph;
 use crate::laws::chain_law;
 use crate::order::{add, end_fault};
+use crate::reading::Reading;
 use crate::single::SingleLabel;
 use crate::vertices::vertex_at;
 use crate::walks::first_result;
@@ -63,7 +64,7 @@ impl Checker {
     /// Takes the next line: its element, or the fault of its shape. Returns the fault of the line,
     /// if it has one, and from then on that fault for good. Where memory is refused the line
     /// doesn't count as taken.
-    pub fn feed(&mut self, reading: Result<Element, Code>) -> Result<(), FeedFault>
+    pub fn feed(&mut self, reading: Reading) -> Result<(), FeedFault>
         requires { ForErr reading (λ code. is_shape_code code ≡ true) }
         ensures line { Feeds result self.old.progress (next self.old.progress (reading_value reading)) self.new.progress }
         ensures profile { self.new.profile ≡ self.old.profile }

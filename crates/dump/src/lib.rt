@@ -28,5 +28,5 @@ pub use laws::{
     chain_law, container_law, ends_law, fault_law, hover_law, line_law, listing_law, nesting_law,
     own_law, path_law, pick_law, uri_law, vertex_law,
 };
-pub use reading::{DumpFault, read_dump, read_line};
+pub use reading::{DumpFault, Reading, read_dump, read_line};
 pub use role::{Role, role_of, roles_of};

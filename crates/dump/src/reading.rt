@@ -1,6 +1,6 @@
 //! The dump that a reader's bytes are: each line is read and passed to the checker (`checker.rt`).
 //! Lines of an upload come from the crate `machine`, which calls `read_line` too.
-ghost use Rattle.std.specs.Prelude.{◌≡◌, ◌-◌, ◌^◌, ◌<◌, [], ℕ, List, Err, IfOk, IfErr, OnOk, option_map, true};
+ghost use Rattle.std.specs.Prelude.{◌≡◌, [], ℕ, List, Err, IfOk, IfErr, OnOk, option_map, true};
 ghost use Rattle.std.specs.Result.{ForErr};
 ghost use Rattle.lsif.specs.Code.{is_shape_code};
 ghost use Rattle.lsif.specs.Element.{reading_value};
@@ -9,6 +9,7 @@ ghost use Rattle.lsif.specs.Buffered.{unread};
 ghost use Rattle.dump.specs.Judging.{CountsRead, IsHanded, ReadsDump, as_dump_fault};
 ghost use Rattle.dump.specs.Progress.{running};
 ghost use Rattle.dump.specs.Steps.Judging.{GoesOn, HasTakenAll, IsOutside, IsReady, ReadsNext};
+ghost use Rattle.lsif.specs.Streams.{IsCountable};
 
 use crate::checker::{CheckedDump, Checker};
 use crate::fault::{FeedFault, LineFault};
@@ -45,13 +46,16 @@ impl From<FeedFault> for DumpFault {
     }
 }
 
-/// What is read of a line of a dump by a profile: its element, or the code of its shape. A line
-/// that isn't given, since it's longer than the longest, has L01.
+/// What is read of a line: its element, or the code of its shape.
+pub type Reading = Result<Element, Code>;
+
+/// What is read of a line of a dump by a profile. A line that isn't given, since it's longer than
+/// the longest, has L01.
 pub fn read_line(
     alloc: Global,
     profile: Profile,
     line: Option<&[u8]>,
-) -> Result<Result<Element, Code>, AllocError>
+) -> Result<Reading, AllocError>
     ensures reading { (bytes : List ℕ) → IsHanded longest_line line.entry bytes → IfOk result (λ r. reading_value r ≡ reading profile bytes) }
     ensures shape { IfOk result (λ r. ForErr r (λ code. is_shape_code code ≡ true)) }
 {
@@ -65,15 +69,14 @@ pub fn read_line(
     }
 }
 
-/// The reading of the next line by a profile: its element, or the fault of its shape. None at the
-/// end.
+/// The reading of the next line by a profile. None at the end.
 fn next_reading<R: Source>(
     alloc: Global,
     profile: Profile,
     lines: &mut LineBuffer,
     r: &mut R,
-) -> Result<Option<Result<Element, Code>>, DumpFault>
-    requires count { R.failed r.old < 2 ^ 64 - 1 }
+) -> Result<Option<Reading>, DumpFault>
+    requires count { IsCountable (R.failed r.old) }
     requires ready { IsReady lines.old }
     ensures read { IfOk result (λ next. ReadsNext profile (unread lines.old.pending (R.left r.old)) (option_map reading_value next)
         (unread lines.new.pending (R.left r.new))) }
@@ -96,7 +99,7 @@ fn next_reading<R: Source>(
 /// Passes the lines of a reader to a new checker, to the reader's end or up to the first faulty
 /// line.
 fn take_lines<R: Source>(alloc: Global, checker: &mut Checker, r: &mut R) -> Result<(), DumpFault>
-    requires count { R.failed r.old < 2 ^ 64 - 1 }
+    requires count { IsCountable (R.failed r.old) }
     requires fresh { checker.old.progress ≡ running [] }
     ensures profile { checker.new.profile ≡ checker.old.profile }
     ensures taken { OnOk result (HasTakenAll checker.old.profile (R.left r.old) checker.new.progress) }
@@ -124,7 +127,7 @@ pub fn read_dump<R: Source>(
     profile: Profile,
     r: &mut R,
 ) -> Result<CheckedDump, DumpFault>
-    requires { R.failed r.old < 2 ^ 64 - 1 }
+    requires { IsCountable (R.failed r.old) }
     ensures dump { ReadsDump profile (R.left r.old) result }
     ensures profile { IfOk result (λ dump. dump.profile ≡ profile) }
     ensures counted { CountsRead (R.failed r.old) (R.failed r.new) result }

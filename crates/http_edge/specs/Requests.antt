@@ -3,9 +3,10 @@ use Rattle.std.specs.Prelude.{ℕ, Bool, true, false, List, [], ◌∷◌, lengt
 use Rattle.std.specs.Str.{is_utf8, bytes_eq}
 use Rattle.url.specs.Parser.{parse_url}
 use Rattle.positions.specs.Position.{PositionValue}
+use Rattle.lsif.specs.Profiles.{profile_named}
 use Rattle.lsif.specs.Vertices.{serialized}
-use Rattle.lsif.specs.declared.element.Profile as profiles
-use Rattle.lsif.specs.declared.element.Profile.TheVariants.{One, Two}
+use Rattle.lsif.specs.declared.profile.Profile as profiles
+use Rattle.lsif.specs.declared.profile.Profile.TheVariants.{One}
 use Rattle.machine.specs.Names.{is_project_name, is_key, is_without_nul, where_so, number_in}
 use Rattle.machine.specs.Requests.{ActionValue, put_dump, put_tags, remove, DocumentPositionValue, at_value, QueryValue, position_query, references, names, prefix, projects, profile, RequestValue, CommandValue}
 use Rattle.machine.specs.Requests as requests
@@ -60,9 +61,6 @@ project_name = where_so is_project_name
 -- the serialized URL that a text spells, which has no U+0000
 unfoldable pub url_in : List ℕ → Option (List ℕ)
 url_in text = option_and_then (where_so is_without_nul) (serialized (parse_url None text))
-
-abbrev pub profile_named : List ℕ → Option profiles.Profile
-profile_named text = if bytes_eq text (codes "1") then Some One else (if bytes_eq text (codes "2") then Some Two else None)
 
 abbrev pub yes_or_no : List ℕ → Option Bool
 yes_or_no text = if bytes_eq text (codes "yes") then Some true else (if bytes_eq text (codes "no") then Some false else None)

@@ -30,9 +30,8 @@ pub(crate) fn read_profile(parameters: &Parameters<'_>) -> Option<Profile>
 {
     match parameters.value("profile") {
         ParameterValue::Absent => Some(Profile::One),
-        ParameterValue::Single("1") => Some(Profile::One),
-        ParameterValue::Single("2") => Some(Profile::Two),
-        _ => None,
+        ParameterValue::Single(text) => Profile::named(text),
+        ParameterValue::Several => None,
     }
 }
 

@@ -2,9 +2,9 @@
 //! bytes. An upload takes each piece as it comes, so that no body is held whole. Where the desk
 //! knows the reply already, since the upload's key is kept, the body is read and dropped.
 //! `specs/Messages` says which messages a stream has.
-ghost use Rattle.std.specs.Prelude.{◌≡◌, ◌≢◌, ℕ, ◌+◌, ◌-◌, ◌^◌, ◌<◌, ◌≤◌, List, [], ◌++◌, drop, take, Option, Some, None, IfOk, IfSome, length};
+ghost use Rattle.std.specs.Prelude.{◌≡◌, ◌≢◌, ℕ, ◌+◌, ◌<◌, ◌≤◌, List, [], ◌++◌, drop, take, Option, Some, None, IfOk, IfSome, length};
 ghost use Rattle.httparse.specs.Spans.{span_bytes, IsWithin};
-ghost use Rattle.lsif.specs.Streams.{AtEnd, CountsFailure, Moves, Pulls};
+ghost use Rattle.lsif.specs.Streams.{AtEnd, CountsFailure, IsCountable, Moves, Pulls};
 ghost use Rattle.machine.specs.State.{State};
 ghost use Rattle.http_edge.specs.Steps.Heads.{FitsIn};
 ghost use Rattle.http_edge.specs.Limits.{head_limit};
@@ -37,7 +37,7 @@ pub(crate) enum Message<'b> {
 /// What the next head says, and how many of the buffered bytes it takes. None at the end of the
 /// input.
 fn next_head<R: Source>(r: &mut R, buffer: &mut Buffer) -> Result<Option<(Head, usize)>, Failed>
-    requires count { R.failed r.old < 2 ^ 64 - 1 }
+    requires count { IsCountable (R.failed r.old) }
     requires room { head_limit ≤ buffer.old.capacity }
     ensures head { NextHead buffer.old.pending (R.left r.old) buffer.new.pending (R.left r.new) result }
     ensures fits { IfOk result (λ o. IfSome o (λ found. FitsIn (length buffer.new.pending) found.0)) }
@@ -111,7 +111,7 @@ fn take_piece(buffer: &mut Buffer, message: &mut Message<'_>, most: usize) -> us
 
 /// Reads bytes where none are buffered.
 fn refill<R: Source>(r: &mut R, buffer: &mut Buffer) -> Result<(), Failed>
-    requires count { R.failed r.old < 2 ^ 64 - 1 }
+    requires count { IsCountable (R.failed r.old) }
     requires room { 0 < buffer.old.capacity }
     ensures read { Refills buffer.old.pending (R.left r.old) buffer.new.pending (R.left r.new) result }
     ensures counted { CountsFailure (R.failed r.old) (R.failed r.new) result }
@@ -134,7 +134,7 @@ fn next_piece<R: Source>(
     message: &mut Message<'_>,
     most: usize,
 ) -> Result<usize, Failed>
-    requires count { R.failed r.old < 2 ^ 64 - 1 }
+    requires count { IsCountable (R.failed r.old) }
     requires room { 0 < buffer.old.capacity }
     requires most { 0 < most }
     ensures piece { TakesPiece most buffer.old.pending (R.left r.old) message.old buffer.new.pending (R.left r.new) message.new result }
@@ -155,7 +155,7 @@ fn read_body<R: Source>(
     message: &mut Message<'_>,
     len: usize,
 ) -> Result<bool, Failed>
-    requires count { R.failed r.old < 2 ^ 64 - 1 }
+    requires count { IsCountable (R.failed r.old) }
     requires room { 0 < buffer.old.capacity }
     ensures body { ReadsBody len buffer.old.pending (R.left r.old) message.old buffer.new.pending (R.left r.new) message.new result }
     ensures counted { CountsFailure (R.failed r.old) (R.failed r.new) result }
@@ -218,7 +218,7 @@ impl MessageReader {
         len: usize,
         taken: usize,
     ) -> Result<Message<'b>, Failed>
-        requires count { R.failed r.old < 2 ^ 64 - 1 }
+        requires count { IsCountable (R.failed r.old) }
         requires line { IsWithin (length self.old) line.method × IsWithin (length self.old) line.target }
         requires taken { taken ≤ length self.old }
         ensures stays { Stays (D.stands desk.old) (D.stands desk.new) (D.may_leave desk.old) (D.may_leave desk.new) (D.is_reliable desk.old) (D.is_reliable desk.new) }
@@ -253,7 +253,7 @@ impl MessageReader {
         desk: &mut D,
         r: &mut R,
     ) -> Result<Option<Message<'b>>, Failed>
-        requires count { R.failed r.old < 2 ^ 64 - 1 }
+        requires count { IsCountable (R.failed r.old) }
         ensures stays { Stays (D.stands desk.old) (D.stands desk.new) (D.may_leave desk.old) (D.may_leave desk.new) (D.is_reliable desk.old) (D.is_reliable desk.new) }
         ensures known { D.is_reliable desk.new → (m : State) → D.stands desk.old m
             → IfOk result (λ o. IfSome o (λ message. Knows D.store_may_refuse m (known_of message))) }

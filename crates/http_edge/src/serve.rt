@@ -1,9 +1,9 @@
 //! Serves a stream by any desk: one message after the other is read, answered and written. Reading
 //! is in `reading.rt`, the text of answers in `reply.rt`. `specs/Serving`.
-ghost use Rattle.std.specs.Prelude.{◌≡◌, ◌≢◌, ℕ, ◌-◌, ◌^◌, ◌<◌, ◌≤◌, List, [], Err, length};
+ghost use Rattle.std.specs.Prelude.{◌≡◌, ◌≢◌, ℕ, ◌≤◌, List, [], Err, length};
 ghost use Rattle.machine.specs.State.{State};
 ghost use Rattle.lsif.specs.Sending.{CountsSending, Sends};
-ghost use Rattle.lsif.specs.Streams.{CanCount};
+ghost use Rattle.lsif.specs.Streams.{CanCount, IsCountable};
 ghost use Rattle.http_edge.specs.Messages.{ends};
 ghost use Rattle.http_edge.specs.Replies.{AnswerValue, answer_text};
 ghost use Rattle.http_edge.specs.Steps.Replies.{answer_value};
@@ -117,7 +117,7 @@ fn serve<D: Desk, R: Source, W: Sink>(
     w: &mut W,
     limit: u32,
 ) -> Result<u32, ServeFault>
-    requires reads { R.failed r.old < 2 ^ 64 - 1 }
+    requires reads { IsCountable (R.failed r.old) }
     requires writes { CanCount (W.output w.old) }
     requires empty { reader.old ≡ [] }
     ensures reliable { D.is_reliable desk.new → D.is_reliable desk.old }
@@ -164,7 +164,7 @@ pub fn serve_stream<D: Desk, R: Source, W: Sink>(
     w: &mut W,
     limit: u32,
 ) -> Result<u32, ServeFault>
-    requires reads { R.failed r.old < 2 ^ 64 - 1 }
+    requires reads { IsCountable (R.failed r.old) }
     requires writes { CanCount (W.output w.old) }
     ensures reliable { D.is_reliable desk.new → D.is_reliable desk.old }
     ensures served { (messages : List MessageValue) × (answers : List AnswerValue) × (D.is_reliable desk.new → (m : State) → D.stands desk.old m → (n : State)

@@ -11,7 +11,7 @@ use Rattle.lsif.specs.Shape.{◌>>=◌, some_or}
 use Rattle.lsif.specs.Vertices.{vertex_label}
 use Rattle.lsif.specs.Edges.{edge_label}
 use Rattle.lsif.specs.Reading.{element_by, element_in, longest_line, json_of, reading, IsAddedLabel, HasNoAddedLabel, IsLabelInOne, IsOfProfileOne, IsOtherLabel}
-use Rattle.lsif.specs.declared.element.Profile.TheVariants.{One, Two}
+use Rattle.lsif.specs.declared.profile.Profile.TheVariants.{One, Two}
 use Rattle.lsif.specs.declared.request_kind.RequestKind.{RequestKind}
 use Rattle.lsif.specs.declared.request_kind.RequestKind.TheVariants.{Definition, References, Hover}
 use Rattle.lsif.specs.declared.code.Code.TheVariants.{L01, L02, L03, L05}

@@ -7,7 +7,7 @@ use Rattle.lsif.specs.declared.code.Code.{Code}
 use Rattle.lsif.specs.declared.code.Code.TheVariants.{L08, L15}
 use Rattle.lsif.specs.declared.edges.EdgeLabel.{EdgeLabel}
 use Rattle.lsif.specs.declared.edges.EdgeLabel.TheVariants as labels
-use Rattle.lsif.specs.declared.element.Profile.{Profile}
+use Rattle.lsif.specs.declared.profile.Profile.{Profile}
 use Rattle.lsif.specs.declared.element.Property.{Property}
 use Rattle.lsif.specs.declared.element.Property.TheVariants.{Definitions, References, ReferenceResults}
 use Rattle.lsif.specs.Element.{IdValue, ItemValue, EdgeValue, contains, next, request_edge, moniker_edge, package_edge, attach, item, other_edge}

@@ -10,6 +10,7 @@ pub mod Lent
 pub mod Lines
 pub mod Monikers
 pub mod Pieces
+pub mod Profiles
 pub mod Reading
 pub mod RequestKinds
 pub mod Sending

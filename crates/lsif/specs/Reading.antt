@@ -12,8 +12,8 @@ use Rattle.lsif.specs.Vertices.{vertex_label, vertex_of}
 use Rattle.lsif.specs.Edges.{edge_label, edge_in}
 use Rattle.lsif.specs.declared.vertices.VertexLabel.TheVariants as vertices
 use Rattle.lsif.specs.declared.edges.EdgeLabel.TheVariants as edges
-use Rattle.lsif.specs.declared.element.Profile.{Profile}
-use Rattle.lsif.specs.declared.element.Profile.TheVariants.{One}
+use Rattle.lsif.specs.declared.profile.Profile.{Profile}
+use Rattle.lsif.specs.declared.profile.Profile.TheVariants.{One}
 use Rattle.lsif.specs.declared.request_kind.RequestKind.{RequestKind}
 use Rattle.lsif.specs.declared.request_kind.RequestKind.TheVariants.{Definition, References, Hover}
 use Rattle.lsif.specs.declared.code.Code.TheVariants.{L01, L02, L03, L05, L07}

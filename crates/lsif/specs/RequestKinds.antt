@@ -1,10 +1,11 @@
 -- The kinds of requests, and in what they differ (LSIF 0.6.0, "Requests"; "Multiple Projects":
 -- import and export monikers).
-use Rattle.std.specs.Prelude.{ℕ, ◌+◌, ◌&&◌, ◌||◌, not, Bool, true, false, nat_eq, List, [], ◌∷◌, codes, bytes_eq, Option, find}
+use Rattle.std.specs.Prelude.{ℕ, ◌+◌, ◌&&◌, ◌||◌, not, Bool, true, false, nat_eq, nat_le, List, [], ◌∷◌, codes, bytes_eq, Option, find}
 use Rattle.lsif.specs.declared.element.MonikerKind.{MonikerKind}
 use Rattle.lsif.specs.declared.element.MonikerKind.TheVariants.{Import, Export, Local}
-use Rattle.lsif.specs.declared.element.Profile.{Profile}
-use Rattle.lsif.specs.declared.element.Profile.TheVariants.{One, Two}
+use Rattle.lsif.specs.declared.profile.Profile.{Profile}
+use Rattle.lsif.specs.declared.profile.Profile.TheVariants.{One, Two}
+use Rattle.lsif.specs.Profiles.{profile_number}
 use Rattle.lsif.specs.declared.request_kind.RequestKind.{RequestKind}
 use Rattle.lsif.specs.declared.request_kind.RequestKind.TheVariants.{Definition, References, Hover, Declaration, Implementation}
 use Rattle.lsif.specs.declared.request_kind.Spelling.{Spelling}
@@ -40,14 +41,9 @@ kind_number Implementation = 4
 abbrev pub same_kind : RequestKind → RequestKind → Bool
 same_kind j k = nat_eq (kind_number j) (kind_number k)
 
-abbrev pub is_base : Profile → Bool
-is_base One = true
-is_base Two = false
-
--- profile 2 reads all labels, profile 1 those that it began with
+-- a profile reads the labels of the kinds that have it, or one before it, as their least
 abbrev pub is_read : Profile → RequestKind → Bool
-is_read One kind = is_base (spelling_of kind).profile
-is_read Two kind = true
+is_read profile kind = nat_le (profile_number (spelling_of kind).profile) (profile_number profile)
 
 -- the kind of which edges with this label name results, in a profile
 abbrev pub named_by_edge : Profile → List ℕ → Option RequestKind

@@ -9,9 +9,13 @@ pub record Output : Type 0 where
   pub failures : ℕ
   pub zero_writes : ℕ
 
+-- one more can be counted
+abbrev pub IsCountable : ℕ → Type 0
+IsCountable count = count < 2 ^ 64 - 1
+
 -- one more of both can be counted
 abbrev pub CanCount : Output → Type 0
-CanCount output = (output.failures < 2 ^ 64 - 1) × (output.zero_writes < 2 ^ 64 - 1)
+CanCount output = IsCountable output.failures × IsCountable output.zero_writes
 
 -- known bytes begin with these, and lose them
 abbrev pub Moves : Option (List ℕ) → Option (List ℕ) → List ℕ → Type 0

@@ -12,7 +12,7 @@ use Rattle.lsif.specs.declared.vertices.VertexLabel.{VertexLabel}
 use Rattle.lsif.specs.declared.vertices.VertexLabel.TheVariants as labels
 use Rattle.lsif.specs.Element.{VertexValue, meta_data, project, document, range, result_set, request_result, hover_result, moniker, package_information, event, other_vertex}
 use Rattle.lsif.specs.Ids.{whole_number_in, text_at}
-use Rattle.lsif.specs.declared.element.Profile.{Profile}
+use Rattle.lsif.specs.declared.profile.Profile.{Profile}
 use Rattle.lsif.specs.declared.request_kind.RequestKind.TheVariants.{Hover}
 use Rattle.lsif.specs.RequestKinds.{named_by_vertex}
 use Rattle.lsif.specs.Hovers.{hover_in}

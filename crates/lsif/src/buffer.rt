@@ -1,8 +1,8 @@
 //! A buffer of a fixed length before a reader: what was read and isn't used yet. What is left in it
 //! is moved to its front only when the end is reached, and the read that follows fills the room.
 //! Lines are split in `lines.rt`. `specs/Buffered` says what it holds.
-ghost use Rattle.std.specs.Prelude.{◌≡◌, ℕ, ◌+◌, ◌-◌, ◌^◌, ◌<◌, ◌≤◌, List, [], ◌++◌, drop, take, Option, Some, IfOk, length, vec_len, slice_range};
-ghost use Rattle.lsif.specs.Streams.{CountsFailure, Pulls};
+ghost use Rattle.std.specs.Prelude.{◌≡◌, ℕ, ◌+◌, ◌-◌, ◌<◌, ◌≤◌, List, [], ◌++◌, drop, take, Option, Some, IfOk, length, vec_len, slice_range};
+ghost use Rattle.lsif.specs.Streams.{CountsFailure, IsCountable, Pulls};
 ghost use Rattle.lsif.specs.Buffered.{Fills};
 
 use crate::streams::{Failed, Source};
@@ -61,7 +61,7 @@ impl Buffer {
     /// Reads more bytes, and returns how many came: none only at the end of the input.
     pub fn fill<S: Source>(&mut self, source: &mut S) -> Result<usize, Failed>
         requires room { length self.old.pending < self.old.capacity }
-        requires count { S.failed source.old < 2 ^ 64 - 1 }
+        requires count { IsCountable (S.failed source.old) }
         ensures bytes { Fills self.old (S.left source.old) self.new (S.left source.new) result }
         ensures counted { CountsFailure (S.failed source.old) (S.failed source.new) result }
         ensures capacity { self.new.capacity ≡ self.old.capacity }
@@ -79,7 +79,7 @@ impl Buffer {
 /// Pulls bytes into the room after the first `end`.
 fn pull_after<S: Source>(bytes: &mut Vec<u8>, end: usize, source: &mut S) -> Result<usize, Failed>
     requires room { end < vec_len bytes.old }
-    requires count { S.failed source.old < 2 ^ 64 - 1 }
+    requires count { IsCountable (S.failed source.old) }
     ensures kept { take end bytes.new.items ≡ take end bytes.old.items }
     ensures len { vec_len bytes.new ≡ vec_len bytes.old }
     ensures within { IfOk result (λ n. end + n ≤ vec_len bytes.old) }

@@ -7,10 +7,11 @@ ghost use Rattle.lsif.specs.Shape.{Gives, IsShapeFault, some_or};
 ghost use Rattle.serde_json.specs.View.{view};
 
 use crate::code::Code;
-use crate::element::{Edge, Item, Profile, Property};
+use crate::element::{Edge, Item, Property};
 use crate::fault::ReadFault;
 use crate::id::{Id, lent_member, member_id};
 use crate::ids::{Ids, id_alone, read_ids};
+use crate::profile::Profile;
 use crate::request_kind::RequestKind;
 use serde_json::Value;
 use std::alloc::{AllocError, Global};
@@ -105,17 +106,18 @@ fn property_of(text: &str) -> Option<Property>
     }
 }
 
-/// The property of an `item` edge, or that it has none. None where it isn't one of the three.
+/// The property of an `item` edge, or that it has none. `L15` where it isn't one of the three.
 #[tactic(auto, unfolding(crate::specs::Edges::property_in))]
-fn property(value: &Value) -> Option<Option<Property>>
-    ensures { result ≡ property_in (view value.now) }
+fn property(value: &Value) -> Result<Option<Property>, ReadFault>
+    ensures reading { Gives (λ property. property) result (some_or Code.L15 (property_in (view value.now))) }
+    ensures shape { IfErr result IsShapeFault }
 {
-    match value.get("property") {
-        None => Some(None),
-        Some(found) => match found.as_str() {
-            None => None,
-            Some(text) => property_of(text).map(Some),
-        },
+    let Some(found) = value.get("property") else {
+        return Ok(None);
+    };
+    match found.as_str().and_then(property_of) {
+        Some(property) => Ok(Some(property)),
+        None => Err(ReadFault::Shape(Code::L15)),
     }
 }
 
@@ -140,9 +142,7 @@ fn item(alloc: Global, source: Id, value: &Value) -> Result<Item, ReadFault>
     let Some(targets) = targets(alloc, value)? else {
         return Err(ReadFault::Shape(Code::L08));
     };
-    let Some(property) = property(value) else {
-        return Err(ReadFault::Shape(Code::L15));
-    };
+    let property = property(value)?;
     let Some(shard) = shard(alloc, value)? else {
         return Err(ReadFault::Shape(Code::L15));
     };

@@ -10,16 +10,6 @@ use crate::ids::{Ids, IdsIter};
 use crate::request_kind::RequestKind;
 use positions::Span;
 
-/// The part of LSIF that a dump is read by: which labels are read, and not as other labels.
-#[derive(Clone, Copy, Debug, PartialEq, Eq)]
-pub enum Profile {
-    /// Definitions, references and hovers, with monikers, packages and events.
-    One,
-    /// What `One` reads; and declarations and implementations: vertices `declarationResult` and
-    /// `implementationResult`, edges `textDocument/declaration` and `textDocument/implementation`.
-    Two,
-}
-
 /// Whether a symbol comes from another project, may be named in others, or is only known in its own
 /// (LSIF 0.6.0, "moniker").
 #[derive(Clone, Copy, Debug, PartialEq, Eq)]

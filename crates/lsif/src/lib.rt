@@ -15,6 +15,7 @@ mod ids;
 mod lines;
 mod messages;
 mod monikers;
+mod profile;
 mod reading;
 mod request_kind;
 mod sending;
@@ -24,14 +25,13 @@ mod vertices;
 pub use buffer::Buffer;
 pub use code::Code;
 pub use cutter::Cutter;
-pub use element::{
-    Edge, Element, Event, Item, Moniker, MonikerKind, Package, Profile, Property, Vertex,
-};
+pub use element::{Edge, Element, Event, Item, Moniker, MonikerKind, Package, Property, Vertex};
 pub use fault::ReadFault;
 pub use id::{Id, IdRef};
 pub use ids::{Ids, IdsIter};
 pub use lines::{LineBuffer, Lines, LinesFault, lines_law};
 pub use messages::{CANNOT_READ, CANNOT_WRITE, OUT_OF_MEMORY, STORE_REFUSED};
+pub use profile::{PROFILES, Profile};
 pub use reading::{LONGEST_LINE, profile_law, read_element};
 pub use request_kind::{REQUEST_KINDS, REQUESTS, RequestKind};
 pub use sending::push_all;

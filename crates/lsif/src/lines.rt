@@ -1,7 +1,7 @@
 //! The lines of a reader, of at most so many bytes each. The reader is asked for up to 65,536 bytes
 //! at a time, and `cutter.rt` splits them; so the memory is that of one block and one line, and the
 //! time is linear in the bytes. `specs/Lines` says which lines a text has.
-ghost use Rattle.std.specs.Prelude.{◌≡◌, ◌≢◌, ℕ, ◌-◌, ◌^◌, ◌<◌, List, [], ◌++◌, None, MatchResult, false};
+ghost use Rattle.std.specs.Prelude.{◌≡◌, ◌≢◌, ℕ, ◌<◌, List, [], ◌++◌, None, MatchResult, false};
 ghost use Rattle.lsif.specs.Pieces.{begun};
 ghost use Rattle.lsif.specs.Steps.Cutting.{CountsRead, CutsLine, NextTaken};
 ghost use Rattle.lsif.specs.declared.cutter.LineState.TheVariants as LineState;
@@ -10,6 +10,7 @@ ghost use Rattle.lsif.specs.Lines.{Cuts, NextLine, lent, lines_of, over, shown};
 ghost use Rattle.lsif.specs.contracts.lines.Lines.{the_row as lines_row};
 ghost use Rattle.std.specs.Io.BufRead.{Rests};
 ghost use types.Logic.{sem};
+ghost use Rattle.lsif.specs.Streams.{IsCountable};
 
 use crate::buffer::Buffer;
 use crate::code::Code;
@@ -105,7 +106,7 @@ fn cut_line<S: Source>(
     buffer: &mut Buffer,
     cutter: &mut Cutter,
 ) -> Result<Option<bool>, LinesFault>
-    requires count { S.failed source.old < 2 ^ 64 - 1 }
+    requires count { IsCountable (S.failed source.old) }
     requires room { 0 < buffer.old.capacity }
     requires begun { cutter.old.state ≢ LineState.TooLong }
     ensures cut { CutsLine (unread (begun cutter.old ++ buffer.old.pending) (S.left source.old)) cutter.new result
@@ -146,7 +147,7 @@ impl LineBuffer {
 
     /// Takes the next line, where there was no fault before.
     fn take_next<S: Source>(&mut self, source: &mut S) -> Result<bool, LinesFault>
-        requires failures { S.failed source.old < 2 ^ 64 - 1 }
+        requires failures { IsCountable (S.failed source.old) }
         requires sound { self.old.fault ≡ None }
         ensures { NextTaken (over self.old (S.left source.old) (S.failed source.old)) (shown result self.new.line)
             (over self.new (S.left source.new) (S.failed source.new)) }
@@ -167,7 +168,7 @@ impl LineBuffer {
     /// Goes on to the next line, and says whether there is one. It takes no memory. After a fault
     /// it returns the same fault for good.
     pub fn advance<S: Source>(&mut self, source: &mut S) -> Result<bool, LinesFault>
-        requires { S.failed source.old < 2 ^ 64 - 1 }
+        requires { IsCountable (S.failed source.old) }
         ensures { NextLine (over self.old (S.left source.old) (S.failed source.old)) (shown result self.new.line)
             (over self.new (S.left source.new) (S.failed source.new)) }
     {
@@ -220,7 +221,7 @@ impl<S: Source> Lines<S> {
 
     /// Goes on to the next line, and says whether there is one.
     fn advance(&mut self) -> Result<bool, LinesFault>
-        requires { self.old.failures < 2 ^ 64 - 1 }
+        requires { IsCountable self.old.failures }
         ensures { NextLine self.old (shown result self.new.line) self.new }
     {
         self.lines.advance(&mut self.source)
@@ -229,7 +230,7 @@ impl<S: Source> Lines<S> {
     /// Borrows the next line, without its line feed, or says that there is none. It takes no
     /// memory. After a fault it returns the same fault for good.
     pub fn next_line(&mut self) -> Result<Option<&[u8]>, LinesFault>
-        requires { self.old.failures < 2 ^ 64 - 1 }
+        requires { IsCountable self.old.failures }
         ensures* after_borrow { sem 𝓛 (Rests (lines_row S.row S.Source) self.entry (λ new. NextLine self.old (lent result) new)) }
     {
         if self.advance()? {

@@ -10,9 +10,10 @@ ghost use Rattle.serde_json.specs.View.{view};
 
 use crate::code::Code;
 use crate::edges::{edge, edge_label};
-use crate::element::{Element, Profile};
+use crate::element::Element;
 use crate::fault::ReadFault;
 use crate::id::member_id;
+use crate::profile::Profile;
 use crate::vertices::{vertex, vertex_label};
 use serde_json::{Category, Value};
 use std::alloc::Global;

@@ -4,7 +4,8 @@
 ghost use Rattle.std.specs.Prelude.{◌≡◌, ◌<◌, length};
 ghost use Rattle.lsif.specs.RequestKinds.{asks_for_uses, finds, follows, gives_places, is_read, kind_number, kinds, named_by_edge, named_by_vertex, spelling_of, spelling_value};
 
-use crate::element::{MonikerKind, Profile};
+use crate::element::MonikerKind;
+use crate::profile::Profile;
 
 /// A request that a vertex has a result for (LSIF 0.6.0, "Requests").
 #[derive(Clone, Copy, Debug, PartialEq, Eq)]
@@ -85,10 +86,7 @@ impl RequestKind {
     fn is_read(self, profile: Profile) -> bool
         ensures { result ≡ is_read profile self }
     {
-        match profile {
-            Profile::One => matches!(self.spelling().profile, Profile::One),
-            Profile::Two => true,
-        }
+        self.spelling().profile.number() <= profile.number()
     }
 
     /// The kind of which edges with this label name results, in a profile.

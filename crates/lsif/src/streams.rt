@@ -1,8 +1,8 @@
 //! The traits of readers and writers that count their failures, and the wrapper that makes these of
 //! any others. A contract says by the count whether a call failed; after a failure the bytes are
 //! unknown. `specs/Streams`.
-ghost use Rattle.std.specs.Prelude.{◌≡◌, ℕ, ◌+◌, ◌-◌, ◌^◌, ◌<◌, ◌≤◌, List, Option, Some, IfOk, length};
-ghost use Rattle.lsif.specs.Streams.{CanCount, CountsFailure, Output, Pulls, Pushes, counted, unless_failed};
+ghost use Rattle.std.specs.Prelude.{◌≡◌, ℕ, ◌+◌, ◌≤◌, List, Option, Some, IfOk, length};
+ghost use Rattle.lsif.specs.Streams.{CanCount, CountsFailure, IsCountable, Output, Pulls, Pushes, counted, unless_failed};
 
 use std::io::{Read, Write};
 use thiserror::Error;
@@ -26,7 +26,7 @@ pub trait Source {
 
     /// Fills a beginning of the slice, and says how long it is.
     fn pull(&mut self, buf: &mut [u8]) -> Result<usize, Failed>
-        requires { failed self.old < 2 ^ 64 - 1 }
+        requires { IsCountable (failed self.old) }
         ensures within { IfOk result (λ n. n ≤ length buf.new) }
         ensures bytes { Pulls (left self.old) (left self.new) result buf.new }
         ensures counted { CountsFailure (failed self.old) (failed self.new) result };
@@ -82,7 +82,7 @@ impl<T> Counted<T> {
     }
 
     fn count_failure(&mut self) -> Failed
-        requires { self.old.failures < 2 ^ 64 - 1 }
+        requires { IsCountable self.old.failures }
         ensures { self.new ≡ record self.old { failures = self.old.failures + 1 } }
     {
         self.failures += 1;

@@ -5,10 +5,11 @@ ghost use Rattle.lsif.specs.Element.{vertex_value};
 ghost use Rattle.lsif.specs.Vertices.{coordinate_at, position_in, span_in, is_supported, uri_in, vertex_label, vertex_of};
 ghost use Rattle.serde_json.specs.View.{view};
 
-use crate::element::{Profile, Vertex};
+use crate::element::Vertex;
 use crate::events::event;
 use crate::hovers::hover;
 use crate::monikers::{moniker, package};
+use crate::profile::Profile;
 use crate::request_kind::RequestKind;
 use positions::{Position, Span};
 use serde_json::Value;

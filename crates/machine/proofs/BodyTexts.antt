@@ -3,7 +3,7 @@ use Rattle.std.proofs.Common.{◌≡◌, [], ◌∷◌, codes, true, false, Some
 use Rattle.std.specs.Fmt.{digits}
 use Rattle.serde_json.proofs.OnLiterals.{serde_json_on_literals}
 use Rattle.lsif.specs.declared.code.Code.TheVariants.{L06}
-use Rattle.lsif.specs.declared.element.Profile.TheVariants.{Two}
+use Rattle.lsif.specs.declared.profile.Profile.TheVariants.{Two}
 use Rattle.tags.specs.declared.code.Code.TheVariants.{T05}
 use Rattle.machine.specs.declared.code.Code.TheVariants.{D01}
 use Rattle.machine.specs.Reply.{refused, reply_body, dump_accepted, tags_accepted, removed, dump_refused, tags_refused, places_found, hover_found, tags_found, projects_found, profile_found}

@@ -2,7 +2,7 @@
 use Rattle.std.proofs.Common.{◌≡◌, ◌∙◌, ◌||◌, Bool, true, false, cond, List, [], ◌∷◌, map, refl, sym, subst}
 use Rattle.std.specs.Prelude.{ℕ, ⊤, ◌↔◌, Option, Some, None, is_some, Result, Ok, Err, Contains, bytes_eq}
 use Rattle.std.proofs.lemmas.Slice.Eq.{bytes_eq-Decides}
-use Rattle.lsif.specs.declared.element.Profile.{Profile}
+use Rattle.lsif.specs.declared.profile.Profile.{Profile}
 use Rattle.dump.specs.declared.fault.LineFault as dumps
 use Rattle.dump.specs.Fault.{IsFault, IsFaultless}
 use Rattle.dump.specs.Lines.{dump_of}

@@ -6,7 +6,7 @@ use Rattle.std.proofs.lemmas.Bool.{lt-ltb}
 use Rattle.lsif.specs.Reading as dumps
 use Rattle.lsif.specs.Reading.{reading}
 use Rattle.lsif.specs.declared.code.Code.TheVariants.{L01}
-use Rattle.lsif.specs.declared.element.Profile.{Profile}
+use Rattle.lsif.specs.declared.profile.Profile.{Profile}
 use Rattle.tags.specs.Faults.{result_map}
 use Rattle.tags.specs.Lines as tags
 use Rattle.tags.specs.Lines.{Line, IsReading}

@@ -8,7 +8,7 @@ use Rattle.lsif.specs.Element as lsif
 use Rattle.lsif.specs.Element.{ElementValue}
 use Rattle.lsif.specs.Pieces.{CutterValue, begun, unless_empty}
 use Rattle.lsif.specs.Reading.{reading, longest_line}
-use Rattle.lsif.specs.declared.element.Profile.{Profile}
+use Rattle.lsif.specs.declared.profile.Profile.{Profile}
 use Rattle.dump.specs.Lines.{dump_of}
 use Rattle.dump.specs.Progress as dumps
 use Rattle.dump.specs.Progress.{DumpValue, Progress, progress}

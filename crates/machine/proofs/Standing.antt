@@ -6,7 +6,7 @@ use Rattle.lsif.specs.Element.{ElementValue}
 use Rattle.lsif.specs.Element as lsif
 use Rattle.lsif.specs.Reading as dump_lines_of
 use Rattle.lsif.specs.Reading.{reading}
-use Rattle.lsif.specs.declared.element.Profile.{Profile}
+use Rattle.lsif.specs.declared.profile.Profile.{Profile}
 use Rattle.dump.specs.Fault.{AreSoundLines, IsLineFault}
 use Rattle.dump.specs.Progress as dumps
 use Rattle.dump.specs.Progress.{Progress, progress}

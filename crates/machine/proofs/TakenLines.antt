@@ -11,7 +11,7 @@ use Rattle.lsif.specs.Reading.{reading}
 use Rattle.lsif.specs.declared.cutter.LineState.TheVariants.{TooLong}
 use Rattle.lsif.specs.declared.lines.LinesFault.{LinesFault}
 use Rattle.lsif.specs.declared.lines.LinesFault.TheVariants as faults
-use Rattle.lsif.specs.declared.element.Profile.{Profile}
+use Rattle.lsif.specs.declared.profile.Profile.{Profile}
 use Rattle.dump.specs.Progress as dumps
 use Rattle.dump.specs.Progress.{Progress}
 use Rattle.tags.specs.States as tags

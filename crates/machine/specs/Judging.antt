@@ -1,7 +1,7 @@
 -- What a command asks for, judged by its body alone: the change that it makes, or the reply that
 -- refuses it.
 use Rattle.std.specs.Prelude.{ℕ, List, Option, None, Some, Result, Ok, Err}
-use Rattle.lsif.specs.declared.element.Profile.{Profile}
+use Rattle.lsif.specs.declared.profile.Profile.{Profile}
 use Rattle.dump.specs.declared.fault.LineFault as dumps
 use Rattle.dump.specs.Lines.{dump_of}
 use Rattle.dump.specs.Progress.{DumpValue, Progress, running, stopped, progress, end_fault}

@@ -6,8 +6,8 @@ use Rattle.serde_json.specs.View.{items_of}
 use Rattle.serde_json.specs.Written.{compact_text}
 use Rattle.positions.specs.Position.{PositionValue}
 use Rattle.lsif.specs.Code as lines
-use Rattle.lsif.specs.declared.element.Profile.{Profile}
-use Rattle.lsif.specs.declared.element.Profile.TheVariants.{One, Two}
+use Rattle.lsif.specs.declared.profile.Profile.{Profile}
+use Rattle.lsif.specs.Profiles.{profile_number}
 use Rattle.dump.specs.declared.fault.LineFault as dumps
 use Rattle.dump.specs.Places.{PlaceValue}
 use Rattle.tags.specs.Codes as tag_lines
@@ -164,10 +164,6 @@ projects_data found = object (member (codes "projects") (list_data project_data 
 
 abbrev pub projects_found : List ProjectValue → ReplyValue
 projects_found found = written 200 (projects_data found)
-
-abbrev pub profile_number : Profile → ℕ
-profile_number One = 1
-profile_number Two = 2
 
 abbrev pub profile_data : Profile → Data
 profile_data profile = object (member (codes "profile") (number (unsigned (profile_number profile))) no_members)

@@ -2,7 +2,7 @@
 use Rattle.std.specs.Prelude.{ℕ, Bool, List, map, Option, string_bytes}
 use Rattle.positions.specs.Position.{PositionValue}
 use Rattle.lsif.specs.declared.request_kind.RequestKind.{RequestKind}
-use Rattle.lsif.specs.declared.element.Profile.{Profile}
+use Rattle.lsif.specs.declared.profile.Profile.{Profile}
 use Rattle.machine.specs.declared.request.Command.{Command}
 use Rattle.machine.specs.declared.request.Command.TheVariants as commands
 use Rattle.machine.specs.declared.request.Query.{Query}

@@ -5,7 +5,7 @@ use Rattle.lsif.specs.Lines as texts
 use Rattle.lsif.specs.Lines.{IsLine}
 use Rattle.lsif.specs.Reading as dumps
 use Rattle.lsif.specs.Reading.{reading}
-use Rattle.lsif.specs.declared.element.Profile.{Profile}
+use Rattle.lsif.specs.declared.profile.Profile.{Profile}
 use Rattle.dump.specs.Fault.{AreSoundLines, IsLineFault}
 use Rattle.dump.specs.Progress as dumps_progress
 use Rattle.dump.specs.Progress.{Progress}

@@ -7,7 +7,7 @@ ghost use Rattle.serde_json.specs.Written.{comma_if, compact_text, has_float};
 ghost use Rattle.tags.specs.Views.{field_value};
 ghost use Rattle.machine.specs.Found.{place_found, tag_found, project_found};
 ghost use Rattle.machine.specs.Reply.{written, fault_data, position_data, place_data, kind_data, tag_data, project_data, projects_data, profile_data, dump_accepted, tags_accepted, removed, dump_refused, tags_refused, hover_found, tags_found, projects_found, profile_found};
-ghost use Rattle.machine.specs.Reply.{field_data, profile_number};
+ghost use Rattle.machine.specs.Reply.{field_data};
 ghost use Rattle.machine.specs.State.{accepted_text, count_data, parts_removed};
 
 use crate::found::{FoundPlace, FoundProject, FoundTag};
@@ -287,20 +287,10 @@ pub fn projects_found(alloc: Global, projects: &[FoundProject]) -> Result<Reply,
     Ok(reply)
 }
 
-/// The number by which replies and tables name a profile: 1 or 2.
-pub fn profile_number(profile: Profile) -> u32
-    ensures { result ≡ profile_number profile }
-{
-    match profile {
-        Profile::One => 1,
-        Profile::Two => 2,
-    }
-}
-
 fn profile_value(alloc: Global, profile: Profile) -> Result<Value, AllocError>
     ensures { IfOk result (λ v. view v ≡ profile_data profile) }
 {
-    json!(in alloc; {"profile": profile_number(profile)})
+    json!(in alloc; {"profile": profile.number()})
 }
 
 /// The reply to the query for a dump's profile.

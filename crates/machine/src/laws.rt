@@ -5,7 +5,7 @@ ghost use Rattle.dump.specs.declared.fault.LineFault as dumps;
 ghost use Rattle.dump.specs.Fault.{IsFault};
 ghost use Rattle.dump.specs.Lines.{dump_of};
 ghost use Rattle.dump.specs.Progress.{DumpValue};
-ghost use Rattle.lsif.specs.declared.element.Profile.{Profile};
+ghost use Rattle.lsif.specs.declared.profile.Profile.{Profile};
 ghost use Rattle.tags.specs.Judging.{HasTags, HasFault};
 ghost use Rattle.tags.specs.Values.{TagValue};
 ghost use Rattle.tags.specs.declared.code.LineFault as tags;

@@ -22,7 +22,7 @@ mod upload;
 
 pub use bodies::{
     END, PLACES, add_place, dump_accepted, fields_value, hover_found, profile_found,
-    profile_number, projects_found, removal_text, removed, tags_accepted, tags_found,
+    projects_found, removal_text, removed, tags_accepted, tags_found,
 };
 pub use change::{Change, judge};
 pub use code::Code;

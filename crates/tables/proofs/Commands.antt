@@ -1,5 +1,5 @@
 -- What the statements compile to.
-use Rattle.std.proofs.Common.{◌≡◌, refl, [], ◌∷◌, ◌++◌, ◌+◌, map, false, codes, ℕ, zero, suc, List}
+use Rattle.std.proofs.Common.{◌≡◌, refl, [], ◌∷◌, ◌++◌, ◌+◌, length, map, false, codes, ℕ, zero, suc, List}
 use Rattle.std.specs.List.{range_with_len}
 use Rattle.sqlite.specs.Listing.{understood, reads_listing}
 use Rattle.sqlite.proofs.Callers.{IsPlain, command_of}
@@ -9,6 +9,7 @@ use Rattle.sqlite_sql.specs.Term.{Term, lit, col}
 use Rattle.sqlite_schema.specs.declared.command.Source.TheVariants.{Values}
 use Rattle.sqlite_schema.specs.declared.command.Command.TheVariants.{Insert, Select, Delete}
 use Rattle.tables.specs.Steps.Texts.{delete_slot, insert_slot, insert_keyed, insert_document, insert_range_row, insert_item, insert_hover, insert_mark, insert_bearer, insert_tag, insert_part_profile, insert_more, insert_range_rows, insert_items, insert_hovers, insert_marks, insert_bearers, insert_tags, select_reply}
+use Rattle.tables.specs.Kinds.{more_kinds}
 use Rattle.tables.specs.Schema.{schema_two}
 use Rattle.tables.specs.Steps.Queries.{by_project_and_key, reply_shown, by_project_and_part, id_shown}
 use Rattle.tables.proofs.Select.{one_table}
@@ -100,7 +101,7 @@ pub insert_part_profile_plain : IsPlain (understood schema_two insert_part_profi
 unfolding understood everything
 insert_part_profile_plain = (refl, refl)
 
-pub insert_more_is : command_of (understood schema_two insert_more) ≡ Insert 11 (Values (row_terms 0 4 1) 5)
+pub insert_more_is : command_of (understood schema_two insert_more) ≡ Insert 11 (Values (row_terms 0 (2 + length more_kinds) 1) (3 + length more_kinds))
 unfolding understood everything
 insert_more_is = refl
 

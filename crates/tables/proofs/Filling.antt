@@ -8,7 +8,7 @@ use Rattle.sqlite_value.specs.declared.value.Value.TheVariants.{Int, Text, Null}
 use Rattle.sqlite_trees.specs.Tree.{Trees}
 use Rattle.sqlite_rules.specs.Lists.{Has}
 use Rattle.sqlite.specs.State.{State}
-use Rattle.lsif.specs.declared.element.Profile.{Profile}
+use Rattle.lsif.specs.declared.profile.Profile.{Profile}
 use Rattle.tags.specs.Values.{TagValue}
 use Rattle.flatten.specs.Flat.{RowsValue}
 use Rattle.tables.specs.Columns.{laid, nowhere, document_columns, range_columns, item_columns, hover_columns, mark_columns, bearer_columns, profile_columns, more_rows, dump_rows, tag_columns, tag_rows}

@@ -1,6 +1,6 @@
 -- The bearers of a key, as they are selected.
-use Rattle.std.proofs.Common.{◌≡◌, ◌⊎◌, inl, inr, ℕ, ℤ, true, List, [], ◌∷◌, ◌++◌, length, map, refl, sym, ap, subst, ◌∙◌, ◌↔◌, Contains, Equal, string_bytes}
-use Rattle.std.specs.List.{list_all}
+use Rattle.std.proofs.Common.{◌≡◌, ◌⊎◌, inl, inr, ℕ, ℤ, true, List, [], ◌∷◌, ◌++◌, ◌+◌, None, length, map, refl, sym, ap, subst, ◌∙◌, ◌↔◌, Contains, Equal, string_bytes}
+use Rattle.std.specs.List.{list_all, range_with_len}
 use Rattle.sqlite.specs.Listing.{understood}
 use Rattle.sqlite.specs.State.{State as Store, Shown}
 use Rattle.sqlite_tied.specs.Compute.{everything}
@@ -12,17 +12,18 @@ use Rattle.sqlite_sql.specs.Program.{overlay}
 use Rattle.sqlite_trees.specs.Tree.{Trees}
 use Rattle.sqlite_rules.specs.Lists.{Has}
 use Rattle.sqlite_rules.proofs.ListLemmas.{has_contained, contains_had, has_filtered, has_kept}
-use Rattle.lsif.specs.declared.request_kind.RequestKind.{RequestKind}
 use Rattle.flatten.specs.Rows.{results_value}
-use Rattle.lsif.specs.declared.request_kind.RequestKind.TheVariants.{Definition, References, Hover, Declaration, Implementation}
+use Rattle.lsif.specs.RequestKinds.{kinds}
+use Rattle.lsif.proofs.RequestKinds.{listed}
 use Rattle.dump.specs.Places.{IsListing}
 use Rattle.flatten.proofs.Listing.{same_listing}
 use Rattle.tables.specs.declared.slots.Part.TheVariants.{Dump}
 use Rattle.tables.proofs.BearerOrder.{tied_bearers}
 use Rattle.dump.specs.Progress.{DumpValue}
-use Rattle.flatten.specs.Flat.{ResultsValue, RowsValue, IsFlat, BearerRowValue, IsBearerRow, kind_index}
+use Rattle.flatten.specs.Flat.{RowsValue, IsFlat, BearerRowValue, IsBearerRow, kind_index}
 use Rattle.tables.specs.Schema.{schema_two}
-use Rattle.tables.specs.Columns.{number, optional, dump_rows, bearer_columns}
+use Rattle.tables.specs.Columns.{number, kind_columns, dump_rows, bearer_columns}
+use Rattle.tables.specs.Kinds.{own_kinds, more_kinds}
 use Rattle.tables.specs.Contents.{owned, slot_row}
 use Rattle.machine.specs.State.{State}
 use Rattle.tables.specs.Stands.{StandsFor}
@@ -38,7 +39,7 @@ use Rattle.tables.proofs.FoundMarks.{one_kind}
 use Rattle.tables.proofs.FoundSlots.{one_slot}
 use Rattle.tables.proofs.Joined.{joined, of_line, of_slot, of_key, mores, slots, shows, each_joins, all_joins, answer_of, select_bearers_plain}
 use Rattle.tables.proofs.Keeping.{same_some, from_map, to_map, both}
-use Rattle.tables.proofs.LineResults.{one_optional, one_known, nothing, are as more_are, is_owned as more_owned}
+use Rattle.tables.proofs.LineResults.{one_kinds, kinds_columns, of_kind, one_known, nothing, says_none, are as more_are, is_owned as more_owned}
 use Rattle.tables.proofs.Reading.{rows_are}
 use Rattle.tables.proofs.Silent.{silent}
 
@@ -46,18 +47,18 @@ pub select_bearers_reads : IsQuery select_bearers
 unfolding understood everything
 select_bearers_reads = record { plain = select_bearers_plain.0; silent = silent select_bearers (λ schema base. refl) }
 
+-- what a row of `more`, or none, has in the columns of its kinds
+abbrev columns_of : Row → Row
+columns_of r = map (column r) (range_with_len 3 (length more_kinds))
+
 abbrev IsBearer : DumpValue → BearerRowValue → Type 0
 IsBearer dump row = IsBearerRow dump.elements row
 
 abbrev told_columns : FoundBearer → Row
-told_columns b =
-    Text (string_bytes b.project) ∷ number b.line ∷ number (kind_index b.kind) ∷ optional (results_value b.results Definition) ∷ optional (results_value b.results References) ∷ optional (results_value b.results Hover)
-    ∷ optional (results_value b.results Declaration) ∷ optional (results_value b.results Implementation) ∷ []
+told_columns b = Text (string_bytes b.project) ∷ number b.line ∷ number (kind_index b.kind) ∷ kind_columns kinds (results_value b.results)
 
 abbrev told : BearerFound → Row
-told v =
-    Text v.project ∷ number v.line ∷ number (kind_index v.kind) ∷ optional (v.results Definition) ∷ optional (v.results References) ∷ optional (v.results Hover)
-    ∷ optional (v.results Declaration) ∷ optional (v.results Implementation) ∷ []
+told v = Text v.project ∷ number v.line ∷ number (kind_index v.kind) ∷ kind_columns kinds v.results
 
 are : (d : DumpValue) (flat : RowsValue) → IsFlat d.elements flat → (row : Row) → Has (dump_rows d.profile flat 15) row ↔ ((e : BearerRowValue) × IsBearer d e × (row ≡ bearer_columns e))
 are d flat is = listed_are (IsBearer d) bearer_columns flat.bearers is.bearers
@@ -65,30 +66,19 @@ are d flat is = listed_are (IsBearer d) bearer_columns flat.bearers is.bearers
 is_owned : Has owned 15
 is_owned = inr (inr (inr (inr (inr (inl refl)))))
 
--- results with these numbers of each request are one
-one : (r s : ResultsValue) → r Definition ≡ s Definition → r References ≡ s References → r Hover ≡ s Hover → r Declaration ≡ s Declaration → r Implementation ≡ s Implementation → (request : RequestKind) → r request ≡ s request
-one r s d u h c i Definition = d
-one r s d u h c i References = u
-one r s d u h c i Hover = h
-one r s d u h c i Declaration = c
-one r s d u h c i Implementation = i
-
 -- what is read is what was shown
 is_found : (x : FoundBearer) (v : BearerFound) → told_columns x ≡ told v → bearer_found x ≡ v
 is_found x v h =
     let project : string_bytes x.project ≡ v.project = let a = h in cc in
     let line : x.line ≡ v.line = let a = h in cc in
     let kind = one_kind x.kind v.kind (let a = h in cc) in
-    let definition = one_optional (results_value x.results Definition) (v.results Definition) (let a = h in cc) in
-    let references = one_optional (results_value x.results References) (v.results References) (let a = h in cc) in
-    let hover = one_optional (results_value x.results Hover) (v.results Hover) (let a = h in cc) in
-    let declaration = one_optional (results_value x.results Declaration) (v.results Declaration) (let a = h in cc) in
-    let implementation = one_optional (results_value x.results Implementation) (v.results Implementation) (let a = h in cc) in
+    let shown : kind_columns kinds (results_value x.results) ≡ kind_columns kinds v.results = let a = h in cc in
+    let each = of_kind kinds (results_value x.results) v.results (one_kinds kinds (results_value x.results) v.results shown) in
     λ i. record {
       project = project i;
       line = line i;
       kind = kind i;
-      results = λ request. one (results_value x.results) v.results definition references hover declaration implementation request i;
+      results = λ request. each request (has_contained kinds request (listed request)) i;
     }
 
 some_or_null : (l : List Row) → (r : Row) × Has (or_nulls l) r
@@ -130,7 +120,7 @@ module _ (key : List ℕ) (db : Trees) (m : State) (s : StandsFor db m) where
     of_this = mores params read_from (row_of id e) q
 
     abbrev Tells : Row → Type 0
-    Tells r = (column r 3 ≡ optional (e.0.value.results Declaration)) × (column r 4 ≡ optional (e.0.value.results Implementation))
+    Tells r = columns_of r ≡ kind_columns more_kinds e.0.value.results
 
     -- no row of the line, where there's none of a match
     none_of : of_this ≡ [] → (v : MoreValue) → IsMore e.1.dump v → v.line ≡ e.0.value.line → ⊥
@@ -151,23 +141,19 @@ module _ (key : List ℕ) (db : Trees) (m : State) (s : StandsFor db m) where
         let line : w.1.0.value.line ≡ e.0.value.line = let it = same_if (number w.1.0.value.line) (number e.0.value.line) tt (both _ _ two.1).0 in cc in
         let is = in_dump db m s IsMore more_values 24 more_owned more_are (λ tags. refl) e.1.project e.1.dump e.0.slot e.1.slot e.1.has (λ v. v.line ≡ e.0.value.line) w.1 slot in
         let v = w.1.0.value in
-        let known = subst (λ n. IsKnown e.1.dump n is.results) line is.known in
-        let same = one_known e.1.dump e.0.value.line is.results e.0.value.results known (inr (e.0.value, e.1.is, refl, refl)) in (
-          ap (λ x. column x 3) w.2 ∙ ap optional (sym is.declaration ∙ ap (λ (x : ResultsValue). x Declaration) same),
-          ap (λ x. column x 4) w.2 ∙ ap optional (sym is.implementation ∙ ap (λ (x : ResultsValue). x Implementation) same),
-        )
+        let known = subst (λ n. IsKnown e.1.dump n v.results) line is.known in
+        let same = one_known e.1.dump e.0.value.line v.results e.0.value.results known (inr (e.0.value, e.1.is, refl, refl)) in
+        ap columns_of w.2 ∙ ap (kind_columns more_kinds) same
 
     more_is : (l : List Row) → of_this ≡ l → (r : Row) → Has (or_nulls l) r → Tells r
     more_is [] none r (inl is) =
-        let neither = nothing e.0.value.line e.1.dump e.0.value.results (inr (e.0.value, e.1.is, refl, refl)) (none_of none) (e.0.value.results Declaration) (e.0.value.results Implementation) refl refl in
-        (ap (λ x. column x 3) is ∙ ap optional (sym neither.0), ap (λ x. column x 4) is ∙ ap optional (sym neither.1))
+        let no_row = nothing e.0.value.line e.1.dump e.0.value.results (inr (e.0.value, e.1.is, refl, refl)) (none_of none) in
+        ap columns_of is ∙ kinds_columns more_kinds (λ k. None) e.0.value.results (says_none e.0.value.line (λ k. None) e.0.value.results (λ k. refl) no_row)
     more_is [] none r (inr never) = absurd never
     more_is (x ∷ xs) is r h = more_of_row r (subst (λ l. Has l r) (sym is) h)
 
     shown_is : (r : Row) → Tells r → column q 2 ≡ Text e.1.project → shows params read_from (row_of id e) q r ≡ told (value_of e)
-    shown_is r tells project = λ i.
-        project i ∷ number e.0.value.line ∷ number (kind_index e.0.value.kind) ∷ optional (e.0.value.results Definition) ∷ optional (e.0.value.results References)
-        ∷ optional (e.0.value.results Hover) ∷ tells.0 i ∷ tells.1 i ∷ []
+    shown_is r tells project = λ i. project i ∷ number e.0.value.line ∷ number (kind_index e.0.value.kind) ∷ (kind_columns own_kinds e.0.value.results ++ tells i)
 
   module _ (rows : List Row) (a : IsAnswer joined read_from params rows) where
     each_bears : (row : Row) → Has rows row → (v : BearerFound) × Bears m key v × (row ≡ told v)
@@ -207,7 +193,7 @@ pub bearers_told : (key : List ℕ) (m : State) (old new : Store) (rows : List R
 bearers_told key m old new rows xs s has shown read v =
     let db = old.now.trees in
     let a = answer_of (Text key ∷ []) old new rows has shown in
-    let all = rows_are told_columns 8 (λ x. refl) rows xs (λ r h. ap length (each_bears key db m s rows a r h).2) read in (
+    let all = rows_are told_columns (3 + length kinds) (λ x. refl) rows xs (λ r h. ap length (each_bears key db m s rows a r h).2) read in (
       (λ at.
           let x = from_map bearer_found xs v (has_contained (map bearer_found xs) v at) in
           let it = each_bears key db m s rows a (told_columns x.0) (subst (λ l. Has l (told_columns x.0)) (sym all) (to_map told_columns xs x.0 x.1)) in

@@ -1,5 +1,5 @@
 -- The INSERT of each table.
-use Rattle.std.proofs.Common.{String, string_bytes, option_map, ◌≡◌, ◌==◌, eqb-true, arith, inl, inr, ℕ, ℤ, pos, Bool, true, false, cond, List, [], ◌∷◌, length, map, flat_map, Option, Some, None, refl, sym, ap, subst, IsTrue, Result, OnOk}
+use Rattle.std.proofs.Common.{String, string_bytes, option_map, ◌/◌, suc, slice_get, ◌≡◌, ◌∙◌, ◌+◌, ◌==◌, eqb-true, arith, inl, inr, ℕ, ℤ, pos, Bool, true, false, cond, List, [], ◌∷◌, length, map, flat_map, Option, Some, None, refl, sym, ap, subst, IsTrue, Result, OnOk}
 use Rattle.std.proofs.lemmas.Bool.{cases_Bool}
 use Rattle.sqlite_value.specs.declared.value.Value.{Value}
 use Rattle.sqlite_value.specs.declared.value.Value.TheVariants.{Null, Int, Text}
@@ -9,23 +9,33 @@ use Rattle.sqlite_sql.specs.Ops.{unary}
 use Rattle.sqlite_schema.specs.Names.{same_name}
 use Rattle.sqlite_schema.specs.declared.schema.Keys.TheVariants.{Enforced}
 use Rattle.sqlite_schema.specs.declared.schema.Kind.TheVariants.{Integer, Text as TextKind}
-use Rattle.sqlite_rules.specs.Cast.{cast, cast_row}
+use Rattle.sqlite_rules.specs.Cast.{cast, cast_row, cast_all as cast_columns}
 use Rattle.sqlite_schema.specs.declared.schema.Table.{Table}
 use Rattle.sqlite_rules.specs.Action.{works}
 use Rattle.sqlite.specs.declared.error.Error.{Error}
 use Rattle.sqlite.specs.State.{State, ExecutesInside}
+use Rattle.sqlite.specs.Effect.{value_rows}
+use Rattle.sqlite.specs.Given.{IsPlain}
+use Rattle.sqlite.specs.Listing.{understood}
 use Rattle.sqlite.specs.Values.{or_null, bound_value}
+use Rattle.sqlite.proofs.Callers.{command_of}
+use Rattle.sqlite_schema.specs.declared.command.Source.TheVariants.{Values}
+use Rattle.sqlite_schema.specs.declared.command.Command.TheVariants.{Insert}
 use Rattle.positions.specs.Position.{packed_of}
-use Rattle.lsif.specs.declared.element.Profile.{Profile}
+use Rattle.lsif.specs.declared.profile.Profile.{Profile}
 use Rattle.tags.specs.Values.{TagValue}
+use Rattle.lsif.specs.declared.request_kind.RequestKind.{RequestKind}
 use Rattle.lsif.specs.declared.request_kind.RequestKind.TheVariants.{Definition, References, Hover}
-use Rattle.flatten.specs.Flat.{RangeRowValue, ItemRowValue, HoverRowValue, MarkRowValue, BearerRowValue, role_index, kind_index}
-use Rattle.machine.specs.Reply.{profile_number}
-use Rattle.tables.specs.Columns.{number, optional, document_columns, range_columns, item_columns, hover_columns, mark_columns, bearer_columns, optional_text, columns_with, profile_columns}
+use Rattle.flatten.specs.Flat.{ResultsValue, RangeRowValue, ItemRowValue, HoverRowValue, MarkRowValue, BearerRowValue, role_index, kind_index}
+use Rattle.lsif.specs.Profiles.{profile_number}
+use Rattle.tables.specs.Columns.{number, optional, document_columns, range_columns, item_columns, hover_columns, mark_columns, bearer_columns, kind_columns, optional_text, columns_with, profile_columns}
+use Rattle.tables.specs.Kinds.{more_kinds, more_names}
+use Rattle.tables.specs.Steps.Known.{MoreValue, more_values}
 use Rattle.tables.specs.Steps.Texts.{insert_slot, insert_keyed, insert_document, insert_range_row, insert_item, insert_hover, insert_mark, insert_bearer, insert_tag, insert_part_profile, insert_more, insert_range_rows, insert_items, insert_hovers, insert_marks, insert_bearers, insert_tags}
-use Rattle.tables.specs.Schema.{schema_two, slot, keyed, document, range_row, item, hover, mark, bearer, tag, part_profile, more}
+use Rattle.tables.specs.Schema.{schema_two, integer_column, slot, keyed, document, range_row, item, hover, mark, bearer, tag, part_profile, more}
 use Rattle.tables.specs.Steps.Puts.{Steps, Puts}
-use Rattle.tables.specs.Steps.Inserts.{Inserts}
+use Rattle.tables.specs.Steps.Inserts.{Inserts, plainly}
+use Rattle.tables.proofs.ValueRows.{rows_of_values}
 use Rattle.tables.specs.TableTrees.{slot_tree, keyed_tree, document_tree, range_row_tree, item_tree, hover_tree, mark_tree, bearer_tree, tag_tree, part_profile_tree, more_tree}
 use Rattle.tables.specs.Databases.{IsListed}
 use Rattle.tables.proofs.Puts.{put_at, listed_ok}
@@ -71,35 +81,46 @@ bound_text (Some text) = refl
 pub some_rows : (row : Row) (more : List Row) → (length (row ∷ more) == 0) ≡ false
 some_rows row more = elim (cases_Bool (length (row ∷ more) == 0)) [ inl none ↦ absurd (omega (arith, eqb-true (length (row ∷ more)) 0 none)) | inr some ↦ some ]
 
--- a list of eight
-record IsEight {X : Type 0} (xs : List X) : Type 0 where
-  pub a : X
-  pub b : X
-  pub c : X
-  pub d : X
-  pub e : X
-  pub f : X
-  pub g : X
-  pub h : X
-  pub is : xs ≡ a ∷ b ∷ c ∷ d ∷ e ∷ f ∷ g ∷ h ∷ []
-
-eight_of : {X : Type 0} (xs : List X) → length xs ≡ 8 → IsEight xs
-eight_of (a ∷ b ∷ c ∷ d ∷ e ∷ f ∷ g ∷ h ∷ []) len = record { a = a; b = b; c = c; d = d; e = e; f = f; g = g; h = h; is = refl }
-eight_of [] len = absurd (omega (arith, len))
-eight_of (a ∷ []) len = absurd (omega (arith, len))
-eight_of (a ∷ b ∷ []) len = absurd (omega (arith, len))
-eight_of (a ∷ b ∷ c ∷ []) len = absurd (omega (arith, len))
-eight_of (a ∷ b ∷ c ∷ d ∷ []) len = absurd (omega (arith, len))
-eight_of (a ∷ b ∷ c ∷ d ∷ e ∷ []) len = absurd (omega (arith, len))
-eight_of (a ∷ b ∷ c ∷ d ∷ e ∷ f ∷ []) len = absurd (omega (arith, len))
-eight_of (a ∷ b ∷ c ∷ d ∷ e ∷ f ∷ g ∷ []) len = absurd (omega (arith, len))
-eight_of (a ∷ b ∷ c ∷ d ∷ e ∷ f ∷ g ∷ h ∷ i ∷ xs) len = absurd (omega (arith, len))
-
 -- rows that a table takes as they are
-cast_all : (t : Table) {X : Type 0} (columns : X → Row) → ((x : X) → cast_row t (Null ∷ columns x) ≡ Null ∷ columns x) → (xs : List X)
+each_cast : (t : Table) {X : Type 0} (columns : X → Row) → ((x : X) → cast_row t (Null ∷ columns x) ≡ Null ∷ columns x) → (xs : List X)
     → map (cast_row t) (map (λ x. Null ∷ columns x) xs) ≡ map (λ v. Null ∷ v) (map columns xs)
-cast_all t columns cast [] = refl
-cast_all t columns cast (x ∷ xs) = let one = cast x in let more = cast_all t columns cast xs in rw (one, more) refl
+each_cast t columns cast [] = refl
+each_cast t columns cast (x ∷ xs) = let one = cast x in let more = each_cast t columns cast xs in rw (one, more) refl
+
+-- What makes the rows of a table that are put the values that they're put with: each has so many
+-- columns, and the table takes them as they are.
+record IsPut {X : Type 0} (at tree width : ℕ) (columns : X → Row) : Type 0 where
+  table : Table
+  placed : slice_get schema_two.tables at ≡ Some (plainly table)
+  of_tree : table.tree ≡ tree
+  quiet : (row : Row) (more : List Row) → works schema_two Enforced 0 table.tree [] (row ∷ more) ≡ []
+  wide : (x : X) → length (columns x) ≡ width
+  cast : (x : X) → cast_row table (Null ∷ columns x) ≡ Null ∷ columns x
+
+-- a statement with values for so many rows puts them
+puts : {X : Type 0} {at tree width : ℕ} {columns : X → Row} → IsPut at tree width columns → (text : List ℕ) (n : ℕ)
+    → command_of (understood schema_two text) ≡ Insert at (Values (row_terms 0 width n) (suc width)) → IsPlain (understood schema_two text)
+    → length (row_terms 0 width n) / suc width ≡ n → (x : X) (rest : List X) → length (x ∷ rest) ≡ n
+    → Inserts text tree (flat_map columns (x ∷ rest)) (map columns (x ∷ rest))
+puts {X} {at} {tree} {width} {columns} it text n is plain counts x rest len =
+    let rows : List X = x ∷ rest in
+    let values : Row = flat_map columns rows in
+    let each = subst (λ k. value_rows values (suc width) k (row_terms 0 width k) ≡ map (λ y. Null ∷ columns y) rows) len (rows_of_values columns width it.wide rows) in
+    record {
+      at = at;
+      table = it.table;
+      terms = row_terms 0 width n;
+      width = suc width;
+      is = is;
+      plain = plain;
+      placed = it.placed;
+      of_tree = it.of_tree;
+      quiet = it.quiet;
+      first = columns x;
+      rest = map columns rest;
+      some = refl;
+      taken = ap (map (cast_row it.table)) (ap (λ k. value_rows values (suc width) k (row_terms 0 width n)) counts ∙ each) ∙ each_cast it.table columns it.cast rows;
+    }
 
 -- a tag with the text of its fields
 abbrev pub written_columns : TagValue × List ℕ → Row
@@ -125,23 +146,11 @@ keyed_quiet row more = rw (some_rows row more) refl
 keyed_cast : (project key reply : List ℕ) → cast_row keyed (Null ∷ Text project ∷ Text key ∷ Text reply ∷ []) ≡ Null ∷ Text project ∷ Text key ∷ Text reply ∷ []
 keyed_cast project key reply = rw (cast_null)
 
+keyed_rows : IsPut 2 keyed_tree 3 (λ (kept : List ℕ × (List ℕ × List ℕ)). Text kept.0 ∷ Text kept.1.0 ∷ Text kept.1.1 ∷ [])
+keyed_rows = record { table = keyed; placed = refl; of_tree = refl; quiet = keyed_quiet; wide = λ kept. refl; cast = λ kept. keyed_cast kept.0 kept.1.0 kept.1.1 }
+
 pub keyed_put : (project key reply : List ℕ) → Inserts insert_keyed keyed_tree (Text project ∷ Text key ∷ Text reply ∷ []) ((Text project ∷ Text key ∷ Text reply ∷ []) ∷ [])
-keyed_put project key reply =
-    record {
-      at = 2;
-      table = keyed;
-      terms = row_terms 0 3 1;
-      width = 4;
-      is = insert_keyed_is;
-      plain = insert_keyed_plain;
-      placed = refl;
-      of_tree = refl;
-      quiet = keyed_quiet;
-      first = Text project ∷ Text key ∷ Text reply ∷ [];
-      rest = [];
-      some = refl;
-      taken = ap (λ (row : Row). row ∷ []) (keyed_cast project key reply);
-    }
+keyed_put project key reply = puts keyed_rows insert_keyed 1 insert_keyed_is insert_keyed_plain refl (project, (key, reply)) [] refl
 
 pub keyed_listed : (project key reply : List ℕ) (old new : State) (done : Result ℕ Error) → old.now.schema ≡ schema_two → ExecutesInside 0 insert_keyed (Text project ∷ Text key ∷ Text reply ∷ []) old new done
     → OnOk done (IsListed schema_two new.now.trees)
@@ -157,23 +166,11 @@ document_quiet row more = rw (some_rows row more) refl
 document_cast : (id : ℤ) (uri : List ℕ) → cast_row document (Null ∷ Int id ∷ document_columns uri) ≡ Null ∷ Int id ∷ document_columns uri
 document_cast id uri = rw (cast_null, cast_int id)
 
+document_rows : {X : Type 0} (value : X → List ℕ) (id : ℤ) → IsPut 3 document_tree 2 (λ (x : X). Int id ∷ document_columns (value x))
+document_rows value id = record { table = document; placed = refl; of_tree = refl; quiet = document_quiet; wide = λ x. refl; cast = λ x. document_cast id (value x) }
+
 pub document_put : (id : ℤ) (uri : List ℕ) → Inserts insert_document document_tree (Int id ∷ document_columns uri) ((Int id ∷ document_columns uri) ∷ [])
-document_put id uri =
-    record {
-      at = 3;
-      table = document;
-      terms = row_terms 0 2 1;
-      width = 3;
-      is = insert_document_is;
-      plain = insert_document_plain;
-      placed = refl;
-      of_tree = refl;
-      quiet = document_quiet;
-      first = Int id ∷ document_columns uri;
-      rest = [];
-      some = refl;
-      taken = ap (λ (row : Row). row ∷ []) (document_cast id uri);
-    }
+document_put id uri = puts (document_rows (λ (x : List ℕ). x) id) insert_document 1 insert_document_is insert_document_plain refl uri [] refl
 
 -- range_row
 
@@ -184,44 +181,16 @@ range_row_quiet row more = rw (some_rows row more) refl
 range_row_cast : (id : ℤ) (r : RangeRowValue) → cast_row range_row (Null ∷ Int id ∷ range_columns r) ≡ Null ∷ Int id ∷ range_columns r
 range_row_cast id r = rw (cast_null, cast_int id, cast_int (pos r.line), cast_int (pos (packed_of r.place.span.start)), cast_int (pos (packed_of r.place.span.«end»)), cast_optional (r.parent), cast_optional (r.results Definition), cast_optional (r.results References), cast_optional (r.results Hover))
 
+range_row_rows : {X : Type 0} (value : X → RangeRowValue) (id : ℤ) → IsPut 4 range_row_tree 9 (λ (x : X). Int id ∷ range_columns (value x))
+range_row_rows value id = record { table = range_row; placed = refl; of_tree = refl; quiet = range_row_quiet; wide = λ x. refl; cast = λ x. range_row_cast id (value x) }
+
 pub range_row_put : (id : ℤ) (r : RangeRowValue) → Inserts insert_range_row range_row_tree (Int id ∷ range_columns r) ((Int id ∷ range_columns r) ∷ [])
-range_row_put id r =
-    record {
-      at = 4;
-      table = range_row;
-      terms = row_terms 0 9 1;
-      width = 10;
-      is = insert_range_row_is;
-      plain = insert_range_row_plain;
-      placed = refl;
-      of_tree = refl;
-      quiet = range_row_quiet;
-      first = Int id ∷ range_columns r;
-      rest = [];
-      some = refl;
-      taken = ap (λ (row : Row). row ∷ []) (range_row_cast id r);
-    }
+range_row_put id r = puts (range_row_rows (λ (x : RangeRowValue). x) id) insert_range_row 1 insert_range_row_is insert_range_row_plain refl r [] refl
 
 pub range_rows_put : {X : Type 0} (value : X → RangeRowValue) (id : ℤ) (rows : List X) → length rows ≡ 8
     → Inserts insert_range_rows range_row_tree (flat_map (λ row. Int id ∷ range_columns (value row)) rows) (map (λ row. Int id ∷ range_columns (value row)) rows)
-range_rows_put {X} value id rows len =
-    let it = eight_of rows len in
-    let columns : X → Row = λ row. Int id ∷ range_columns (value row) in
-    subst (λ (xs : List X). Inserts insert_range_rows range_row_tree (flat_map columns xs) (map columns xs)) (sym it.is) (record {
-      at = 4;
-      table = range_row;
-      terms = row_terms 0 9 8;
-      width = 10;
-      is = insert_range_rows_is;
-      plain = insert_range_rows_plain;
-      placed = refl;
-      of_tree = refl;
-      quiet = range_row_quiet;
-      first = columns it.a;
-      rest = map columns (it.b ∷ it.c ∷ it.d ∷ it.e ∷ it.f ∷ it.g ∷ it.h ∷ []);
-      some = refl;
-      taken = cast_all range_row columns (λ row. range_row_cast id (value row)) (it.a ∷ it.b ∷ it.c ∷ it.d ∷ it.e ∷ it.f ∷ it.g ∷ it.h ∷ []);
-    })
+range_rows_put value id [] len = absurd (omega (arith, len))
+range_rows_put value id (x ∷ rows) len = puts (range_row_rows value id) insert_range_rows 8 insert_range_rows_is insert_range_rows_plain refl x rows len
 
 -- item
 
@@ -232,44 +201,16 @@ item_quiet row more = rw (some_rows row more) refl
 item_cast : (id : ℤ) (i : ItemRowValue) → cast_row item (Null ∷ Int id ∷ item_columns i) ≡ Null ∷ Int id ∷ item_columns i
 item_cast id i = rw (cast_null, cast_int id, cast_int (pos i.result), cast_int (pos (role_index i.role)), cast_int (pos (packed_of i.place.span.start)), cast_int (pos (packed_of i.place.span.«end»)))
 
+item_rows : {X : Type 0} (value : X → ItemRowValue) (id : ℤ) → IsPut 5 item_tree 6 (λ (x : X). Int id ∷ item_columns (value x))
+item_rows value id = record { table = item; placed = refl; of_tree = refl; quiet = item_quiet; wide = λ x. refl; cast = λ x. item_cast id (value x) }
+
 pub item_put : (id : ℤ) (i : ItemRowValue) → Inserts insert_item item_tree (Int id ∷ item_columns i) ((Int id ∷ item_columns i) ∷ [])
-item_put id i =
-    record {
-      at = 5;
-      table = item;
-      terms = row_terms 0 6 1;
-      width = 7;
-      is = insert_item_is;
-      plain = insert_item_plain;
-      placed = refl;
-      of_tree = refl;
-      quiet = item_quiet;
-      first = Int id ∷ item_columns i;
-      rest = [];
-      some = refl;
-      taken = ap (λ (row : Row). row ∷ []) (item_cast id i);
-    }
+item_put id i = puts (item_rows (λ (x : ItemRowValue). x) id) insert_item 1 insert_item_is insert_item_plain refl i [] refl
 
 pub items_put : {X : Type 0} (value : X → ItemRowValue) (id : ℤ) (rows : List X) → length rows ≡ 8
     → Inserts insert_items item_tree (flat_map (λ row. Int id ∷ item_columns (value row)) rows) (map (λ row. Int id ∷ item_columns (value row)) rows)
-items_put {X} value id rows len =
-    let it = eight_of rows len in
-    let columns : X → Row = λ row. Int id ∷ item_columns (value row) in
-    subst (λ (xs : List X). Inserts insert_items item_tree (flat_map columns xs) (map columns xs)) (sym it.is) (record {
-      at = 5;
-      table = item;
-      terms = row_terms 0 6 8;
-      width = 7;
-      is = insert_items_is;
-      plain = insert_items_plain;
-      placed = refl;
-      of_tree = refl;
-      quiet = item_quiet;
-      first = columns it.a;
-      rest = map columns (it.b ∷ it.c ∷ it.d ∷ it.e ∷ it.f ∷ it.g ∷ it.h ∷ []);
-      some = refl;
-      taken = cast_all item columns (λ row. item_cast id (value row)) (it.a ∷ it.b ∷ it.c ∷ it.d ∷ it.e ∷ it.f ∷ it.g ∷ it.h ∷ []);
-    })
+items_put value id [] len = absurd (omega (arith, len))
+items_put value id (x ∷ rows) len = puts (item_rows value id) insert_items 8 insert_items_is insert_items_plain refl x rows len
 
 -- hover
 
@@ -280,44 +221,16 @@ hover_quiet row more = rw (some_rows row more) refl
 hover_cast : (id : ℤ) (h : HoverRowValue) → cast_row hover (Null ∷ Int id ∷ hover_columns h) ≡ Null ∷ Int id ∷ hover_columns h
 hover_cast id h = rw (cast_null, cast_int id, cast_int (pos h.result))
 
+hover_rows : {X : Type 0} (value : X → HoverRowValue) (id : ℤ) → IsPut 6 hover_tree 3 (λ (x : X). Int id ∷ hover_columns (value x))
+hover_rows value id = record { table = hover; placed = refl; of_tree = refl; quiet = hover_quiet; wide = λ x. refl; cast = λ x. hover_cast id (value x) }
+
 pub hover_put : (id : ℤ) (h : HoverRowValue) → Inserts insert_hover hover_tree (Int id ∷ hover_columns h) ((Int id ∷ hover_columns h) ∷ [])
-hover_put id h =
-    record {
-      at = 6;
-      table = hover;
-      terms = row_terms 0 3 1;
-      width = 4;
-      is = insert_hover_is;
-      plain = insert_hover_plain;
-      placed = refl;
-      of_tree = refl;
-      quiet = hover_quiet;
-      first = Int id ∷ hover_columns h;
-      rest = [];
-      some = refl;
-      taken = ap (λ (row : Row). row ∷ []) (hover_cast id h);
-    }
+hover_put id h = puts (hover_rows (λ (x : HoverRowValue). x) id) insert_hover 1 insert_hover_is insert_hover_plain refl h [] refl
 
 pub hovers_put : {X : Type 0} (value : X → HoverRowValue) (id : ℤ) (rows : List X) → length rows ≡ 8
     → Inserts insert_hovers hover_tree (flat_map (λ row. Int id ∷ hover_columns (value row)) rows) (map (λ row. Int id ∷ hover_columns (value row)) rows)
-hovers_put {X} value id rows len =
-    let it = eight_of rows len in
-    let columns : X → Row = λ row. Int id ∷ hover_columns (value row) in
-    subst (λ (xs : List X). Inserts insert_hovers hover_tree (flat_map columns xs) (map columns xs)) (sym it.is) (record {
-      at = 6;
-      table = hover;
-      terms = row_terms 0 3 8;
-      width = 4;
-      is = insert_hovers_is;
-      plain = insert_hovers_plain;
-      placed = refl;
-      of_tree = refl;
-      quiet = hover_quiet;
-      first = columns it.a;
-      rest = map columns (it.b ∷ it.c ∷ it.d ∷ it.e ∷ it.f ∷ it.g ∷ it.h ∷ []);
-      some = refl;
-      taken = cast_all hover columns (λ row. hover_cast id (value row)) (it.a ∷ it.b ∷ it.c ∷ it.d ∷ it.e ∷ it.f ∷ it.g ∷ it.h ∷ []);
-    })
+hovers_put value id [] len = absurd (omega (arith, len))
+hovers_put value id (x ∷ rows) len = puts (hover_rows value id) insert_hovers 8 insert_hovers_is insert_hovers_plain refl x rows len
 
 -- mark
 
@@ -328,44 +241,16 @@ mark_quiet row more = rw (some_rows row more) refl
 mark_cast : (id : ℤ) (m : MarkRowValue) → cast_row mark (Null ∷ Int id ∷ mark_columns m) ≡ Null ∷ Int id ∷ mark_columns m
 mark_cast id m = rw (cast_null, cast_int id, cast_int (pos m.range), cast_int (pos (kind_index m.kind)))
 
+mark_rows : {X : Type 0} (value : X → MarkRowValue) (id : ℤ) → IsPut 7 mark_tree 4 (λ (x : X). Int id ∷ mark_columns (value x))
+mark_rows value id = record { table = mark; placed = refl; of_tree = refl; quiet = mark_quiet; wide = λ x. refl; cast = λ x. mark_cast id (value x) }
+
 pub mark_put : (id : ℤ) (m : MarkRowValue) → Inserts insert_mark mark_tree (Int id ∷ mark_columns m) ((Int id ∷ mark_columns m) ∷ [])
-mark_put id m =
-    record {
-      at = 7;
-      table = mark;
-      terms = row_terms 0 4 1;
-      width = 5;
-      is = insert_mark_is;
-      plain = insert_mark_plain;
-      placed = refl;
-      of_tree = refl;
-      quiet = mark_quiet;
-      first = Int id ∷ mark_columns m;
-      rest = [];
-      some = refl;
-      taken = ap (λ (row : Row). row ∷ []) (mark_cast id m);
-    }
+mark_put id m = puts (mark_rows (λ (x : MarkRowValue). x) id) insert_mark 1 insert_mark_is insert_mark_plain refl m [] refl
 
 pub marks_put : {X : Type 0} (value : X → MarkRowValue) (id : ℤ) (rows : List X) → length rows ≡ 8
     → Inserts insert_marks mark_tree (flat_map (λ row. Int id ∷ mark_columns (value row)) rows) (map (λ row. Int id ∷ mark_columns (value row)) rows)
-marks_put {X} value id rows len =
-    let it = eight_of rows len in
-    let columns : X → Row = λ row. Int id ∷ mark_columns (value row) in
-    subst (λ (xs : List X). Inserts insert_marks mark_tree (flat_map columns xs) (map columns xs)) (sym it.is) (record {
-      at = 7;
-      table = mark;
-      terms = row_terms 0 4 8;
-      width = 5;
-      is = insert_marks_is;
-      plain = insert_marks_plain;
-      placed = refl;
-      of_tree = refl;
-      quiet = mark_quiet;
-      first = columns it.a;
-      rest = map columns (it.b ∷ it.c ∷ it.d ∷ it.e ∷ it.f ∷ it.g ∷ it.h ∷ []);
-      some = refl;
-      taken = cast_all mark columns (λ row. mark_cast id (value row)) (it.a ∷ it.b ∷ it.c ∷ it.d ∷ it.e ∷ it.f ∷ it.g ∷ it.h ∷ []);
-    })
+marks_put value id [] len = absurd (omega (arith, len))
+marks_put value id (x ∷ rows) len = puts (mark_rows value id) insert_marks 8 insert_marks_is insert_marks_plain refl x rows len
 
 -- bearer
 
@@ -376,44 +261,16 @@ bearer_quiet row more = rw (some_rows row more) refl
 bearer_cast : (id : ℤ) (b : BearerRowValue) → cast_row bearer (Null ∷ Int id ∷ bearer_columns b) ≡ Null ∷ Int id ∷ bearer_columns b
 bearer_cast id b = rw (cast_null, cast_int id, cast_int (pos b.line), cast_int (pos (kind_index b.kind)), cast_optional (b.results Definition), cast_optional (b.results References), cast_optional (b.results Hover))
 
+bearer_rows : {X : Type 0} (value : X → BearerRowValue) (id : ℤ) → IsPut 8 bearer_tree 7 (λ (x : X). Int id ∷ bearer_columns (value x))
+bearer_rows value id = record { table = bearer; placed = refl; of_tree = refl; quiet = bearer_quiet; wide = λ x. refl; cast = λ x. bearer_cast id (value x) }
+
 pub bearer_put : (id : ℤ) (b : BearerRowValue) → Inserts insert_bearer bearer_tree (Int id ∷ bearer_columns b) ((Int id ∷ bearer_columns b) ∷ [])
-bearer_put id b =
-    record {
-      at = 8;
-      table = bearer;
-      terms = row_terms 0 7 1;
-      width = 8;
-      is = insert_bearer_is;
-      plain = insert_bearer_plain;
-      placed = refl;
-      of_tree = refl;
-      quiet = bearer_quiet;
-      first = Int id ∷ bearer_columns b;
-      rest = [];
-      some = refl;
-      taken = ap (λ (row : Row). row ∷ []) (bearer_cast id b);
-    }
+bearer_put id b = puts (bearer_rows (λ (x : BearerRowValue). x) id) insert_bearer 1 insert_bearer_is insert_bearer_plain refl b [] refl
 
 pub bearers_put : {X : Type 0} (value : X → BearerRowValue) (id : ℤ) (rows : List X) → length rows ≡ 8
     → Inserts insert_bearers bearer_tree (flat_map (λ row. Int id ∷ bearer_columns (value row)) rows) (map (λ row. Int id ∷ bearer_columns (value row)) rows)
-bearers_put {X} value id rows len =
-    let it = eight_of rows len in
-    let columns : X → Row = λ row. Int id ∷ bearer_columns (value row) in
-    subst (λ (xs : List X). Inserts insert_bearers bearer_tree (flat_map columns xs) (map columns xs)) (sym it.is) (record {
-      at = 8;
-      table = bearer;
-      terms = row_terms 0 7 8;
-      width = 8;
-      is = insert_bearers_is;
-      plain = insert_bearers_plain;
-      placed = refl;
-      of_tree = refl;
-      quiet = bearer_quiet;
-      first = columns it.a;
-      rest = map columns (it.b ∷ it.c ∷ it.d ∷ it.e ∷ it.f ∷ it.g ∷ it.h ∷ []);
-      some = refl;
-      taken = cast_all bearer columns (λ row. bearer_cast id (value row)) (it.a ∷ it.b ∷ it.c ∷ it.d ∷ it.e ∷ it.f ∷ it.g ∷ it.h ∷ []);
-    })
+bearers_put value id [] len = absurd (omega (arith, len))
+bearers_put value id (x ∷ rows) len = puts (bearer_rows value id) insert_bearers 8 insert_bearers_is insert_bearers_plain refl x rows len
 
 -- tag
 
@@ -424,44 +281,16 @@ tag_quiet row more = rw (some_rows row more) refl
 tag_cast : (id : ℤ) (t : TagValue × List ℕ) → cast_row tag (Null ∷ Int id ∷ written_columns t) ≡ Null ∷ Int id ∷ written_columns t
 tag_cast id t = rw (cast_null, cast_int id, cast_int (pos t.0.line), cast_optional_text t.0.kind)
 
+tag_rows : {X : Type 0} (value : X → TagValue × List ℕ) (id : ℤ) → IsPut 9 tag_tree 7 (λ (x : X). Int id ∷ written_columns (value x))
+tag_rows value id = record { table = tag; placed = refl; of_tree = refl; quiet = tag_quiet; wide = λ x. refl; cast = λ x. tag_cast id (value x) }
+
 pub tag_put : (id : ℤ) (t : TagValue × List ℕ) → Inserts insert_tag tag_tree (Int id ∷ written_columns t) ((Int id ∷ written_columns t) ∷ [])
-tag_put id t =
-    record {
-      at = 9;
-      table = tag;
-      terms = row_terms 0 7 1;
-      width = 8;
-      is = insert_tag_is;
-      plain = insert_tag_plain;
-      placed = refl;
-      of_tree = refl;
-      quiet = tag_quiet;
-      first = Int id ∷ written_columns t;
-      rest = [];
-      some = refl;
-      taken = ap (λ (row : Row). row ∷ []) (tag_cast id t);
-    }
+tag_put id t = puts (tag_rows (λ (x : TagValue × List ℕ). x) id) insert_tag 1 insert_tag_is insert_tag_plain refl t [] refl
 
 pub tags_put : {X : Type 0} (value : X → TagValue × List ℕ) (id : ℤ) (rows : List X) → length rows ≡ 8
     → Inserts insert_tags tag_tree (flat_map (λ row. Int id ∷ written_columns (value row)) rows) (map (λ row. Int id ∷ written_columns (value row)) rows)
-tags_put {X} value id rows len =
-    let it = eight_of rows len in
-    let columns : X → Row = λ row. Int id ∷ written_columns (value row) in
-    subst (λ (xs : List X). Inserts insert_tags tag_tree (flat_map columns xs) (map columns xs)) (sym it.is) (record {
-      at = 9;
-      table = tag;
-      terms = row_terms 0 7 8;
-      width = 8;
-      is = insert_tags_is;
-      plain = insert_tags_plain;
-      placed = refl;
-      of_tree = refl;
-      quiet = tag_quiet;
-      first = columns it.a;
-      rest = map columns (it.b ∷ it.c ∷ it.d ∷ it.e ∷ it.f ∷ it.g ∷ it.h ∷ []);
-      some = refl;
-      taken = cast_all tag columns (λ row. tag_cast id (value row)) (it.a ∷ it.b ∷ it.c ∷ it.d ∷ it.e ∷ it.f ∷ it.g ∷ it.h ∷ []);
-    })
+tags_put value id [] len = absurd (omega (arith, len))
+tags_put value id (x ∷ rows) len = puts (tag_rows value id) insert_tags 8 insert_tags_is insert_tags_plain refl x rows len
 
 -- part_profile
 
@@ -472,23 +301,11 @@ part_profile_quiet row more = rw (some_rows row more) refl
 part_profile_cast : (id : ℤ) (profile : Profile) → cast_row part_profile (Null ∷ Int id ∷ profile_columns profile) ≡ Null ∷ Int id ∷ profile_columns profile
 part_profile_cast id profile = rw (cast_null, cast_int id, cast_int (pos (profile_number profile)))
 
+part_profile_rows : {X : Type 0} (value : X → Profile) (id : ℤ) → IsPut 10 part_profile_tree 2 (λ (x : X). Int id ∷ profile_columns (value x))
+part_profile_rows value id = record { table = part_profile; placed = refl; of_tree = refl; quiet = part_profile_quiet; wide = λ x. refl; cast = λ x. part_profile_cast id (value x) }
+
 pub part_profile_put : (id : ℤ) (profile : Profile) → Inserts insert_part_profile part_profile_tree (Int id ∷ profile_columns profile) ((Int id ∷ profile_columns profile) ∷ [])
-part_profile_put id profile =
-    record {
-      at = 10;
-      table = part_profile;
-      terms = row_terms 0 2 1;
-      width = 3;
-      is = insert_part_profile_is;
-      plain = insert_part_profile_plain;
-      placed = refl;
-      of_tree = refl;
-      quiet = part_profile_quiet;
-      first = Int id ∷ profile_columns profile;
-      rest = [];
-      some = refl;
-      taken = ap (λ (row : Row). row ∷ []) (part_profile_cast id profile);
-    }
+part_profile_put id profile = puts (part_profile_rows (λ (x : Profile). x) id) insert_part_profile 1 insert_part_profile_is insert_part_profile_plain refl profile [] refl
 
 -- more
 
@@ -496,25 +313,20 @@ more_quiet : (row : Row) (more : List Row) → works schema_two Enforced 0 more_
 unfolding same_name
 more_quiet row more = rw (some_rows row more) refl
 
-more_cast : (id : ℤ) (line : ℕ) (declaration implementation : Option ℕ)
-    → cast_row more (Null ∷ Int id ∷ number line ∷ optional declaration ∷ optional implementation ∷ []) ≡ Null ∷ Int id ∷ number line ∷ optional declaration ∷ optional implementation ∷ []
-more_cast id line declaration implementation = rw (cast_null, cast_int id, cast_int (pos line), cast_optional (declaration), cast_optional (implementation))
+-- columns of numbers take the numbers of results as they are
+cast_numbers : (names : List (List ℕ)) (kinds : List RequestKind) (r : ResultsValue)
+    → cast_columns (map (λ name. integer_column name false) names) (kind_columns kinds r) ≡ kind_columns kinds r
+cast_numbers [] kinds r = refl
+cast_numbers (name ∷ names) [] r = refl
+cast_numbers (name ∷ names) (k ∷ kinds) r = rw (cast_optional (r k), cast_numbers names kinds r) refl
 
-pub more_put : (id : ℤ) (line : ℕ) (declaration implementation : Option ℕ)
-    → Inserts insert_more more_tree (Int id ∷ number line ∷ optional declaration ∷ optional implementation ∷ []) ((Int id ∷ number line ∷ optional declaration ∷ optional implementation ∷ []) ∷ [])
-more_put id line declaration implementation =
-    record {
-      at = 11;
-      table = more;
-      terms = row_terms 0 4 1;
-      width = 5;
-      is = insert_more_is;
-      plain = insert_more_plain;
-      placed = refl;
-      of_tree = refl;
-      quiet = more_quiet;
-      first = Int id ∷ number line ∷ optional declaration ∷ optional implementation ∷ [];
-      rest = [];
-      some = refl;
-      taken = ap (λ (row : Row). row ∷ []) (more_cast id line declaration implementation);
-    }
+more_cast : (id : ℤ) (v : MoreValue) → cast_row more (Null ∷ Int id ∷ more_values v) ≡ Null ∷ Int id ∷ more_values v
+more_cast id v =
+    ap (λ (row : Row). cast Integer Null ∷ cast Integer (Int id) ∷ cast Integer (number v.line) ∷ row) (cast_numbers more_names more_kinds v.results)
+    ∙ (rw (cast_null, cast_int id, cast_int (pos v.line)) refl)
+
+more_rows : (id : ℤ) → IsPut 11 more_tree (2 + length more_kinds) (λ (v : MoreValue). Int id ∷ more_values v)
+more_rows id = record { table = more; placed = refl; of_tree = refl; quiet = more_quiet; wide = λ v. refl; cast = more_cast id }
+
+pub more_put : (id : ℤ) (v : MoreValue) → Inserts insert_more more_tree (Int id ∷ more_values v) ((Int id ∷ more_values v) ∷ [])
+more_put id v = puts (more_rows id) insert_more 1 insert_more_is insert_more_plain refl v [] refl

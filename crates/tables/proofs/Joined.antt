@@ -17,11 +17,13 @@ use Rattle.sqlite_rules.specs.Lists.{Has}
 use Rattle.sqlite.specs.Listing.{understood, reads_listing}
 use Rattle.sqlite.specs.State.{State, Shown}
 use Rattle.sqlite.proofs.Callers.{IsPlain, command_of, reads_as}
+use Rattle.tables.specs.Kinds.{more_names}
 use Rattle.tables.specs.Schema.{schema_two}
 use Rattle.tables.specs.Steps.Queries.{same}
 use Rattle.tables.specs.Steps.SelectionTexts.{select_bearers}
 use Rattle.tables.proofs.Keeping.{from_map, to_map}
-use Rattle.tables.proofs.Puts.{flat_has, from_flat}
+use Rattle.tables.proofs.LineResults.{more_terms}
+use Rattle.tables.proofs.Puts.{flat_has, from_flat, where_true, true_there}
 use Rattle.tables.proofs.PartRemoved.{has_permuted}
 
 -- `more.slot = bearer.slot AND more.line = bearer.line`
@@ -37,7 +39,7 @@ abbrev pub of_key : List Term
 of_key = same (col 1 3) (col 0 0) ∷ []
 
 abbrev pub bearer_terms : List Term
-bearer_terms = col 2 2 ∷ col 1 2 ∷ col 1 4 ∷ col 1 5 ∷ col 1 6 ∷ col 1 7 ∷ col 3 3 ∷ col 3 4 ∷ []
+bearer_terms = col 2 2 ∷ col 1 2 ∷ col 1 4 ∷ col 1 5 ∷ col 1 6 ∷ col 1 7 ∷ more_terms 3
 
 abbrev pub joined : Query
 joined = record {
@@ -52,24 +54,13 @@ joined = record {
   offset = lit (Int (pos 0));
 }
 
-joined_is : command_of (understood schema_two select_bearers) ≡ Select (record { lets = []; body = joined }) (codes "project" ∷ codes "line" ∷ codes "kind" ∷ codes "def" ∷ codes "refs" ∷ codes "hover" ∷ codes "decl" ∷ codes "imp" ∷ [])
+joined_is : command_of (understood schema_two select_bearers) ≡ Select (record { lets = []; body = joined }) (codes "project" ∷ codes "line" ∷ codes "kind" ∷ codes "def" ∷ codes "refs" ∷ codes "hover" ∷ more_names)
 unfolding understood everything
 joined_is = refl
 
 pub select_bearers_plain : IsPlain (understood schema_two select_bearers) × (reads_listing schema_two select_bearers ≡ false)
 unfolding understood everything
 select_bearers_plain = ((refl, refl), refl)
-
--- ---- lists
-
-where_true : {X : Type 0} (b : Bool) (x y : X) → Has (if b then x ∷ [] else []) y → (b ≡ true) × (y ≡ x)
-where_true true x y (inl e) = (refl, e)
-where_true true x y (inr none) = absurd none
-where_true false x y none = absurd none
-
-true_there : {X : Type 0} (b : Bool) (x : X) → b ≡ true → Has (if b then x ∷ [] else []) x
-true_there true x e = inl refl
-true_there false x e = absurd cc
 
 -- ---- the answer
 

@@ -60,5 +60,6 @@ pub mod Texts
 pub mod ToldTags
 pub mod Transactions
 pub mod Upgrades
+pub mod ValueRows
 pub mod Versions
 pub mod Whole

@@ -1,18 +1,23 @@
--- The declaration and the implementation of a line, as they are selected.
-use Rattle.std.proofs.Common.{◌≡◌, ◌⊎◌, inl, inr, ◌||◌, ℕ, ℤ, true, List, [], ◌∷◌, ◌++◌, flat_map, Option, Some, None, is_some, codes, false, refl, sym, ap, subst, ◌∙◌, ◌↔◌}
+-- The row that a line has in `more`, as it's selected.
+use Rattle.std.proofs.Common.{◌≡◌, ◌⊎◌, inl, inr, ℕ, ℤ, Bool, true, List, [], ◌∷◌, ◌++◌, flat_map, length, map, Option, Some, None, is_some, codes, if◌then◌else◌, false, refl, sym, ap, subst, ◌∙◌, ◌↔◌}
+use Rattle.std.specs.List.{list_any, range_with_len}
+use Rattle.std.proofs.lemmas.Bool.{cases_Bool}
 use Rattle.sqlite.specs.Listing.{understood, reads_listing}
 use Rattle.sqlite.specs.State.{State as Store, Shown}
 use Rattle.sqlite.proofs.Callers.{IsPlain, command_of}
 use Rattle.sqlite_tied.specs.Compute.{everything}
 use Rattle.sqlite_value.specs.Order.{Row}
 use Rattle.sqlite_value.specs.declared.value.Value.TheVariants.{Int}
-use Rattle.sqlite_sql.specs.Term.{col}
+use Rattle.sqlite_sql.specs.Term.{Term, col}
 use Rattle.sqlite_schema.specs.declared.command.Command.TheVariants.{Select}
 use Rattle.sqlite_trees.specs.Tree.{Trees}
 use Rattle.sqlite_rules.specs.Lists.{Has}
 use Rattle.sqlite_rules.proofs.ListLemmas.{has_contained, contains_had, has_left, has_right, has_either}
 use Rattle.lsif.specs.Element.{IdValue}
-use Rattle.lsif.specs.declared.request_kind.RequestKind.TheVariants.{Declaration, Implementation}
+use Rattle.lsif.specs.RequestKinds.{kinds}
+use Rattle.lsif.specs.declared.request_kind.RequestKind.{RequestKind}
+use Rattle.lsif.specs.declared.request_kind.RequestKind.TheVariants.{Definition, References, Hover}
+use Rattle.lsif.proofs.RequestKinds.{listed}
 use Rattle.dump.specs.Progress.{DumpValue}
 use Rattle.dump.proofs.Lines.{one_line}
 use Rattle.dump.proofs.OnePicks.{one_result}
@@ -21,23 +26,29 @@ use Rattle.flatten.proofs.NumberPairs.{number_ones}
 use Rattle.flatten.proofs.RangeRows.{results_one}
 use Rattle.tables.specs.declared.slots.Part.TheVariants.{Dump}
 use Rattle.tables.specs.Schema.{schema_two}
-use Rattle.tables.specs.Columns.{number, optional, dump_rows, more_columns, range_more, bearer_more}
+use Rattle.tables.specs.Columns.{number, optional, kind_columns, dump_rows, more_columns, range_more, bearer_more}
 use Rattle.tables.specs.Contents.{owned, slot_row}
+use Rattle.tables.specs.Kinds.{more_kinds, more_names}
+use Rattle.flatten.specs.Rows.{results_value}
 use Rattle.machine.specs.State.{State}
 use Rattle.tables.specs.Stands.{StandsFor}
-use Rattle.tables.specs.declared.bearers.LineMore.{LineMore}
+use Rattle.tables.specs.declared.more.MoreRow.{MoreRow}
 use Rattle.tables.specs.Steps.SelectionTexts.{select_more}
 use Rattle.tables.specs.Steps.Selected.{IsFirstRead, IsQuery, equals}
 use Rattle.tables.specs.Steps.DumpEntries.{Entries, entry_values, ShowsOneOf}
-use Rattle.tables.specs.Steps.Known.{IsKnown, MoreValue, IsMore, more_values}
+use Rattle.tables.specs.Steps.Known.{IsKnown, MoreValue, IsMore, more_value, more_values}
 use Rattle.tables.specs.TableTrees.{slot_tree}
 use Rattle.tables.proofs.DumpEntries.{typed, shows_one_of}
 use Rattle.tables.proofs.Select.{one_table}
 use Rattle.tables.proofs.Selecting.{IsSelection, shows_one}
 use Rattle.tables.proofs.Silent.{silent}
-use Rattle.tables.proofs.Puts.{flat_has, from_flat}
+use Rattle.tables.proofs.Puts.{flat_has, from_flat, where_true, true_there}
 
-select_more_is : command_of (understood schema_two select_more) ≡ Select (record { lets = []; body = one_table 24 (equals ((1, 0) ∷ (2, 1) ∷ [])) (col 1 3 ∷ col 1 4 ∷ []) }) (codes "decl" ∷ codes "imp" ∷ [])
+-- the columns of `more` for its kinds, in the rows of this place of a statement's environment
+abbrev pub more_terms : ℕ → List Term
+more_terms place = map (col place) (range_with_len 3 (length more_kinds))
+
+select_more_is : command_of (understood schema_two select_more) ≡ Select (record { lets = []; body = one_table 24 (equals ((1, 0) ∷ (2, 1) ∷ [])) (col 1 2 ∷ more_terms 1) }) (codes "line" ∷ more_names)
 unfolding understood everything
 select_more_is = refl
 
@@ -64,17 +75,15 @@ one_known d line r s a b =
 
 -- ---- the rows
 
-pub from_columns : (line : ℕ) (d i : Option ℕ) (row : Row) → Has (more_columns line d i) row → ((is_some d || is_some i) ≡ true) × (row ≡ number line ∷ optional d ∷ optional i ∷ [])
-from_columns line None None row h = absurd h
-from_columns line None (Some i) row (inl e) = (refl, e)
-from_columns line None (Some i) row (inr none) = absurd none
-from_columns line (Some d) i row (inl e) = (refl, e)
-from_columns line (Some d) i row (inr none) = absurd none
+-- the line has a row
+abbrev pub has_row : ResultsValue → Bool
+has_row results = list_any is_some (map results more_kinds)
 
-to_columns : (line : ℕ) (d i : Option ℕ) → (is_some d || is_some i) ≡ true → Has (more_columns line d i) (number line ∷ optional d ∷ optional i ∷ [])
-to_columns line None None some = absurd cc
-to_columns line None (Some i) some = inl refl
-to_columns line (Some d) i some = inl refl
+pub from_columns : (line : ℕ) (r : ResultsValue) (row : Row) → Has (more_columns line r) row → (has_row r ≡ true) × (row ≡ number line ∷ kind_columns more_kinds r)
+from_columns line r row h = where_true (has_row r) (number line ∷ kind_columns more_kinds r) row h
+
+to_columns : (line : ℕ) (r : ResultsValue) → has_row r ≡ true → Has (more_columns line r) (number line ∷ kind_columns more_kinds r)
+to_columns line r some = true_there (has_row r) (number line ∷ kind_columns more_kinds r) some
 
 pub are : (d : DumpValue) (flat : RowsValue) → IsFlat d.elements flat → (row : Row) → Has (dump_rows d.profile flat 24) row ↔ ((v : MoreValue) × IsMore d v × (row ≡ more_values v))
 are d flat is row = (
@@ -82,40 +91,32 @@ are d flat is row = (
     | inl a ↦
         let it = from_flat range_more flat.ranges row a in
         let r = it.0 in
-        let c = from_columns r.line (r.results Declaration) (r.results Implementation) row it.2 in
+        let c = from_columns r.line r.results row it.2 in
         let is_row = (is.ranges.each r).0 (contains_had flat.ranges r it.1) in
-        (record { line = r.line; declaration = r.results Declaration; implementation = r.results Implementation }, record { results = r.results; known = inl (r, is_row, refl, refl); declaration = refl; implementation = refl; some = c.0 }, c.1)
+        (record { line = r.line; results = r.results }, record { known = inl (r, is_row, refl, refl); some = c.0 }, c.1)
     | inr b ↦
         let it = from_flat bearer_more flat.bearers row b in
         let r = it.0 in
-        let c = from_columns r.line (r.results Declaration) (r.results Implementation) row it.2 in
+        let c = from_columns r.line r.results row it.2 in
         let is_row = (is.bearers.each r).0 (contains_had flat.bearers r it.1) in
-        (record { line = r.line; declaration = r.results Declaration; implementation = r.results Implementation }, record { results = r.results; known = inr (r, is_row, refl, refl); declaration = refl; implementation = refl; some = c.0 }, c.1)
+        (record { line = r.line; results = r.results }, record { known = inr (r, is_row, refl, refl); some = c.0 }, c.1)
   ]),
   (λ h.
       let v = h.0 in
       subst (Has (flat_map range_more flat.ranges ++ flat_map bearer_more flat.bearers)) (sym h.2) (elim h.1.known [
         | inl k ↦
             let at = has_contained flat.ranges k.0 ((is.ranges.each k.0).1 k.1) in
-            has_left (flat_map range_more flat.ranges) (flat_map bearer_more flat.bearers) (more_values v) (flat_has range_more flat.ranges k.0 (more_values v) at
-            (told k.0.line k.0.results v k.2 (ap (λ (r : ResultsValue). r Declaration) k.3 ∙ h.1.declaration) (ap (λ (r : ResultsValue). r Implementation) k.3 ∙ h.1.implementation) h.1.some))
+            has_left (flat_map range_more flat.ranges) (flat_map bearer_more flat.bearers) (more_values v) (flat_has range_more flat.ranges k.0 (more_values v) at (told k.0.line k.0.results v k.2 k.3 h.1.some))
         | inr k ↦
             let at = has_contained flat.bearers k.0 ((is.bearers.each k.0).1 k.1) in
-            has_right (flat_map range_more flat.ranges) (flat_map bearer_more flat.bearers) (more_values v) (flat_has bearer_more flat.bearers k.0 (more_values v) at
-            (told k.0.line k.0.results v k.2 (ap (λ (r : ResultsValue). r Declaration) k.3 ∙ h.1.declaration) (ap (λ (r : ResultsValue). r Implementation) k.3 ∙ h.1.implementation) h.1.some))
+            has_right (flat_map range_more flat.ranges) (flat_map bearer_more flat.bearers) (more_values v) (flat_has bearer_more flat.bearers k.0 (more_values v) at (told k.0.line k.0.results v k.2 k.3 h.1.some))
       ])),
 )
   where
-    told : (line : ℕ) (r : ResultsValue) (v : MoreValue) → line ≡ v.line → r Declaration ≡ v.declaration → r Implementation ≡ v.implementation → (is_some v.declaration || is_some v.implementation) ≡ true → Has (more_columns line (r Declaration) (r Implementation)) (more_values v)
-    told line r v at decl imp some = rw (at, decl, imp) (to_columns v.line v.declaration v.implementation some)
+    told : (line : ℕ) (r : ResultsValue) (v : MoreValue) → line ≡ v.line → r ≡ v.results → has_row v.results ≡ true → Has (more_columns line r) (more_values v)
+    told line r v at same some = rw (at, same) (to_columns v.line v.results some)
 
--- ---- the selection
-
-abbrev more_read : LineMore → Row
-more_read x = optional x.decl ∷ optional x.imp ∷ []
-
-abbrev more_shown : MoreValue → Row
-more_shown v = optional v.declaration ∷ optional v.implementation ∷ []
+-- ---- results of some kinds
 
 pub one_optional : (a b : Option ℕ) → optional a ≡ optional b → a ≡ b
 one_optional None None e = refl
@@ -123,8 +124,49 @@ one_optional None (Some b) e = absurd cc
 one_optional (Some a) None e = absurd cc
 one_optional (Some a) (Some b) e = cc
 
-pub first_optional : {a b c d : Option ℕ} → ◌≡◌ {A = Row} (optional a ∷ optional b ∷ []) (optional c ∷ optional d ∷ []) → (a ≡ c) × (b ≡ d)
-first_optional {a} {b} {c} {d} e = (one_optional a c (let x = e in cc), one_optional b d (let x = e in cc))
+-- what columns of these kinds say of results
+pub one_kinds : (ks : List RequestKind) (r s : ResultsValue) → kind_columns ks r ≡ kind_columns ks s → map r ks ≡ map s ks
+one_kinds [] r s e = refl
+one_kinds (k ∷ ks) r s e =
+    let first : optional (r k) ≡ optional (s k) = let h = e in cc in
+    let rest : kind_columns ks r ≡ kind_columns ks s = let h = e in cc in
+    ap (λ n. n ∷ map r ks) (one_optional (r k) (s k) first) ∙ ap (λ l. s k ∷ l) (one_kinds ks r s rest)
+
+pub kinds_columns : (ks : List RequestKind) (r s : ResultsValue) → map r ks ≡ map s ks → kind_columns ks r ≡ kind_columns ks s
+kinds_columns [] r s e = refl
+kinds_columns (k ∷ ks) r s e =
+    let first : r k ≡ s k = let h = e in cc in
+    let rest : map r ks ≡ map s ks = let h = e in cc in
+    ap (λ n. optional n ∷ kind_columns ks r) first ∙ ap (λ (l : Row). optional (s k) ∷ l) (kinds_columns ks r s rest)
+
+-- results that are the same of these kinds are the same of each of them
+pub of_kind : (ks : List RequestKind) (r s : ResultsValue) → map r ks ≡ map s ks → (k : RequestKind) → Has ks k → r k ≡ s k
+of_kind [] r s e k h = absurd h
+of_kind (j ∷ ks) r s e k (inl same) = let first : r j ≡ s j = let h = e in cc in ap r same ∙ (first ∙ ap s (sym same))
+of_kind (j ∷ ks) r s e k (inr later) = let rest : map r ks ≡ map s ks = let h = e in cc in of_kind ks r s rest k later
+
+-- results that are none are the same of these kinds as others that have none of them
+none_of : (ks : List RequestKind) (s r : ResultsValue) → ((k : RequestKind) → s k ≡ None) → list_any is_some (map r ks) ≡ false → map s ks ≡ map r ks
+none_of [] s r nothing_there e = refl
+none_of (k ∷ ks) s r nothing_there e = by (r k) refl e (none_of ks s r nothing_there)
+  where
+    by : (o : Option ℕ) → r k ≡ o → list_any is_some (map r (k ∷ ks)) ≡ false → (list_any is_some (map r ks) ≡ false → map s ks ≡ map r ks) → map s (k ∷ ks) ≡ map r (k ∷ ks)
+    by None is none rest = ap (λ n. n ∷ map s ks) (nothing_there k ∙ sym is) ∙ ap (λ l. r k ∷ l) (rest (rw is at none))
+    by (Some n) is none rest = let never : true ≡ false = rw is at none in cc
+
+-- a kind that isn't one of format 1 has a column in `more`
+pub in_more : (k : RequestKind) → (k ≡ Definition → ⊥) → (k ≡ References → ⊥) → (k ≡ Hover → ⊥) → Has more_kinds k
+in_more k definition references hover = elim (has_contained kinds k (listed k)) [
+  | inl e ↦ absurd (definition e)
+  | inr (inl e) ↦ absurd (references e)
+  | inr (inr (inl e)) ↦ absurd (hover e)
+  | inr (inr (inr more)) ↦ more
+]
+
+-- ---- the selection
+
+abbrev more_read : MoreRow → Row
+more_read x = more_values (more_value x)
 
 pub is_owned : Has owned 24
 is_owned = inr (inr (inr (inr (inr (inr (inr (inr (inl refl))))))))
@@ -137,11 +179,11 @@ module _ (line : ℕ) where
     abbrev IsWanted : ℤ → Entries IsMore db m → Type 0
     IsWanted at e = (e.0.slot ≡ id) × IsAtLine e.0.value
 
-    selection : IsSelection (entry_values more_values IsMore db m) (λ at e. more_shown e.0.value) IsWanted select_more (Int id ∷ number line ∷ []) 24
+    selection : IsSelection (entry_values more_values IsMore db m) (λ at e. more_values e.0.value) IsWanted select_more (Int id ∷ number line ∷ []) 24
     selection = record {
       pairs = (1, 0) ∷ (2, 1) ∷ [];
-      terms = col 1 3 ∷ col 1 4 ∷ [];
-      names = codes "decl" ∷ codes "imp" ∷ [];
+      terms = col 1 2 ∷ more_terms 1;
+      names = codes "line" ∷ more_names;
       is = select_more_is;
       plain = select_more_plain;
       own = λ db. refl;
@@ -152,28 +194,33 @@ module _ (line : ℕ) where
     }
 
   -- what the answer says of the results of the line
-  abbrev pub Says : Option LineMore → ResultsValue → Type 0
-  Says None results = (results Declaration ≡ None) × (results Implementation ≡ None)
-  Says (Some x) results = (x.decl ≡ results Declaration) × (x.imp ≡ results Implementation)
+  abbrev pub Says : Option MoreRow → ResultsValue → Type 0
+  Says None results = has_row results ≡ false
+  Says (Some x) results = map (results_value x.results) more_kinds ≡ map results more_kinds
 
-  pub nothing : (d : DumpValue) (results : ResultsValue) → IsKnown d line results → ((v : MoreValue) → IsMore d v → IsAtLine v → ⊥) → (a b : Option ℕ) → results Declaration ≡ a → results Implementation ≡ b → (a ≡ None) × (b ≡ None)
-  nothing d results known none None None e f = (refl, refl)
-  nothing d results known none (Some a) b e f = absurd (none (record { line = line; declaration = Some a; implementation = b }) (record { results = results; known = known; declaration = e; implementation = f; some = refl }) refl)
-  nothing d results known none None (Some b) e f = absurd (none (record { line = line; declaration = None; implementation = Some b }) (record { results = results; known = known; declaration = e; implementation = f; some = refl }) refl)
+  pub nothing : (d : DumpValue) (results : ResultsValue) → IsKnown d line results → ((v : MoreValue) → IsMore d v → IsAtLine v → ⊥) → has_row results ≡ false
+  nothing d results known none = elim (cases_Bool (has_row results)) [
+    | inl some ↦ absurd (none (record { line = line; results = results }) (record { known = known; some = some }) refl)
+    | inr not ↦ not
+  ]
 
-  says : (d : DumpValue) (results : ResultsValue) → IsKnown d line results → (found : Option LineMore) → ShowsOneOf more_shown (IsMore d) IsAtLine more_read found → Says found results
-  says d results known None none = nothing d results known none (results Declaration) (results Implementation) refl refl
+  says : (d : DumpValue) (results : ResultsValue) → IsKnown d line results → (found : Option MoreRow) → ShowsOneOf more_values (IsMore d) IsAtLine more_read found → Says found results
+  says d results known None none = nothing d results known none
   says d results known (Some x) one =
-      let v = one.1 in
-      let same = one_known d line v.results results (subst (λ n. IsKnown d n v.results) one.2 v.known) known in
-      let read = first_optional one.3 in
-      (read.0 ∙ (sym v.declaration ∙ ap (λ (r : ResultsValue). r Declaration) same), read.1 ∙ (sym v.implementation ∙ ap (λ (r : ResultsValue). r Implementation) same))
+      let v = one.0 in
+      let same = one_known d line v.results results (subst (λ n. IsKnown d n v.results) one.2 one.1.known) known in
+      let shown : kind_columns more_kinds (results_value x.results) ≡ kind_columns more_kinds v.results = let h = one.3 in cc in
+      one_kinds more_kinds (results_value x.results) v.results shown ∙ ap (λ (r : ResultsValue). map r more_kinds) same
 
-  pub more_found : (m : State) (id : ℤ) (project : List ℕ) (dump : DumpValue) (old new : Store) (rows : List Row) (found : Option LineMore) → StandsFor old.now.trees m → old.now.schema ≡ schema_two → Has (old.now.trees slot_tree) (slot_row id project Dump)
+  -- results that are none are what a line without a row has
+  pub says_none : (s results : ResultsValue) → ((k : RequestKind) → s k ≡ None) → Says None results → map s more_kinds ≡ map results more_kinds
+  says_none s results nothing_there none = none_of more_kinds s results nothing_there none
+
+  pub more_found : (m : State) (id : ℤ) (project : List ℕ) (dump : DumpValue) (old new : Store) (rows : List Row) (found : Option MoreRow) → StandsFor old.now.trees m → old.now.schema ≡ schema_two → Has (old.now.trees slot_tree) (slot_row id project Dump)
       → m.dump project ≡ Some dump → Shown select_more (Int id ∷ number line ∷ []) old new rows → IsFirstRead more_read rows found → (results : ResultsValue) → IsKnown dump line results → Says found results
   unfolding selection
   more_found m id project dump old new rows found s schema slot has shown read results known =
       let db = old.now.trees in
-      says dump results known found (shows_one_of db m s IsMore more_values 24 is_owned are (λ tags. refl) project dump id slot has IsAtLine more_shown more_read found
-      (shows_one (entry_values more_values IsMore db m) (λ at e. more_shown e.0.value) (IsWanted db m id) more_read select_more (Int id ∷ number line ∷ []) 24 (selection db m id) (λ x. refl) old new rows schema
+      says dump results known found (shows_one_of db m s IsMore more_values 24 is_owned are (λ tags. refl) project dump id slot has IsAtLine more_values more_read found
+      (shows_one (entry_values more_values IsMore db m) (λ at e. more_values e.0.value) (IsWanted db m id) more_read select_more (Int id ∷ number line ∷ []) 24 (selection db m id) (λ x. refl) old new rows schema
       (typed db m s IsMore more_values 24 is_owned are (λ tags. refl)) shown found read))

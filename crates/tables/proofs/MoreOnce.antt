@@ -1,5 +1,5 @@
 -- Why a row of `more` that a range or a bearer before has is known before it's put: rows come in
--- order, and those of one line have one declaration.
+-- order, and those of one line have the same results.
 use Rattle.std.proofs.Common.{◌≡◌, ◌<◌, ◌≤◌, ◌-◌, ◌++◌, inl, inr, ℕ, zero, suc, Bool, true, false, List, [], ◌∷◌, length, map, flat_map, get_or, slice_get, ltb, Option, Some, Err, refl, sym, ap, subst, ◌∙◌, arith}
 use Rattle.std.specs.declared.cmp.Ordering.{Ordering}
 use Rattle.std.specs.declared.cmp.Ordering.TheVariants.{Less, Equal, Greater}
@@ -11,8 +11,7 @@ use Rattle.std.proofs.lemmas.List.{length-map, get_or-map, get_or_append_left, g
 use Rattle.sqlite_value.specs.Order.{Row}
 use Rattle.sqlite_rules.specs.Lists.{Has}
 use Rattle.sqlite_rules.proofs.ListLemmas.{contains_had, has_left, has_right}
-use Rattle.lsif.specs.declared.element.Profile.TheVariants.{One}
-use Rattle.lsif.specs.declared.request_kind.RequestKind.TheVariants.{Declaration, Implementation}
+use Rattle.lsif.specs.declared.profile.Profile.TheVariants.{One}
 use Rattle.dump.specs.Progress.{DumpValue}
 use Rattle.flatten.specs.declared.rows.RangeRow.{RangeRow}
 use Rattle.flatten.specs.declared.rows.BearerRow.{BearerRow}
@@ -20,11 +19,12 @@ use Rattle.flatten.specs.declared.rows.Rows.{Rows}
 use Rattle.flatten.specs.Flat.{ResultsValue, by_line, bearer_cmp}
 use Rattle.flatten.specs.declared.results.Results.{Results}
 use Rattle.flatten.specs.Rows.{range_value, bearer_value, results_value}
-use Rattle.tables.specs.Columns.{number, optional, more_columns, range_more, bearer_more}
+use Rattle.tables.specs.Columns.{number, kind_columns, more_columns, range_more, bearer_more}
+use Rattle.tables.specs.Kinds.{more_kinds}
 use Rattle.tables.specs.Steps.Known.{IsKnown}
 use Rattle.tables.specs.Steps.Next.{IsNext}
 use Rattle.tables.proofs.Keeping.{to_map}
-use Rattle.tables.proofs.LineResults.{from_columns, one_known, one_optional}
+use Rattle.tables.proofs.LineResults.{from_columns, one_known}
 use Rattle.tables.proofs.Puts.{from_flat}
 
 -- ---- places in lists
@@ -80,13 +80,13 @@ bearers_rise bearers up i j d before within =
 
 -- ---- one line
 
--- what two lines of one row have
-one_row : (l m : ℕ) (d i e j : Option ℕ) (row : Row) → Has (more_columns l d i) row → Has (more_columns m e j) row → (l ≡ m) × (d ≡ e) × (i ≡ j)
-one_row l m d i e j row first second =
-    let a = from_columns l d i row first in
-    let b = from_columns m e j row second in
-    let same : ◌≡◌ {A = Row} (number l ∷ optional d ∷ optional i ∷ []) (number m ∷ optional e ∷ optional j ∷ []) = sym a.1 ∙ b.1 in
-    ((let x = same in cc), one_optional d e (let x = same in cc), one_optional i j (let x = same in cc))
+-- two lines that have one row are one
+one_row : (l m : ℕ) (r s : ResultsValue) (row : Row) → Has (more_columns l r) row → Has (more_columns m s) row → l ≡ m
+one_row l m r s row first second =
+    let a = from_columns l r row first in
+    let b = from_columns m s row second in
+    let same : ◌≡◌ {A = Row} (number l ∷ kind_columns more_kinds r) (number m ∷ kind_columns more_kinds s) = sym a.1 ∙ b.1 in
+    let x = same in cc
 
 module _ (rows : Rows) (earlier : List BearerRow) (bearer : BearerRow) (next : IsNext rows earlier bearer) where
   abbrev dump : DumpValue
@@ -101,29 +101,29 @@ module _ (rows : Rows) (earlier : List BearerRow) (bearer : BearerRow) (next : I
   this_known : IsKnown dump bearer.line (bearer_value bearer).results
   this_known = known_bearer bearer (subst (λ l. Has l bearer) (sym next.are) (has_right earlier (bearer ∷ next.later) bearer (inl refl)))
 
-  -- the line is the bearer's, and so are the declaration and the implementation of these results
+  -- the line is the bearer's, and so is what `more` has of these results
   abbrev SameMore : ℕ → Results → Type 0
   SameMore line results =
-      (bearer.line ≡ line) × (results_value bearer.results Declaration ≡ results_value results Declaration) × (results_value bearer.results Implementation ≡ results_value results Implementation)
+      (bearer.line ≡ line) × (map (results_value bearer.results) more_kinds ≡ map (results_value results) more_kinds)
 
-  -- a range of the bearer's line has its declaration and its implementation
+  -- a range of the bearer's line has its row
   pub same_range : (r : RangeRow) → Has rows.ranges.items r → bearer.line ≡ r.line → SameMore r.line r.results
   same_range r there at =
       let same = one_known dump r.line (bearer_value bearer).results (range_value r).results (subst (λ n. IsKnown dump n (bearer_value bearer).results) at this_known) (known_range r there) in
-      (at, ap (λ (x : ResultsValue). x Declaration) same, ap (λ (x : ResultsValue). x Implementation) same)
+      (at, ap (λ (x : ResultsValue). map x more_kinds) same)
 
   same_bearer : (b : BearerRow) → Has earlier b → bearer.line ≡ b.line → SameMore b.line b.results
   same_bearer b there at =
       let known = known_bearer b (subst (λ l. Has l b) (sym next.are) (has_left earlier (bearer ∷ next.later) b there)) in
       let same = one_known dump b.line (bearer_value bearer).results (bearer_value b).results (subst (λ n. IsKnown dump n (bearer_value bearer).results) at this_known) known in
-      (at, ap (λ (x : ResultsValue). x Declaration) same, ap (λ (x : ResultsValue). x Implementation) same)
+      (at, ap (λ (x : ResultsValue). map x more_kinds) same)
 
   module _ (row : Row) (has : Has (bearer_more (bearer_value bearer)) row) where
     -- the range that has the row is of the bearer's line
     pub range_of_row : Has (flat_map (λ r. range_more (range_value r)) rows.ranges.items) row → (r : RangeRow) × Has rows.ranges.items r × (r.line ≡ bearer.line)
     range_of_row h =
         let it = from_flat (λ (r : RangeRow). range_more (range_value r)) rows.ranges.items row h in
-        (it.0, it.1, (one_row it.0.line bearer.line (results_value it.0.results Declaration) (results_value it.0.results Implementation) (results_value bearer.results Declaration) (results_value bearer.results Implementation) row it.2 has).0)
+        (it.0, it.1, one_row it.0.line bearer.line (results_value it.0.results) (results_value bearer.results) row it.2 has)
 
     abbrev all : List BearerRow
     all = earlier ++ bearer ∷ next.later
@@ -160,7 +160,7 @@ module _ (rows : Rows) (earlier : List BearerRow) (bearer : BearerRow) (next : I
       pub last_same : Has earlier last → Has (flat_map (λ b. bearer_more (bearer_value b)) earlier) row → SameMore last.line last.results
       last_same there h =
           let it = from_flat (λ (b : BearerRow). bearer_more (bearer_value b)) earlier row h in
-          let at = (one_row it.0.line bearer.line (results_value it.0.results Declaration) (results_value it.0.results Implementation) (results_value bearer.results Declaration) (results_value bearer.results Implementation) row it.2 has).0 in
+          let at = one_row it.0.line bearer.line (results_value it.0.results) (results_value bearer.results) row it.2 has in
           same_bearer last there (omega (arith, at, below, above it.0 it.1))
 
 -- ---- the last of some

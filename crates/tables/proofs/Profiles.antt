@@ -10,8 +10,8 @@ use Rattle.sqlite_sql.specs.Term.{col}
 use Rattle.sqlite_schema.specs.declared.command.Command.TheVariants.{Select}
 use Rattle.sqlite_trees.specs.Tree.{Trees}
 use Rattle.sqlite_rules.specs.Lists.{Has}
-use Rattle.lsif.specs.declared.element.Profile.{Profile}
-use Rattle.lsif.specs.declared.element.Profile.TheVariants.{One, Two}
+use Rattle.lsif.specs.declared.profile.Profile.{Profile}
+use Rattle.lsif.specs.declared.profile.Profile.TheVariants.{One, Two}
 use Rattle.dump.specs.Progress.{DumpValue}
 use Rattle.flatten.specs.Flat.{RowsValue, IsFlat}
 use Rattle.tables.specs.declared.slots.Part.TheVariants.{Dump}

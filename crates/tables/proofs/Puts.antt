@@ -1,5 +1,5 @@
 -- Rows that are put one after another.
-use Rattle.std.proofs.Common.{arith, rules, zero, suc, flat_map, map, take, get_or, ◌<◌, ◌+◌, Ok, Err, Result, ℤ, ◌≡◌, ◌≢◌, ◌⊎◌, ◌↔◌, ◌/◌, inl, inr, ℕ, List, [], ◌∷◌, ◌++◌, length, slice_get, Some, refl, sym, ap, subst, subst₂, ◌∙◌, IsTrue, OnOk}
+use Rattle.std.proofs.Common.{arith, rules, zero, suc, Bool, true, false, flat_map, map, take, get_or, ◌<◌, ◌+◌, Ok, Err, Result, ℤ, ◌≡◌, ◌≢◌, ◌⊎◌, ◌↔◌, ◌/◌, inl, inr, ℕ, List, [], ◌∷◌, ◌++◌, length, slice_get, Some, refl, sym, ap, subst, subst₂, ◌∙◌, IsTrue, OnOk}
 use Rattle.std.specs.List.{AllByRecursion}
 use Rattle.std.proofs.lemmas.List.{map_more, take_more, flat_map_more, map-append}
 use Rattle.std.specs.Result.{is_ok}
@@ -235,6 +235,16 @@ nothing_then {S} {g} {a} {b} {c} p q = record {
   kept = λ clean. commit_then (state g a.now) (state g b.now) (state g c.now) (p.kept (omega (arith, q.survives.clean))) (q.kept clean);
   survives = quiet_then (state g a.now) (state g b.now) (state g c.now) p.survives q.survives;
 }
+
+-- a list of one where it's so
+pub where_true : {X : Type 0} (b : Bool) (x y : X) → Has (if b then x ∷ [] else []) y → (b ≡ true) × (y ≡ x)
+where_true true x y (inl e) = (refl, e)
+where_true true x y (inr none) = absurd none
+where_true false x y none = absurd none
+
+pub true_there : {X : Type 0} (b : Bool) (x : X) → b ≡ true → Has (if b then x ∷ [] else []) x
+true_there true x e = inl refl
+true_there false x e = absurd cc
 
 -- what was added to the values of a statement
 pub bound_more : {T E : Type 0} (r : Result T E) (was now more : List ValueRef) (values : Row) → now ≡ (if is_ok r then was ++ more else was) → bound more ≡ values → OnOk r (bound now ≡ bound was ++ values)

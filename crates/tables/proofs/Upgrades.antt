@@ -13,7 +13,7 @@ use Rattle.sqlite_rules.proofs.ListLemmas.{all_has, has_filtered, has_kept}
 use Rattle.sqlite.specs.State as sqlite
 use Rattle.dump.specs.Progress.{DumpValue}
 use Rattle.tags.specs.Values.{TagValue}
-use Rattle.lsif.specs.declared.element.Profile.TheVariants.{One}
+use Rattle.lsif.specs.declared.profile.Profile.TheVariants.{One}
 use Rattle.tables.specs.Columns.{profile_columns}
 use Rattle.tables.specs.Schema.{schema_one, schema_two, format, slot, keyed, document, range_row, item, hover, mark, bearer, tag}
 use Rattle.tables.specs.Databases.{IsOrdered, AllOrdered, AreNumbered, Holds, WasUpgraded, IsUpgraded, IsFormatOne, chosen, dump_tests, profile_shown}

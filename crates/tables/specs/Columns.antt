@@ -1,20 +1,22 @@
 -- What the rows of a part have after the id of its slot.
-use Rattle.std.specs.Prelude.{IsTrue, ◌++◌, ◌==◌, ℕ, pos, List, [], ◌∷◌, map, Option, Some, None, if◌then◌else◌}
-use Rattle.std.specs.List.{flat_map}
+use Rattle.std.specs.Prelude.{IsTrue, ◌++◌, ◌==◌, ℕ, pos, List, [], ◌∷◌, map, Option, is_some, if◌then◌else◌}
+use Rattle.std.specs.List.{flat_map, list_any}
 use Rattle.sqlite_value.specs.declared.value.Value.{Value}
-use Rattle.sqlite_value.specs.declared.value.Value.TheVariants.{Int, Text, Null}
+use Rattle.sqlite_value.specs.declared.value.Value.TheVariants.{Int, Text}
 use Rattle.sqlite_value.specs.Order.{Row}
 use Rattle.sqlite.specs.Values.{or_null}
 use Rattle.positions.specs.Position.{PositionValue, IsPosition, packed_of}
 use Rattle.positions.specs.Span.{SpanValue, is_span}
-use Rattle.lsif.specs.declared.element.Profile.{Profile}
+use Rattle.lsif.specs.declared.profile.Profile.{Profile}
 use Rattle.serde_json.specs.Data.{array}
 use Rattle.serde_json.specs.View.{items_of}
 use Rattle.serde_json.specs.Written.{compact_text}
 use Rattle.tags.specs.Values.{FieldValue, TagValue}
-use Rattle.lsif.specs.declared.request_kind.RequestKind.TheVariants.{Definition, References, Hover, Declaration, Implementation}
-use Rattle.machine.specs.Reply.{field_data, profile_number}
-use Rattle.flatten.specs.Flat.{RangeRowValue, ItemRowValue, HoverRowValue, MarkRowValue, BearerRowValue, RowsValue, role_index, kind_index}
+use Rattle.lsif.specs.declared.request_kind.RequestKind.{RequestKind}
+use Rattle.machine.specs.Reply.{field_data}
+use Rattle.lsif.specs.Profiles.{profile_number}
+use Rattle.flatten.specs.Flat.{ResultsValue, RangeRowValue, ItemRowValue, HoverRowValue, MarkRowValue, BearerRowValue, RowsValue, role_index, kind_index}
+use Rattle.tables.specs.Kinds.{own_kinds, more_kinds}
 use Rattle.tables.specs.TableTrees.{bearer_tree, document_tree, hover_tree, item_tree, mark_tree, more_tree, part_profile_tree, range_row_tree, tag_tree}
 
 abbrev pub number : ℕ → Value
@@ -23,6 +25,10 @@ number n = Int (pos n)
 -- NULL where there is none
 abbrev pub optional : Option ℕ → Value
 optional = or_null number
+
+-- the numbers of a line's first results of these kinds
+abbrev pub kind_columns : List RequestKind → ResultsValue → Row
+kind_columns kinds results = map (λ kind. optional (results kind)) kinds
 
 abbrev pub position : PositionValue → Value
 position p = number (packed_of p)
@@ -37,7 +43,7 @@ document_columns uri = Text uri ∷ []
 abbrev pub range_columns : RangeRowValue → Row
 range_columns r =
     number r.line ∷ Text r.place.uri ∷ position r.place.span.start ∷ position r.place.span.«end» ∷ optional r.parent
-    ∷ optional (r.results Definition) ∷ optional (r.results References) ∷ optional (r.results Hover) ∷ []
+    ∷ kind_columns own_kinds r.results
 
 abbrev pub item_columns : ItemRowValue → Row
 item_columns i = number i.result ∷ number (role_index i.role) ∷ Text i.place.uri ∷ position i.place.span.start ∷ position i.place.span.«end» ∷ []
@@ -49,23 +55,21 @@ abbrev pub mark_columns : MarkRowValue → Row
 mark_columns m = number m.range ∷ number (kind_index m.kind) ∷ Text m.key ∷ []
 
 abbrev pub bearer_columns : BearerRowValue → Row
-bearer_columns b =
-    number b.line ∷ Text b.key ∷ number (kind_index b.kind) ∷ optional (b.results Definition) ∷ optional (b.results References) ∷ optional (b.results Hover) ∷ []
+bearer_columns b = number b.line ∷ Text b.key ∷ number (kind_index b.kind) ∷ kind_columns own_kinds b.results
 
 abbrev pub profile_columns : Profile → Row
 profile_columns profile = number (profile_number profile) ∷ []
 
--- what `more` has of a line: a row where there is a declaration or an implementation
-abbrev pub more_columns : ℕ → Option ℕ → Option ℕ → List Row
-more_columns line None None = []
-more_columns line (Some declaration) implementation = (number line ∷ number declaration ∷ optional implementation ∷ []) ∷ []
-more_columns line None (Some implementation) = (number line ∷ Null ∷ number implementation ∷ []) ∷ []
+-- what `more` has of a line: a row where there is a result of its kinds
+abbrev pub more_columns : ℕ → ResultsValue → List Row
+more_columns line results =
+    if list_any is_some (map results more_kinds) then (number line ∷ kind_columns more_kinds results) ∷ [] else []
 
 abbrev pub range_more : RangeRowValue → List Row
-range_more r = more_columns r.line (r.results Declaration) (r.results Implementation)
+range_more r = more_columns r.line r.results
 
 abbrev pub bearer_more : BearerRowValue → List Row
-bearer_more b = more_columns b.line (b.results Declaration) (b.results Implementation)
+bearer_more b = more_columns b.line b.results
 
 -- those of the ranges and of the bearers
 abbrev pub more_rows : RowsValue → List Row

@@ -2,6 +2,7 @@ pub mod Columns
 pub mod Contents
 pub mod Databases
 pub mod Fault
+pub mod Kinds
 pub mod MemoryDisk
 pub mod Opening
 pub mod Parts

@@ -1,6 +1,7 @@
 -- The schemas of formats 1 and 2.
-use Rattle.std.specs.Prelude.{◌≡◌, ◌≤◌, ℕ, suc, Bool, true, false, List, [], ◌∷◌, ◌++◌, codes, Some, None}
+use Rattle.std.specs.Prelude.{◌≡◌, ◌≤◌, ℕ, suc, Bool, true, false, List, [], ◌∷◌, ◌++◌, codes, map, Some, None}
 use Rattle.sqlite_rules.specs.Lists.{Has}
+use Rattle.tables.specs.Kinds.{more_names}
 use Rattle.tables.specs.TableTrees.{format_tree, slot_tree, keyed_tree, document_tree, range_row_tree, item_tree, hover_tree, mark_tree, bearer_tree, tag_tree, part_profile_tree, more_tree}
 use Rattle.sqlite_value.specs.declared.value.Value.TheVariants.{Null}
 use Rattle.sqlite_value.specs.declared.keys.Collation.TheVariants.{Binary}
@@ -152,8 +153,9 @@ part_profile = part_profile_at part_profile_tree
 
 abbrev pub more_at : ℕ → Table
 more_at tree =
-    keyed_by (codes "more") tree (integer_column (codes "slot") true ∷ integer_column (codes "line") true ∷ integer_column (codes "decl") false
-    ∷ integer_column (codes "imp") false ∷ []) (1 ∷ 2 ∷ []) (to_slot ∷ [])
+    keyed_by (codes "more") tree
+    (integer_column (codes "slot") true ∷ integer_column (codes "line") true ∷ map (λ name. integer_column name false) more_names) (1 ∷ 2 ∷ [])
+    (to_slot ∷ [])
 
 abbrev pub more : Table
 more = more_at more_tree

@@ -6,7 +6,7 @@ use Rattle.sqlite_trees.specs.Tree.{Trees}
 use Rattle.sqlite.specs.State as sqlite
 use Rattle.positions.specs.Position.{IsPosition}
 use Rattle.positions.specs.Span.{SpanValue}
-use Rattle.lsif.specs.declared.element.Profile.TheVariants.{One}
+use Rattle.lsif.specs.declared.profile.Profile.TheVariants.{One}
 use Rattle.lsif.specs.Element.{IdValue, range}
 use Rattle.dump.specs.Graph.{vertex_at}
 use Rattle.dump.specs.Fault.{IsFaultless}

@@ -1,101 +1,49 @@
 //! The bearers of a moniker key in all projects, as they are selected, in order: by one join of
 //! `bearer`, `slot` and `more`, over the index of keys. `FindsBearers` in
 //! `machine/specs/Selections`.
-ghost use Rattle.std.specs.Prelude.{◌≡◌, ◌↔◌, ◌∷◌, [], List, ℕ, Contains, map, string_bytes, IfOk, OnOk};
+ghost use Rattle.std.specs.Prelude.{◌≡◌, ◌↔◌, ◌∷◌, List, ℕ, Contains, map, string_bytes, IfOk, OnOk};
 ghost use Rattle.std.specs.declared.cmp.Ordering.TheVariants.{Equal};
 ghost use Rattle.sqlite_value.specs.declared.value.Value.TheVariants.{Text};
 ghost use Rattle.sqlite.specs.State.{HasCleanDisk};
 ghost use Rattle.sqlite.specs.Held.{state};
 ghost use Rattle.dump.specs.Places.{IsListing};
-ghost use Rattle.lsif.specs.declared.request_kind.RequestKind.TheVariants.{Declaration, Definition, Hover, Implementation, References};
-ghost use Rattle.flatten.specs.Flat.{ResultsValue, kind_index};
+ghost use Rattle.lsif.specs.RequestKinds.{kinds};
+ghost use Rattle.flatten.specs.Flat.{kind_index};
 ghost use Rattle.flatten.specs.Rows.{results_value};
 ghost use Rattle.tables.specs.Schema.{schema_two};
-ghost use Rattle.tables.specs.Columns.{number, optional};
+ghost use Rattle.tables.specs.Columns.{kind_columns, number};
 ghost use Rattle.tables.specs.Contents.{Contents, HasSlot, Replies, Keeps};
 ghost use Rattle.machine.specs.State.{State};
 ghost use Rattle.tables.specs.Stands.{OnlySelects, Rests};
 ghost use Rattle.machine.specs.Selections.{BearerFound, Bears, FindsBearers, bearer_found, bearer_found_cmp};
-ghost use Rattle.tables.specs.Steps.Known.{IsKnown};
 ghost use Rattle.tables.specs.Steps.Slots.{IsNamed};
-ghost use Rattle.tables.specs.Steps.Clauses.{OfDump, OfState, OnlyReads};
+ghost use Rattle.tables.specs.Steps.Clauses.{OfState, OnlyReads};
 ghost use Rattle.tables.specs.declared.slots.Part.{Part};
 
 use crate::columns::{column, kind_of};
 use crate::dump_rows::kind_number;
 use crate::fault::{Refusal, TablesFault};
+use crate::kinds::{naming_more, read_all};
 use crate::parts::ProjectSlot;
 use crate::selection::{Listed, select_all, select_first};
 use crate::tables::Tables;
-use flatten::Results;
 use machine::FoundBearer;
 use sqlite::{Alter, Connection, Row, params};
 use std::alloc::Global;
 use std::cmp::Ordering;
 
 impl Listed for FoundBearer {
-    ghost columns = { λ b. Text (string_bytes b.project) ∷ number b.line ∷ number (kind_index b.kind) ∷ optional (results_value b.results Definition)
-        ∷ optional (results_value b.results References) ∷ optional (results_value b.results Hover) ∷ optional (results_value b.results Declaration)
-        ∷ optional (results_value b.results Implementation) ∷ [] };
+    ghost columns = { λ b. Text (string_bytes b.project) ∷ number b.line ∷ number (kind_index b.kind)
+        ∷ kind_columns kinds (results_value b.results) };
 
     fn read(row: &Row) -> Result<FoundBearer, Refusal> {
         let kind = kind_of(column(row, 2)?)?;
         Ok(FoundBearer {
             kind,
             line: column(row, 1)?,
-            results: Results {
-                numbers: [
-                    column(row, 3)?,
-                    column(row, 4)?,
-                    column(row, 5)?,
-                    column(row, 6)?,
-                    column(row, 7)?,
-                ],
-            },
+            results: read_all(row, 3)?,
             project: column(row, 0)?,
         })
-    }
-}
-
-/// The declaration and the implementation of a line.
-#[derive(Drop)]
-pub(crate) struct LineMore {
-    pub(crate) decl: Option<u32>,
-    pub(crate) imp: Option<u32>,
-}
-
-impl Listed for LineMore {
-    ghost columns = { λ more. optional more.decl ∷ optional more.imp ∷ [] };
-
-    fn read(row: &Row) -> Result<LineMore, Refusal> {
-        Ok(LineMore {
-            decl: column(row, 0)?,
-            imp: column(row, 1)?,
-        })
-    }
-}
-
-/// The declaration and the implementation of a line of the dump that has this slot.
-pub(crate) fn more_of<S: Alter>(
-    conn: &mut Connection<S>,
-    slot: i64,
-    line: u32,
-) -> Result<LineMore, Refusal>
-    ensures more { OfDump S.Store conn.old conn.new slot (λ dump. (results : ResultsValue) → IsKnown dump line results
-        → IfOk result (λ more. (more.decl ≡ results Declaration) × (more.imp ≡ results Implementation))) }
-    ensures reads { OnlyReads S.Store result conn.old conn.new }
-{
-    let found = select_first(
-        conn,
-        "SELECT decl, imp FROM more WHERE slot = ?1 AND line = ?2",
-        params![slot, line],
-    )?;
-    match found {
-        Some(more) => Ok(more),
-        None => Ok(LineMore {
-            decl: None,
-            imp: None,
-        }),
     }
 }
 
@@ -137,8 +85,8 @@ pub(crate) fn slot_project<S: Alter>(
     Ok(project)
 }
 
-/// The bearers of a key, each with its project, its declaration and its implementation, as the join
-/// finds them. A row whose slot isn't there has no project, which `read` refuses.
+/// The bearers of a key, each with its project and the results that `more` has, as the join finds
+/// them. A row whose slot isn't there has no project, which `read` refuses.
 fn select_bearers<S: Alter>(
     alloc: Global,
     conn: &mut Connection<S>,
@@ -151,7 +99,10 @@ fn select_bearers<S: Alter>(
     select_all(
         alloc,
         conn,
-        "SELECT slot.project, bearer.line, bearer.kind, bearer.def, bearer.refs, bearer.hover, more.decl, more.imp FROM bearer LEFT JOIN slot ON slot.id = bearer.slot LEFT JOIN more ON more.slot = bearer.slot AND more.line = bearer.line WHERE bearer.keytext = ?1",
+        naming_more!(
+            "SELECT slot.project, bearer.line, bearer.kind, bearer.def, bearer.refs, bearer.hover, ",
+            " FROM bearer LEFT JOIN slot ON slot.id = bearer.slot LEFT JOIN more ON more.slot = bearer.slot AND more.line = bearer.line WHERE bearer.keytext = ?1"
+        ),
         params![key],
     )
 }

@@ -14,9 +14,9 @@ ghost use Rattle.tables.specs.Steps.Climbs.{IsClimbed, TellsRange, row_found};
 ghost use Rattle.tables.specs.declared.slots.Part.TheVariants.{Dump};
 ghost use Rattle.tables.specs.Steps.Clauses.{OfDump, OfState, OnlyReads};
 
-use crate::bearers::more_of;
 use crate::documents::has_document;
 use crate::fault::{Refusal, TablesFault};
+use crate::more::more_of;
 use crate::parts::{ProjectSlot, dump_slot};
 use crate::range_rows::{SlotRange, parent_of, start_of};
 use crate::tables::Tables;
@@ -49,8 +49,8 @@ fn climb<S: Alter>(
     Ok(found)
 }
 
-/// The number of the range's first result for a request. Those of declarations and implementations
-/// are in rows of their own.
+/// The number of the range's first result for a request. Those of the kinds that the row doesn't have
+/// are in `more`.
 fn result_of<S: Alter>(
     conn: &mut Connection<S>,
     slot: i64,
@@ -65,8 +65,7 @@ fn result_of<S: Alter>(
         RequestKind::Definition => Ok(row.def),
         RequestKind::References => Ok(row.refs),
         RequestKind::Hover => Ok(row.hover),
-        RequestKind::Declaration => Ok(more_of(conn, slot, row.line)?.decl),
-        RequestKind::Implementation => Ok(more_of(conn, slot, row.line)?.imp),
+        _ => Ok(more_of(conn, slot, row.line)?.of(request)),
     }
 }
 

@@ -23,7 +23,6 @@ use crate::slots::{Part, insert_slot};
 use crate::statements::run;
 use flatten::Rows;
 use lsif::Profile;
-use machine::profile_number;
 use sqlite::{Alter, Error, Transaction, params};
 
 /// Puts the documents, the ranges and the items of a dump.
@@ -113,7 +112,7 @@ fn insert_profile<S: Alter>(
     ensures put { Edits S.Store result tx.old.conn tx.new.conn (PutsAll part_profile_tree ((Int slot ∷ profile_columns profile) ∷ [])) }
     ensures uncommitted { CommitsNothing S.Store tx.old.conn tx.new.conn }
 {
-    let number = profile_number(profile);
+    let number = profile.number();
     run(
         tx,
         "INSERT INTO part_profile (slot, profile) VALUES (?1, ?2)",

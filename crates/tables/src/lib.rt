@@ -14,6 +14,7 @@ mod fault;
 mod format;
 mod found_tags;
 mod items;
+mod kinds;
 mod marks;
 mod memory_disk;
 mod migration;

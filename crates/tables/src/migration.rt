@@ -13,6 +13,7 @@ ghost use Rattle.tables.specs.Databases.{IsFormatOne, IsFormatTwo, IsUpgraded, S
 
 use crate::fault::{TablesFault, fault_of};
 use crate::format::{Format, find_format};
+use crate::kinds::declaring_more;
 use crate::tables::Tables;
 use sqlite::{Alter, Connection, Error, Transaction};
 
@@ -25,7 +26,7 @@ fn upgrade_tables<S: Alter>(tx: &mut Transaction<'_, S>) -> Result<(), Error>
         → OnOk result ((state S.Store tx.new.conn.now).in_transaction ≡ (state S.Store tx.old.conn.now).in_transaction) }
     ensures uncommitted { CommitsNothing S.Store tx.old.conn tx.new.conn }
 {
-    tx.execute_batch(
+    tx.execute_batch(declaring_more!(
         "DROP INDEX IF EXISTS range_by_start;\
          DROP INDEX IF EXISTS bearer_by_key;\
          DROP INDEX IF EXISTS tag_by_name;\
@@ -33,10 +34,11 @@ fn upgrade_tables<S: Alter>(tx: &mut Transaction<'_, S>) -> Result<(), Error>
          CREATE INDEX bearer_by_key ON bearer (keytext, kind);\
          CREATE INDEX tag_by_name ON tag (name, slot, line);\
          CREATE TABLE part_profile (slot INTEGER NOT NULL REFERENCES slot ON DELETE CASCADE, profile INTEGER NOT NULL, UNIQUE (slot)) STRICT;\
-         CREATE TABLE more (slot INTEGER NOT NULL REFERENCES slot ON DELETE CASCADE, line INTEGER NOT NULL, decl INTEGER, imp INTEGER, PRIMARY KEY (slot, line)) STRICT;\
+         CREATE TABLE more (slot INTEGER NOT NULL REFERENCES slot ON DELETE CASCADE, line INTEGER NOT NULL, ",
+        ", PRIMARY KEY (slot, line)) STRICT;\
          INSERT INTO part_profile (slot, profile) SELECT id, 1 FROM slot WHERE part = 1;\
          UPDATE format SET version = 2",
-    )
+    ))
 }
 
 /// Makes format 2 of format 1 in one transaction.

@@ -1,6 +1,6 @@
-//! The declarations and implementations of ranges and bearers, which format 2 keeps in a table of
-//! their own: put and selected.
-ghost use Rattle.std.specs.Prelude.{◌≡◌, ◌↔◌, ◌∷◌, [], ◌⊎◌, ◌≤◌, List, length, map, take, IsTrue, OnOk};
+//! The rows of `more`: the results of a line whose kinds have no column in `range_row` and `bearer`.
+//! They're put, and selected by their line.
+ghost use Rattle.std.specs.Prelude.{◌≡◌, ◌↔◌, ◌∷◌, ◌⊎◌, ◌≤◌, List, length, map, take, IfOk, IsTrue, OnOk};
 ghost use Rattle.std.specs.List.{flat_map};
 ghost use Rattle.sqlite_value.specs.declared.value.Value.TheVariants.{Int};
 ghost use Rattle.sqlite_value.specs.Order.{Row as Columns};
@@ -9,73 +9,102 @@ ghost use Rattle.sqlite.specs.State.{HasCleanDisk};
 ghost use Rattle.sqlite.specs.Held.{state};
 ghost use Rattle.flatten.specs.declared.rows.Rows.{Rows};
 ghost use Rattle.flatten.specs.declared.rows.BearerRow.{BearerRow};
+ghost use Rattle.flatten.specs.Flat.{ResultsValue};
 ghost use Rattle.flatten.specs.Rows.{range_value, bearer_value, results_value, rows_value};
-ghost use Rattle.lsif.specs.declared.request_kind.RequestKind.TheVariants.{Declaration, Implementation};
 ghost use Rattle.tables.specs.Schema.{schema_two};
 ghost use Rattle.tables.specs.Databases.{Holds};
-ghost use Rattle.tables.specs.Columns.{number, optional, more_columns, more_rows, range_more, bearer_more};
+ghost use Rattle.tables.specs.Kinds.{more_kinds};
+ghost use Rattle.tables.specs.Columns.{kind_columns, more_columns, more_rows, range_more, bearer_more};
+ghost use Rattle.tables.specs.Steps.Known.{IsKnown, more_value, more_values};
 ghost use Rattle.tables.specs.Steps.Next.{IsNext};
 ghost use Rattle.tables.specs.Steps.Puts.{PutsAll, Steps};
-ghost use Rattle.tables.specs.Steps.Clauses.{CommitsNothing, Edits};
+ghost use Rattle.tables.specs.Steps.Clauses.{CommitsNothing, Edits, OfDump, OnlyReads};
 ghost use Rattle.tables.specs.TableTrees.{more_tree};
 
-use crate::statements::run;
+use crate::columns::column;
+use crate::fault::Refusal;
+use crate::kinds::{INSERT_MORE, bind_more, has_more, has_same_more, naming_more, read_more};
+use crate::part_rows::{PartRow, insert_by};
+use crate::selection::{Listed, select_first};
 use flatten::{BearerRow, RangeRow, Results, Rows};
-use lsif::RequestKind;
-use sqlite::{Alter, Error, Transaction, params};
+use sqlite::types::ValueRef;
+use sqlite::{Alter, Connection, Error, Row, Transaction, params};
+use std::alloc::{AllocError, Global};
+use std::slice::from_ref;
 
-/// The declaration and the implementation of some results.
-fn more_results(results: Results) -> (Option<u32>, Option<u32>)
-    ensures decl { result.0 ≡ results_value results Declaration }
-    ensures imp { result.1 ≡ results_value results Implementation }
-{
-    (
-        results.of(RequestKind::Declaration),
-        results.of(RequestKind::Implementation),
-    )
+/// A line, with its results of the kinds that have a column in `more`.
+#[derive(Drop)]
+pub(crate) struct MoreRow {
+    pub(crate) line: u32,
+    pub(crate) results: Results,
 }
 
-/// Puts the row of a line that has a declaration or an implementation.
-fn insert_row<S: Alter>(
-    tx: &mut Transaction<'_, S>,
+impl PartRow for MoreRow {
+    ghost tree = { more_tree };
+
+    ghost columns = { λ row. more_values (more_value row) };
+
+    fn bind<'a>(&'a self, slot: i64, values: &mut Vec<ValueRef<'a>>) -> Result<(), AllocError> {
+        values.extend_from_slice(params![slot, self.line])?;
+        bind_more(self.results, values)
+    }
+}
+
+impl Listed for MoreRow {
+    ghost columns = { λ row. more_values (more_value row) };
+
+    fn read(row: &Row) -> Result<MoreRow, Refusal> {
+        Ok(MoreRow {
+            line: column(row, 0)?,
+            results: read_more(row, 1)?,
+        })
+    }
+}
+
+/// The results that a line of the dump that has this slot has in `more`.
+pub(crate) fn more_of<S: Alter>(
+    conn: &mut Connection<S>,
     slot: i64,
     line: u32,
-    decl: Option<u32>,
-    imp: Option<u32>,
-) -> Result<usize, Error>
-    ensures put { Edits S.Store result tx.old.conn tx.new.conn
-        (PutsAll more_tree ((Int slot ∷ number line ∷ optional decl ∷ optional imp ∷ []) ∷ [])) }
-    ensures uncommitted { CommitsNothing S.Store tx.old.conn tx.new.conn }
+) -> Result<Results, Refusal>
+    ensures more { OfDump S.Store conn.old conn.new slot (λ dump. (results : ResultsValue) → IsKnown dump line results
+        → IfOk result (λ more. map (results_value more) more_kinds ≡ map results more_kinds)) }
+    ensures reads { OnlyReads S.Store result conn.old conn.new }
 {
-    run(
-        tx,
-        "INSERT INTO more (slot, line, decl, imp) VALUES (?1, ?2, ?3, ?4)",
-        params![slot, line, decl, imp],
-    )
+    let found: Option<MoreRow> = select_first(
+        conn,
+        naming_more!("SELECT line, ", " FROM more WHERE slot = ?1 AND line = ?2"),
+        params![slot, line],
+    )?;
+    match found {
+        Some(more) => Ok(more.results),
+        None => Ok(Results::none()),
+    }
 }
 
-/// Puts what a line has of a declaration or an implementation, where it has either.
+/// Puts the row of a line, where it has one.
 fn insert_line<S: Alter>(
+    alloc: Global,
     tx: &mut Transaction<'_, S>,
     slot: i64,
     line: u32,
     results: Results,
 ) -> Result<(), Error>
     ensures put { Edits S.Store result tx.old.conn tx.new.conn
-        (PutsAll more_tree (map (λ columns. Int slot ∷ columns)
-        (more_columns line (results_value results Declaration) (results_value results Implementation)))) }
+        (PutsAll more_tree (map (λ columns. Int slot ∷ columns) (more_columns line (results_value results)))) }
     ensures uncommitted { CommitsNothing S.Store tx.old.conn tx.new.conn }
 {
-    let (decl, imp) = more_results(results);
-    if decl.is_none() && imp.is_none() {
+    if !has_more(results) {
         return Ok(());
     }
-    insert_row(tx, slot, line, decl, imp)?;
-    Ok(())
+    let row = MoreRow { line, results };
+    let mut values = Vec::new(alloc);
+    insert_by(tx, slot, INSERT_MORE, from_ref(&row), &mut values)
 }
 
-/// Puts what the ranges have of declarations and implementations.
+/// Puts the rows of the lines of ranges.
 fn insert_ranges<S: Alter>(
+    alloc: Global,
     tx: &mut Transaction<'_, S>,
     slot: i64,
     ranges: &[RangeRow<'_>],
@@ -85,22 +114,21 @@ fn insert_ranges<S: Alter>(
     ensures uncommitted { CommitsNothing S.Store tx.old.conn tx.new.conn }
 {
     for row in ranges {
-        insert_line(tx, slot, row.line, row.results)?;
+        insert_line(alloc, tx, slot, row.line, row.results)?;
     }
     Ok(())
 }
 
-/// Whether a bearer has the line, the declaration and the implementation of these.
+/// Whether a bearer has this line, and in `more` the same of these results.
 fn has_same(bearer: &BearerRow, line: u32, results: Results) -> bool
-    ensures is { IsTrue result ↔ ((bearer.now.line ≡ line) × (results_value bearer.now.results Declaration ≡ results_value results Declaration)
-        × (results_value bearer.now.results Implementation ≡ results_value results Implementation)) }
-    ensures more { IsTrue result → more_columns line (results_value results Declaration) (results_value results Implementation)
-        ≡ bearer_more (bearer_value bearer.now) }
+    ensures is { IsTrue result ↔ ((bearer.now.line ≡ line)
+        × (map (results_value bearer.now.results) more_kinds ≡ map (results_value results) more_kinds)) }
+    ensures more { IsTrue result → more_columns line (results_value results) ≡ bearer_more (bearer_value bearer.now) }
 {
-    bearer.line == line && more_results(bearer.results) == more_results(results)
+    bearer.line == line && has_same_more(bearer.results, results)
 }
 
-/// Whether a range has the line, the declaration and the implementation of a bearer.
+/// Whether a range has the row of a bearer.
 fn is_of_range(rows: &Rows<'_>, bearer: &BearerRow) -> bool
     ensures listed { IsTrue result → (row : Columns) → Has (bearer_more (bearer_value bearer.now)) row
         → Has (flat_map (λ r. range_more (range_value r)) rows.now.ranges.items) row }
@@ -119,8 +147,7 @@ fn is_of_range(rows: &Rows<'_>, bearer: &BearerRow) -> bool
     }
 }
 
-/// Whether the last of these bearers has the line, the declaration and the implementation of the
-/// next one.
+/// Whether the last of these bearers has the row of the next one.
 fn is_of_last(earlier: &[BearerRow], bearer: &BearerRow) -> bool
     ensures listed { IsTrue result → (row : Columns) → Has (bearer_more (bearer_value bearer.now)) row
         → Has (flat_map (λ b. bearer_more (bearer_value b)) earlier.now) row }
@@ -133,8 +160,7 @@ fn is_of_last(earlier: &[BearerRow], bearer: &BearerRow) -> bool
     }
 }
 
-/// Whether what a bearer has of a declaration or an implementation is that of the bearer before it,
-/// or of a range.
+/// Whether the row of a bearer is that of the bearer before it, or of a range.
 fn is_listed(rows: &Rows<'_>, at: usize, bearer: &BearerRow) -> bool
     requires { at ≤ length rows.now.bearers.items }
     ensures listed { IsTrue result → (row : Columns) → Has (bearer_more (bearer_value bearer.now)) row
@@ -147,8 +173,9 @@ fn is_listed(rows: &Rows<'_>, at: usize, bearer: &BearerRow) -> bool
     is_of_last(&rows.bearers[..at], bearer) || is_of_range(rows, bearer)
 }
 
-/// Puts what a bearer has of a declaration or an implementation, where that isn't there yet.
+/// Puts the row of a bearer, where that isn't there yet.
 fn insert_bearer<S: Alter>(
+    alloc: Global,
     tx: &mut Transaction<'_, S>,
     slot: i64,
     rows: &Rows<'_>,
@@ -169,12 +196,12 @@ fn insert_bearer<S: Alter>(
     if is_listed(rows, at, bearer) {
         return Ok(());
     }
-    insert_line(tx, slot, bearer.line, bearer.results)
+    insert_line(alloc, tx, slot, bearer.line, bearer.results)
 }
 
-/// Puts what the bearers have of declarations and implementations, where what the ranges have is
-/// there.
+/// Puts the rows of the bearers, where those of the ranges are there.
 fn insert_bearers<S: Alter>(
+    alloc: Global,
     tx: &mut Transaction<'_, S>,
     slot: i64,
     rows: &Rows<'_>,
@@ -188,12 +215,12 @@ fn insert_bearers<S: Alter>(
     ensures uncommitted { CommitsNothing S.Store tx.old.conn tx.new.conn }
 {
     for (at, bearer) in rows.bearers.iter().enumerate() {
-        insert_bearer(tx, slot, rows, at, bearer)?;
+        insert_bearer(alloc, tx, slot, rows, at, bearer)?;
     }
     Ok(())
 }
 
-/// Puts what the ranges and the bearers of a dump have of declarations and implementations.
+/// Puts the rows of the lines of a dump.
 pub(crate) fn insert_more<S: Alter>(
     tx: &mut Transaction<'_, S>,
     slot: i64,
@@ -203,6 +230,7 @@ pub(crate) fn insert_more<S: Alter>(
         (PutsAll more_tree (map (λ columns. Int slot ∷ columns) (more_rows (rows_value rows.now)))) }
     ensures uncommitted { CommitsNothing S.Store tx.old.conn tx.new.conn }
 {
-    insert_ranges(tx, slot, rows.ranges.as_slice())?;
-    insert_bearers(tx, slot, rows)
+    let alloc = *rows.ranges.allocator();
+    insert_ranges(alloc, tx, slot, rows.ranges.as_slice())?;
+    insert_bearers(alloc, tx, slot, rows)
 }

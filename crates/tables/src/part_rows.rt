@@ -34,7 +34,7 @@ pub(crate) trait PartRow {
 
 /// Puts the rows into their table, under this slot, by a statement for so many. The values that are
 /// there are those of rows before.
-fn insert_by<'a, S: Alter, R: PartRow>(
+pub(crate) fn insert_by<'a, S: Alter, R: PartRow>(
     tx: &mut Transaction<'_, S>,
     slot: i64,
     text: &str,

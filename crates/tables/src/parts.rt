@@ -77,12 +77,7 @@ impl Listed for Profile {
     ghost columns = { profile_columns };
 
     fn read(row: &Row) -> Result<Profile, Refusal> {
-        let number: u32 = column(row, 0)?;
-        match number {
-            1 => Ok(Profile::One),
-            2 => Ok(Profile::Two),
-            _ => Err(Refusal::Row),
-        }
+        Profile::numbered(column(row, 0)?).ok_or(Refusal::Row)
     }
 }
 

@@ -12,8 +12,7 @@ use crate::selection::{Listed, select_first};
 use positions::{Position, Span};
 use sqlite::{Alter, Connection, Row, params};
 
-/// What is read of the row of a range: all but its document, its declaration and its
-/// implementation.
+/// What is read of the row of a range: all but its document.
 #[derive(Clone, Copy, Drop)]
 pub(crate) struct SlotRange {
     pub(crate) line: u32,

@@ -14,6 +14,7 @@ ghost use Rattle.machine.specs.State.{State, nothing};
 
 use crate::fault::{TablesFault, fault_of};
 use crate::format::{Format, find_format};
+use crate::kinds::declaring_more;
 use crate::parts::ProjectSlot;
 use sqlite::{Alter, Connection, Error, Transaction};
 use std::marker::Model;
@@ -51,7 +52,7 @@ fn make_tables<S: Alter>(tx: &mut Transaction<'_, S>) -> Result<(), Error>
         → OnOk result ((state S.Store tx.new.conn.now).in_transaction ≡ (state S.Store tx.old.conn.now).in_transaction) }
     ensures uncommitted { CommitsNothing S.Store tx.old.conn tx.new.conn }
 {
-    tx.execute_batch(
+    tx.execute_batch(declaring_more!(
         "CREATE TABLE format (version INTEGER PRIMARY KEY) STRICT;\
          CREATE TABLE slot (id INTEGER PRIMARY KEY, project TEXT NOT NULL, part INTEGER NOT NULL, UNIQUE (project, part)) STRICT;\
          CREATE TABLE keyed (project TEXT NOT NULL, cmdkey TEXT NOT NULL, reply TEXT NOT NULL, PRIMARY KEY (project, cmdkey)) STRICT;\
@@ -66,9 +67,10 @@ fn make_tables<S: Alter>(tx: &mut Transaction<'_, S>) -> Result<(), Error>
          CREATE INDEX bearer_by_key ON bearer (keytext, kind);\
          CREATE INDEX tag_by_name ON tag (name, slot, line);\
          CREATE TABLE part_profile (slot INTEGER NOT NULL REFERENCES slot ON DELETE CASCADE, profile INTEGER NOT NULL, UNIQUE (slot)) STRICT;\
-         CREATE TABLE more (slot INTEGER NOT NULL REFERENCES slot ON DELETE CASCADE, line INTEGER NOT NULL, decl INTEGER, imp INTEGER, PRIMARY KEY (slot, line)) STRICT;\
+         CREATE TABLE more (slot INTEGER NOT NULL REFERENCES slot ON DELETE CASCADE, line INTEGER NOT NULL, ",
+        ", PRIMARY KEY (slot, line)) STRICT;\
          INSERT INTO format (version) VALUES (2)",
-    )
+    ))
 }
 
 /// Makes the tables of format 2 in one transaction.

@@ -47,17 +47,24 @@ pub(crate) fn front_of(line: &[u8]) -> Option<Front<'_>>
     Some(Front { name, file, rest })
 }
 
-/// The fields after an address. An `Err` says that what follows it is of no form.
+/// This address, with the fields after it. None where what follows it is of no form.
 #[tactic(auto, unfolding(crate::specs::Steps::Cutting::fields_after))]
-fn fields_after(bytes: &[u8]) -> Option<Option<&[u8]>>
-    ensures value { option_map (λ fields. option_map (λ bs. bs.now) fields) result ≡ fields_after bytes.now }
-    ensures length { IfSome result (λ fields. IfSome fields (λ bs. length bs.now + 3 ≡ length bytes.now)) }
-    ensures ascii { OnSome result (slice_index bytes.now 0 < 128) }
-    ensures texts { IsUtf8 bytes.now → IfSome result (λ fields. IfSome fields (λ bs. IsUtf8 bs.now)) }
+fn tail_after<'a>(address: &'a [u8], after: &'a [u8]) -> Option<Tail<'a>>
+    ensures value { option_map tail result ≡ option_map (λ fields. record { address = address.now; fields = fields }) (fields_after after.now) }
+    ensures address { IfSome result (λ t. t.address.now ≡ address.now) }
+    ensures length { IfSome result (λ t. IfSome t.fields (λ bs. length bs.now + 3 ≡ length after.now)) }
+    ensures ascii { OnSome result (slice_index after.now 0 < 128) }
+    ensures texts { IsUtf8 after.now → IfSome result (λ t. IfSome t.fields (λ bs. IsUtf8 bs.now)) }
 {
-    match bytes {
-        [] | [b';', b'"'] => Some(None),
-        [b';', b'"', b'\t', fields @ ..] => Some(Some(fields)),
+    match after {
+        [] | [b';', b'"'] => Some(Tail {
+            address,
+            fields: None,
+        }),
+        [b';', b'"', b'\t', fields @ ..] => Some(Tail {
+            address,
+            fields: Some(fields),
+        }),
         _ => None,
     }
 }
@@ -71,11 +78,7 @@ pub(crate) fn tail_of(rest: &[u8]) -> Option<Tail<'_>>
     ensures texts { IsUtf8 rest.now → IfSome result (λ t. IsUtf8 t.address.now × IfSome t.fields (λ bs. IsUtf8 bs.now)) }
 {
     let len = address_len(rest)?;
-    let fields = fields_after(&rest[len..])?;
-    Some(Tail {
-        address: &rest[..len],
-        fields,
-    })
+    tail_after(&rest[..len], &rest[len..])
 }
 
 /// The first of some fields, and those after it.

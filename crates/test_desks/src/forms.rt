@@ -4,9 +4,8 @@ use crate::asserts::expect_equal_text;
 use crate::desks::{project, text_of};
 use desk::{Code, Command, DocUri, Key, ProjectName, Reply, read_number};
 use lsif::Profile;
-use machine::profile_number;
 use samples::{parted, there};
-use std::alloc::Global;
+use std::alloc::{AllocError, Global};
 use std::test::Fail;
 
 /// The project and the key of a command.
@@ -27,11 +26,40 @@ fn refusal(alloc: Global, code: Code) -> Result<String, Fail> {
     Ok(format!(in alloc; "{}, {}", code.status(), text?)?)
 }
 
-/// The project and the key of a command, the numbers of the profiles, and the statuses of the codes
-/// and the replies that they refuse with.
+/// The numbers of these profiles, 0 for none.
+fn numbers(alloc: Global, profiles: &[Option<Profile>]) -> Result<String, AllocError> {
+    let mut text = String::new(alloc);
+    for profile in profiles {
+        let number = match profile {
+            Some(profile) => profile.number(),
+            None => 0,
+        };
+        write!(text, " {number}")?;
+    }
+    Ok(text)
+}
+
+/// The profiles of texts and of numbers.
+fn found_profiles(alloc: Global) -> Result<String, Fail> {
+    let mut named = Vec::new(alloc);
+    for text in &["1", "2", "3", "01", "+1", ""] {
+        named.push(Profile::named(text))?;
+    }
+    let mut numbered = Vec::new(alloc);
+    for number in 0..4 {
+        numbered.push(Profile::numbered(number))?;
+    }
+    let named = numbers(alloc, &named)?;
+    let numbered = numbers(alloc, &numbered)?;
+    Ok(format!(in alloc; "named{named}, numbered{numbered}")?)
+}
+
+/// The project and the key of a command, the profiles of texts and of numbers, and the statuses of
+/// the codes and the replies that they refuse with.
 fn found_texts(alloc: Global) -> Result<String, Fail> {
-    let (one, two) = (profile_number(Profile::One), profile_number(Profile::Two));
-    let mut found = format!(in alloc; "{}\n{one} {two}\n", words_of_a_command(alloc)?)?;
+    let words = words_of_a_command(alloc)?;
+    let profiles = found_profiles(alloc)?;
+    let mut found = format!(in alloc; "{words}\n{profiles}\n")?;
     for code in &[Code::D01, Code::D02, Code::S01, Code::S02] {
         write!(found, "{}\n", refusal(alloc, *code)?)?;
     }
@@ -41,7 +69,7 @@ fn found_texts(alloc: Global) -> Result<String, Fail> {
 #[test]
 fn replies_of_codes(rt: HostRuntime) -> Result<(), Fail> {
     let wanted = r#"app K-1
-1 2
+named 1 2 0 0 0 0, numbered 0 1 2 0
 404, 404 {"fault":"D01","text":"project has no dump"}
 404, 404 {"fault":"D02","text":"no such document"}
 503, 503 {"fault":"S01","text":"store refused"}

@@ -1,7 +1,7 @@
 //! The bytes that are written for streams of requests that come whole. Streams that are cut, and
 //! readers and writers that fail, are in `cut.rt`.
-ghost use Rattle.std.specs.Prelude.{◌-◌, ◌^◌, ◌<◌};
-ghost use Rattle.lsif.specs.Streams.{CanCount};
+ghost use Rattle.std.specs.Prelude.{};
+ghost use Rattle.lsif.specs.Streams.{CanCount, IsCountable};
 
 use crate::asserts::expect_equal;
 use desk::TableDesk;
@@ -119,7 +119,7 @@ const MOST: u32 = 1_000_000;
 
 /// What is answered over a new database in memory.
 fn served<R: Source, W: Sink>(alloc: Global, r: &mut R, w: &mut W) -> Result<u32, ServeFault>
-    requires reads { R.failed r.old < 2 ^ 64 - 1 }
+    requires reads { IsCountable (R.failed r.old) }
     requires writes { CanCount (W.output w.old) }
 {
     match TableDesk::open_in_memory(alloc) {

@@ -6,7 +6,7 @@ use Rattle.lsif.specs.Lines.{LineBufferValue}
 use Rattle.lsif.specs.Reading.{longest_line}
 use Rattle.lsif.specs.declared.code.Code.{Code}
 use Rattle.lsif.specs.declared.element.Element.{Element}
-use Rattle.lsif.specs.declared.element.Profile.{Profile}
+use Rattle.lsif.specs.declared.profile.Profile.{Profile}
 use Rattle.dump.specs.declared.reading.DumpFault.{DumpFault}
 use Rattle.dump.specs.declared.reading.DumpFault.TheVariants as faults
 use Rattle.dump.specs.Conditions.{most_elements}

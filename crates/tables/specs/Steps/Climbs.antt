@@ -11,7 +11,7 @@ use Rattle.flatten.specs.Flat.{RangeRowValue, IsRangeRow}
 use Rattle.machine.specs.Selections.{RangeFound}
 use Rattle.tables.specs.declared.range_rows.SlotRange.{SlotRange}
 
--- what is read of the row of this range: all but the uri, the declaration and the implementation
+-- what is read of the row of this range: all but the uri and the results that `more` has
 pub record TellsRange (x : SlotRange) (r : RangeRowValue) : Type 0 where
   pub line : x.line ≡ r.line
   pub span : x.span ≡ r.place.span

@@ -1,10 +1,13 @@
 -- What is known of the results of a line.
-use Rattle.std.specs.Prelude.{◌≡◌, ◌⊎◌, ◌||◌, ℕ, true, [], ◌∷◌, Option, is_some}
+use Rattle.std.specs.Prelude.{◌≡◌, ◌⊎◌, ℕ, true, ◌∷◌, is_some, map}
+use Rattle.std.specs.List.{list_any}
 use Rattle.sqlite_value.specs.Order.{Row}
-use Rattle.lsif.specs.declared.request_kind.RequestKind.TheVariants.{Declaration, Implementation}
 use Rattle.dump.specs.Progress.{DumpValue}
 use Rattle.flatten.specs.Flat.{ResultsValue, RangeRowValue, BearerRowValue, IsRangeRow, IsBearerRow}
-use Rattle.tables.specs.Columns.{number, optional}
+use Rattle.flatten.specs.Rows.{results_value}
+use Rattle.tables.specs.Kinds.{more_kinds}
+use Rattle.tables.specs.Columns.{number, kind_columns}
+use Rattle.tables.specs.declared.more.MoreRow.{MoreRow}
 
 -- a range or a bearer of the dump, at this line, has these first results
 abbrev pub IsKnown : DumpValue → ℕ → ResultsValue → Type 0
@@ -12,19 +15,18 @@ IsKnown dump line results =
     ((r : RangeRowValue) × IsRangeRow dump.elements r × (r.line ≡ line) × (r.results ≡ results))
     ⊎ ((b : BearerRowValue) × IsBearerRow dump.elements b × (b.line ≡ line) × (b.results ≡ results))
 
--- what `more` has of a line
+-- a line with its results, of which `more` has those of its kinds
 pub record MoreValue : Type 0 where
   pub line : ℕ
-  pub declaration : Option ℕ
-  pub implementation : Option ℕ
-
--- the line has a declaration or an implementation, and these
-pub record IsMore (dump : DumpValue) (v : MoreValue) : Type 0 where
   pub results : ResultsValue
-  pub known : IsKnown dump v.line results
-  pub declaration : results Declaration ≡ v.declaration
-  pub implementation : results Implementation ≡ v.implementation
-  pub some : (is_some v.declaration || is_some v.implementation) ≡ true
 
 abbrev pub more_values : MoreValue → Row
-more_values v = number v.line ∷ optional v.declaration ∷ optional v.implementation ∷ []
+more_values v = number v.line ∷ kind_columns more_kinds v.results
+
+abbrev pub more_value : MoreRow → MoreValue
+more_value row = record { line = row.line; results = results_value row.results }
+
+-- the line has these results, and `more` a row of it
+pub record IsMore (dump : DumpValue) (v : MoreValue) : Type 0 where
+  pub known : IsKnown dump v.line v.results
+  pub some : list_any is_some (map v.results more_kinds) ≡ true

@@ -1,5 +1,6 @@
 -- The texts of the selections.
-use Rattle.std.specs.Prelude.{codes, ℕ, List}
+use Rattle.std.specs.Prelude.{codes, ℕ, List, ◌++◌}
+use Rattle.tables.specs.Kinds.{more_listed}
 
 abbrev pub select_slot : List ℕ
 select_slot = codes "SELECT id FROM slot WHERE project = ?1 AND part = ?2"
@@ -23,10 +24,12 @@ abbrev pub select_project : List ℕ
 select_project = codes "SELECT project FROM slot WHERE id = ?1"
 
 abbrev pub select_bearers : List ℕ
-select_bearers = codes "SELECT slot.project, bearer.line, bearer.kind, bearer.def, bearer.refs, bearer.hover, more.decl, more.imp FROM bearer LEFT JOIN slot ON slot.id = bearer.slot LEFT JOIN more ON more.slot = bearer.slot AND more.line = bearer.line WHERE bearer.keytext = ?1"
+select_bearers =
+    codes "SELECT slot.project, bearer.line, bearer.kind, bearer.def, bearer.refs, bearer.hover, "
+    ++ (more_listed ++ codes " FROM bearer LEFT JOIN slot ON slot.id = bearer.slot LEFT JOIN more ON more.slot = bearer.slot AND more.line = bearer.line WHERE bearer.keytext = ?1")
 
 abbrev pub select_more : List ℕ
-select_more = codes "SELECT decl, imp FROM more WHERE slot = ?1 AND line = ?2"
+select_more = codes "SELECT line, " ++ (more_listed ++ codes " FROM more WHERE slot = ?1 AND line = ?2")
 
 abbrev pub select_named : List ℕ
 select_named = codes "SELECT slot, line, name, file, address, kind, fields FROM tag WHERE name = ?1"

@@ -1,5 +1,6 @@
 -- The texts of SQL.
 use Rattle.std.specs.Prelude.{codes, ℕ, List, ◌++◌}
+use Rattle.tables.specs.Kinds.{more_listed, more_declared, more_places}
 
 abbrev pub format_text : List ℕ
 format_text = codes "CREATE TABLE format (version INTEGER PRIMARY KEY) STRICT"
@@ -44,7 +45,7 @@ abbrev pub part_profile_text : List ℕ
 part_profile_text = codes "CREATE TABLE part_profile (slot INTEGER NOT NULL REFERENCES slot ON DELETE CASCADE, profile INTEGER NOT NULL, UNIQUE (slot)) STRICT"
 
 abbrev pub more_text : List ℕ
-more_text = codes "CREATE TABLE more (slot INTEGER NOT NULL REFERENCES slot ON DELETE CASCADE, line INTEGER NOT NULL, decl INTEGER, imp INTEGER, PRIMARY KEY (slot, line)) STRICT"
+more_text = codes "CREATE TABLE more (slot INTEGER NOT NULL REFERENCES slot ON DELETE CASCADE, line INTEGER NOT NULL, " ++ (more_declared ++ codes ", PRIMARY KEY (slot, line)) STRICT")
 
 abbrev pub select_version : List ℕ
 select_version = codes "SELECT version FROM format"
@@ -198,7 +199,7 @@ abbrev pub insert_part_profile : List ℕ
 insert_part_profile = codes "INSERT INTO part_profile (slot, profile) VALUES (?1, ?2)"
 
 abbrev pub insert_more : List ℕ
-insert_more = codes "INSERT INTO more (slot, line, decl, imp) VALUES (?1, ?2, ?3, ?4)"
+insert_more = codes "INSERT INTO more (slot, line, " ++ (more_listed ++ (codes ") VALUES (?, ?, " ++ (more_places ++ codes ")")))
 
 abbrev pub insert_tag : List ℕ
 insert_tag = codes "INSERT INTO tag (slot, line, name, file, address, kind, fields) VALUES (?1, ?2, ?3, ?4, ?5, ?6, ?7)"

@@ -1,7 +1,8 @@
 //! Lines of input that comes in pieces, and callers that the contracts alone prove.
-ghost use Rattle.std.specs.Prelude.{◌≡◌, ◌+◌, ◌-◌, ◌^◌, ◌<◌, length, IfOk, IfSome};
+ghost use Rattle.std.specs.Prelude.{◌≡◌, ◌+◌, length, IfOk, IfSome};
 ghost use Rattle.lsif.specs.Buffered.{unread};
 ghost use Rattle.lsif.specs.Lines.{lines_of};
+ghost use Rattle.lsif.specs.Streams.{IsCountable};
 
 use crate::asserts::expect_equal_text;
 use lsif::{Counted, LineBuffer, Lines, LinesFault, Source};
@@ -11,7 +12,7 @@ use std::test::Fail;
 
 /// How many lines are left, where they are fewer than `u64::MAX`.
 fn count_lines<S: Source>(lines: &mut Lines<S>) -> Result<Option<u64>, LinesFault>
-    requires { lines.old.failures < 2 ^ 64 - 1 }
+    requires { IsCountable lines.old.failures }
     ensures { IfOk result (λ o. IfSome o (λ n. IfSome lines.old.left (λ text. n ≡ length (lines_of text)))) }
 {
     for n in 0..u64::MAX {
@@ -29,7 +30,7 @@ fn count_lines_of<S: Source>(
     lines: &mut LineBuffer,
     source: &mut S,
 ) -> Result<Option<u64>, LinesFault>
-    requires { S.failed source.old < 2 ^ 64 - 1 }
+    requires { IsCountable (S.failed source.old) }
     ensures { IfOk result (λ o. IfSome o (λ n. IfSome (unread lines.old.pending (S.left source.old)) (λ text. n ≡ length (lines_of text)))) }
 {
     for n in 0..u64::MAX {

@@ -1,8 +1,9 @@
-use Rattle.std.proofs.Common.{to_z-of_z, rules, ◌≡◌, Option, Some, None, sym, subst}
+use Rattle.std.proofs.Common.{to_z-of_z, rules, ◌≡◌, Option, Some, None, subst}
 use Rattle.sqlite.specs.Held.{state}
-use Rattle.tables.specs.declared.bearers.LineMore.{LineMore}
-use Rattle.tables.proofs.LineResults.{select_more_reads, more_found, Says}
-use Rattle.tables.proofs.bearers.more_of.Goals as goal
+use Rattle.flatten.specs.Rows.{results_value}
+use Rattle.tables.specs.declared.more.MoreRow.{MoreRow}
+use Rattle.tables.proofs.LineResults.{select_more_reads, more_found, says_none, Says}
+use Rattle.tables.proofs.more.more_of.Goals as goal
 
 pub select_first-requires : goal.select_first-requires
 select_first-requires g c = select_more_reads
@@ -13,7 +14,7 @@ returns-in-Some-clause-more g c clean has m s project dump slot there results kn
     let new = state g.S.Store c.select_first.new.conn in
     let h = c.in_ok-found.ensures.read clean in
     let some : c.in_ok-found.found ≡ Some c.in-Some.more = search rules in
-    subst (λ (o : Option LineMore). Says c.args.line o results) some
+    subst (λ (o : Option MoreRow). Says c.args.line o results) some
     (more_found c.args.line m c.args.slot project dump old new h.0 c.in_ok-found.found s has slot there (rw (c.params-to_sql.ensures, c.params-to_sql-2.ensures, to_z-of_z c.ranges.slot) at h.1) h.2 results known)
 
 pub returns-in-None-clause-more : goal.returns-in-None-clause-more
@@ -22,6 +23,6 @@ returns-in-None-clause-more g c clean has m s project dump slot there results kn
     let new = state g.S.Store c.select_first.new.conn in
     let h = c.in_ok-found.ensures.read clean in
     let none : c.in_ok-found.found ≡ None = search rules in
-    let says = subst (λ (o : Option LineMore). Says c.args.line o results) none
+    let says = subst (λ (o : Option MoreRow). Says c.args.line o results) none
     (more_found c.args.line m c.args.slot project dump old new h.0 c.in_ok-found.found s has slot there (rw (c.params-to_sql.ensures, c.params-to_sql-2.ensures, to_z-of_z c.ranges.slot) at h.1) h.2 results known) in
-    (sym says.0, sym says.1)
+    says_none c.args.line (results_value c.none.result) results c.none.ensures says
