@@ -4,7 +4,8 @@ ghost use Rattle.clap.specs.Words.{app_of, first_of, found_of, kind_of, one_of, 
 ghost use Rattle.codenav.specs.Call.{IsCall, IsRefused, IsWithinBounds, app, call_of, call_value, check_lsif_of, check_lsif_with, check_tags_of, migrate_of, most_connections, most_port, number_named, profile_in, replay_of, replay_with, serve_of, serve_with};
 ghost use Rattle.codenav.specs.Steps.Call.{IsMissing, ShowsError, up_to};
 
-use crate::command_line::{MOST_CONNECTIONS, MOST_PORT, command};
+use crate::command_line::command;
+use crate::limits::{MOST_CONNECTIONS, MOST_PORT};
 use clap::error::ErrorKind;
 use clap::{ArgMatches, Command, Error};
 use lsif::{OUT_OF_MEMORY, Profile};

@@ -4,6 +4,7 @@ ghost use Rattle.clap.specs.Words.{App, app_of, rule_of, with_subcommand};
 ghost use Rattle.codenav.specs.Call.{app, check_lsif_app, check_tags_app, migrate_app, most_connections, most_port};
 ghost use Rattle.codenav.specs.Call.{number_option, replay_app, required_number, serve_app, top_app, word};
 
+use crate::limits::{MOST_CONNECTIONS, MOST_PORT};
 use clap::builder::ValueParser;
 use clap::{Arg, ArgAction, Command};
 use lsif::PROFILES;
@@ -11,12 +12,6 @@ use std::alloc::{AllocError, Global};
 
 /// The version of the program.
 const VERSION: &str = "0.1.0";
-
-/// The greatest port.
-pub const MOST_PORT: u32 = 65535;
-
-/// The most connections that are served.
-pub const MOST_CONNECTIONS: u32 = 1000000;
 
 /// A word that has to be there, with its name in texts of help and what it is.
 fn word<'a>(alloc: Global, id: &'a str, name: &'a str, help: &'a str) -> Arg<'a>

@@ -9,6 +9,7 @@ mod check;
 mod check_tags;
 mod command_line;
 mod database;
+mod limits;
 mod program_fault;
 mod replay;
 mod report;
@@ -22,6 +23,7 @@ use check::check_lsif;
 use check_tags::check_tags;
 use database::{MEMORY, close_connection, connect_file, connection_of, migrate_file, open_desk};
 use desk::{MemoryDesk, TableDesk};
+use limits::{REST_SECONDS, WAIT_SECONDS, WHOLE_SECONDS};
 use lsif::{Counted, Profile};
 use program_fault::ProgramFault;
 use replay::{replay_file, replay_in_memory};
@@ -38,15 +40,6 @@ use timed::Limits;
 
 /// The status of a call that could not be carried out.
 const FAILED: u8 = 2;
-
-/// How many seconds one read or one write of a connection may wait.
-const WAIT_SECONDS: u64 = 10;
-
-/// How many seconds a connection may take, from when it was accepted.
-const WHOLE_SECONDS: u64 = 120;
-
-/// How many seconds one read of what a client still sends may wait, when its reply was written.
-const REST_SECONDS: u64 = 1;
 
 fn main(rt: HostRuntime) -> ExitCode {
     ExitCode::from(run(&rt))
@@ -181,7 +174,14 @@ fn serve_memory(
 ) -> Result<(), ProgramFault> {
     let listener = listen(rt, port)?;
     let mut counted = CountedListener::new(&listener);
-    serve_in_memory(rt.alloc(), desk, rt, limits(), &mut counted, requests)?;
+    serve_in_memory(
+        rt.alloc(),
+        desk,
+        rt,
+        connection_limits(),
+        &mut counted,
+        requests,
+    )?;
     Ok(())
 }
 
@@ -194,12 +194,19 @@ fn serve_desk<S: Alter>(
 ) -> Result<(), ProgramFault> {
     let listener = listen(rt, port)?;
     let mut counted = CountedListener::new(&listener);
-    serve_connections(rt.alloc(), desk, rt, limits(), &mut counted, requests)?;
+    serve_connections(
+        rt.alloc(),
+        desk,
+        rt,
+        connection_limits(),
+        &mut counted,
+        requests,
+    )?;
     Ok(())
 }
 
 /// The time that a connection has.
-fn limits() -> Limits {
+fn connection_limits() -> Limits {
     Limits {
         wait: Duration::from_secs(WAIT_SECONDS),
         whole: Duration::from_secs(WHOLE_SECONDS),

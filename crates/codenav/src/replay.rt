@@ -16,15 +16,13 @@ ghost use Rattle.codenav.specs.Databases.{HoldsIndex};
 ghost use Rattle.codenav.specs.Replay.{Replays, ReplaysFrom, most_requests};
 
 use crate::database::{connect_file, connection_of, open_desk};
+use crate::limits::STREAM_REQUESTS;
 use desk::{Desk, IndexDesk, TableDesk, memory_law};
 use http_edge::{ServeFault, serve_stream};
 use lsif::{Sink, Source};
 use sqlite::{Alter, Connection, FileFrom, FileStore, Start};
 use std::alloc::Global;
 use tables::{Tables, TablesFault};
-
-/// The most requests of a stream that are answered.
-const MOST_REQUESTS: u32 = 1000000;
 
 /// Answers the requests (HTTP/1.1, RFC 9112) of a stream, one after the other and at most 1,000,000
 /// of them, by this desk, from the state that it represents, and returns how many replies were
@@ -49,7 +47,7 @@ pub fn replay<S: Alter, R: Source, W: Sink>(
     ensures read { CountsRead (R.failed r.old) (R.failed r.new) result }
     ensures write { CountsWrite (W.output w.old) result (W.output w.new) }
 {
-    serve_stream(alloc, desk, r, w, MOST_REQUESTS)
+    serve_stream(alloc, desk, r, w, STREAM_REQUESTS)
 }
 
 /// The same over a database in memory that is empty at first. Where memory for that was refused,

@@ -7,6 +7,7 @@ ghost use Rattle.http_edge.specs.Serving.{CountsRead, CountsWrite, Serves, sessi
 ghost use Rattle.http_edge.specs.declared.serve.ServeFault.TheVariants as serve_fault;
 ghost use Rattle.codenav.specs.Serve.{ConnectionValue, CountsAccept, CountsServed, ServesConnection, ServesEach, most_requests};
 
+use crate::limits::CONNECTION_REQUESTS;
 use crate::timed::{Limits, Timed};
 use desk::{Desk, IndexDesk, MemoryDesk, memory_law};
 use http_edge::{ServeFault, serve_stream};
@@ -18,9 +19,6 @@ use std::net::{OpenListener, OpenStream};
 use std::time::{Clock, Instant};
 use tables::{MemoryDisk, Tables};
 use thiserror::Error;
-
-/// The most requests of a connection that are answered.
-const MOST_REQUESTS: u32 = 1;
 
 /// Why no more connections are served.
 #[derive(Clone, Copy, Debug, PartialEq, Eq, Error)]
@@ -91,7 +89,7 @@ pub fn serve_request<D: Desk, R: Source, W: Sink>(
     ensures read { CountsRead (R.failed r.old) (R.failed r.new) result }
     ensures write { CountsWrite (W.output w.old) result (W.output w.new) }
 {
-    serve_stream(alloc, desk, r, w, MOST_REQUESTS)
+    serve_stream(alloc, desk, r, w, CONNECTION_REQUESTS)
 }
 
 /// Both ends of a connection that was just accepted. None where one isn't given or the time can't

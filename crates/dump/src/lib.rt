@@ -11,6 +11,7 @@ mod graph;
 mod ids;
 mod index_map;
 mod laws;
+mod limits;
 mod links;
 mod order;
 mod reading;

@@ -13,14 +13,12 @@ use crate::contained::{any_contained, are_in};
 use crate::ended::{any_closed, is_bad_event};
 use crate::fault::LineFault;
 use crate::graph::Graph;
+use crate::limits::MOST_ELEMENTS;
 use crate::single::single_of;
 use crate::vertices::{Kind, are_of_kind, is_of_kind};
 use crate::walks::leads;
 use lsif::{Code, Edge, Element, Property, RequestKind, Vertex};
 use std::alloc::AllocError;
-
-/// The greatest number of elements of a dump.
-pub(crate) const MOST_ELEMENTS: usize = 100000;
 
 /// The first element isn't a supported metaData, or a later one is a metaData.
 #[tactic(auto, unfolding(crate::specs::Conditions::is_misplaced))]

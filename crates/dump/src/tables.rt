@@ -20,6 +20,7 @@ ghost use Rattle.dump.specs.Progress.{IsSound};
 
 use crate::ids::IdMap;
 use crate::index_map::IndexMap;
+use crate::limits::SLOTS;
 use crate::links::{LINKS, Link, Row, cell, enter_all};
 use crate::single::{SingleLabel, single_of};
 use crate::sorted_spans::{SortedSpans, add, conflict_after};
@@ -27,10 +28,6 @@ use lsif::{Edge, Element, Event, Id, IdRef, IdsIter, Vertex};
 use positions::Span;
 use std::alloc::{AllocError, Global};
 use std::collections::BTreeMap;
-
-/// Numbers below it have a slot each. A dump has fewer elements; so a dump whose elements are
-/// numbered in turn needs no other map.
-const SLOTS: u32 = 131072;
 
 /// What is kept beside the elements of a dump, so that they are looked up without a search. The
 /// tables have their indices in the list, counted from 0.

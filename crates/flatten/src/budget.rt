@@ -4,9 +4,7 @@ ghost use Rattle.std.specs.Prelude.{◌≡◌, ◌↔◌, ◌+◌, ◌/◌, ◌�
 ghost use Rattle.flatten.specs.Limits.{text_bytes};
 
 use crate::fault::FlattenFault;
-
-/// How many bytes of the texts of rows count as a row.
-const TEXT_BYTES: usize = 128;
+use crate::limits::TEXT_BYTES;
 
 /// How many rows of a kind there may still be, or pairs that a walk follows.
 #[derive(Drop)]

@@ -14,16 +14,12 @@ use crate::documents::document_rows;
 use crate::fault::FlattenFault;
 use crate::items::item_rows;
 use crate::kinds::{Gathered, Kinds, gather};
+use crate::limits::MOST_ROWS;
 use crate::marks::{bearer_rows, mark_rows};
 use crate::ranges::range_rows;
 use crate::rows::{BearerRow, MarkRow, RangeRow, Rows};
 use dump::CheckedDump;
 use std::alloc::Global;
-
-/// How many rows of a kind there may be, and how many pairs the walks for them may follow. Each 128
-/// bytes of the texts of rows, which the tables keep row by row, count as one more row. So the
-/// texts of a kind have some 512 MB at most.
-const MOST_ROWS: usize = 4000000;
 
 /// The limit of the product.
 fn most_rows() -> usize

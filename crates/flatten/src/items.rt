@@ -20,7 +20,7 @@ use crate::closure::{closed, pairs_from, sort_by_source};
 use crate::fault::FlattenFault;
 use crate::kinds::Kinds;
 use crate::numbers::{number_of, number_pair};
-use crate::places::{Place, place_of, place_order};
+use crate::places::{Place, place_of};
 use crate::rows::ItemRow;
 use dump::{CheckedDump, Role, container_law, ends_law, line_law, role_of, vertex_law};
 use lsif::{Edge, Element, IdRef, IdsIter, Property, Vertex};
@@ -195,7 +195,7 @@ fn add_rows<'a>(
 /// Takes the documents' URLs of these places from the budget.
 fn take_uris(items: &[(u32, Place<'_>)], budget: &mut Budget) -> Result<(), FlattenFault> {
     for item in items {
-        budget.take_text(item.1.uri.len())?;
+        budget.take_text(item.1.key.uri.len())?;
     }
     Ok(())
 }
@@ -279,7 +279,7 @@ fn order(a: &FoundItem<'_>, b: &FoundItem<'_>) -> Ordering
 {
     match a.result.cmp(&b.result) {
         Ordering::Equal => match role_index(a.role).cmp(&role_index(b.role)) {
-            Ordering::Equal => place_order(&a.place, &b.place),
+            Ordering::Equal => a.place.key.cmp(&b.place.key),
             roles => roles,
         },
         results => results,
@@ -303,7 +303,7 @@ fn add_item_rows<'a>(rows: &mut Vec<ItemRow<'a>>, found: &[FoundItem<'a>]) -> Re
         rows.push(ItemRow {
             result: item.result,
             role: item.role,
-            uri: item.place.uri,
+            uri: item.place.key.uri,
             span: item.place.span,
         })?;
     }

@@ -13,6 +13,7 @@ mod found;
 mod items;
 mod keys;
 mod kinds;
+mod limits;
 mod marks;
 mod numbers;
 mod parents;

@@ -3,17 +3,16 @@
 ghost use Rattle.std.specs.Prelude.{◌≡◌, option_map};
 ghost use Rattle.lsif.specs.Lent.{lent_value};
 ghost use Rattle.dump.specs.Graph.{vertex_at};
-ghost use Rattle.dump.specs.Places.{place_cmp, position_cmp};
-ghost use Rattle.flatten.specs.Steps.Places.{by_numbers, place_values, point_value, twice};
+ghost use Rattle.flatten.specs.Steps.Places.{place_values, point_value, twice};
 ghost use Rattle.flatten.specs.Steps.Tables.{container_uri, place_of, uri_of};
 
 use dump::CheckedDump;
 use lsif::{IdRef, Vertex};
 use positions::{Position, Span};
-use std::cmp::Ordering;
 
-/// A position, by plain numbers.
-#[derive(Clone, Copy)]
+/// A position, by plain numbers: the kit has no rule for a value that has a reference beside a
+/// `Position`, which has an invariant.
+#[derive(Clone, Copy, PartialEq, Eq, PartialOrd, Ord)]
 pub(crate) struct Point {
     /// Zero-based.
     line: u32,
@@ -21,18 +20,22 @@ pub(crate) struct Point {
     character: u32,
 }
 
-/// A place in a document. It has copies of the numbers of its start and end, since a sort that
-/// followed the reference to the span would read all over memory.
-#[derive(Clone, Copy)]
-pub(crate) struct Place<'a> {
+/// What places are ordered by. It has copies of the numbers of a span, since a sort that followed a
+/// reference to the span would read all over memory.
+#[derive(Clone, Copy, PartialEq, Eq, PartialOrd, Ord)]
+pub(crate) struct PlaceKey<'a> {
     /// The document's serialized URL.
     pub(crate) uri: &'a str,
+    start: Point,
+    end: Point,
+}
+
+/// A place in a document.
+#[derive(Clone, Copy)]
+pub(crate) struct Place<'a> {
+    pub(crate) key: PlaceKey<'a>,
     /// In UTF-16 code units.
     pub(crate) span: &'a Span,
-    /// The start of the span.
-    start: Point,
-    /// The end of the span.
-    end: Point,
 }
 
 /// The numbers of a position.
@@ -43,22 +46,6 @@ fn point_of(position: Position) -> Point
         line: position.line(),
         character: position.character(),
     }
-}
-
-/// By line, then character.
-fn point_order(a: &Point, b: &Point) -> Ordering
-    ensures { result ≡ position_cmp (point_value a.now) (point_value b.now) }
-{
-    a.line.cmp(&b.line).then(a.character.cmp(&b.character))
-}
-
-/// By uri (its bytes), then start, then end.
-pub(crate) fn place_order(a: &Place<'_>, b: &Place<'_>) -> Ordering
-    ensures { result ≡ place_cmp (by_numbers a.now) (by_numbers b.now) }
-{
-    let ends = point_order(&a.end, &b.end);
-    let starts = point_order(&a.start, &b.start);
-    a.uri.cmp(b.uri).then(starts.then(ends))
 }
 
 /// The serialized URL of a document. None where the vertex is no document.
@@ -84,10 +71,12 @@ pub(crate) fn place_of<'a>(dump: &'a CheckedDump, vertex: IdRef<'_>) -> Option<P
 {
     match dump.vertex_at(vertex) {
         Some(Vertex::Range(span)) => Some(Place {
-            uri: container_uri(dump, vertex)?,
+            key: PlaceKey {
+                uri: container_uri(dump, vertex)?,
+                start: point_of(span.start()),
+                end: point_of(span.end()),
+            },
             span,
-            start: point_of(span.start()),
-            end: point_of(span.end()),
         }),
         _ => None,
     }

@@ -5,6 +5,7 @@ ghost use Rattle.positions.specs.Position.{number_limit};
 ghost use Rattle.machine.specs.Names.{is_without_nul, where_so, number_in};
 ghost use Rattle.http_edge.specs.Parameters.{parameter};
 ghost use Rattle.http_edge.specs.Requests.{declaration_in, is_tag_text, key_in, position_in, profile_in, required, searched_in, uri_in, yes_or_no};
+ghost use Rattle.http_edge.specs.Steps.Requests.{searched_value};
 
 use crate::parameters::{ParameterValue, Parameters};
 use lsif::Profile;
@@ -93,17 +94,36 @@ pub(crate) fn read_declaration(parameters: &Parameters<'_>) -> Option<bool>
     }
 }
 
-/// The project whose tags are searched, or none where all are.
+/// The projects whose tags are searched.
+#[derive(Drop)]
+pub(crate) enum Searched {
+    All,
+    One(ProjectName),
+}
+
+impl Searched {
+    /// The project that is searched alone.
+    pub(crate) fn project(self) -> Option<ProjectName>
+        ensures { result ≡ searched_value self }
+    {
+        match self {
+            Searched::All => None,
+            Searched::One(project) => Some(project),
+        }
+    }
+}
+
+/// The projects whose tags are searched: all where none is named.
 pub(crate) fn read_searched(
     alloc: Global,
     parameters: &Parameters<'_>,
-) -> Result<Option<Option<ProjectName>>, AllocError>
-    ensures { IfOk result (λ o. o ≡ searched_in parameters.now) }
+) -> Result<Option<Searched>, AllocError>
+    ensures { IfOk result (λ o. option_map searched_value o ≡ searched_in parameters.now) }
 {
     match parameters.value("project") {
-        ParameterValue::Absent => Ok(Some(None)),
+        ParameterValue::Absent => Ok(Some(Searched::All)),
         ParameterValue::Single(text) => match ProjectName::read(alloc, text)? {
-            Some(project) => Ok(Some(Some(project))),
+            Some(project) => Ok(Some(Searched::One(project))),
             None => Ok(None),
         },
         ParameterValue::Several => Ok(None),

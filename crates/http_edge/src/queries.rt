@@ -114,9 +114,12 @@ fn read_names(
     ensures { IfOk result (λ o. option_map query_value o ≡ option_map names_of (both (where_so is_tag_text name.now) (searched_in parameters.now))) }
 {
     let name = read_tag_text(alloc, name)?;
-    let project = read_searched(alloc, parameters)?;
-    match (name, project) {
-        (Some(name), Some(project)) => Ok(Some(Query::Names { name, project })),
+    let searched = read_searched(alloc, parameters)?;
+    match (name, searched) {
+        (Some(name), Some(searched)) => Ok(Some(Query::Names {
+            name,
+            project: searched.project(),
+        })),
         _ => Ok(None),
     }
 }
@@ -130,9 +133,12 @@ fn read_prefix(
     ensures { IfOk result (λ o. option_map query_value o ≡ option_map prefix_of (both (where_so is_tag_text prefix.now) (searched_in parameters.now))) }
 {
     let prefix = read_tag_text(alloc, prefix)?;
-    let project = read_searched(alloc, parameters)?;
-    match (prefix, project) {
-        (Some(prefix), Some(project)) => Ok(Some(Query::Prefix { prefix, project })),
+    let searched = read_searched(alloc, parameters)?;
+    match (prefix, searched) {
+        (Some(prefix), Some(searched)) => Ok(Some(Query::Prefix {
+            prefix,
+            project: searched.project(),
+        })),
         _ => Ok(None),
     }
 }

@@ -7,15 +7,9 @@ ghost use Rattle.lsif.specs.IdValues.{IsWhole};
 ghost use Rattle.lsif.specs.Ids.{id_in, id_at};
 ghost use Rattle.serde_json.specs.View.{view};
 
+use crate::limits::{GREATEST_ID, LONGEST_ID};
 use serde_json::Value;
 use std::alloc::{AllocError, Global};
-
-/// The greatest number that is an id: the greatest that JavaScript distinguishes from its
-/// neighbours.
-pub(crate) const GREATEST_ID: u64 = 9007199254740991;
-
-/// The greatest length of an id's text, in bytes.
-const LONGEST_ID: usize = 128;
 
 /// The id of a vertex or an edge (LSIF 0.6.0, "Id"): a number up to 9007199254740991, or a text of
 /// 1 to 128 bytes. The number 1 and the text "1" differ.

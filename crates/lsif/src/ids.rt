@@ -8,7 +8,8 @@ ghost use Rattle.lsif.specs.IdValues.{IdValue, IsWhole, text as text_value};
 ghost use Rattle.lsif.specs.Ids.{ids_in};
 ghost use Rattle.serde_json.specs.View.{items_view};
 
-use crate::id::{GREATEST_ID, IdRef, id_in};
+use crate::id::{IdRef, id_in};
+use crate::limits::GREATEST_ID;
 use serde_json::Value;
 use std::alloc::{AllocError, Global};
 use std::fmt;

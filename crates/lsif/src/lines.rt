@@ -15,6 +15,7 @@ ghost use Rattle.lsif.specs.Streams.{IsCountable};
 use crate::buffer::Buffer;
 use crate::code::Code;
 use crate::cutter::Cutter;
+use crate::limits::BUFFER_LEN;
 use crate::messages::{CANNOT_READ, OUT_OF_MEMORY};
 use crate::streams::Source;
 use std::alloc::{AllocError, Global};
@@ -95,9 +96,6 @@ impl<S: Source> Model for Lines<S> {
 
     ghost view = { λ l. over l.lines (S.left l.source) (S.failed l.source) };
 }
-
-/// How many bytes are read at a time.
-const BUFFER_LEN: usize = 65536;
 
 /// Takes the next line from the buffered bytes, and reads more until it has ended. Returns whether
 /// a line feed ended it; none where there is no line.

@@ -13,13 +13,11 @@ use crate::edges::{edge, edge_label};
 use crate::element::Element;
 use crate::fault::ReadFault;
 use crate::id::member_id;
+use crate::limits::LONGEST_LINE;
 use crate::profile::Profile;
 use crate::vertices::{vertex, vertex_label};
 use serde_json::{Category, Value};
 use std::alloc::Global;
-
-/// The greatest length of a line of a dump, in bytes, without its line feed.
-pub const LONGEST_LINE: usize = 1048576;
 
 /// The element that a JSON value is.
 #[tactic(auto, unfolding(crate::specs::Reading::element_in))]

@@ -11,19 +11,16 @@ use crate::hovers::hover;
 use crate::monikers::{moniker, package};
 use crate::profile::Profile;
 use crate::request_kind::RequestKind;
-use positions::{Position, Span};
+use positions::{NUMBER_LIMIT, Position, Span};
 use serde_json::Value;
 use std::alloc::{AllocError, Global};
 use url::{ParseError, Url};
-
-/// The greatest line and the greatest character (LSP 3.17, "uinteger").
-const GREATEST_COORDINATE: u64 = 2147483647;
 
 fn coordinate(value: &Value, name: &str) -> Option<u32>
     ensures { result ≡ coordinate_at name.now (view value.now) }
 {
     let n = value.get(name)?.as_u64()?;
-    if n <= GREATEST_COORDINATE {
+    if n < u64::from(NUMBER_LIMIT) {
         Some(n as u32)
     } else {
         None

@@ -8,15 +8,13 @@ ghost use Rattle.positions.specs.Position.{number_limit};
 ghost use Rattle.machine.specs.Names.{is_name_of, is_project_name, is_key, is_without_nul, where_so, number_in};
 ghost use Rattle.machine.specs.Steps.Names.{is_name_byte};
 
+use positions::NUMBER_LIMIT;
 use std::alloc::{AllocError, Global};
 use std::marker::Model;
 use url::{ParseError, Url};
 
-/// The most characters of a project's name and of a key.
+/// The most characters of a project's name and of a key, a limit of this server.
 const LONGEST_NAME: usize = 64;
-
-/// The first number above those of lines and characters, which are 0 to 2147483647.
-const NUMBER_LIMIT: u32 = 2147483648;
 
 /// What a text is a name of.
 #[derive(Clone, Copy)]

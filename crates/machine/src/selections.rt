@@ -28,7 +28,8 @@ pub enum Covering {
 }
 
 /// A place of a result: that of a range that is an item of it, or of a result that it leads to.
-#[derive(Debug, PartialEq, Eq, Drop)]
+/// Ordered by document and span.
+#[derive(Debug, PartialEq, Eq, PartialOrd, Ord, Drop)]
 pub struct FoundItem {
     /// The serialized URL of the document, shared among items of one answer.
     pub uri: RcStr,

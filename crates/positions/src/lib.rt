@@ -5,7 +5,7 @@
 mod position;
 mod span;
 
-pub use position::{Position, order_law};
+pub use position::{NUMBER_LIMIT, Position, order_law};
 pub use span::Span;
 
 #[cfg(test)]

@@ -6,8 +6,9 @@ ghost use Rattle.positions.specs.Position.{PositionValue, number_limit, IsPositi
 
 use std::marker::Model;
 
-/// The first number above those of lines and characters, which are 0 to 2147483647.
-const NUMBER_LIMIT: u32 = 2147483648;
+/// The first number above those of lines and characters, which are 0 to 2147483647 (Language Server
+/// Protocol 3.17, "uinteger").
+pub const NUMBER_LIMIT: u32 = 2147483648;
 
 /// A place in a text document: a zero-based line, and in it a zero-based character, counted in
 /// UTF-16 code units (Language Server Protocol 3.17, "Position"). Both numbers are 0 to 2147483647.

@@ -26,7 +26,6 @@ use dump::Role;
 use machine::FoundItem;
 use sqlite::{Alter, Connection, Row, params};
 use std::alloc::{AllocError, Global};
-use std::cmp::Ordering;
 use std::rc::RcStr;
 
 impl Listed for FoundItem {
@@ -54,20 +53,11 @@ impl Listed for FoundItem {
     }
 }
 
-/// By uri (its bytes), then start, then end.
-fn order(a: &FoundItem, b: &FoundItem) -> Ordering
-    ensures { result ≡ place_cmp (item_found a.now) (item_found b.now) }
-{
-    let ends = a.span.end().cmp(&b.span.end());
-    let starts = a.span.start().cmp(&b.span.start());
-    a.uri.as_str().cmp(b.uri.as_str()).then(starts.then(ends))
-}
-
 /// Puts the items in order, each once.
 fn list_items(found: &mut Vec<FoundItem>)
     ensures { IsListing place_cmp (Contains (map item_found found.old.items)) (map item_found found.new.items) }
 {
-    found.sort_unstable_by(|a, b| order(a, b));
+    found.sort_unstable();
     found.dedup();
 }
 

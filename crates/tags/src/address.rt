@@ -4,8 +4,7 @@ ghost use Rattle.std.specs.Prelude.{◌≡◌, ◌≤◌, ◌<◌, IfSome, false
 ghost use Rattle.std.specs.Char.{is_ascii_digit};
 ghost use Rattle.tags.specs.Steps.Cutting.{address_len, after_number_len, closing, digits_len, is_delimiter, is_in_range_number, is_number, pattern_len};
 
-/// The greatest number of a line.
-const GREATEST_NUMBER: u64 = 2147483647;
+use crate::limits::GREATEST_NUMBER;
 
 fn is_delimiter(byte: u8) -> bool
     ensures { result ≡ is_delimiter byte }

@@ -11,12 +11,10 @@ ghost use Rattle.tags.specs.Values.{ContentValue};
 
 use crate::code::{Code, LineFault, TagsFault};
 use crate::content::{Content, PseudoTag, read_content};
+use crate::limits::LONGEST_LINE;
 use crate::order::Order;
 use std::alloc::{AllocError, Global};
 use std::marker::Model;
-
-/// The most bytes of a line, with its CR and without its LF.
-pub const LONGEST_LINE: usize = 65536;
 
 /// The line's text: one CR directly before an LF isn't part of it.
 fn line_text(line: &[u8], ended: bool) -> &[u8]

@@ -5,10 +5,8 @@ ghost use Rattle.tags.specs.Fault.{descends, most_lines, order_by, written_in};
 ghost use Rattle.tags.specs.Values.{ContentValue};
 
 use crate::code::Code;
+use crate::limits::MOST_LINES;
 use std::alloc::{AllocError, Global};
-
-/// How many lines a tags file may have.
-const MOST_LINES: u32 = 100000;
 
 /// The name is less, by bytes, than the last one.
 fn descends(last: Option<&[u8]>, written: &[u8]) -> bool

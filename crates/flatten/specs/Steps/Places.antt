@@ -6,7 +6,7 @@ use Rattle.flatten.specs.declared.places.Place.{Place}
 use Rattle.flatten.specs.declared.places.Point.{Point}
 
 abbrev pub place_value : Place → PlaceValue
-place_value p = record { uri = p.uri.now; span = p.span.now }
+place_value p = record { uri = p.key.uri.now; span = p.span.now }
 
 -- the number of a result, and the place of an item
 abbrev pub placed_value : ℕ × Place → ℕ × PlaceValue
@@ -19,7 +19,7 @@ point_value p = record { line = p.line; character = p.character }
 
 -- the place that the numbers say
 abbrev pub by_numbers : Place → PlaceValue
-by_numbers p = record { uri = p.uri.now; span = record { start = point_value p.start; «end» = point_value p.«end» } }
+by_numbers p = record { uri = p.key.uri.now; span = record { start = point_value p.key.start; «end» = point_value p.key.«end» } }
 
 -- the numbers are those of the span
 abbrev pub IsNumbered : Place → Type 0

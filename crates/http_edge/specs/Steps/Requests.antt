@@ -2,6 +2,8 @@
 use Rattle.std.specs.Prelude.{◌≡◌, ℕ, List, [], Option, Some, None}
 use Rattle.machine.specs.Requests.{DocumentPositionValue, RequestValue, command, at_value, request_value}
 use Rattle.machine.specs.Uploads.{HasRead, UploadValue, command_of}
+use Rattle.http_edge.specs.declared.forms.Searched.{Searched}
+use Rattle.http_edge.specs.declared.forms.Searched.TheVariants.{All, One}
 use Rattle.http_edge.specs.declared.queries.DocumentPosition.{DocumentPosition}
 use Rattle.http_edge.specs.declared.request.Asked.{Asked}
 use Rattle.http_edge.specs.declared.request.Asked.TheVariants.{Upload, Request, Refused}
@@ -10,6 +12,11 @@ use Rattle.http_edge.specs.Requests.{request, refused, message_of}
 
 abbrev pub place_value : DocumentPosition → DocumentPositionValue
 place_value place = at_value place.project place.uri place.position
+
+-- the project that is searched alone
+abbrev pub searched_value : Searched → Option (List ℕ)
+searched_value All = None
+searched_value (One project) = Some project
 
 -- the request that an upload is with a body
 abbrev pub upload_request : List ℕ → UploadValue → RequestValue
