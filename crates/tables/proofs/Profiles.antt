@@ -11,7 +11,8 @@ use Rattle.sqlite_schema.specs.declared.command.Command.TheVariants.{Select}
 use Rattle.sqlite_trees.specs.Tree.{Trees}
 use Rattle.sqlite_rules.specs.Lists.{Has}
 use Rattle.lsif.specs.declared.profile.Profile.{Profile}
-use Rattle.lsif.specs.declared.profile.Profile.TheVariants.{One, Two}
+use Rattle.lsif.specs.declared.profile.Profile.TheVariants.{One}
+use Rattle.lsif.specs.Profiles.{profile_number, profile_numbered}
 use Rattle.dump.specs.Progress.{DumpValue}
 use Rattle.flatten.specs.Flat.{RowsValue, IsFlat}
 use Rattle.tables.specs.declared.slots.Part.TheVariants.{Dump}
@@ -53,11 +54,16 @@ are d flat is row = (
 abbrev Matches : Profile → Type 0
 Matches p = Unit {0}
 
+of_number : (p : Profile) → profile_numbered (profile_number p) ≡ Some p
+of_number One = refl
+of_number p = refl
+
+-- profiles of one number are one
 same_profile : (p q : Profile) → profile_columns p ≡ profile_columns q → p ≡ q
-same_profile One One e = refl
-same_profile One Two e = absurd cc
-same_profile Two One e = absurd cc
-same_profile Two Two e = refl
+same_profile p q e =
+    let same : profile_number p ≡ profile_number q = cc in
+    let one : ◌≡◌ {A = Option Profile} (Some p) (Some q) = sym (of_number p) ∙ ap profile_numbered same ∙ of_number q in
+    cc
 
 module _ (db : Trees) (m : State) (s : StandsFor db m) (id : ℤ) where
   abbrev IsWanted : ℤ → Entries IsProfile db m → Type 0
