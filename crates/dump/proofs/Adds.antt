@@ -14,7 +14,7 @@ use Rattle.dump.specs.Graph.{element_at, vertex_of, vertex_at, ends}
 use Rattle.dump.specs.Kinds.{is_document}
 use Rattle.dump.specs.Steps.Ids.{index_at, IsTable, entered, HasRows}
 use Rattle.dump.specs.Steps.Tables.{has_id}
-use Rattle.dump.specs.Steps.Links.{link_index, cell, link_at, is_link, named_by, is_named}
+use Rattle.dump.specs.Steps.Links.{link_index, links, cell, link_at, is_link, named_by, is_named}
 use Rattle.dump.proofs.Bools.{and_both, not_false, or_none}
 use Rattle.dump.proofs.Ends.{HasNoCode}
 use Rattle.dump.proofs.TablesAfter.{position_same, table_enters, named_test, same_link_after}
@@ -150,18 +150,15 @@ links_after d x free known l n long old new enters is =
 
 -- a row of no index
 abbrev pub blank : List (Option ℕ)
-blank = None ∷ None ∷ None ∷ None ∷ None ∷ None ∷ None ∷ None ∷ None ∷ None ∷ []
+blank = replicate links None
 
-none_there : (m n : ℕ) (row : List (Option ℕ)) → row ≡ replicate m None → get_or row n None ≡ None
-none_there m n row e = ap (λ (cells : List (Option ℕ)). get_or cells n None) e ∙ by m n
-  where
-    by : (j k : ℕ) → ◌≡◌ {A = Option ℕ} (get_or (replicate j None) k None) None
-    by zero k = refl
-    by (suc j) zero = refl
-    by (suc j) (suc k) = by j k
+none_there : (m n : ℕ) → ◌≡◌ {A = Option ℕ} (get_or (replicate m None) n None) None
+none_there zero n = refl
+none_there (suc m) zero = refl
+none_there (suc m) (suc n) = none_there m n
 
 pub blank_row : (n : ℕ) → ◌≡◌ {A = Option ℕ} (get_or blank n None) None
-blank_row n = none_there 10 n blank refl
+blank_row n = none_there links n
 
 pub rows_length : (rows now : List (List (Option ℕ))) (d : List ElementValue) (x : ElementValue) → now ≡ rows ++ blank ∷ [] → length rows ≡ length d → length now ≡ length (d ++ x ∷ [])
 rows_length rows now d x is same = ap length is ∙ length-append rows (blank ∷ []) ∙ ap (λ k. k + 1) same ∙ sym (length-append d (x ∷ []))
