@@ -1,30 +1,31 @@
-//! Checks each dump that the file `commands` names, flattens it, and once more when the caches hold something else, and prints the microseconds of the three and
-//! the number of ranges.
-use crate::shared::{bad, checked, since};
+//! Checks each dump that the file `commands` names, flattens it, and once more when the caches hold
+//! something else, and prints the microseconds of the three and the number of ranges.
+use crate::fault::Fault;
+use crate::shared::{checked, since};
 use dump::CheckedDump;
 use flatten::flatten;
+use std::fs;
 use std::time::Instant;
-use std::{fs, io};
 
 /// More bytes than a processor's caches hold.
 const OTHERS: usize = 134217728;
 
 /// Reads other bytes into the caches, all of them 1.
-fn read_others(others: &[u8]) -> io::Result<()> {
+fn read_others(others: &[u8]) -> Result<(), Fault> {
     if others.iter().step_by(64).any(|byte| *byte != 1) {
-        return Err(bad());
+        return Err(Fault::Data);
     }
     Ok(())
 }
 
 /// The nanoseconds that the flattening of this dump takes, and the number of its ranges.
-fn flattened(rt: &HostRuntime, dump: &CheckedDump) -> io::Result<(u128, usize)> {
+fn flattened(rt: &HostRuntime, dump: &CheckedDump) -> Result<(u128, usize), Fault> {
     let start = Instant::now(rt)?;
-    let rows = flatten(rt.alloc(), dump).map_err(|_| bad())?;
+    let rows = flatten(rt.alloc(), dump)?;
     Ok((since(rt, start)?, rows.ranges.len()))
 }
 
-fn measure(rt: &HostRuntime, name: &str, others: &[u8]) -> io::Result<()> {
+fn measure(rt: &HostRuntime, name: &str, others: &[u8]) -> Result<(), Fault> {
     let body = fs::read(rt, name)?;
     let start = Instant::now(rt)?;
     let dump = checked(rt.alloc(), &body)?;
@@ -42,7 +43,7 @@ fn measure(rt: &HostRuntime, name: &str, others: &[u8]) -> io::Result<()> {
     Ok(())
 }
 
-pub(crate) fn run(rt: &HostRuntime) -> io::Result<()> {
+pub(crate) fn run(rt: &HostRuntime) -> Result<(), Fault> {
     let others = Vec::from_elem(rt.alloc(), 1, OTHERS)?;
     let text = fs::read_to_string(rt, "commands")?;
     for line in text.lines() {

@@ -1,8 +1,10 @@
-//! `bench NAME`: what the scripts of the folder bench/ measure or try over these crates. It reads its files in the folder that it's run in, and prints what the
-//! script reads: times, and what was found.
+//! `bench NAME`: what the scripts of the folder bench/ measure or try over these crates. It reads
+//! its files in the folder that it's run in, and prints what the script reads: times, and what was
+//! found.
 #![tactic(auto)]
 
 mod answers;
+mod fault;
 mod flat;
 mod queries;
 mod refusals;
@@ -11,10 +13,10 @@ mod rows;
 mod shared;
 mod uploads;
 
-use shared::bad;
+use fault::Fault;
 use sqlite::Connection;
+use std::env;
 use std::process::ExitCode;
-use std::{env, io};
 use tables::Tables;
 
 const USAGE: &str =
@@ -28,46 +30,52 @@ fn main(rt: HostRuntime) -> ExitCode {
 }
 
 /// Says what went wrong.
-fn fail(rt: &HostRuntime, fault: &io::Error) -> ExitCode {
+fn fail(rt: &HostRuntime, fault: &Fault) -> ExitCode {
     let _ = eprintln!(rt; "bench: {fault}");
     ExitCode::from(2)
 }
 
 /// Does what the word behind the program's name says.
-fn run(rt: &HostRuntime) -> io::Result<()> {
+fn run(rt: &HostRuntime) -> Result<(), Fault> {
     let mut words = Vec::new(rt.alloc());
     for word in env::args(rt)? {
         words.push(word)?;
     }
     match words.get(1) {
         Some(name) => measure(rt, name.as_str()),
-        None => Err(bad()),
+        None => Err(Fault::Data),
     }
 }
 
 /// Does what this word says.
-fn measure(rt: &HostRuntime, name: &str) -> io::Result<()> {
+fn measure(rt: &HostRuntime, name: &str) -> Result<(), Fault> {
     match name {
-        "--help" => println!(rt; "{USAGE}"),
+        "--help" => Ok(println!(rt; "{USAGE}")?),
         "answers" | "queries" | "tables" => over_file(rt, name),
         "flatten" => flat::run(rt),
         "refusals" => refusals::run(rt),
         "requests" => requests::run(rt),
         "uploads" => uploads::run(rt),
-        _ => Err(bad()),
+        _ => Err(Fault::Data),
     }
 }
 
-/// The same of what is measured over the tables of the database `index.db`, which is made where there is none.
-fn over_file(rt: &HostRuntime, name: &str) -> io::Result<()> {
-    let conn = Connection::open(rt, "index.db").map_err(|_| bad())?;
+/// The same of what is measured over the tables of the database `index.db`, which is made where
+/// there is none.
+fn over_file(rt: &HostRuntime, name: &str) -> Result<(), Fault> {
+    let Ok(conn) = Connection::open(rt, "index.db") else {
+        return Err(Fault::Data);
+    };
     let Ok(tables) = Tables::open(conn) else {
-        return Err(bad());
+        return Err(Fault::Data);
     };
     let conn = match name {
         "answers" => answers::run(rt, tables),
         "queries" => queries::run(rt, tables),
         _ => rows::run(rt, tables),
     };
-    conn?.close().map_err(|_| bad())
+    if conn?.close().is_err() {
+        return Err(Fault::Data);
+    }
+    Ok(())
 }

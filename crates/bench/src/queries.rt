@@ -1,24 +1,26 @@
-//! Serves the puts and the queries of the file `commands`, a line each, and prints the kind, the microseconds, the status and the body of each. Of `memory FILE`
-//! it prints how long a put into an empty database in memory takes, the check of the dump, and the replacement.
-use crate::shared::{bad, checked, document, number, project, put, since, words};
+//! Serves the puts and the queries of the file `commands`, a line each, and prints the kind, the
+//! microseconds, the status and the body of each. Of `memory FILE` it prints how long a put into an
+//! empty database in memory takes, the check of the dump, and the replacement.
+use crate::fault::Fault;
+use crate::shared::{checked, document, number, project, put, since, words};
 use desk::{Desk, Query, Reply, TableDesk};
 use flatten::flatten;
 use lsif::RequestKind;
 use positions::Position;
 use sqlite::{Alter, Connection};
 use std::alloc::Global;
+use std::fs;
 use std::time::Instant;
-use std::{fs, io};
 use tables::Tables;
 
 /// The query of these words, or that for the projects where there are fewer.
-fn query(alloc: Global, words: &[&str]) -> io::Result<Query> {
+fn query(alloc: Global, words: &[&str]) -> Result<Query, Fault> {
     let [kind, name, uri, line, character] = words else {
         return Ok(Query::Projects);
     };
     let project = project(alloc, name)?;
     let uri = document(alloc, uri)?;
-    let at = Position::new(number(line)?, number(character)?).ok_or(bad())?;
+    let at = Position::new(number(line)?, number(character)?).ok_or(Fault::Data)?;
     if *kind == "references" {
         return Ok(Query::References {
             project,
@@ -40,7 +42,11 @@ fn query(alloc: Global, words: &[&str]) -> io::Result<Query> {
     })
 }
 
-fn reply<S: Alter>(rt: &HostRuntime, desk: &mut TableDesk<S>, words: &[&str]) -> io::Result<Reply> {
+fn reply<S: Alter>(
+    rt: &HostRuntime,
+    desk: &mut TableDesk<S>,
+    words: &[&str],
+) -> Result<Reply, Fault> {
     if let ["put", project, name] = words {
         put(rt.alloc(), desk, project, &fs::read(rt, name)?)
     } else {
@@ -50,7 +56,7 @@ fn reply<S: Alter>(rt: &HostRuntime, desk: &mut TableDesk<S>, words: &[&str]) ->
 }
 
 /// Prints what a line takes.
-fn served<S: Alter>(rt: &HostRuntime, desk: &mut TableDesk<S>, line: &str) -> io::Result<()> {
+fn served<S: Alter>(rt: &HostRuntime, desk: &mut TableDesk<S>, line: &str) -> Result<(), Fault> {
     let words = words(rt.alloc(), line)?;
     let kind = line.split(' ').next().unwrap_or("");
     let start = Instant::now(rt)?;
@@ -66,7 +72,7 @@ fn served<S: Alter>(rt: &HostRuntime, desk: &mut TableDesk<S>, line: &str) -> io
 }
 
 /// Prints how long a put of this dump into an empty database in memory takes.
-fn put_in_memory(rt: &HostRuntime, body: &[u8]) -> io::Result<()> {
+fn put_in_memory(rt: &HostRuntime, body: &[u8]) -> Result<(), Fault> {
     let mut desk = TableDesk::open_in_memory(rt.alloc())?;
     let start = Instant::now(rt)?;
     let reply = put(rt.alloc(), &mut desk, "app", body)?;
@@ -76,21 +82,19 @@ fn put_in_memory(rt: &HostRuntime, body: &[u8]) -> io::Result<()> {
 }
 
 /// Prints how long its check takes, and the replacement of its rows.
-fn parts_in_memory(rt: &HostRuntime, body: &[u8]) -> io::Result<()> {
+fn parts_in_memory(rt: &HostRuntime, body: &[u8]) -> Result<(), Fault> {
     let mut tables = TableDesk::open_in_memory(rt.alloc())?.into_tables();
     let start = Instant::now(rt)?;
     let dump = checked(rt.alloc(), body)?;
     println!(rt; "check {} 200", since(rt, start)? / 1000)?;
     let start = Instant::now(rt)?;
-    let rows = flatten(rt.alloc(), &dump).map_err(|_| bad())?;
-    tables
-        .replace_dump("app", "k", "{}", &rows)
-        .map_err(|_| bad())?;
+    let rows = flatten(rt.alloc(), &dump)?;
+    tables.replace_dump("app", "k", "{}", &rows)?;
     println!(rt; "replacement {} 200", since(rt, start)? / 1000)?;
     Ok(())
 }
 
-fn serve_all<S: Alter>(rt: &HostRuntime, desk: &mut TableDesk<S>) -> io::Result<()> {
+fn serve_all<S: Alter>(rt: &HostRuntime, desk: &mut TableDesk<S>) -> Result<(), Fault> {
     let text = fs::read_to_string(rt, "commands")?;
     for line in text.lines() {
         if let Some(name) = line.strip_prefix("memory ") {
@@ -107,7 +111,7 @@ fn serve_all<S: Alter>(rt: &HostRuntime, desk: &mut TableDesk<S>) -> io::Result<
 pub(crate) fn run<S: Alter + Drop>(
     rt: &HostRuntime,
     tables: Tables<S>,
-) -> io::Result<Connection<S>> {
+) -> Result<Connection<S>, Fault> {
     let mut desk = TableDesk::new(rt.alloc(), tables);
     serve_all(rt, &mut desk)?;
     Ok(desk.into_tables().into_connection())

@@ -1,11 +1,12 @@
-//! Calls tables in memory in turn over the dump in the file `dump` and the tags in the file `tags`, and prints what each call answers. A call that is refused is
-//! made once more.
-use crate::shared::{bad, checked};
+//! Calls tables in memory in turn over the dump in the file `dump` and the tags in the file `tags`,
+//! and prints what each call answers. A call that is refused is made once more.
+use crate::fault::Fault;
+use crate::shared::checked;
 use desk::TableDesk;
 use flatten::{Rows, flatten};
 use sqlite::Alter;
 use std::alloc::Global;
-use std::{fs, io};
+use std::fs;
 use tables::{Tables, TablesFault};
 use tags::{Tag, read_tags};
 
@@ -20,32 +21,33 @@ fn answer<S: Alter>(
     rows: &Rows<'_>,
     tags: &[Tag],
 ) -> Result<usize, TablesFault> {
-    match call {
-        0 => tables.replace_dump("app", "k0", "dump", rows).map(|()| 1),
-        1 => tables
-            .replace_tags(alloc, "app", "k1", "tags", tags)
-            .map(|()| 1),
-        2 => tables.projects(alloc).map(|found| found.len()),
-        3 => tables
-            .names_prefix(alloc, "", None)
-            .map(|found| found.len()),
-        4 => tables
-            .names_exact(alloc, "a", Some("app"))
-            .map(|found| found.len()),
-        5 => tables
-            .kept_reply("app", "k1")
-            .map(|text| usize::from(text.is_some())),
-        6 => tables.replace_dump("app", "k6", "dump", rows).map(|()| 1),
-        7 => tables.remove("app", "k7").map(usize::from),
-        _ => tables.projects(alloc).map(|found| found.len()),
-    }
+    Ok(match call {
+        0 => {
+            tables.replace_dump("app", "k0", "dump", rows)?;
+            1
+        }
+        1 => {
+            tables.replace_tags(alloc, "app", "k1", "tags", tags)?;
+            1
+        }
+        3 => tables.names_prefix(alloc, "", None)?.len(),
+        4 => tables.names_exact(alloc, "a", Some("app"))?.len(),
+        5 => usize::from(tables.kept_reply("app", "k1")?.is_some()),
+        6 => {
+            tables.replace_dump("app", "k6", "dump", rows)?;
+            1
+        }
+        7 => usize::from(tables.remove("app", "k7")?),
+        _ => tables.projects(alloc)?.len(),
+    })
 }
 
-fn tell(rt: &HostRuntime, call: usize, answer: Result<usize, TablesFault>) -> io::Result<()> {
+fn tell(rt: &HostRuntime, call: usize, answer: Result<usize, TablesFault>) -> Result<(), Fault> {
     match answer {
-        Ok(count) => println!(rt; "{call} {count}"),
-        Err(fault) => println!(rt; "{}", fault.name()),
+        Ok(count) => println!(rt; "{call} {count}")?,
+        Err(fault) => println!(rt; "{}", fault.name())?,
     }
+    Ok(())
 }
 
 fn call_all<S: Alter>(
@@ -53,7 +55,7 @@ fn call_all<S: Alter>(
     tables: &mut Tables<S>,
     rows: &Rows<'_>,
     tags: &[Tag],
-) -> io::Result<()> {
+) -> Result<(), Fault> {
     for call in 0..CALLS {
         let first = answer(rt.alloc(), tables, call, rows, tags);
         tell(rt, call, first)?;
@@ -65,12 +67,12 @@ fn call_all<S: Alter>(
     Ok(())
 }
 
-pub(crate) fn run(rt: &HostRuntime) -> io::Result<()> {
+pub(crate) fn run(rt: &HostRuntime) -> Result<(), Fault> {
     let body = fs::read(rt, "dump")?;
     let text = fs::read(rt, "tags")?;
     let dump = checked(rt.alloc(), &body)?;
-    let rows = flatten(rt.alloc(), &dump).map_err(|_| bad())?;
-    let tags = read_tags(rt.alloc(), &text).map_err(|_| bad())?;
+    let rows = flatten(rt.alloc(), &dump)?;
+    let tags = read_tags(rt.alloc(), &text)?;
     println!(rt; "read")?;
     let mut tables = TableDesk::open_in_memory(rt.alloc())?.into_tables();
     println!(rt; "opened")?;

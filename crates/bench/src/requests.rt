@@ -1,19 +1,20 @@
-//! Asks a desk that has the dump of the file `dump` for the projects and for a definition, as often as the file `count` says, and prints the nanoseconds of one
-//! query of each kind.
-use crate::shared::{bad, document, number, project, put, since};
+//! Asks a desk that has the dump of the file `dump` for the projects and for a definition, as often
+//! as the file `count` says, and prints the nanoseconds of one query of each kind.
+use crate::fault::Fault;
+use crate::shared::{document, number, project, put, since};
 use desk::{Desk, MemoryDesk, Query, TableDesk};
 use lsif::RequestKind;
 use positions::Position;
 use std::alloc::Global;
+use std::fs;
 use std::time::Instant;
-use std::{fs, io};
 
-fn definition(alloc: Global) -> io::Result<Query> {
+fn definition(alloc: Global) -> Result<Query, Fault> {
     Ok(Query::At {
         kind: RequestKind::Definition,
         project: project(alloc, "app")?,
         uri: document(alloc, "file:///a.ts")?,
-        at: Position::new(2, 1).ok_or(bad())?,
+        at: Position::new(2, 1).ok_or(Fault::Data)?,
     })
 }
 
@@ -23,11 +24,11 @@ fn ask(
     query: &Query,
     name: &str,
     count: u32,
-) -> io::Result<()> {
+) -> Result<(), Fault> {
     let start = Instant::now(rt)?;
     for _ in 0..count {
         if desk.ask(query).status() != 200 {
-            return Err(bad());
+            return Err(Fault::Data);
         }
     }
     let time = since(rt, start)?;
@@ -35,7 +36,7 @@ fn ask(
     Ok(())
 }
 
-pub(crate) fn run(rt: &HostRuntime) -> io::Result<()> {
+pub(crate) fn run(rt: &HostRuntime) -> Result<(), Fault> {
     let count = number(fs::read_to_string(rt, "count")?.trim_end())?;
     let mut desk = TableDesk::open_in_memory(rt.alloc())?;
     put(rt.alloc(), &mut desk, "app", &fs::read(rt, "dump")?)?;

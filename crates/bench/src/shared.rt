@@ -1,22 +1,21 @@
-//! What several measurements do: the words of their files, dumps and uploads, and the time since a moment.
+//! What several measurements do: the words of their files, dumps and uploads, and the time since a
+//! moment.
+use crate::fault::Fault;
 use desk::{Command, Desk, DocUri, Key, ProjectName, Reply};
 use dump::{CheckedDump, read_dump};
 use lsif::{Counted, Profile};
 use std::alloc::Global;
-use std::io;
 use std::time::Instant;
 
-/// The error of what can't be done.
-pub(crate) fn bad() -> io::Error {
-    io::Error::from(io::ErrorKind::InvalidData)
-}
-
-pub(crate) fn number(text: &str) -> io::Result<u32> {
-    text.parse::<u32>().map_err(|_| bad())
+pub(crate) fn number(text: &str) -> Result<u32, Fault> {
+    let Ok(number) = text.parse() else {
+        return Err(Fault::Data);
+    };
+    Ok(number)
 }
 
 /// What stands between spaces.
-pub(crate) fn words<'a>(alloc: Global, line: &'a str) -> io::Result<Vec<&'a str>> {
+pub(crate) fn words<'a>(alloc: Global, line: &'a str) -> Result<Vec<&'a str>, Fault> {
     let mut words = Vec::new(alloc);
     for word in line.split(' ') {
         words.push(word)?;
@@ -25,26 +24,26 @@ pub(crate) fn words<'a>(alloc: Global, line: &'a str) -> io::Result<Vec<&'a str>
 }
 
 /// The nanoseconds since this moment.
-pub(crate) fn since(rt: &HostRuntime, start: Instant) -> io::Result<u128> {
+pub(crate) fn since(rt: &HostRuntime, start: Instant) -> Result<u128, Fault> {
     Ok(start.elapsed(rt)?.as_nanos())
 }
 
 /// The dump of these bytes, by profile 1.
-pub(crate) fn checked(alloc: Global, body: &[u8]) -> io::Result<CheckedDump> {
-    read_dump(alloc, Profile::One, &mut Counted::new(body)).map_err(|_| bad())
+pub(crate) fn checked(alloc: Global, body: &[u8]) -> Result<CheckedDump, Fault> {
+    Ok(read_dump(alloc, Profile::One, &mut Counted::new(body))?)
 }
 
-pub(crate) fn project(alloc: Global, name: &str) -> io::Result<ProjectName> {
-    ProjectName::read(alloc, name)?.ok_or(bad())
+pub(crate) fn project(alloc: Global, name: &str) -> Result<ProjectName, Fault> {
+    ProjectName::read(alloc, name)?.ok_or(Fault::Data)
 }
 
-pub(crate) fn document(alloc: Global, uri: &str) -> io::Result<DocUri> {
-    DocUri::read(alloc, uri)?.ok_or(bad())
+pub(crate) fn document(alloc: Global, uri: &str) -> Result<DocUri, Fault> {
+    DocUri::read(alloc, uri)?.ok_or(Fault::Data)
 }
 
 /// A key, always the same.
-pub(crate) fn key(alloc: Global) -> io::Result<Key> {
-    Key::read(alloc, "k")?.ok_or(bad())
+pub(crate) fn key(alloc: Global) -> Result<Key, Fault> {
+    Key::read(alloc, "k")?.ok_or(Fault::Data)
 }
 
 /// The reply to the upload of a dump by profile 1.
@@ -53,7 +52,7 @@ pub(crate) fn put<D: Desk>(
     desk: &mut D,
     name: &str,
     body: &[u8],
-) -> io::Result<Reply> {
+) -> Result<Reply, Fault> {
     let project = project(alloc, name)?;
     let key = key(alloc)?;
     Ok(desk.apply(&Command::PutDump {

@@ -1,37 +1,38 @@
-//! Uploads a body as each line of the file `commands` says: `time KIND FILE` prints the microseconds of one piece and of pieces of 8,192 bytes, of a body in
-//! memory; `pieces KIND FILE` uploads a file as it's read; `whole KIND FILE` reads it first.
-use crate::shared::{bad, key, project, since, words};
+//! Uploads a body as each line of the file `commands` says: `time KIND FILE` prints the
+//! microseconds of one piece and of pieces of 8,192 bytes, of a body in memory; `pieces KIND FILE`
+//! uploads a file as it's read; `whole KIND FILE` reads it first.
+use crate::fault::Fault;
+use crate::shared::{key, project, since, words};
 use desk::{Desk, PlainDesk, Reply, Upload};
 use lsif::Profile;
 use std::alloc::Global;
+use std::fs;
 use std::fs::File;
 use std::io::Read;
 use std::time::Instant;
-use std::{fs, io};
 
 /// The bytes of a piece.
 const PIECE: usize = 8192;
 
-fn begin(alloc: Global, kind: &str) -> io::Result<Upload> {
+fn begin(alloc: Global, kind: &str) -> Result<Upload, Fault> {
     let project = project(alloc, "app")?;
     let key = key(alloc)?;
-    let begun = if kind == "tags" {
-        Upload::tags(alloc, project, key)
+    if kind == "tags" {
+        Ok(Upload::tags(alloc, project, key)?)
     } else {
-        Upload::dump(alloc, project, key, Profile::One)
-    };
-    begun.map_err(|_| bad())
+        Ok(Upload::dump(alloc, project, key, Profile::One)?)
+    }
 }
 
-fn upload(alloc: Global, kind: &str, body: &[u8], most: usize) -> io::Result<Reply> {
+fn upload(alloc: Global, kind: &str, body: &[u8], most: usize) -> Result<Reply, Fault> {
     let mut upload = begin(alloc, kind)?;
     for piece in body.chunks(most.max(1)) {
-        upload.piece(piece).map_err(|_| bad())?;
+        upload.piece(piece)?;
     }
     Ok(PlainDesk::new(alloc).finish_upload(upload))
 }
 
-fn upload_file(rt: &HostRuntime, kind: &str, name: &str) -> io::Result<Reply> {
+fn upload_file(rt: &HostRuntime, kind: &str, name: &str) -> Result<Reply, Fault> {
     let mut file = File::open(rt, name)?;
     let mut buffer = Vec::from_elem(rt.alloc(), 0, PIECE)?;
     let mut upload = begin(rt.alloc(), kind)?;
@@ -40,13 +41,13 @@ fn upload_file(rt: &HostRuntime, kind: &str, name: &str) -> io::Result<Reply> {
         if count == 0 {
             break;
         }
-        upload.piece(&buffer[..count]).map_err(|_| bad())?;
+        upload.piece(&buffer[..count])?;
     }
     Ok(PlainDesk::new(rt.alloc()).finish_upload(upload))
 }
 
 /// Prints the microseconds of one piece, and of pieces.
-fn tell_times(rt: &HostRuntime, kind: &str, body: &[u8]) -> io::Result<()> {
+fn tell_times(rt: &HostRuntime, kind: &str, body: &[u8]) -> Result<(), Fault> {
     let start = Instant::now(rt)?;
     upload(rt.alloc(), kind, body, body.len())?;
     let whole = since(rt, start)?;
@@ -62,9 +63,9 @@ fn tell_times(rt: &HostRuntime, kind: &str, body: &[u8]) -> io::Result<()> {
     Ok(())
 }
 
-fn act(rt: &HostRuntime, words: &[&str]) -> io::Result<()> {
+fn act(rt: &HostRuntime, words: &[&str]) -> Result<(), Fault> {
     let [act, kind, name] = words else {
-        return Err(bad());
+        return Err(Fault::Data);
     };
     if *act == "time" {
         return tell_times(rt, kind, &fs::read(rt, name)?);
@@ -79,7 +80,7 @@ fn act(rt: &HostRuntime, words: &[&str]) -> io::Result<()> {
     Ok(())
 }
 
-pub(crate) fn run(rt: &HostRuntime) -> io::Result<()> {
+pub(crate) fn run(rt: &HostRuntime) -> Result<(), Fault> {
     let text = fs::read_to_string(rt, "commands")?;
     for line in text.lines() {
         let words = words(rt.alloc(), line)?;
