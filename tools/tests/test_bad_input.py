@@ -3,6 +3,7 @@
 
 import io
 import os
+import shutil
 import tempfile
 import unittest
 from contextlib import redirect_stderr, redirect_stdout
@@ -55,6 +56,8 @@ class Files(unittest.TestCase):
         self.assertEqual(sorted(os.listdir(self.folder)), before)
 
     def test_dumps(self) -> None:
+        # A copy that is in no checkout: of one with changes, `publish` says another line first.
+        crate = shutil.copytree(CRATE, os.path.join(self.folder, "crate"))
         with open(RAW, "rb") as file:
             raw = file.read()
         first = raw.splitlines()[0]
@@ -83,7 +86,7 @@ class Files(unittest.TestCase):
                 (
                     "publish",
                     publish.main,
-                    ["--dry-run", "--no-tags", "--dump", path, "http://h", "app", CRATE],
+                    ["--dry-run", "--no-tags", "--dump", path, "http://h", "app", crate],
                 ),
             ):
                 with self.subTest(tool, name=name):
