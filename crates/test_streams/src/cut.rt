@@ -220,23 +220,28 @@ fn readers_that_fail<R: AllocGlobal + Abort>(rt: &R) -> Result<(), Fail> {
     Ok(())
 }
 
-/// The same of a new desk, behind each number of bytes.
+/// The same of a new desk, behind each number of bytes that is a multiple of this one.
 fn expect_each_taken<R: AllocGlobal + Abort>(
     rt: &R,
     requests: &str,
     wanted: &str,
+    each: usize,
 ) -> Result<(), Fail> {
-    for before in 0..wanted.len() {
+    for turn in 0..wanted.len() {
+        let before = turn.saturating_mul(each);
+        if before >= wanted.len() {
+            break;
+        }
         let mut desk = PlainDesk::new(rt.alloc());
         expect_taken(rt, &mut desk, requests, wanted, before)?;
     }
     Ok(())
 }
 
-fn writers_that_fail<R: AllocGlobal + Abort>(rt: &R) -> Result<(), Fail> {
+fn writers_that_fail<R: AllocGlobal + Abort>(rt: &R, each: usize) -> Result<(), Fail> {
     let (stream, replies) = exchange(rt.alloc(), UPLOADS, 7)?;
-    expect_each_taken(rt, PROJECTS, NO_PROJECTS)?;
-    expect_each_taken(rt, stream.as_str(), replies.as_str())
+    expect_each_taken(rt, PROJECTS, NO_PROJECTS, 1)?;
+    expect_each_taken(rt, stream.as_str(), replies.as_str(), each)
 }
 
 #[test]
@@ -245,5 +250,10 @@ fn cut_and_failed(rt: HostRuntime) -> Result<(), Fail> {
     without_effect(&rt, &mut PlainDesk::new(rt.alloc()));
     with_effect(&rt)?;
     readers_that_fail(&rt)?;
-    writers_that_fail(&rt)
+    writers_that_fail(&rt, 29)
+}
+
+#[test]
+fn great_writers_that_fail(rt: HostRuntime) -> Result<(), Fail> {
+    writers_that_fail(&rt, 1)
 }
