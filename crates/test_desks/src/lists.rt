@@ -200,7 +200,7 @@ fn expect_lists<R: AllocGlobal + Abort>(
     Ok(())
 }
 
-// One list in 29, which unproved takes a minute.
+// One list in 29, which `./quick` tries too.
 #[test]
 fn two_desks(rt: HostRuntime) -> Result<(), Fail> {
     expect_lists(&rt, 0, 29, 227)
