@@ -78,9 +78,8 @@ def bad_vertex(element: Element) -> bool:
     """L07."""
     label, get = element["label"], element.get
     if label == "document":
-        return not isinstance(get("uri"), str) or not re.match(
-            "[A-Za-z][A-Za-z0-9+.-]*:", get("uri")
-        )
+        uri = get("uri")
+        return not isinstance(uri, str) or not re.match("[A-Za-z][A-Za-z0-9+.-]*:", uri)
     if label == "range":
         start, end = position(get("start")), position(get("end"))
         return start is None or end is None or start > end

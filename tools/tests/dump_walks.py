@@ -252,7 +252,9 @@ class Maker:
 
     def edge(self, label: str, out: int, *ends: int, **more: Any) -> None:
         """An edge."""
-        named = {"inVs": list(ends)} if label in ("contains", "item") else {"inV": ends[0]}
+        named: dict[str, Any] = (
+            {"inVs": list(ends)} if label in ("contains", "item") else {"inV": ends[0]}
+        )
         self.edges.append({"type": "edge", "label": label, "outV": out, **named, **more})
 
     def make(self) -> list[Element]:
@@ -309,7 +311,7 @@ class Maker:
         for request, label in LABELS.items():
             made = []
             for number in range(self.rng.randrange(1, 5)):
-                more = {"result": {"contents": f"text {self.rng.randrange(3)}"}}
+                more: dict[str, Any] = {"result": {"contents": f"text {self.rng.randrange(3)}"}}
                 made.append(self.vertex(label, **(more if request == "hover" else {})))
                 if request != "hover":
                     self.items(request, made[-1], ranges)
