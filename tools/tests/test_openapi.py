@@ -271,13 +271,13 @@ class OpenApi(unittest.TestCase):
         )
 
     def test_what_is_of_no_schema(self) -> None:
-        place = {
+        place: dict[str, Any] = {
             "end": {"character": 1, "line": 0},
             "project": "a",
             "start": {"character": 0, "line": 0},
             "uri": "file:///a",
         }
-        tag = {
+        tag: dict[str, Any] = {
             "address": "1",
             "fields": [["a", "b"]],
             "file": "f",
@@ -286,7 +286,7 @@ class OpenApi(unittest.TestCase):
             "name": "n",
             "project": "a",
         }
-        for name, good, bad in (
+        cases: list[tuple[str, dict[str, Any], list[dict[str, Any]]]] = [
             (
                 "Places",
                 {"places": [place]},
@@ -313,7 +313,8 @@ class OpenApi(unittest.TestCase):
             ),
             ("Profile", {"profile": 2}, [{"profile": 3}, {"profile": "2"}]),
             ("Removed", {"removed": True}, [{"removed": 1}]),
-        ):
+        ]
+        for name, good, bad in cases:
             schema = OPENAPI["components"]["schemas"][name]
             self.assertEqual(
                 [is_valid(value, schema) for value in [good, *bad]], [True] + [False] * len(bad)

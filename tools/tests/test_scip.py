@@ -147,7 +147,7 @@ def place_list(graph: why.Graph) -> list[list[Any]]:
 def random_index(chance: random.Random) -> bytes:
     """An index of a few documents, with any symbols at any places, related in any way."""
     symbols = [APP + "a#", APP + "b#", LIB + "c#", "s . . . d#", "local 0", "local 1", "bad", ""]
-    index = Index()
+    index: Any = Index()
     index.ParseFromString(metadata())
     for number in range(chance.randrange(1, 4)):
         own = index.documents.add(relative_path=f"{number}.ts", position_encoding=UTF_16)
@@ -328,18 +328,20 @@ class Scip(unittest.TestCase):
             occurrence([0, 0, 1], APP + "Animal#sound().", DEFINITION),
             occurrence([4, 0, 1], APP + "Animal#sound()."),
         )
-        animal, later, dog = [
+        places: list[list[Any]] = [
             [f"file:///work/app/{place}.ts", line, 0, line, 1]
             for place, line in (("b", 0), ("b", 4), ("a", 0))
         ]
+        animal, later, dog = places
         for order in ((first, second), (second, first)):
             graph = self.graph(metadata() + b"".join(order))
-            for request, place, answer in (
+            cases: list[tuple[str, list[Any], list[list[Any]]]] = [
                 ("references", dog, [dog, animal, later]),
                 ("references", animal, [dog, animal, later]),
                 ("definition", ["file:///work/app/a.ts", 1, 0], [animal]),
                 ("definition", later, [animal]),
-            ):
+            ]
+            for request, place, answer in cases:
                 self.assertEqual(found(graph, request, *place[:3]), answer)
 
     def test_a_document_in_two_messages(self) -> None:
@@ -375,7 +377,8 @@ class Scip(unittest.TestCase):
                 (UTF_32, [0, 5, 1, 2], [0, 5, 1, 2]),
                 (UTF_8, [1, 9, 2, 0], [1, 6, 2, 0]),
             ):
-                for own, words in ((text, []), ("", ["--source", folder])):
+                sources: list[tuple[str, list[str]]] = [(text, []), ("", ["--source", folder])]
+                for own, words in sources:
                     with self.subTest(encoding, place=place, words=words):
                         index = metadata() + document(
                             "a.ts",
@@ -406,7 +409,10 @@ class Scip(unittest.TestCase):
             APP + "f().",
             "INDEX: no SCIP index: the message at byte 42 isn't one of its schema",
         )
-        for index, words, message in (
+        unsaid = (
+            "a.ts doesn't say what its characters count: give --encoding, which is the indexer's"
+        )
+        cases: list[tuple[bytes, list[str], Optional[str]]] = [
             (b"", [], "INDEX: no SCIP index: it has no metadata"),
             (
                 metadata(""),
@@ -421,10 +427,9 @@ class Scip(unittest.TestCase):
             (b"hello", [], "INDEX: no SCIP index, or cut off, at byte 0"),
             (b"\xff" * 30, [], "INDEX: no SCIP index, or cut off, at byte 0"),
             (one(field(2, b"\xff")), [], broken),
-            *(
-                (one(field(2, body)), [], broken)
-                for body in (b"\x12\2a", b"\x13", b"\x18" + b"\xff" * 10)
-            ),
+            (one(field(2, b"\x12\2a")), [], broken),
+            (one(field(2, b"\x13")), [], broken),
+            (one(field(2, b"\x18" + b"\xff" * 10)), [], broken),
             (one(field(2, field(2, b"\xff"))), [], broken),
             (
                 one(occurrence([0, 0, 1], f), encoding=UTF_8),
@@ -441,20 +446,15 @@ class Scip(unittest.TestCase):
                 ["--source", "no"],
                 "none of 1 documents can be read below no: is it the folder that was indexed?",
             ),
-            *(
-                (
-                    one(occurrence([0, 0, 1], f), encoding=encoding),
-                    [],
-                    "a.ts doesn't say what its characters count: give --encoding, which is the indexer's",
-                )
-                for encoding in (0, 9)
-            ),
+            (one(occurrence([0, 0, 1], f), encoding=0), [], unsaid),
+            (one(occurrence([0, 0, 1], f), encoding=9), [], unsaid),
             (
                 one(occurrence([0, 0, 1], f), encoding=0).replace(b"scip-x\x12", b"scip-y\x12"),
                 ["--without", "a.*"],
                 None,
             ),
-        ):
+        ]
+        for index, words, message in cases:
             with self.subTest(message):
                 status, body, said = self.converted(index, *words)
                 if message is None:
@@ -467,9 +467,9 @@ class Scip(unittest.TestCase):
             self.converted(tool + document("a.ts", encoding=0))[2],
             "scip-to-lsif: a.ts doesn't say what its characters count: give --encoding utf-16, as scip-java counts\n",
         )
-        with redirect_stderr(io.StringIO()) as said:
+        with redirect_stderr(io.StringIO()) as warned:
             self.assertEqual(
-                (scip_to_lsif.main(["no/index", "out"]), said.getvalue()),
+                (scip_to_lsif.main(["no/index", "out"]), warned.getvalue()),
                 (2, "scip-to-lsif: no/index: No such file or directory\n"),
             )
 
@@ -501,7 +501,8 @@ class Scip(unittest.TestCase):
                 "byte 42",
             ),
         ):
-            for words, status in ([], 1), (["--lenient"], 0):
+            calls: list[tuple[list[str], int]] = [([], 1), (["--lenient"], 0)]
+            for words, status in calls:
                 with self.subTest(kind, where=where, words=words):
                     found, out, said = self.converted(metadata() + body, *words)
                     self.assertEqual(found, status, said)
@@ -511,7 +512,7 @@ class Scip(unittest.TestCase):
                     self.assertEqual(place_list(graph), [place])
 
     def test_paths(self) -> None:
-        for root, path, words, uri in (
+        cases: list[tuple[str, str, list[str], str]] = [
             ("file:///work/app/", "../b.ts", [], "file:///work/b.ts"),
             ("file:///work/app", "./src//b.ts", [], "file:///work/app/src/b.ts"),
             ("file:///work/app", "/usr/b.ts", [], "file:///usr/b.ts"),
@@ -522,7 +523,8 @@ class Scip(unittest.TestCase):
             ("/work/a b", "b.ts", [], "file:///work/a%20b/b.ts"),
             ("", "b.ts", ["--root", "/work"], "file:///work/b.ts"),
             ("", "b.ts", ["--root", "http://h/x"], "http://h/x/b.ts"),
-        ):
+        ]
+        for root, path, words, uri in cases:
             with self.subTest(root, path=path):
                 graph = self.graph(metadata(root) + document(path), *words)
                 self.assertEqual(list(graph.documents.values()), [uri])

@@ -204,14 +204,14 @@ class EqualAnswers(unittest.TestCase):
         """The same, answered by the program."""
         for seed in SEEDS[:20]:
             case = Case(seed, self.folder)
-            puts = [
+            whole, parts = (
                 [
                     put_of(name, body, case.profiles.get(name, case.profile))
                     for name, body in bodies.items()
                 ]
                 for bodies in (case.whole, case.parts)
-            ]
-            found = unequal_in_program(*puts, list(case.asked()), self.folder)
+            )
+            found = unequal_in_program(whole, parts, list(case.asked()), self.folder)
             self.assertEqual(found, [], f"seed {seed}, profile {case.profile}")
 
     def demo(self) -> tuple[str, list[Question]]:
@@ -275,6 +275,7 @@ def without_a_number(flat: Flat, results: list[int]) -> dict[int, int]:
 
 RESULTS_OF = Part.results_of
 WITH_OUTER = Cut.with_outer
+MASK_OF_ROLE = Cut.mask_of_role
 FAULTS: dict[str, tuple[Any, str, Any]] = {
     "keys that are conflicted are shown": (crossing, "conflicted", lambda flat: set()),
     "results around a range aren't copied": (
@@ -308,7 +309,6 @@ FAULTS: dict[str, tuple[Any, str, Any]] = {
     ),
     "every moniker stands with the results": (Part, "is_shown", lambda part, firsts, mark: True),
 }
-MASK_OF_ROLE = Cut.mask_of_role
 
 
 class Faults(unittest.TestCase):
@@ -365,4 +365,4 @@ class Stable(unittest.TestCase):
                     if one["id"] in inside and one["type"] == "vertex":
                         for end in ("start", "end"):
                             one[end] = {**one[end], "line": one[end]["line"] + 1}
-            self.assertEqual(*found, f"seed {seed}")
+            self.assertEqual(found[0], found[1], f"seed {seed}")

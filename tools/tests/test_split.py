@@ -88,7 +88,7 @@ class Split(unittest.TestCase):
             '{"id":4,"type":"vertex","label":"resultSet"}',
             '{"id":5,"type":"vertex","label":"resultSet"}',
         ]
-        rows = {
+        rows: dict[str, list[str]] = {
             "dump.lsif: empty": [],
             "line 1: not JSON (L02)": ["{"],
             "line 1: no element with an id (L03)": ["[1]"],

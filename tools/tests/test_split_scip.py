@@ -173,7 +173,8 @@ class SplitIndex(unittest.TestCase):
         with status 2."""
         out = os.path.join(self.folder, "out")
         self.put(metadata() + document("a.ts", occurrence([0, 5], APP + "a#")))
-        for words, expected in (([], 1), (["--lenient"], 0)):
+        cases: list[tuple[list[str], int]] = [([], 1), (["--lenient"], 0)]
+        for words, expected in cases:
             status, said = self.called(*words, self.index, out)
             self.assertEqual(status, expected)
             self.assertIn("split-lsif: left out: occurrence without a range: 1, the first at", said)

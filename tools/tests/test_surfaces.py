@@ -210,19 +210,23 @@ class OfItself(unittest.TestCase):
         for label in ("referenceResult", "resultSet", "moniker"):
             more = {"scheme": "s", "kind": "export"} if label == "moniker" else {}
             for number in range(count):
-                own = {"identifier": str(number)} if more else {}
-                elements.append({"type": "vertex", "label": label, **more, **own})
+                named = {"identifier": str(number)} if more else {}
+                elements.append({"type": "vertex", "label": label, **more, **named})
         results, sets, monikers = (range(2 + count * at, 2 + count * (at + 1)) for at in (1, 2, 3))
         elements.append({"type": "edge", "label": "contains", "outV": 1, "inVs": ranges})
         for at in range(count):
-            role = {"property": "references", "shard": 1}
-            edges = [
+            role: dict[str, Any] = {"property": "references", "shard": 1}
+            edges: list[tuple[str, int, dict[str, Any]]] = [
                 ("item", results[at], {"inVs": [ranges[at]], **role}),
                 ("textDocument/references", sets[at], {"inV": results[at]}),
                 ("moniker", sets[at], {"inV": monikers[at]}),
             ]
             if at:
-                lead = {"inVs": [results[at - 1]], **role, "property": "referenceResults"}
+                lead: dict[str, Any] = {
+                    "inVs": [results[at - 1]],
+                    **role,
+                    "property": "referenceResults",
+                }
                 edges += [
                     ("item", results[at], lead),
                     ("attach", monikers[at], {"inV": monikers[at - 1]}),

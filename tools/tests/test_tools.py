@@ -181,7 +181,12 @@ class Prepare(unittest.TestCase):
             "prepare-lsif: no effect: vertex implementationResult, 1",
             other,
         ]
-        for words, labels in ([], one), (["--profile", "1"], one), (["--profile", "2"], [other]):
+        cases: list[tuple[list[str], list[str]]] = [
+            ([], one),
+            (["--profile", "1"], one),
+            (["--profile", "2"], [other]),
+        ]
+        for words, labels in cases:
             said = self.prepared("\n".join(rows).encode(), "--report", *words)[2].splitlines()
             self.assertEqual(
                 said[1:],
@@ -343,7 +348,7 @@ class Ask(unittest.TestCase):
 
     def place(self, file: str, start: tuple[int, int], end: tuple[int, int]) -> dict[str, Any]:
         """An answer with one place, which two projects have."""
-        place = {
+        place: dict[str, Any] = {
             "uri": places.uri_of(file, []),
             **{
                 name: {"line": at[0], "character": at[1]}
@@ -356,13 +361,14 @@ class Ask(unittest.TestCase):
         with tempfile.NamedTemporaryFile("w", encoding="utf-8", newline="") as file:
             file.write(f"first\r\n{Places.TEXT}\r\n")
             file.flush()
-            for words, column, character in (
+            cases: list[tuple[list[str], int, int]] = [
                 ([], 4, 3),
                 ([], 5, 5),
                 ([], 6, 6),
                 (["--utf16"], 6, 5),
                 (["--utf16"], 7, 6),
-            ):
+            ]
+            for words, column, character in cases:
                 status, asked, said, _ = self.asked(
                     [*words, *self.AT, "definition", file.name, "2", str(column)],
                     self.place(file.name, (1, character), (1, character)),
@@ -373,7 +379,8 @@ class Ask(unittest.TestCase):
                 self.assertEqual(
                     (said.count("\n"), said.rsplit(":", 2)[1:]), (1, ["2", f"{column}\n"])
                 )
-            for words, column in ([], 7), (["--utf16"], 8), ([], 0):
+            beyond: list[tuple[list[str], int]] = [([], 7), (["--utf16"], 8), ([], 0)]
+            for words, column in beyond:
                 with redirect_stderr(io.StringIO()) as warned:
                     self.assertEqual(
                         ask.main([*words, *self.AT, "hover", file.name, "2", str(column)]), 2
@@ -389,7 +396,8 @@ class Ask(unittest.TestCase):
     def each_request(self, name: str) -> None:
         at = [name, "1", "1"]
         uri = "uri=" + quote(places.uri_of(name, []), safe="") + "&line=0&character=0"
-        found, tag = self.place(name, (1, 0), (1, 1)), {
+        found = self.place(name, (1, 0), (1, 1))
+        tag: dict[str, Any] = {
             "name": "f",
             "file": "no/file",
             "address": "3",
@@ -561,7 +569,8 @@ class Upload(unittest.TestCase):
         full = Answer("", 503, b'{"fault":"S01","text":"store refused"}')
         proxies = [Answer("", status, b"<html>") for status in (429, 502, 503, 504)]
         for end in refused, full, *proxies:
-            self.assertEqual([len(part) for part in self.uploaded([], end)[1:]], [1, 0], end)
+            _, calls, waits = self.uploaded([], end)
+            self.assertEqual((len(calls), len(waits)), (1, 0), end)
             status, calls, waits = self.uploaded(["--retry"], end, end, done)
             self.assertEqual((status, len(calls), waits), (0, 3, [0.2, 0.4]))
             self.assertEqual(calls[0], calls[2])

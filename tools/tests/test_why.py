@@ -337,7 +337,7 @@ class Why(unittest.TestCase):
             vertex(12, "document", uri="file:///b/src/a%20b.ts"),
             vertex(13, "document", uri="file:///c/src/a%20b.ts"),
         ]
-        for path, words, line, message in (
+        cases: list[tuple[str, list[str], int, Optional[str]]] = [
             ("a.ts", [], 2, None),
             ("./a.ts", [], 2, None),
             ("file:///a.ts", [], 2, None),
@@ -356,7 +356,8 @@ class Why(unittest.TestCase):
                 0,
                 "ts is 0 of the 3 documents of DUMP: file:///a.ts, file:///b/src/a%20b.ts, file:///c/src/a%20b.ts",
             ),
-        ):
+        ]
+        for path, words, line, message in cases:
             with self.subTest(path, words=words):
                 self.check(self.said(two, path, "9", "1", *words), f"(line {line}), 8:0", message)
 
@@ -374,11 +375,12 @@ class Why(unittest.TestCase):
             file.write("\U0001f600x\n")
             file.flush()
             dump = [META, vertex(2, "document", uri=f"file://{file.name}")]
-            for words, column, message in (
+            cases: list[tuple[list[str], str, Optional[str]]] = [
                 ([], "2", None),
                 (["--utf16"], "3", None),
                 ([], "4", f"{file.name} has no line 1 with a column 4"),
-            ):
+            ]
+            for words, column, message in cases:
                 self.check(
                     self.said(dump, file.name, "1", column, *words), "(line 2), 0:2", message
                 )
