@@ -125,7 +125,7 @@ class Files(unittest.TestCase):
 
     def test_files_of_calls(self) -> None:
         path = self.written("binary", b"\xff\xfe")
-        for tool, main, words, line in (
+        cases: list[tuple[str, Main, list[str], str]] = [
             ("ask", ask.main, ["http://h", "app", "hover", path, "1", "1"], "binary: not UTF-8"),
             (
                 "ask",
@@ -151,7 +151,8 @@ class Files(unittest.TestCase):
                 ["http://h", "app", "/no"],
                 "/no: No such file",
             ),
-        ):
+        ]
+        for tool, main, words, line in cases:
             with self.subTest(tool, words=words):
                 self.refused(main, words, f"^{tool}: .*{line}")
 
@@ -174,14 +175,15 @@ class Servers(unittest.TestCase):
         }
         file = os.path.join(CRATE, "src", "lib.rs")
         for said, act in answers.items():
-            for tool, main, words in (
+            cases: list[tuple[str, Main, list[str]]] = [
                 ("ask", ask.main, ["app", "names", "f"]),
                 ("ask", ask.main, ["app", "definition", file, "18", "12"]),
                 ("list", projects.main, []),
                 ("remove", remove.main, ["app"]),
                 ("upload-lsif", lambda words: upload.main("lsif", words), ["app", RAW]),
                 ("upload-tags", lambda words: upload.main("tags", words), ["app", RAW]),
-            ):
+            ]
+            for tool, main, words in cases:
                 with self.subTest(tool, said=said), environment(), Peer(act) as peer:
                     server = f"http://127.0.0.1:{peer.port}"
                     found = called(main, server, *words)

@@ -25,13 +25,13 @@ from navtools.workspace import Settings
 from tests.repository import InRepository
 
 CROSS = {"Sec-Fetch-Site": "cross-site"}
-PLACE = {
+PLACE: dict[str, Any] = {
     "project": "app",
     "uri": "",
     "start": {"line": 1, "character": 3},
     "end": {"line": 1, "character": 6},
 }
-TAG = {
+TAG: dict[str, Any] = {
     "project": "app",
     "name": "run",
     "file": "src/a.rs",
@@ -222,7 +222,7 @@ class Browse(Served, unittest.TestCase):
             "Sec_Fetch_Mode": "navigate",
             "Sec_Fetch_Dest": "document",
         }
-        for path, host, headers, status in (
+        cases: list[tuple[str, str, dict[str, str], int]] = [
             (page, f"localhost:{self.port}", {}, 200),
             (page, f"LOCALHOST:{self.port}", {}, 200),
             (page, own, {"Origin": f"http://{own}"}, 200),
@@ -243,7 +243,8 @@ class Browse(Served, unittest.TestCase):
             (script, own, link, 403),
             (question, own, link, 403),
             (question, own, {"Sec_Fetch_Site": "cross-site"}, 403),
-        ):
+        ]
+        for path, host, headers, status in cases:
             with self.subTest(path, host=host, headers=headers):
                 self.assertEqual(self.got(path, host=host, **headers)[0], status)
         self.assertEqual(
@@ -415,7 +416,7 @@ class Browse(Served, unittest.TestCase):
 
     def test_replies_that_are_none(self) -> None:
         place = {**PLACE, "uri": self.uri("src/a.rs")}
-        for path, replies in (
+        cases: list[tuple[str, list[Any]]] = [
             (
                 "/ask?what=definition&path=src/a.rs&line=0&character=0",
                 [
@@ -451,7 +452,8 @@ class Browse(Served, unittest.TestCase):
                     {"tags": [{**TAG, "name": 1}]},
                 ],
             ),
-        ):
+        ]
+        for path, replies in cases:
             for reply in replies:
                 with self.subTest(path, reply=reply):
                     status, answer, _ = self.asked(path, reply)

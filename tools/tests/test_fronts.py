@@ -17,7 +17,7 @@ from typing import ClassVar, Optional
 
 from navtools.client import request
 from navtools.serving import ended, serving, started
-from tests.fronts import NOBODY, USER, Front, fronted, host_of, lacking
+from tests.fronts import NOBODY, UNLIMITED, USER, Front, fronted, host_of, lacking
 from tests.servers import TOP, Relay, program
 from tests.test_uploads import DUMP
 
@@ -78,11 +78,10 @@ class OfFront:
         def tearDownClass(cls) -> None:
             cls.stack.close()
 
-        def fresh(self, servers: list[str], limits: tuple[str, str] = ("", "")) -> Front:
+        def fresh(self, servers: list[str], limits: tuple[str, str] = UNLIMITED) -> Front:
             """A front of this test alone."""
             folder = self.enterContext(tempfile.TemporaryDirectory())
-            given = (limits,) if limits[0] else ()
-            return self.enterContext(fronted(self.kind, folder, servers, *given))
+            return self.enterContext(fronted(self.kind, folder, servers, limits))
 
         def test_each_route(self) -> None:
             """By way of the front each request has the reply that the server gives."""

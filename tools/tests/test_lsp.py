@@ -9,7 +9,7 @@ import threading
 import time
 import unittest
 from http.server import BaseHTTPRequestHandler, ThreadingHTTPServer
-from typing import Any, Optional
+from typing import Any, ClassVar, Optional
 from urllib.parse import parse_qsl, urlsplit
 
 from navtools.places import uri_of
@@ -17,7 +17,7 @@ from navtools.places import uri_of
 TOP = os.path.dirname(os.path.dirname(os.path.dirname(os.path.abspath(__file__))))
 LSP = os.path.join(TOP, "tools", "lsp")
 TEXT = "fn main() {}\n"
-PLACE = {"start": {"line": 1, "character": 2}, "end": {"line": 1, "character": 5}}
+PLACE: dict[str, Any] = {"start": {"line": 1, "character": 2}, "end": {"line": 1, "character": 5}}
 TAG = {
     "name": "main",
     "file": "src/main.rs",
@@ -119,6 +119,9 @@ class Editor:
 
 
 class Lsp(unittest.TestCase):
+    server: ClassVar[ThreadingHTTPServer]
+    url: ClassVar[str]
+
     @classmethod
     def setUpClass(cls) -> None:
         cls.server = ThreadingHTTPServer(("127.0.0.1", 0), Replies)
@@ -171,7 +174,7 @@ class Lsp(unittest.TestCase):
         at, path = {"uri": self.uri, "line": "0", "character": "3"}, "/projects/app/"
         contents = [{"language": "rust", "value": "fn main()"}, "text"]
         editor = self.editor()
-        for method, more, reply, result, asked in (
+        cases: list[tuple[str, dict[str, Any], dict[str, Any], Any, tuple[str, dict[str, str]]]] = [
             ("textDocument/definition", {}, places, found, (path + "definition", at)),
             ("textDocument/declaration", {}, places, found, (path + "declaration", at)),
             ("textDocument/implementation", {}, {"places": []}, [], (path + "implementation", at)),
@@ -197,7 +200,8 @@ class Lsp(unittest.TestCase):
                 (path + "hover", at),
             ),
             ("textDocument/hover", {}, {"contents": None}, None, (path + "hover", at)),
-        ):
+        ]
+        for method, more, reply, result, asked in cases:
             with self.subTest(method, more=more):
                 self.answer(reply)
                 Replies.asked = []

@@ -40,7 +40,8 @@ class OneCommand(unittest.TestCase):
             )
 
     def test_calls(self) -> None:
-        for words, status in (["--help"], 0), (["-h"], 0), ([], 2), (["none"], 2):
+        cases: list[tuple[list[str], int]] = [(["--help"], 0), (["-h"], 0), ([], 2), (["none"], 2)]
+        for words, status in cases:
             with redirect_stdout(io.StringIO()) as said, redirect_stderr(io.StringIO()) as warned:
                 self.assertEqual(main(words), status)
             self.assertEqual(

@@ -35,6 +35,13 @@ def text_of(*path: str) -> str:
         return file.read()
 
 
+class Unit(RawConfigParser):
+    """A unit of systemd; the names in it keep their case."""
+
+    def optionxform(self, optionstr: str) -> str:
+        return optionstr
+
+
 class Files(unittest.TestCase):
     def test_scripts(self) -> None:
         """The shells find nothing wrong with their scripts."""
@@ -74,8 +81,7 @@ class Files(unittest.TestCase):
     def test_units(self) -> None:
         """What the units call is in the package."""
         for name in UNITS:
-            unit = RawConfigParser(strict=False)
-            unit.optionxform = str  # type: ignore[assignment,method-assign]
+            unit = Unit(strict=False)
             unit.read(os.path.join(PACKAGING, "debian", f"codenav.{name}"))
             called = re.findall(r"/usr/bin/codenav-([a-z-]+)", unit["Service"]["ExecStart"])
             self.assertEqual([name for name in called if name in TOOLS], called[:1], name)

@@ -312,7 +312,8 @@ class Publish(OnCheckout):
         """A SCIP index becomes a set by itself, without a dump of it, by --set or where its dump
         would be too large."""
         kept = os.path.join(self.home, "kept")
-        for words, most in ((["--set", "--keep", kept], 100_000), ([], 100)):
+        cases: list[tuple[list[str], int]] = [(["--set", "--keep", kept], 100_000), ([], 100)]
+        for words, most in cases:
             with mock.patch.object(outputs, "MOST_ELEMENTS", most):
                 status, printed, stages = self.published(
                     *words, "--no-tags", "--dump", SCIP, "app", self.checkout

@@ -405,6 +405,8 @@ def cut(path: str, share: float) -> None:
 
 
 class Refused(Moved):
+    row: ExitStack
+
     def put(self, at: int, project: str, body: bytes = b"x\ta.c\t1\n") -> None:
         """Puts tags of a project to one of the servers."""
         Store(self.servers[at]).put(project, "tags", body, os.urandom(8).hex())

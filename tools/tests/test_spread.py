@@ -54,7 +54,7 @@ class OnServers(unittest.TestCase):
         self.program, self.ports = found, [free_port() for _ in range(SERVERS)]
         self.servers = [f"http://127.0.0.1:{port}" for port in self.ports]
         self.running = [self.start(port) for port in self.ports]
-        self.addCleanup(lambda: [ended(server) for server in self.running])
+        self.addCleanup(self.end_servers)
         places = [*map(host_of, self.servers), NOBODY]
         os.mkdir(os.path.join(self.folder, "front"))
         self.front = self.enterContext(
@@ -69,6 +69,11 @@ class OnServers(unittest.TestCase):
                 },
             )
         )
+
+    def end_servers(self) -> None:
+        """Ends the servers."""
+        for server in self.running:
+            ended(server)
 
     def start(self, port: int) -> Any:
         """Starts a server over its file."""
@@ -372,7 +377,8 @@ class Called(OnServers):
         """Where an editor is led to from the call in the user's crate."""
         home = os.path.join(TOP, "demo")
         editor = Editor("--map", f"file:///src/tr={home}", self.front.url, user)
-        root, file = (os.path.join(home, "user", *more) for more in ([], ["src", "lib.rs"]))
+        root = os.path.join(home, "user")
+        file = os.path.join(root, "src", "lib.rs")
         editor.call("initialize", {"capabilities": {}, "rootUri": uri_of(root, [])})
         place = {
             "textDocument": {"uri": uri_of(file, [])},

@@ -111,7 +111,7 @@ class TwoServers(unittest.TestCase):
         words = [f"--tags={self.name_at(at, 'p')}={self.folder}" for at in range(2)]
         words += [self.servers[0], "p", "names", "--all-projects", "--prefix", "run"]
         away = f"http://127.0.0.1:{free_port()}"
-        for settings, more, wanted in (
+        cases: list[tuple[str, list[str], tuple[int, str, str]]] = [
             ("", [], (0, f"{place}:1:1: run0\n", "")),
             ("", ["--servers", ",".join(self.servers)], (0, lines, "")),
             (f"servers = {self.servers}", [], (0, lines, "")),
@@ -119,7 +119,8 @@ class TwoServers(unittest.TestCase):
             ("servers = [1]", [], (2, "", "the values of servers are texts")),
             ("", ["--servers", self.servers[0]], (2, "", "several servers are two at least")),
             ("", ["--servers", f"{self.servers[0]},{away}"], (2, "", f"ask: {away}: ")),
-        ):
+        ]
+        for settings, more, wanted in cases:
             with open(os.path.join(self.folder, FILE), "w", encoding="utf-8") as out:
                 out.write(settings)
             before = os.getcwd()

@@ -82,7 +82,7 @@ class Uploads(OnServer):
     def test_what_comes_back(self) -> None:
         """What is there after calls: a name uploads, `-` removes. With `--once` what came after the
         first upload stays: that's its trap."""
-        for calls, words, wanted in (
+        cases: list[tuple[list[str], list[str], tuple[str, str]]] = [
             (["A", "B", "A"], [], ("A", "")),
             (["A", "-", "A"], [], ("A", "")),
             (["A", "A", "-"], [], ("D01", "")),
@@ -91,7 +91,8 @@ class Uploads(OnServer):
             (["A", "Atags", "B", "Btags", "A"], [], ("A", "B")),
             (["A", "B", "A"], ["--once"], ("B", "")),
             (["Atags", "Btags", "Atags"], ["--once"], ("D01", "B")),
-        ):
+        ]
+        for calls, words, wanted in cases:
             with self.subTest(calls, words=words), serving(self.program, quiet=True) as url:
                 for call in calls:
                     self.make(call, *words, url=url)
