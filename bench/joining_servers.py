@@ -22,7 +22,7 @@ from typing import Any, NamedTuple
 TOP = os.path.dirname(os.path.dirname(os.path.abspath(__file__)))
 sys.path.insert(0, os.path.join(TOP, "tools"))
 
-from sets import KINDS, flat_of, points_of
+from sets import KINDS, points_of
 
 from navtools.questions import Fetch, fetch_from
 from navtools.serving import Failed, serving
@@ -63,7 +63,7 @@ def crate_of(path: str, folder: str) -> Crate:
     surface = made_surface(path, name, "1", os.path.join(own, "surface"))
     with open(path, "rb") as file:
         elements = sum(1 for _ in file)
-    return Crate(name, own, elements, surface, points_of(flat_of(path), MOST))
+    return Crate(name, own, elements, surface, points_of(own, MOST))
 
 
 def receivers(crates: list[Crate], home: dict[str, str]) -> dict[str, set[str]]:
