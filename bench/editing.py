@@ -190,7 +190,8 @@ def print_answers(program: str) -> int:
         )
         wrong = 0
         revisions = ["--revision", commit, "--revision", f"kettle={commit}"]
-        for name, more in ("without a map", []), ("with --revision", revisions):
+        maps: dict[str, list[str]] = {"without a map": [], "with --revision": revisions}
+        for name, more in maps.items():
             editor = opened(folder, *words, *more, url, "temperature")
             unsaved = next(path for path in texts if "/user/" in path)
             show(editor, unsaved, texts[unsaved])

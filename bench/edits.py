@@ -15,7 +15,9 @@ import subprocess
 import sys
 import tempfile
 import time
+from collections.abc import Iterator
 from dataclasses import dataclass, field
+from typing import Optional
 
 TOP = pathlib.Path(__file__).resolve().parent.parent
 FUNCTION = re.compile(r"\s*(?:pub(?:\([a-z]+\))?\s+)?(?:const\s+|unsafe\s+)*fn\s+(\w+)")
@@ -24,6 +26,8 @@ NOT_PROVED = re.compile(r"not proved|no proof")
 # With this alone the check hasn't tried the function's own goals: a function that it calls isn't
 # proved.
 WAITS = re.compile(r"(not proved; |no proof: )(it calls|it passes|a call of)")
+# a file, and the name of a function in it, or none outside functions
+Place = tuple[str, Optional[str]]
 
 
 class BadEdit(Exception):
@@ -34,14 +38,18 @@ class BadEdit(Exception):
 class Edit:
     path: pathlib.Path
     crate: str
-    pairs: list = field(default_factory=list)  # (file, old text, new text)
+    pairs: list[tuple[str, str, str]] = field(default_factory=list)  # (file, old text, new text)
 
-    def __str__(self):
+    def __str__(self) -> str:
         return f"{self.crate}/{self.path.stem}"
 
 
-def read_edit(path, crate):
-    edit, file, old = Edit(path, crate), None, None
+# an edit, and the functions that it changes
+Tried = tuple[Edit, set[Place]]
+
+
+def read_edit(path: pathlib.Path, crate: str) -> Edit:
+    edit, file, old = Edit(path, crate), "", ""
     for line in path.read_text(encoding="utf-8").splitlines():
         word, _, text = line.partition(": ")
         if word == "file":
@@ -50,23 +58,24 @@ def read_edit(path, crate):
             old = text
         elif word in ("new", "new:") and file and old:
             edit.pairs.append((file, old, text))
-            old = None
+            old = ""
     if not edit.pairs:
         raise BadEdit(f"{edit}: it has no 'file:', 'old:' and 'new:' lines")
     return edit
 
 
-def edits_of(crate, with_must_fail):
+def edits_of(crate: str, with_must_fail: bool) -> list[Edit]:
     folders = [TOP / "edits" / crate]
     if with_must_fail:
         folders.append(TOP / "crates" / crate / "must-fail")
     return [read_edit(path, crate) for folder in folders for path in sorted(folder.glob("*.edit"))]
 
 
-def applied(edit, texts):
+def applied(edit: Edit, texts: dict[str, str]) -> tuple[dict[str, str], set[Place]]:
     """The texts of a crate's files with an edit, and the functions that it changes: a set of (file,
     name), where the name is none outside functions."""
-    texts, functions = dict(texts), set()
+    texts = dict(texts)
+    functions: set[Place] = set()
     for file, old, new in edit.pairs:
         if file not in texts:
             texts[file] = (TOP / "crates" / edit.crate / file).read_text(encoding="utf-8")
@@ -79,7 +88,7 @@ def applied(edit, texts):
     return texts, functions
 
 
-def function_at(text, at):
+def function_at(text: str, at: int) -> Optional[str]:
     """The name of the function that a place of a text lies in, by the layout of `rt fmt`, or
     none."""
     lines = text[: text.find("\n", at)].split("\n")
@@ -100,15 +109,18 @@ def function_at(text, at):
     return None
 
 
-def batches_of(edits):
+def batches_of(edits: list[Edit]) -> Iterator[list[Tried]]:
     """Lists of edits that can be made together, each with the functions that it changes."""
     left = list(edits)
     while left:
-        texts, taken, batch, later = {}, set(), [], []
+        texts: dict[str, str] = {}
+        taken: set[Place] = set()
+        batch: list[Tried] = []
+        later, is_full = [], False
         for edit in left:
             _, functions = applied(edit, {})
             is_alone = any(name is None for _, name in functions)
-            if functions & taken or (is_alone and batch) or (None, None) in taken:
+            if functions & taken or (is_alone and batch) or is_full:
                 later.append(edit)
                 continue
             try:
@@ -116,17 +128,18 @@ def batches_of(edits):
             except BadEdit:
                 later.append(edit)
                 continue
-            taken |= functions | ({(None, None)} if is_alone else set())
+            taken |= functions
+            is_full = is_alone
             batch.append((edit, functions))
         left = later
         yield batch
 
 
-def words_of(said, crate, file, name):
+def words_of(said: dict[str, str], crate: str, file: str, name: str) -> list[str]:
     """What the check says of the functions of a name in a file. A method's name there is that of
     its type's file, which may be another."""
-    module = pathlib.PurePath(file).with_suffix("").parts[1:]
-    module = [] if module in (("lib",), ("main",)) else [it for it in module if it != "mod"]
+    parts = pathlib.PurePath(file).with_suffix("").parts[1:]
+    module = [] if parts in (("lib",), ("main",)) else [it for it in parts if it != "mod"]
     here = re.compile("::".join([crate, *module]) + r"(?:::[A-Z]\w*)?::" + name + "$")
     elsewhere = re.compile(crate + r"(?:::\w+)*::[A-Z]\w*::" + name + "$")
     found = [words for symbol, words in said.items() if here.match(symbol)]
@@ -136,13 +149,15 @@ def words_of(said, crate, file, name):
 class Copy:
     """A copy of the repository, with what earlier checks kept, in which edits are tried."""
 
-    def __init__(self, folder):
+    def __init__(self, folder: str) -> None:
         self.folder = pathlib.Path(folder)
         for name in ("crates.txt", "HANDLES"):
             shutil.copy(TOP / name, self.folder / name)
         shutil.copytree(TOP / "crates", self.folder / "crates")
 
-    def check(self, crate, texts):
+    def check(
+        self, crate: str, texts: dict[str, str]
+    ) -> tuple[dict[str, str], subprocess.CompletedProcess[str]]:
         """What a check of the crate with these texts says of each function, or nothing where it
         didn't get there."""
         folder = self.folder / "crates" / crate
@@ -167,13 +182,14 @@ class Copy:
         }, ran
 
 
-def verdict_of(edit, functions, said):
+def verdict_of(edit: Edit, functions: set[Place], said: dict[str, str]) -> Optional[bool]:
     """Whether an edit was refused, or none where its own goals wait for the proof of a function
     that it calls."""
     if any(name is None for _, name in functions):
         return any(NOT_PROVED.search(words) for words in said.values())
     is_open = False
     for file, name in functions:
+        assert name is not None
         words = [it for it in words_of(said, edit.crate, file, name) if NOT_PROVED.search(it)]
         if any(not WAITS.match(it) for it in words):
             return True
@@ -181,10 +197,10 @@ def verdict_of(edit, functions, said):
     return None if is_open else False
 
 
-def tried(copy, crate, batch):
+def tried(copy: Copy, crate: str, batch: list[Tried]) -> Iterator[tuple[Edit, str]]:
     """Tries a batch of edits with their functions, and where that stops before the prover or leaves
     something open, parts of it: each edit and what came of it."""
-    texts = {}
+    texts: dict[str, str] = {}
     for edit, _ in batch:
         texts, _ = applied(edit, texts)
     said, ran = copy.check(crate, texts)
@@ -207,7 +223,7 @@ def tried(copy, crate, batch):
         yield from tried(copy, crate, part)
 
 
-def try_crate(copy, crate, edits):
+def try_crate(copy: Copy, crate: str, edits: list[Edit]) -> int:
     """Tries a crate's edits, prints what came of each, and answers how many weren't refused."""
     start, count, failed = time.monotonic(), 0, 0
     for batch in batches_of(edits):
@@ -222,7 +238,7 @@ def try_crate(copy, crate, edits):
     return failed
 
 
-def unfit(edits):
+def unfit(edits: list[Edit]) -> int:
     """Says of each edit that can't be applied why, and answers how many they are."""
     failed = 0
     for edit in edits:
@@ -234,7 +250,7 @@ def unfit(edits):
     return failed
 
 
-def main():
+def main() -> int:
     parser = argparse.ArgumentParser(
         prog="bench/edits.sh", description="Tries the edits that the check must refuse, in batches."
     )

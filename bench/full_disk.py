@@ -599,8 +599,8 @@ def main() -> int:
             except (Wrong, OSError, sqlite3.Error, subprocess.TimeoutExpired) as fault:
                 faults.append(f"{what}: {fault}")
     print()
-    for fault in faults:
-        print(f"full_disk: {fault}", file=sys.stderr)
+    for each in faults:
+        print(f"full_disk: {each}", file=sys.stderr)
     print(
         f"full_disk: {uploads} uploads accepted on disks that filled up, each there at the end; {cases} of {len(CASES)} paths answered; {len(faults)} faults"
     )

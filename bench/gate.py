@@ -28,6 +28,7 @@ import threading
 import time
 from collections import defaultdict
 from pathlib import Path
+from typing import Optional
 
 PARTS = ("proof", "tests", "edits")
 # What these cost is the measure: hosts differ by two.
@@ -39,9 +40,14 @@ ALONE = re.compile(r"^alone: (\w+) (\w+) (\d+)$", re.M)
 TOP = Path(__file__).resolve().parent.parent
 PROCESSORS = (2, 4, 8)
 WHOLE = re.compile(r"^cost: whole (\d+) rest (\d+) minutes (\d+)$", re.M)
+# a crate and one of PARTS; and with the number of the edit
+Part = tuple[str, str]
+Job = tuple[str, str, int]
+# what each job waits for, and its seconds
+Jobs = dict[Job, tuple[list[Job], float]]
 
 
-def part_of(words, folder):
+def part_of(words: list[str], folder: str) -> Optional[Part]:
     """The crate and the part that a process works at, by its words and its folder; none where it is
     of no crate."""
     if "--crate-name" in words:
@@ -57,7 +63,7 @@ def part_of(words, folder):
     return (built[1], "tests" if built[2] else "proof") if built else None
 
 
-def read(path):
+def read(path: str) -> str:
     with open(path, "rb") as file:
         return file.read().decode(errors="replace")
 
@@ -65,18 +71,18 @@ def read(path):
 class Watcher(threading.Thread):
     """Looks at the processes below this one until it's asked to stop."""
 
-    def __init__(self):
+    def __init__(self) -> None:
         super().__init__(daemon=True)
-        self.seen = {}
-        self.alone = defaultdict(float)
+        self.seen: dict[tuple[str, str], tuple[Part, float]] = {}
+        self.alone: defaultdict[Part, float] = defaultdict(float)
         self.last = time.time()
         self.is_over = threading.Event()
 
-    def run(self):
+    def run(self) -> None:
         while not self.is_over.wait(0.3):
             self.look()
 
-    def look(self):
+    def look(self) -> None:
         stats = {}
         for pid in filter(str.isdigit, os.listdir("/proc")):
             try:
@@ -84,9 +90,9 @@ class Watcher(threading.Thread):
             except OSError:
                 pass
         below = {str(os.getpid())}
-        found = True
-        while found:
-            found = [pid for pid, stat in stats.items() if stat[1] in below and pid not in below]
+        while found := [
+            pid for pid, stat in stats.items() if stat[1] in below and pid not in below
+        ]:
             below.update(found)
         running = set()
         for pid in below & stats.keys():
@@ -106,18 +112,19 @@ class Watcher(threading.Thread):
             self.alone[running.pop()] += now - self.last
         self.last = now
 
-    def costs(self):
-        found = defaultdict(lambda: dict.fromkeys(PARTS, 0.0))
+    def costs(self) -> dict[str, dict[str, float]]:
+        found: dict[str, dict[str, float]] = defaultdict(lambda: dict.fromkeys(PARTS, 0.0))
         for (crate, part), seconds in self.seen.values():
             found[crate][part] += seconds
         return found
 
 
-def measure(command):
+def measure(command: list[str]) -> int:
     start, watcher = time.time(), Watcher()
     watcher.start()
     last = None
     with subprocess.Popen(command, stdout=subprocess.PIPE, text=True, errors="replace") as ran:
+        assert ran.stdout is not None
         for line in ran.stdout:
             if last is not None:
                 print(last, end="", flush=True)
@@ -137,35 +144,34 @@ def measure(command):
     return ran.returncode
 
 
-def costs_in(log):
+def costs_in(log: str) -> tuple[dict[str, list[int]], int, int, int]:
     text = read(log)
     whole = WHOLE.search(text)
     if not whole:
         sys.exit(
             f"gate.py: {log} has no line of the whole cost: the gate didn't end, or it wasn't measured"
         )
-    return {name: [int(it) for it in costs] for name, *costs in COST.findall(text)}, *(
-        int(it) for it in whole.groups()
-    )
+    crates = {name: [int(it) for it in costs] for name, *costs in COST.findall(text)}
+    return crates, int(whole[1]), int(whole[2]), int(whole[3])
 
 
-def below(crate, lines):
+def below(crate: str, lines: dict[str, list[str]]) -> set[str]:
     """The crates that one calls, by the lines of crates.txt, and those that they call."""
-    found = set()
+    found: set[str] = set()
     for name in lines.get(crate, ()):
         if name in lines:
             found |= {name} | below(name, lines)
     return found
 
 
-def jobs_of(crates):
+def jobs_of(crates: dict[str, list[int]]) -> Jobs:
     """What the plan has of these costs: of each job what it waits for, and its seconds."""
-    lines = {}
+    lines: dict[str, list[str]] = {}
     for line in (TOP / "crates.txt").read_text().splitlines():
         name, _, names = line.partition(":")
         if not line.startswith("#"):
             lines[name.split()[0]] = names.split()
-    jobs = {}
+    jobs: Jobs = {}
     for crate, costs in crates.items():
         waits = [(name, "proof", 0) for name in below(crate, lines) if name in crates]
         for part, cost in zip(PARTS[:2], costs):
@@ -177,18 +183,20 @@ def jobs_of(crates):
     return jobs
 
 
-def planned(jobs, processors):
+def planned(jobs: Jobs, processors: int) -> float:
     """The seconds by the clock that these jobs take on so many processors."""
-    ways = {}
+    ways: dict[Job, float] = {}
 
-    def way(job):
+    def way(job: Job) -> float:
         """The seconds from when a job begins to the end of the last that waits for it."""
         if job not in ways:
             behind = [other for other, (waits, _) in jobs.items() if job in waits]
             ways[job] = jobs[job][1] + max(map(way, behind), default=0)
         return ways[job]
 
-    left, running, ended, now = sorted(jobs, key=way, reverse=True), [], set(), 0.0
+    left, now = sorted(jobs, key=way, reverse=True), 0.0
+    running: list[tuple[float, Job]] = []
+    ended: set[Job] = set()
     while left or running:
         ready = [job for job in left if ended.issuperset(jobs[job][0])]
         for job in ready[: processors - len(running)]:
@@ -200,7 +208,7 @@ def planned(jobs, processors):
     return now
 
 
-def ratio(log):
+def ratio(log: str) -> None:
     crates, whole, rest, minutes = costs_in(log)
     yardstick = sum(sum(crates[name][:2]) for name in MEASURES)
     last = [line for line in read(log).splitlines() if line.strip()][-1]
@@ -220,7 +228,7 @@ def ratio(log):
     )
 
 
-def table(log):
+def table(log: str) -> None:
     crates, whole, rest, _ = costs_in(log)
     print("| Crate | Proof | Tests | Edits |\n|-|-|-|-|")
     for name, costs in crates.items():
@@ -228,12 +236,13 @@ def table(log):
     print(f"\nThe whole: {whole / 60:.0f}, of which {rest / 60:.1f} are of no crate.")
 
 
-def main(words):
+def main(words: list[str]) -> int:
     if len(words) > 1 and words[0] == "measure":
         return measure(words[1:])
     if len(words) == 2 and words[0] in ("ratio", "table"):
-        return {"ratio": ratio, "table": table}[words[0]](words[1])
-    sys.exit(__doc__.strip())
+        {"ratio": ratio, "table": table}[words[0]](words[1])
+        return 0
+    sys.exit((__doc__ or "").strip())
 
 
 if __name__ == "__main__":

@@ -14,8 +14,10 @@ import sys
 TOP = os.path.dirname(os.path.dirname(os.path.abspath(__file__)))
 sys.path.insert(0, os.path.join(TOP, "tools"))
 
-from navtools.scip_pb2 import Index, SymbolRole
+from navtools.scip_pb2 import Index, Relationship, SymbolRole
 
+DEFINITION = SymbolRole.Value("Definition")
+FORWARD_DEFINITION = SymbolRole.Value("ForwardDefinition")
 OF_TRAIT = re.compile(r"(?:^|[/ ])(\w+)#(\w+)\(\)\.$")
 OF_IMPL = re.compile(r"impl#.*\[`?(?:.*::)?(\w+)[^\]]*`?\](\w+)\(\)\.$")
 
@@ -39,13 +41,15 @@ def main(words: list[str]) -> None:
             found = OF_IMPL.search(own.symbol)
             other = traits.get((found[1], found[2])) if found is not None else None
             if other is not None:
-                own.relationships.add(symbol=other, is_implementation=True)
+                relation = Relationship()
+                relation.symbol, relation.is_implementation = other, True
+                own.relationships.append(relation)
                 implemented.add(other)
                 added += 1
     for document in index.documents:
         for place in document.occurrences:
-            if place.symbol in implemented and place.symbol_roles & SymbolRole.Definition:
-                place.symbol_roles ^= SymbolRole.Definition | SymbolRole.ForwardDefinition
+            if place.symbol in implemented and place.symbol_roles & DEFINITION:
+                place.symbol_roles ^= DEFINITION | FORWARD_DEFINITION
     with open(words[1], "wb") as out:
         out.write(index.SerializeToString())
     print(f"methods that implement another {added}, of {len(implemented)} traits' methods")

@@ -13,7 +13,7 @@ import random
 import re
 import tempfile
 from collections import Counter
-from typing import Iterator, NamedTuple, TextIO
+from typing import IO, Iterator, NamedTuple
 
 from large_dump import Element, Smaller, Symbol, as_text, away_of
 
@@ -136,7 +136,7 @@ def single_keys(dumps: list[str]) -> set[str]:
 
 
 def put_copies(
-    out: TextIO, later: TextIO, copies: int, dumps: list[str]
+    out: IO[str], later: IO[str], copies: int, dumps: list[str]
 ) -> tuple[int, int, list[Place]]:
     """Writes the copies and what they import, and edges between them to `later`; answers the last
     id, how many elements there are, and the places that lead to the next dump."""

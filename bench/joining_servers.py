@@ -206,7 +206,8 @@ def main(program: str, number: int, dumps: list[str]) -> int:
         one, *others = [
             stack.enter_context(serving(program, quiet=True)) for _ in range(number + 1)
         ]
-        return 1 if compared(crates, one, others) else 0
+        differ = compared(crates, one, others)
+    return 1 if differ else 0
 
 
 if __name__ == "__main__":

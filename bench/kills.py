@@ -180,7 +180,8 @@ class Run:
 
     def __init__(self, program: str, database: str, most: int, chosen: random.Random) -> None:
         self.program, self.database, self.most, self.chosen = program, database, most, chosen
-        self.index, self.order = Index(), []
+        self.index = Index()
+        self.order: list[Command] = []
         self.waiting: list[Command] = []
         self.unknown: Optional[Command] = None
         self.counts: Counter[str] = Counter()

@@ -13,7 +13,7 @@ import os
 import random
 import sys
 import tempfile
-from typing import Any, Iterator, TextIO
+from typing import IO, Any, Iterator
 
 Element = dict[str, Any]
 Symbol = tuple[int, int]
@@ -103,7 +103,7 @@ class Smaller:
                     text = text.replace(PREFIX, prefix)
                 yield text % tuple([own + base for own in ids])
 
-    def led_away(self, base: int, away: dict[int, Symbol], later: TextIO) -> dict[int, str]:
+    def led_away(self, base: int, away: dict[int, Symbol], later: IO[str]) -> dict[int, str]:
         """The lines that are other ones in a copy some of whose ranges lead to symbols of earlier
         copies: the edges to these go to `later`."""
         other: dict[int, str] = {}
@@ -136,7 +136,7 @@ def away_of(
     return found
 
 
-def put_copies(out: TextIO, later: TextIO, words: list[str]) -> tuple[int, int, int]:
+def put_copies(out: IO[str], later: IO[str], words: list[str]) -> tuple[int, int, int]:
     """Writes the copies of dumps, and edges between them to `later`; answers the last id, and how
     many elements and symbols there are."""
     rng, share = random.Random(7), float(words[1])

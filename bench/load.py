@@ -52,7 +52,7 @@ class Seen:
         return sum(map(len, self.taken.values()))
 
     def longest(self) -> float:
-        return max(map(max, self.taken.values()))
+        return max(max(times) for times in self.taken.values())
 
 
 class Client:

@@ -270,9 +270,8 @@ def texts() -> Iterator[tuple[str, str, str]]:
     yield "5,000 functions, each twice", "".join(heads), "".join(2 * one for one in heads)
     yield "20,000 equal lines and one more", "f(b);\n" * 20_000, "f(b);\n" * 20_001
     yield "20,000 equal lines, each changed", "f(b);\n" * 20_000, "f(b, x);\n" * 20_000
-    yield "20,000 lines of two kinds, at random", *(
-        "\n".join(dice.choices("ab", k=20_000)) for _ in range(2)
-    )
+    old, new = ("\n".join(dice.choices("ab", k=20_000)) for _ in range(2))
+    yield "20,000 lines of two kinds, at random", old, new
     unique = [f"u{at}" for at in range(6_000)]
     yield "18,000 lines, exchanged between unique ones", "".join(
         f"{one}\nx\ny\n" for one in unique
@@ -287,9 +286,8 @@ def texts() -> Iterator[tuple[str, str, str]]:
     yield "400 lines without a unique word", gaps, gaps.replace("a b a b ", "b b a a ")
     line = " ".join(f"w{at}" for at in range(150_000))[:1_000_000]
     yield "1 MB in a line, a word changed", line, line[:500_000] + " zz " + line[500_004:]
-    yield "1 MB of braces in a line, at random", *(
-        "".join(dice.choices("{}", k=900_000)) for _ in range(2)
-    )
+    old, new = ("".join(dice.choices("{}", k=900_000)) for _ in range(2))
+    yield "1 MB of braces in a line, at random", old, new
 
 
 def times() -> None:

@@ -47,8 +47,9 @@ def copied(database: Optional[pathlib.Path], copy: pathlib.Path) -> None:
     none then."""
     for path in files_of(copy):
         path.unlink()
-    for path in files_of(database) if database else []:
-        shutil.copy(path, copy.with_name(path.name.replace(database.name, copy.name, 1)))
+    if database:
+        for path in files_of(database):
+            shutil.copy(path, copy.with_name(path.name.replace(database.name, copy.name, 1)))
 
 
 def replayed(program: str, database: pathlib.Path, requests: pathlib.Path, replies: int) -> Taken:

@@ -12,7 +12,7 @@ import tempfile
 import threading
 import time
 from dataclasses import dataclass
-from typing import Callable
+from typing import IO, Callable, Optional, Sequence, Union
 
 TOP = pathlib.Path(__file__).resolve().parent.parent
 BASE, EMPTY = "demo/base.lsif", "/dev/null"
@@ -21,6 +21,8 @@ NAMES = b"GET /names?prefix=n HTTP/1.1\r\n\r\n"
 BAD_FILE, FULL = "codenav: cannot read the file\n", "codenav: cannot write the output\n"
 STORE, MEMORY = "codenav: store refused\n", "codenav: out of memory\n"
 FOREIGN, OLD = "codenav: not a codenav database\n", "codenav: database is of format 1\n"
+Word = Union[str, pathlib.Path]
+Words = Sequence[Union[Word, bytes]]
 
 
 class Wrong(Exception):
@@ -46,7 +48,7 @@ FIRST = (
 
 # ---- calls that end by themselves: the words, and what is printed on the standard output and the
 # standard error, with the status
-CALLS = [
+CALLS: list[tuple[Words, str, str, int]] = [
     (["check-lsif", BASE], "ok 11 elements\n", "", 0),
     (["check-lsif", "/dev/stdin"], "ok 11 elements\n", "", 0),
     (["check-lsif", "demo/exchanged.lsif"], "line 8: L09 vertex not emitted before\n", "", 1),
@@ -79,7 +81,7 @@ CALLS = [
 ]
 
 # ---- words that `clap` refuses, with the beginning of its text; and help that is asked for
-REFUSALS = [
+REFUSALS: list[tuple[list[str], str]] = [
     ([], "error: 'codenav' requires a subcommand but one was not provided"),
     (["check"], "error: unrecognized subcommand 'check'"),
     (["check-lsif"], "error: the following required arguments were not provided"),
@@ -119,23 +121,33 @@ class Program:
     path: str
     refuse: str
 
-    def run(self, words: list, **more) -> tuple[str, str, int]:
+    def run(
+        self,
+        words: Words,
+        stdout: Union[int, IO[bytes]] = subprocess.PIPE,
+        timeout: float = 60,
+        env: Optional[dict[str, str]] = None,
+    ) -> tuple[str, str, int]:
         """What a call prints, and its status; the base dump is its standard input."""
         with open(TOP / BASE, "rb") as given:
-            more.setdefault("stdout", subprocess.PIPE)
-            more.setdefault("timeout", 60)
             done = subprocess.run(
                 [self.path, *words],
                 cwd=TOP,
                 stdin=given,
+                stdout=stdout,
                 stderr=subprocess.PIPE,
+                timeout=timeout,
+                env=env,
                 check=False,
-                **more,
             )
         return (done.stdout or b"").decode(), done.stderr.decode(), done.returncode
 
     def start(
-        self, requests: int, before: tuple = (), database: str = ":memory:", **more
+        self,
+        requests: int,
+        before: tuple[str, ...] = (),
+        database: str = ":memory:",
+        env: Optional[dict[str, str]] = None,
     ) -> "Server":
         """A server of so many requests, which has said that it listens; it's started by the words
         before it."""
@@ -151,8 +163,13 @@ class Program:
             str(requests),
         ]
         process = subprocess.Popen(
-            words, stdin=subprocess.DEVNULL, stdout=subprocess.PIPE, stderr=subprocess.PIPE, **more
+            words,
+            stdin=subprocess.DEVNULL,
+            stdout=subprocess.PIPE,
+            stderr=subprocess.PIPE,
+            env=env,
         )
+        assert process.stdout is not None and process.stderr is not None
         line = process.stdout.readline().decode()
         if line != f"listening on 127.0.0.1:{port}\n":
             process.kill()
@@ -162,7 +179,7 @@ class Program:
 
 @dataclass
 class Server:
-    process: subprocess.Popen
+    process: subprocess.Popen[bytes]
     port: int
 
     def connect(self, room: int = 0) -> socket.socket:
@@ -196,7 +213,8 @@ def free_port() -> int:
     """A port of this machine that nobody listens on now."""
     with socket.socket() as one:
         one.bind(("127.0.0.1", 0))
-        return one.getsockname()[1]
+        port: int = one.getsockname()[1]
+    return port
 
 
 def received(peer: socket.socket) -> str:
@@ -206,7 +224,7 @@ def received(peer: socket.socket) -> str:
     return text.decode()
 
 
-def expect(what: str, found, wanted) -> None:
+def expect(what: str, found: object, wanted: object) -> None:
     if found != wanted:
         raise Wrong(f"{what}: {found!r} and not {wanted!r}")
 
@@ -231,7 +249,7 @@ def refusing(program: Program, number: int) -> dict[str, str]:
 
 def calls(program: Program) -> None:
     """Calls that end by themselves, and words that are refused."""
-    found = [
+    found: list[tuple[Words, object, object]] = [
         (words, program.run(words), (output, error, status))
         for words, output, error, status in CALLS
     ]
@@ -364,7 +382,7 @@ def other_addresses(program: Program) -> None:
 # ---- databases in files
 
 
-def statements(path: pathlib.Path, text: str) -> list[tuple]:
+def statements(path: pathlib.Path, text: str) -> list[tuple[object, ...]]:
     """What SQLite itself finds or changes in a database."""
     conn = sqlite3.connect(path)
     try:
@@ -403,7 +421,7 @@ def migrations(program: Program) -> None:
         expect("nothing to do", program.run(["migrate", path]), ("nothing to migrate\n", "", 0))
         make_old(path)
         expect("format 1, replay", program.run(["replay", path, EMPTY]), ("", OLD, 2))
-        serve = ["serve", path, "--port", str(free_port()), "--requests", "1"]
+        serve: list[Word] = ["serve", path, "--port", str(free_port()), "--requests", "1"]
         expect("format 1, serve", program.run(serve), ("", OLD, 2))
         expect("format 1", program.run(["migrate", path]), ("migrated 1 projects\n", "", 0))
         expect("the log after a migration", has_pages_in_log(path), False)
@@ -415,15 +433,20 @@ def migrations(program: Program) -> None:
 
         other = pathlib.Path(room) / "other.db"
         statements(other, "CREATE TABLE tag (name TEXT)")
-        for words in (["migrate", other], ["replay", other, EMPTY], ["serve", other, *serve[2:]]):
+        others: list[list[Word]] = [
+            ["migrate", other],
+            ["replay", other, EMPTY],
+            ["serve", other, *serve[2:]],
+        ]
+        for words in others:
             expect(f"another's database, {words[0]}", program.run(words), ("", FOREIGN, 2))
         missing = pathlib.Path(room) / "missing.db"
-        for path in (missing, ":memory:"):
-            expect(f"migrate {path}", program.run(["migrate", path]), ("", FOREIGN, 2))
+        for place in (str(missing), ":memory:"):
+            expect(f"migrate {place}", program.run(["migrate", place]), ("", FOREIGN, 2))
         expect("what migrate made", missing.exists(), False)
         # something of that name is there, or can't be: another fault than that nothing is
-        for path in (room, other / "below"):
-            expect(f"migrate {path}", program.run(["migrate", path]), ("", STORE, 2))
+        for place in (room, str(other / "below")):
+            expect(f"migrate {place}", program.run(["migrate", place]), ("", STORE, 2))
 
 
 def closed_logs(program: Program) -> None:
@@ -449,7 +472,7 @@ def refused_memory_of_files(program: Program) -> None:
     with tempfile.TemporaryDirectory() as room:
         path = pathlib.Path(room) / "index.db"
         expect("a replay", program.run(["replay", path, EMPTY]), ("", "", 0))
-        words = ["replay", path, EMPTY]
+        words: list[Word] = ["replay", path, EMPTY]
         _, count, _ = program.run(words, env=refusing(program, 0))
         for number in range(1, int(count) + 1, max(1, int(count) // 20)):
             answer = program.run(words, env=refusing(program, number))
@@ -582,6 +605,8 @@ def held_body(program: Program) -> None:
 
 # ---- connections that take their time: what a client does until its connection is over
 
+Client = Callable[[socket.socket, threading.Event], None]
+
 
 def sends_nothing(_peer: socket.socket, over: threading.Event) -> None:
     over.wait()
@@ -629,7 +654,7 @@ def sends_on_after_the_reply(peer: socket.socket, over: threading.Event) -> None
 # the clients, and how many seconds another one waits for its reply meanwhile, at least and at most:
 # where nothing is taken, a write may end after 10 seconds with what the system keeps, and the next
 # one after further 10
-CLIENTS = [
+CLIENTS: list[tuple[Client, int, int]] = [
     (sends_nothing, 10, 10),
     (stops_in_its_head, 10, 10),
     (sends_now_and_then, 120, 120),
@@ -660,9 +685,7 @@ def put_tags(server: Server) -> str:
     return reply("200 OK", '{"projects":[{"dump":false,"name":"app","tags":true}]}')
 
 
-def slow_client(
-    program: Program, client: Callable, least: int, most: int, faults: list[str]
-) -> None:
+def slow_client(program: Program, client: Client, least: int, most: int, faults: list[str]) -> None:
     """One client with a server of its own, and another one that comes after it."""
     what = f"a client that {client.__name__.replace('_', ' ')}"
     over, server = threading.Event(), None
@@ -725,8 +748,8 @@ def main() -> int:
             faults.append(f"{part.__name__}: {fault}")
     for thread in slow:
         thread.join()
-    for fault in faults:
-        print(f"program: {fault}", file=sys.stderr)
+    for each in faults:
+        print(f"program: {each}", file=sys.stderr)
     if not faults:
         print(
             "program: what it prints, its statuses and the times of its connections are as they should be"

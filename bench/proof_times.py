@@ -20,7 +20,8 @@ import subprocess
 import sys
 import threading
 import time
-from collections import Counter
+from collections import defaultdict
+from typing import NoReturn
 
 CLOSED = 0x8
 ADD, WHOLE_MOUNT = 0x1, 0x10
@@ -29,7 +30,7 @@ EVENT = struct.Struct("=IBBHQii")
 FILE = re.compile(r"([^/]+?)(?:\.decls)?\.oantt[^/]*$")
 
 
-def watch():
+def watch() -> int:
     """A descriptor that reports each file that is closed after it was written, on the file system
     of this folder and on that of /tmp."""
     libc = ctypes.CDLL(None, use_errno=True)
@@ -40,7 +41,7 @@ def watch():
         ctypes.c_int,
         ctypes.c_char_p,
     ]
-    events = libc.fanotify_init(0, os.O_RDONLY)
+    events: int = libc.fanotify_init(0, os.O_RDONLY)
     marked = events >= 0 and all(
         libc.fanotify_mark(events, ADD | WHOLE_MOUNT, CLOSED, HERE, path) == 0
         for path in (b".", b"/tmp")
@@ -50,9 +51,9 @@ def watch():
     return events
 
 
-def read(events, seconds):
+def read(events: int, seconds: defaultdict[str, float]) -> NoReturn:
     """Adds the seconds before each file to those of its name, for good."""
-    last = {}
+    last: dict[int, float] = {}
     while True:
         block, at, now = os.read(events, 65536), 0, time.time()
         while at + EVENT.size <= len(block):
@@ -68,15 +69,16 @@ def read(events, seconds):
                 last[process] = now
 
 
-def main(words):
+def main(words: list[str]) -> int:
     count = int(words.pop(0)) if words and words[0].isdigit() else 40
     if not words:
         sys.exit(__doc__)
-    seconds = Counter()
+    seconds: defaultdict[str, float] = defaultdict(float)
     threading.Thread(target=read, args=(watch(), seconds), daemon=True).start()
     status = subprocess.run(words).returncode
     time.sleep(1)
-    for name, taken in Counter(seconds).most_common(count):
+    longest = sorted(seconds.items(), key=lambda it: it[1], reverse=True)
+    for name, taken in longest[:count]:
         print(f"{taken:6.1f} {name}")
     print(f"{sum(seconds.values()):6.1f} in all")
     return status

@@ -22,7 +22,7 @@ PROJECTS = [f"project_{number}" for number in range(30)]
 SERVERS = 3
 SECONDS = 60
 TIMED = 400
-Asked = Callable[[str, str, Optional[bytes]], tuple[int, dict]]
+Asked = Callable[[str, str, Optional[bytes]], tuple[int, dict[str, Any]]]
 
 
 def by_port(port: int) -> Asked:
@@ -33,7 +33,7 @@ def by_port(port: int) -> Asked:
 def by_front(front: Front) -> Asked:
     """How the front is asked."""
 
-    def asked(method: str, path: str, body: Optional[bytes]) -> tuple[int, dict]:
+    def asked(method: str, path: str, body: Optional[bytes]) -> tuple[int, dict[str, Any]]:
         status, _, found = front.ask(method, path, body)
         return status, json.loads(found)
 

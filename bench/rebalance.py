@@ -12,6 +12,7 @@ usage: bench/rebalance.py [PROGRAM [lua|haproxy]]  (the built program, without i
 import os
 import pathlib
 import random
+import subprocess
 import sys
 import tempfile
 import threading
@@ -19,7 +20,7 @@ import time
 from collections import Counter
 from contextlib import ExitStack, redirect_stderr, redirect_stdout
 from io import StringIO
-from typing import Any, Callable
+from typing import Callable
 from urllib.parse import parse_qsl
 
 from proxy import Asked, as_set, by_port, publish_all, put_all, queries
@@ -83,7 +84,8 @@ class Load:
 
     def ask(self, number: int) -> None:
         """Asks one question after the other, in an order of its own."""
-        rng, kept = random.Random(number), {}
+        rng = random.Random(number)
+        kept: dict[str, Index] = {}
         fetch = fetch_from(self.front.url, SECONDS)
         while not self.stop.is_set():
             question = rng.choice(self.questions)
@@ -108,15 +110,20 @@ class Trial:
         self.program, self.folder, self.stack = program, folder, stack
         self.ports = [free_port() for _ in range(SERVERS + 2)]
         self.running = {port: self.start(port) for port in self.ports}
-        stack.callback(lambda: [ended(server) for server in self.running.values()])
+        stack.callback(self.end)
         os.mkdir(f"{folder}/front")
         places = [*(f"127.0.0.1:{port}" for port in self.ports[1:-1]), NOBODY]
         self.front = stack.enter_context(fronted(kind, f"{folder}/front", places, longest=LONGEST))
         self.kept = f"{folder}/kept"
 
-    def start(self, port: int) -> Any:
+    def start(self, port: int) -> "subprocess.Popen[bytes]":
         """Starts a server over its file."""
         return started(self.program, port, REQUESTS, f"{self.folder}/{port}.db", quiet=True)
+
+    def end(self) -> None:
+        """Ends the servers that still run."""
+        for server in self.running.values():
+            ended(server)
 
     def servers(self) -> list[str]:
         """The three servers and the fourth, as the front names them."""
@@ -139,7 +146,9 @@ def row(what: str, counts: Counter[str], seconds: float, said: str) -> None:
     )
 
 
-def under_load(trial: Trial, questions: list[Question], what: str, call: Callable[[], Any]) -> None:
+def under_load(
+    trial: Trial, questions: list[Question], what: str, call: Callable[[], list[str]]
+) -> None:
     """Makes a call while clients ask, and prints what came of it."""
     with Load(trial.front, questions) as load:
         time.sleep(1)

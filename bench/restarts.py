@@ -119,7 +119,8 @@ def trial(program: str, kind: str, ends: str, count: int) -> tuple[Seen, int]:
             ending = threading.Thread(target=end_in_turn, args=(server, ends.split(","), count))
         ending.start()
         seen = asyncio.run(load(place, kind, lambda: not ending.is_alive()))
-        return seen, server.ends
+        ended = server.ends
+    return seen, ended
 
 
 def row(title: str, seen: Seen, restarts: int) -> str:

@@ -125,8 +125,9 @@ def measure_puts(program: str, where: str, port: int, dumps: list[pathlib.Path])
     """
     has_replacing = True
     for path in dumps:
-        body, least = path.read_bytes(), {}
-        calls = {
+        body = path.read_bytes()
+        least: dict[str, float] = {}
+        calls: dict[str, Callable[[], object]] = {
             "new": lambda: put(port, f"/projects/new_{next(KEYS)}/lsif", body),
             "check": lambda: subprocess.run(
                 [program, "check-lsif", str(path)], stdout=subprocess.DEVNULL, check=True

@@ -9,7 +9,7 @@ import subprocess
 import sys
 import time
 from contextlib import contextmanager
-from typing import Callable, Iterator, Optional
+from typing import Any, Callable, Iterator, Optional
 
 TOP = pathlib.Path(__file__).resolve().parent.parent
 sys.path.insert(0, str(TOP / "tools"))
@@ -41,7 +41,9 @@ http {{
 """
 
 
-def ask(port: int, method: str, path: str, body: Optional[bytes] = None) -> tuple[int, dict]:
+def ask(
+    port: int, method: str, path: str, body: Optional[bytes] = None
+) -> tuple[int, dict[str, Any]]:
     """The status and the reply of a request."""
     connection = http.client.HTTPConnection("127.0.0.1", port, timeout=WAIT)
     connection.request(method, path, body)

@@ -320,7 +320,7 @@ def measured(program: str, large: str, small: str, count: int, folder: str) -> N
         published(name, url, own, server.pid)
         print_size(database)
     askings = [Asking(url, name, points_of(own, count)) for name, own in folders.items()]
-    asked_in_turns(*askings, server.pid)
+    asked_in_turns(askings[0], askings[1], server.pid)
     ended(server)
     server = started_again(program, port, database)
     again = changed(large, folders["large"], askings[1].most_used(), server.pid)
@@ -337,7 +337,7 @@ def main(words: list[str]) -> None:
     with tempfile.TemporaryDirectory() as made:
         folder = (words[4:] or [made])[0]
         os.makedirs(folder, exist_ok=True)
-        measured(*words[:3], count, folder)
+        measured(words[0], words[1], words[2], count, folder)
 
 
 if __name__ == "__main__":

@@ -116,7 +116,8 @@ def trial(program: str, kind: str, slow: str, seconds: float) -> Seen:
             place = Place(front.port, front.context())
         thread = threading.Thread(target=be_slow, args=(place, slow, seconds))
         thread.start()
-        return asyncio.run(readers(place, thread, "slow", expected))
+        seen = asyncio.run(readers(place, thread, "slow", expected))
+    return seen
 
 
 def main() -> int:

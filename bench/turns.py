@@ -107,7 +107,8 @@ def main() -> int:
     if why := lacking("lua"):
         sys.exit(f"turns: {why}")
     with ExitStack() as stack:
-        return int(not trial(given, stack))
+        is_well = trial(given, stack)
+    return int(not is_well)
 
 
 if __name__ == "__main__":
