@@ -28,26 +28,5 @@ awk -v places="$places" 'BEGIN {
     print "{\"id\":\"j\",\"type\":\"edge\",\"label\":\"item\",\"outV\":\"s\",\"inVs\":[" places + 3 "],\"shard\":2,\"property\":\"references\"}"
     print "{\"id\":\"c\",\"type\":\"edge\",\"label\":\"contains\",\"outV\":2,\"inVs\":[" all "]}"
 }' >"$folder/made"
-cat >"$folder/measure.py" <<'PY'
-"""Asks at two lines, each in a process of its own, and prints the sizes in KiB, the reply's length and the ratio."""
-import os, subprocess, sys
-
-program, places = sys.argv[1], int(sys.argv[2])
-subprocess.run([program, "answers"], check=True, stdout=subprocess.DEVNULL)
-os.remove("made")
-
-
-def asked(line):
-    with open("asked", "w") as file:
-        file.write(str(line))
-    child = subprocess.Popen([program, "answers"], stdout=subprocess.PIPE)
-    length = int(child.stdout.read().split()[1])
-    _, status, usage = os.wait4(child.pid, 0)
-    return usage.ru_maxrss, length
-
-
-one, _ = asked(places)
-all_places, length = asked(0)
-print(f"one place {one} KiB, {places} places {all_places} KiB, reply {length / 1024:.0f} KiB, ratio {(all_places - one) * 1024 / length:.2f}")
-PY
-(cd "$folder" && python3 measure.py "$built" "$places")
+cd "$folder"
+python3 -B "$top/bench/answers.py" "$built" "$places"

@@ -15,112 +15,6 @@ queries=${1:-200}
 
 build_bench
 
-# The same queries by C SQLite.
-cat >"$folder/peer.py" <<'PY'
-"""Asks the database that the program made the same queries by C SQLite, and prints of each the kind, the nanoseconds and the reply's body."""
-import json, sqlite3, sys, time
-
-base = sqlite3.connect(sys.argv[1], isolation_level=None)
-SHOWN = "SELECT line, first, last, parent, def, refs, hover FROM range_row WHERE slot = ?1 AND "
-START = SHOWN + "uri = ?2 AND first <= ?3 AND last > first ORDER BY first DESC, last LIMIT 1"
-PARENT = SHOWN + "line = ?2 AND uri = ?3"
-BEARERS = (
-    "SELECT slot.project, bearer.line, bearer.kind, bearer.def, bearer.refs, bearer.hover, more.decl, more.imp FROM bearer "
-    "LEFT JOIN slot ON slot.id = bearer.slot LEFT JOIN more ON more.slot = bearer.slot AND more.line = bearer.line "
-    "WHERE bearer.keytext = ?1"
-)
-IMPORT, EXPORT = 0, 1
-
-
-def one(text, *values):
-    return base.execute(text, values).fetchone()
-
-
-def every(text, *values):
-    return base.execute(text, values).fetchall()
-
-
-def slot_of(project):
-    return one("SELECT id FROM slot WHERE project = ?1 AND part = ?2", project, 1)[0]
-
-
-def covering(slot, uri, at):
-    found, row = [], one(START, slot, uri, at)
-    while row is not None:
-        if at < row[2]:
-            found.append(row)
-        row = None if row[3] is None else one(PARENT, slot, row[3], uri)
-    if not found:
-        one("SELECT slot FROM document WHERE slot = ?1 AND uri = ?2", slot, uri)
-    return found
-
-
-def picked(slot, uri, at, column, kinds):
-    for row in covering(slot, uri, at):
-        marks = every("SELECT kind, keytext FROM mark WHERE slot = ?1 AND line = ?2", slot, row[0])
-        keys = [key for kind, key in marks if kind in kinds]
-        if row[column] is not None or keys:
-            return row, keys
-    return None, []
-
-
-def bearers(own, keys, kinds, column):
-    found = []
-    for key in keys:
-        for project, line, kind, *results in every(BEARERS, key):
-            if project != own and kind in kinds and results[column - 4] is not None:
-                found.append((project, line, results[column - 4]))
-    return sorted(set(found))
-
-
-def position(packed):
-    return {"character": packed % 2**31, "line": packed // 2**31}
-
-
-def places(project, uri, at, column, kinds, roles):
-    row, keys = picked(slot_of(project), uri, at, column, kinds)
-    if row is None:
-        return {"places": []}
-    results = {(name, number) for name, _, number in bearers(project, keys, {EXPORT} if column == 4 else {IMPORT, EXPORT}, column)}
-    if row[column] is not None:
-        results.add((project, row[column]))
-    found = set()
-    for name, number in sorted(results):
-        for role in roles:
-            for place in every("SELECT uri, first, last FROM item WHERE slot = ?1 AND result = ?2 AND role = ?3", slot_of(name), number, role):
-                found.add((name, *place))
-    return {"places": [{"end": position(end), "project": name, "start": position(start), "uri": uri} for name, uri, start, end in sorted(found)]}
-
-
-def hover(project, uri, at):
-    row, keys = picked(slot_of(project), uri, at, 6, {IMPORT})
-    text = "SELECT contents FROM hover WHERE slot = ?1 AND result = ?2"
-    if row is None:
-        return "null"
-    if row[6] is not None:
-        return one(text, slot_of(project), row[6])[0]
-    for name, _, number in bearers(project, keys, {EXPORT}, 6):
-        return one(text, slot_of(name), number)[0]
-    return "null"
-
-
-def ask(kind, project, uri, line, character):
-    at = int(line) * 2**31 + int(character)
-    if kind == "hover":
-        return '{"contents":' + hover(project, uri, at) + "}"
-    column, kinds, roles = (4, {IMPORT}, [0]) if kind == "definition" else (5, {IMPORT, EXPORT}, [0, 1])
-    return json.dumps(places(project, uri, at, column, kinds, roles), separators=(",", ":"))
-
-
-for text in open("commands"):
-    words = text.split()
-    if words[0] in ("put", "projects"):
-        continue
-    start = time.perf_counter_ns()
-    body = ask(*words)
-    print(words[0], (time.perf_counter_ns() - start) // 1000, body)
-PY
-
 # A dump of documents with result sets, each named four times, each with a definition, references, a hover and a moniker with a
 # package; or, where it imports, without definitions and hovers. So many result sets.
 make_dump() {
@@ -227,7 +121,7 @@ median() {
 measure() {
     local name=$1
     shift
-    (cd "$folder" && "$built" queries >own && python3 peer.py index.db >peer)
+    (cd "$folder" && "$built" queries >own && python3 -B "$top/bench/queries_peer.py" index.db >peer)
     if ! cmp -s <(grep -v '^put \|^projects ' "$folder/own" | cut -d' ' -f1,4-) <(cut -d' ' -f1,3- "$folder/peer"); then
         echo "queries: the replies of $name differ" >&2
         exit 1

@@ -56,65 +56,13 @@ for kind in projects definition; do
     report replay "$kind" "$requests" "${cost% *}" 0
 done
 
-cat >"$folder/client.py" <<'EOP'
-"""Puts a dump to a server on loopback and sends it so many requests of one kind, a connection each; and prints the median of the
-microseconds that one takes, from its connection to the end of its reply."""
-import socket
-import statistics
-import sys
-import time
-
-port, count, target, name = int(sys.argv[1]), int(sys.argv[2]), sys.argv[3], sys.argv[4]
-
-def ask(request):
-    with socket.create_connection(("127.0.0.1", port)) as peer:
-        peer.sendall(request)
-        reply = b""
-        while piece := peer.recv(65536):
-            reply += piece
-    if not reply.startswith(b"HTTP/1.1 200 OK\r\n"):
-        sys.exit(f"refused: {reply!r}")
-
-body = open(name, "rb").read()
-ask(b"PUT /projects/app/lsif?key=k1 HTTP/1.1\r\nContent-Length: %d\r\n\r\n" % len(body) + body)
-times = []
-for _ in range(count):
-    start = time.perf_counter_ns()
-    ask(b"GET %s HTTP/1.1\r\nHost: localhost\r\n\r\n" % target.encode())
-    times.append(time.perf_counter_ns() - start)
-print(round(statistics.median(times) / 1000, 1))
-EOP
-cat >"$folder/bare.py" <<'EOP'
-"""Accepts so many connections on loopback, reads from each, answers and closes it; and prints the nanoseconds of system time of one."""
-import os
-import resource
-import socket
-import sys
-
-count = int(sys.argv[1])
-listener = socket.create_server(("127.0.0.1", 0))
-if os.fork() == 0:
-    for _ in range(count):
-        with socket.create_connection(listener.getsockname()) as peer:
-            peer.sendall(b"GET /projects HTTP/1.1\r\nHost: localhost\r\n\r\n")
-            while peer.recv(65536):
-                pass
-    os._exit(0)
-before = resource.getrusage(resource.RUSAGE_SELF).ru_stime
-for _ in range(count):
-    peer, _ = listener.accept()
-    peer.recv(8192)
-    peer.sendall(b"HTTP/1.1 200 OK\r\nContent-Length: 15\r\nConnection: close\r\n\r\n{\"projects\":[]}")
-    peer.close()
-print(round((resource.getrusage(resource.RUSAGE_SELF).ru_stime - before) / count * 1e9))
-EOP
 port=20000
 for kind in projects definition; do
-    bare=$(python3 "$folder/bare.py" "$connections")
+    bare=$(python3 -B "$top/bench/bare_connections.py" "$connections")
     port=$((port + 1 + RANDOM % 20000))
     cost_of "$program" serve :memory: --port "$port" --requests $((connections + 1)) >"$folder/server" &
     until grep -q '^listening on' "$folder/out" 2>/dev/null; do sleep 0.1; done
-    median=$(python3 "$folder/client.py" "$port" "$connections" "$(target_of "$kind")" "$folder/dump")
+    median=$(python3 -B "$top/bench/requests_client.py" "$port" "$connections" "$(target_of "$kind")" "$folder/dump")
     wait
     cost=$(cat "$folder/server")
     report serve "$kind" "$connections" "${cost% *}" "$bare"

@@ -78,53 +78,6 @@ for kind in dump tags; do
 done
 
 [ -n "$whole_program" ] || exit 0
-cat >"$folder/peer.py" <<'PY'
-import json, os, sqlite3, sys, time
-
-own, dump, runs = sys.argv[1], sys.argv[2], int(sys.argv[3])
-source = sqlite3.connect(own)
-schema = [row[0] for row in source.execute("SELECT sql FROM sqlite_master WHERE sql IS NOT NULL ORDER BY rowid")]
-children = ["document", "range_row", "item", "hover", "mark", "bearer", "part_profile", "more"]
-rows = {table: [row[1:] for row in source.execute(f"SELECT * FROM {table}")] for table in children}
-
-
-def put(peer):
-    start = time.perf_counter_ns()
-    vertices, edges = set(), set()
-    with open(dump, "rb") as file:
-        for line in file:
-            element = json.loads(line)
-            own_id = element["id"]
-            assert own_id not in vertices and own_id not in edges
-            if element["type"] == "vertex":
-                vertices.add(own_id)
-                continue
-            ends = [element["outV"], *(element["inVs"] if "inVs" in element else [element["inV"]])]
-            assert all(end in vertices for end in ends)
-            edges.add(own_id)
-    base = sqlite3.connect(peer, isolation_level=None)
-    for text in ["PRAGMA journal_mode = WAL", "PRAGMA synchronous = FULL", "PRAGMA foreign_keys = ON"] + schema:
-        base.execute(text)
-    base.execute("BEGIN")
-    slot = base.execute("INSERT INTO slot (project, part) VALUES (?1, ?2)", ("app", 1)).lastrowid
-    for table, values in rows.items():
-        if values:
-            marks = ", ".join("?" * (len(values[0]) + 1))
-            base.executemany(f"INSERT INTO {table} VALUES ({marks})", ((slot, *row) for row in values))
-    base.execute("INSERT INTO keyed (project, cmdkey, reply) VALUES (?1, ?2, ?3)", ("app", "k", "{}"))
-    base.execute("COMMIT")
-    base.close()
-    return time.perf_counter_ns() - start
-
-
-times = []
-for run in range(runs):
-    times.append(put("peer.db"))
-    for name in ("peer.db", "peer.db-wal", "peer.db-shm"):
-        if os.path.exists(name):
-            os.remove(name)
-print(min(times))
-PY
 {
     printf 'PUT /projects/app/lsif?key=k HTTP/1.1\r\nContent-Length: %d\r\n\r\n' "$(wc -c <"$folder/dump")"
     cat "$folder/dump"
@@ -138,6 +91,6 @@ for _ in $(seq "$runs"); do
     took=$(($(date +%s%N) - start))
     [ -n "$least" ] && [ "$least" -le "$took" ] || least=$took
 done
-python3 peer.py put.db dump "$runs" | awk -v own="$least" -v lines="$(wc -l <dump)" '{
+python3 -B "$top/bench/uploads_peer.py" put.db dump "$runs" | awk -v own="$least" -v lines="$(wc -l <dump)" '{
     printf "a whole put of %d elements: %.0f ms, by Python %.0f ms, ratio %.2f\n", lines, own / 1e6, $1 / 1e6, own / $1
 }'

@@ -1,5 +1,5 @@
-"""The tools' types, their layout and what a linter finds, by Debian's mypy, black and flake8. Where
-one isn't installed its test is skipped."""
+"""The types of all Python here, its layout and what a linter finds, by Debian's mypy, black and
+flake8. Where one isn't installed its test is skipped."""
 
 import os
 import shutil
@@ -9,8 +9,7 @@ from importlib.util import find_spec
 
 from tests.servers import TOP
 
-TYPED = ["tools/navtools", "tools/wheel"]
-CHECKED = [*TYPED, "tools/tests", "bench", "packaging/stage"]
+CHECKED = ["tools/navtools", "tools/wheel", "tools/tests", "bench", "packaging/stage", "quick"]
 BLACK = "23."
 
 
@@ -35,7 +34,7 @@ class Lint(unittest.TestCase):
         """The types of what the page's Markdown is made by are read from that library."""
         if find_spec("markdown_it") is None:
             self.skipTest("markdown_it isn't installed (Debian's package python3-markdown-it)")
-        words = ["--strict", "--cache-dir", os.devnull, "--no-error-summary", *TYPED]
+        words = ["--strict", "--cache-dir", os.devnull, "--no-error-summary", *CHECKED]
         said = self.said_by("mypy", *words)
         if "Library stubs not installed" in said:
             self.skipTest("mypy has no stubs (Debian's package python3-typeshed)")
