@@ -5,6 +5,7 @@ use crate::desks::{requests, served, table_desk, uploads};
 use desk::{Desk, PlainDesk, Request, TableDesk};
 use samples::there;
 use sqlite::Alter;
+use std::ops::Range;
 use std::process::Abort;
 use std::test::Fail;
 
@@ -178,23 +179,24 @@ fn expect_both<R: AllocGlobal + Abort>(
     expect_list_of_tables(rt, &mut desk, requests, rows)
 }
 
-/// Asserts the replies of both desks to so many lists of four of the first nine rows, each with the
-/// list of the projects after it. The rows are the digits of a list's number to the base nine: the
-/// first number is `first`, and each further one is greater by `step`.
+/// How many lists begin with the same request.
+const BEGUN: usize = 9 * 9 * 9;
+
+/// Asserts the replies of both desks to one in so many of these lists of four of the first nine
+/// rows, each with the list of the projects after it. The rows are the digits of a list's number to
+/// the base nine.
 fn expect_lists<R: AllocGlobal + Abort>(
     rt: &R,
-    first: usize,
-    step: usize,
-    count: usize,
+    lists: Range<usize>,
+    each: usize,
 ) -> Result<(), Fail> {
     let uploads = uploads(rt.alloc(), ROWS)?;
     let requests = requests(rt.alloc(), ROWS, &uploads)?;
-    for turn in 0..count {
-        let n = turn.saturating_mul(step).saturating_add(first);
+    for n in lists.step_by(each.max(1)) {
         expect_both(
             rt,
             &requests,
-            &[n / 729 % 9, n / 81 % 9, n / 9 % 9, n % 9, 9],
+            &[n / BEGUN % 9, n / 81 % 9, n / 9 % 9, n % 9, 9],
         )?;
     }
     Ok(())
@@ -203,31 +205,31 @@ fn expect_lists<R: AllocGlobal + Abort>(
 // One list in 29, which `./quick` tries too.
 #[test]
 fn two_desks(rt: HostRuntime) -> Result<(), Fail> {
-    expect_lists(&rt, 0, 29, 227)
+    expect_lists(&rt, 0..9 * BEGUN, 29)
 }
 
 // All lists in one would take longer than a test may.
 #[test]
 fn great_two_desks_from_a_dump(rt: HostRuntime) -> Result<(), Fail> {
-    expect_lists(&rt, 0, 1, 1458)
+    expect_lists(&rt, 0..2 * BEGUN, 1)
 }
 
 #[test]
 fn great_two_desks_from_a_refused_dump(rt: HostRuntime) -> Result<(), Fail> {
-    expect_lists(&rt, 1458, 1, 1458)
+    expect_lists(&rt, 2 * BEGUN..4 * BEGUN, 1)
 }
 
 #[test]
 fn great_two_desks_from_tags(rt: HostRuntime) -> Result<(), Fail> {
-    expect_lists(&rt, 2916, 1, 1458)
+    expect_lists(&rt, 4 * BEGUN..6 * BEGUN, 1)
 }
 
 #[test]
 fn great_two_desks_from_a_removal(rt: HostRuntime) -> Result<(), Fail> {
-    expect_lists(&rt, 4374, 1, 1458)
+    expect_lists(&rt, 6 * BEGUN..8 * BEGUN, 1)
 }
 
 #[test]
 fn great_two_desks_from_a_query(rt: HostRuntime) -> Result<(), Fail> {
-    expect_lists(&rt, 5832, 1, 729)
+    expect_lists(&rt, 8 * BEGUN..9 * BEGUN, 1)
 }

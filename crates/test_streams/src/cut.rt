@@ -1,8 +1,8 @@
 //! Streams of requests that are cut, and readers and writers that fail: what is written, and which
 //! requests have their effect.
 use crate::asserts::{expect_equal, expect_equal_text};
-use crate::replies::{expect, replay_over};
-use desk::PlainDesk;
+use crate::replies::{expect, replay_new};
+use desk::{MemoryDesk, PlainDesk, TableDesk};
 use http_edge::{ServeFault, serve_stream};
 use lsif::Counted;
 use samples::{
@@ -62,8 +62,8 @@ fn reply_to_cut(at: usize) -> (u32, &'static str) {
     }
 }
 
-/// Streams that end in a request, and a reader that fails in one.
-fn cut_streams<R: AllocGlobal + Abort>(rt: &R) -> Result<(), Fail> {
+/// Streams that end in a request, which change nothing.
+fn cut_streams<R: AllocGlobal + Abort>(rt: &R, desk: &mut MemoryDesk) -> Result<(), Fail> {
     for at in 0..67 {
         let (count, short) = reply_to_cut(at);
         let wanted = if count == 0 {
@@ -71,14 +71,21 @@ fn cut_streams<R: AllocGlobal + Abort>(rt: &R) -> Result<(), Fail> {
         } else {
             reply_of(rt.alloc(), short)?
         };
-        expect(rt, &SHORT_PUT.as_bytes()[..at], 9, count, wanted.as_str());
+        expect(
+            rt,
+            desk,
+            &SHORT_PUT.as_bytes()[..at],
+            9,
+            count,
+            wanted.as_str(),
+        );
     }
     let (_, bad_head) = reply_to_cut(1);
     let bad_head = reply_of(rt.alloc(), bad_head)?;
     let stream = format!(in rt.alloc(); "{PROJECTS}{PROJECTS}")?;
     let wanted = format!(in rt.alloc(); "{NO_PROJECTS}{bad_head}")?;
     for at in 27..52 {
-        expect(rt, &stream.as_bytes()[..at], 9, 2, wanted.as_str());
+        expect(rt, desk, &stream.as_bytes()[..at], 9, 2, wanted.as_str());
     }
     Ok(())
 }
@@ -199,39 +206,37 @@ fn replies_within(alloc: Global, bytes: usize) -> Result<String, Fail> {
 fn expect_read<R: AllocGlobal + Abort>(rt: &R, stream: &str, fails_at: u32) -> Result<(), Fail> {
     let mut reader = in_pieces(stream.as_bytes(), 100);
     reader.fails_at = fails_at;
-    let (answer, written, left) = replay_over(rt.alloc(), reader, 1_000_000, 0);
-    let wanted = replies_within(rt.alloc(), stream.len().saturating_sub(left))?;
+    let replayed = replay_new(rt.alloc(), reader, 1_000_000)?;
+    let wanted = replies_within(rt.alloc(), stream.len().saturating_sub(replayed.left))?;
     expect_equal(
         rt,
-        &(answer, written.as_slice()),
+        &(replayed.answer, replayed.written.as_slice()),
         &(Err(ServeFault::Read), wanted.as_bytes()),
         "",
     );
     Ok(())
 }
 
-/// A reader that fails at each of its reads: the requests that came whole are answered.
-fn readers_that_fail<R: AllocGlobal + Abort>(rt: &R) -> Result<(), Fail> {
+/// A reader that fails at the first of its reads and at each that is so many later: the requests
+/// that came whole are answered.
+fn readers_that_fail<R: AllocGlobal + Abort>(rt: &R, each: usize) -> Result<(), Fail> {
     let (stream, _) = exchange(rt.alloc(), UPLOADS, 7)?;
     let reads = u32::try_from(stream.len() / 100)?;
-    for fails_at in 1..=reads {
+    for fails_at in (1..=reads).step_by(each.max(1)) {
         expect_read(rt, stream.as_str(), fails_at)?;
     }
     Ok(())
 }
 
-/// The same of a new desk, behind each number of bytes that is a multiple of this one.
+/// A writer that fails behind each number of bytes that is a multiple of this one, each time over
+/// a new desk.
 fn expect_each_taken<R: AllocGlobal + Abort>(
     rt: &R,
     requests: &str,
     wanted: &str,
     each: usize,
 ) -> Result<(), Fail> {
-    for turn in 0..wanted.len() {
-        let before = turn.saturating_mul(each);
-        if before >= wanted.len() {
-            break;
-        }
+    for before in (0..wanted.len()).step_by(each.max(1)) {
         let mut desk = PlainDesk::new(rt.alloc());
         expect_taken(rt, &mut desk, requests, wanted, before)?;
     }
@@ -245,12 +250,22 @@ fn writers_that_fail<R: AllocGlobal + Abort>(rt: &R, each: usize) -> Result<(), 
 }
 
 #[test]
-fn cut_and_failed(rt: HostRuntime) -> Result<(), Fail> {
-    cut_streams(&rt)?;
+fn cut(rt: HostRuntime) -> Result<(), Fail> {
+    let mut desk = TableDesk::open_in_memory(rt.alloc())?;
+    cut_streams(&rt, &mut desk)
+}
+
+#[test]
+fn failed(rt: HostRuntime) -> Result<(), Fail> {
     without_effect(&rt, &mut PlainDesk::new(rt.alloc()));
     with_effect(&rt)?;
-    readers_that_fail(&rt)?;
+    readers_that_fail(&rt, 7)?;
     writers_that_fail(&rt, 29)
+}
+
+#[test]
+fn great_readers_that_fail(rt: HostRuntime) -> Result<(), Fail> {
+    readers_that_fail(&rt, 1)
 }
 
 #[test]

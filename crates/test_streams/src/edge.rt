@@ -1,8 +1,9 @@
 //! Heads, bodies, routes, methods and parameters that are refused, and of two refusals of one
 //! request the one that is tried first. In a table's row `|` is CR LF, `=>` comes before
-//! the names of the replies, and a row that begins with `#` says something of those below it. Each
-//! stream is of an index that is empty at first.
+//! the names of the replies, and a row that begins with `#` says something of those below it. The
+//! streams of a test are replied to by one desk, over an index that is empty at first.
 use crate::replies::expect;
+use desk::{MemoryDesk, TableDesk};
 use http_edge::{phrase_law, requests_law, route_law, run_law};
 use samples::{parted, there};
 use std::alloc::Global;
@@ -141,14 +142,26 @@ fn reply(name: &str) -> Option<&'static str> {
 }
 
 /// Asserts that the replies to a stream are those of these names.
-fn expect_replies<R: AllocGlobal + Abort>(rt: &R, stream: &str, names: &str) -> Result<(), Fail> {
+fn expect_replies<R: AllocGlobal + Abort>(
+    rt: &R,
+    desk: &mut MemoryDesk,
+    stream: &str,
+    names: &str,
+) -> Result<(), Fail> {
     let mut signs = String::new(rt.alloc());
     for name in names.split_whitespace() {
         signs.push_str(there(reply(name), "no such reply")?)?;
     }
     let wanted = signs.replace(rt.alloc(), '|', "\r\n")?;
     let count = u32::try_from(names.split_whitespace().count())?;
-    expect(rt, stream.as_bytes(), 1_000_000, count, wanted.as_str());
+    expect(
+        rt,
+        desk,
+        stream.as_bytes(),
+        1_000_000,
+        count,
+        wanted.as_str(),
+    );
     Ok(())
 }
 
@@ -156,6 +169,7 @@ fn expect_replies<R: AllocGlobal + Abort>(rt: &R, stream: &str, names: &str) -> 
 /// has none.
 fn expect_row<R: AllocGlobal + Abort>(
     rt: &R,
+    desk: &mut MemoryDesk,
     before: &str,
     row: &str,
     after: &str,
@@ -166,16 +180,12 @@ fn expect_row<R: AllocGlobal + Abort>(
     let (part, names) = parted(row, " => ")?;
     let signs = format!(in rt.alloc(); "{before}{part}{after}")?;
     let stream = signs.replace(rt.alloc(), '|', "\r\n")?;
-    expect_replies(rt, stream.as_str(), names)
+    expect_replies(rt, desk, stream.as_str(), names)
 }
 
-/// The streams of the tables, whose rows have a text before them and one after them.
-#[test]
-fn edge_refusals(rt: HostRuntime) -> Result<(), Fail> {
-    phrase_law();
-    requests_law();
-    route_law();
-    run_law();
+/// Asserts the replies to the streams of the tables, whose rows have a text before them and one
+/// after them.
+fn expect_rows<R: AllocGlobal + Abort>(rt: &R, desk: &mut MemoryDesk) -> Result<(), Fail> {
     for &(before, table, after) in &[
         ("", REFUSED, ""),
         ("", ORDERED, ""),
@@ -184,11 +194,22 @@ fn edge_refusals(rt: HostRuntime) -> Result<(), Fail> {
         ("PUT ", UPLOADS, " HTTP/1.1|Content-Length: 0||"),
     ] {
         for row in table.trim_matches('\n').lines() {
-            expect_row(&rt, before, row, after)?;
+            expect_row(rt, desk, before, row, after)?;
         }
     }
     let line_feeds = "GET /projects HTTP/1.1\nA: b\n\nC: d\r\n\r\n";
-    expect_replies(&rt, line_feeds, "H01")
+    expect_replies(rt, desk, line_feeds, "H01")
+}
+
+/// None of the streams changes the index.
+#[test]
+fn edge_refusals(rt: HostRuntime) -> Result<(), Fail> {
+    phrase_law();
+    requests_law();
+    route_law();
+    run_law();
+    let mut desk = TableDesk::open_in_memory(rt.alloc())?;
+    expect_rows(&rt, &mut desk)
 }
 
 /// A stream that has a text so many times.
@@ -206,17 +227,17 @@ fn long_stream(
 /// Asserts the replies to it.
 fn expect_long<R: AllocGlobal + Abort>(
     rt: &R,
+    desk: &mut MemoryDesk,
     (first, text, times, last): (&str, &str, usize, &str),
     names: &str,
 ) -> Result<(), Fail> {
     let stream = long_stream(rt.alloc(), first, text, times, last)?;
-    expect_replies(rt, stream.as_str(), names)
+    expect_replies(rt, desk, stream.as_str(), names)
 }
 
-/// Long heads, and bodies that come in several pieces: an upload takes all of its body, and a query
-/// none.
-#[test]
-fn long_heads_and_bodies(rt: HostRuntime) -> Result<(), Fail> {
+/// Asserts the replies to long heads, and to bodies that come in several pieces: an upload takes
+/// all of its body, and a query none.
+fn expect_all_long<R: AllocGlobal + Abort>(rt: &R, desk: &mut MemoryDesk) -> Result<(), Fail> {
     let upload = "PUT /projects/app/tags?key=k1 HTTP/1.1\r\nContent-Length: 20000\r\n\r\n";
     let query = "GET /projects HTTP/1.1\r\nContent-Length: 20000\r\n\r\n";
     for &(first, text, times, last, names) in &[
@@ -226,10 +247,17 @@ fn long_heads_and_bodies(rt: HostRuntime) -> Result<(), Fail> {
         ("GET /x HTTP/1.1\r\n", "a: b\r\n", 32, "\r\n", "H06"),
         ("GET /x HTTP/1.1\r\n", "a: b\r\n", 33, "\r\n", "H02"),
         ("", "\n", 34, "\r\n\r\n", "H02"),
-        (upload, "x\tf.c\t1\n", 2500, GET, "tags D01"),
         (query, "body ", 4000, GET, "none D01"),
+        (upload, "x\tf.c\t1\n", 2500, GET, "tags D01"),
     ] {
-        expect_long(&rt, (first, text, times, last), names)?;
+        expect_long(rt, desk, (first, text, times, last), names)?;
     }
     Ok(())
+}
+
+/// The last stream alone changes the index.
+#[test]
+fn long_heads_and_bodies(rt: HostRuntime) -> Result<(), Fail> {
+    let mut desk = TableDesk::open_in_memory(rt.alloc())?;
+    expect_all_long(&rt, &mut desk)
 }

@@ -3,7 +3,7 @@
 //! long texts that many rows have.
 mod shapes;
 
-use crate::replies::expect;
+use crate::replies::expect_new;
 use samples::{exchange, reply_of};
 use shapes::{Shape, text_of_shape};
 use std::alloc::Global;
@@ -183,8 +183,7 @@ fn expect_row<R: AllocGlobal + Abort>(
         wanted.push_str(places_reply(rt.alloc(), lines)?.as_str())?;
         count = 3;
     }
-    expect(rt, stream.as_bytes(), 1_000_000, count, wanted.as_str());
-    Ok(())
+    expect_new(rt, stream.as_bytes(), 1_000_000, count, wanted.as_str())
 }
 
 /// Tags files with a backslash at the end of a part, in the form of the streams of `replies.rt`.
@@ -202,6 +201,5 @@ fn great_malicious(rt: HostRuntime) -> Result<(), Fail> {
         expect_row(&rt, shape, *reply, *asked)?;
     }
     let (requests, replies) = exchange(rt.alloc(), TAGS, usize::MAX)?;
-    expect(&rt, requests.as_bytes(), 1_000_000, 4, replies.as_str());
-    Ok(())
+    expect_new(&rt, requests.as_bytes(), 1_000_000, 4, replies.as_str())
 }

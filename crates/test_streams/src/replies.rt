@@ -1,12 +1,9 @@
 //! The bytes that are written for streams of requests that come whole. Streams that are cut, and
 //! readers and writers that fail, are in `cut.rt`.
-ghost use Rattle.std.specs.Prelude.{};
-ghost use Rattle.lsif.specs.Streams.{CanCount, IsCountable};
-
 use crate::asserts::expect_equal;
-use desk::TableDesk;
+use desk::{MemoryDesk, TableDesk};
 use http_edge::{ServeFault, serve_stream};
-use lsif::{Counted, Sink, Source};
+use lsif::Counted;
 use samples::{NO_PROJECTS, PROJECTS, Pieces, Slow, UPLOADS, exchange, in_pieces, slow_writer};
 use std::alloc::Global;
 use std::process::Abort;
@@ -117,46 +114,64 @@ GET /projects => 200 {"projects":[]}
 /// How many requests of a stream are answered at most.
 const MOST: u32 = 1_000_000;
 
-/// What is answered over a new database in memory.
-fn served<R: Source, W: Sink>(alloc: Global, r: &mut R, w: &mut W) -> Result<u32, ServeFault>
-    requires reads { IsCountable (R.failed r.old) }
-    requires writes { CanCount (W.output w.old) }
-{
-    match TableDesk::open_in_memory(alloc) {
-        Ok(mut desk) => serve_stream(alloc, &mut desk, r, w, MOST),
-        Err(_) => Err(ServeFault::Memory),
+/// What a stream was answered, what was written, and how many of its bytes weren't read.
+#[derive(Drop)]
+pub(crate) struct Replayed {
+    pub answer: Result<u32, ServeFault>,
+    pub written: Vec<u8>,
+    pub left: usize,
+}
+
+/// What a desk replies over a reader, to a writer that takes so many bytes at a time.
+fn replay_over(alloc: Global, desk: &mut MemoryDesk, reader: Pieces<'_>, most: usize) -> Replayed {
+    let mut r = Counted::new(reader);
+    let mut w = Counted::new(slow_writer(alloc, most, 0));
+    let answer = serve_stream(alloc, desk, &mut r, &mut w, MOST);
+    let Pieces { bytes, .. } = r.into_inner();
+    let Slow { taken, .. } = w.into_inner();
+    Replayed {
+        answer,
+        written: taken,
+        left: bytes.len(),
     }
 }
 
-/// What is answered over a new database in memory and written over a reader, and how many bytes are
-/// left in the reader, where the writer takes so many bytes at a time and fails at the write of
-/// that number.
-pub(crate) fn replay_over(
-    alloc: Global,
-    reader: Pieces<'_>,
-    most: usize,
-    fails_at: u32,
-) -> (Result<u32, ServeFault>, Vec<u8>, usize) {
-    let mut r = Counted::new(reader);
-    let mut w = Counted::new(slow_writer(alloc, most, fails_at));
-    let answer = served(alloc, &mut r, &mut w);
-    let Pieces { bytes, .. } = r.into_inner();
-    let Slow { taken, .. } = w.into_inner();
-    (answer, taken, bytes.len())
+/// The same of a desk over a new database in memory.
+pub(crate) fn replay_new(alloc: Global, reader: Pieces<'_>, most: usize) -> Result<Replayed, Fail> {
+    let mut desk = TableDesk::open_in_memory(alloc)?;
+    Ok(replay_over(alloc, &mut desk, reader, most))
 }
 
-/// Asserts what is answered and written for a stream, whose bytes are read and written so many at a
-/// time.
+fn expect_replayed<R: Abort>(rt: &R, replayed: &Replayed, count: u32, wanted: &str) {
+    let found = str::from_utf8(&replayed.written).unwrap_or("not UTF-8");
+    expect_equal(rt, &(replayed.answer, found), &(Ok(count), wanted), "");
+}
+
+/// Asserts what a desk answers and writes for a stream, whose bytes are read and written so many at
+/// a time.
 pub(crate) fn expect<R: AllocGlobal + Abort>(
     rt: &R,
+    desk: &mut MemoryDesk,
     stream: &[u8],
     most: usize,
     count: u32,
     wanted: &str,
 ) {
-    let (answer, written, _) = replay_over(rt.alloc(), in_pieces(stream, most), most, 0);
-    let found = str::from_utf8(&written).unwrap_or("not UTF-8");
-    expect_equal(rt, &(answer, found), &(Ok(count), wanted), "");
+    let replayed = replay_over(rt.alloc(), desk, in_pieces(stream, most), most);
+    expect_replayed(rt, &replayed, count, wanted);
+}
+
+/// The same of a desk over a new database in memory.
+pub(crate) fn expect_new<R: AllocGlobal + Abort>(
+    rt: &R,
+    stream: &[u8],
+    most: usize,
+    count: u32,
+    wanted: &str,
+) -> Result<(), Fail> {
+    let replayed = replay_new(rt.alloc(), in_pieces(stream, most), most)?;
+    expect_replayed(rt, &replayed, count, wanted);
+    Ok(())
 }
 
 /// Asserts what is written for streams that come whole, and for no bytes.
@@ -165,11 +180,10 @@ fn expect_streams<R: AllocGlobal + Abort>(rt: &R, streams: &'static str) -> Resu
         let (requests, replies) = exchange(rt.alloc(), rows, usize::MAX)?;
         let count = u32::try_from(rows.trim_matches('\n').lines().count())?;
         for &most in &[1, 7, 1_000_000] {
-            expect(rt, requests.as_bytes(), most, count, replies.as_str());
+            expect_new(rt, requests.as_bytes(), most, count, replies.as_str())?;
         }
     }
-    expect(rt, b"", 1, 0, "");
-    Ok(())
+    expect_new(rt, b"", 1, 0, "")
 }
 
 /// Uploads of dumps, what is refused of them, and requests for definitions.
@@ -183,6 +197,5 @@ fn replay_first(rt: HostRuntime) -> Result<(), Fail> {
 #[test]
 fn all_rows(rt: HostRuntime) -> Result<(), Fail> {
     expect_streams(&rt, FURTHER)?;
-    expect(&rt, PROJECTS.as_bytes(), 1, 1, NO_PROJECTS);
-    Ok(())
+    expect_new(&rt, PROJECTS.as_bytes(), 1, 1, NO_PROJECTS)
 }
