@@ -1,10 +1,10 @@
 //! Puts the dump `made`, where that file is there; else asks for the references at the position of
 //! the file `asked`, and prints the status and the length of the body.
 use crate::fault::Fault;
-use crate::shared::{document, number, project, put};
+use crate::shared::{Measured, document, number, project, put};
 use desk::{Desk, Query, Reply, TableDesk};
 use positions::Position;
-use sqlite::{Alter, Connection};
+use sqlite::Alter;
 use std::fs;
 use tables::Tables;
 
@@ -29,11 +29,8 @@ fn replied<S: Alter>(rt: &HostRuntime, desk: &mut TableDesk<S>) -> Result<(), Fa
     Ok(())
 }
 
-pub(crate) fn run<S: Alter + Drop>(
-    rt: &HostRuntime,
-    tables: Tables<S>,
-) -> Result<Connection<S>, Fault> {
+pub(crate) fn run<S: Alter + Drop>(rt: &HostRuntime, tables: Tables<S>) -> Measured<S> {
     let mut desk = TableDesk::new(rt.alloc(), tables);
-    replied(rt, &mut desk)?;
-    Ok(desk.into_tables().into_connection())
+    let answer = replied(rt, &mut desk);
+    (answer, desk.into_tables().into_connection())
 }

@@ -22,17 +22,17 @@ fn read_others(others: &[u8]) -> Result<(), Fault> {
 fn flattened(rt: &HostRuntime, dump: &CheckedDump) -> Result<(u128, usize), Fault> {
     let start = Instant::now(rt)?;
     let rows = flatten(rt.alloc(), dump)?;
-    Ok((since(rt, start)?, rows.ranges.len()))
+    let time = since(rt, start);
+    let count = rows.ranges.len();
+    drop(rows);
+    Ok((time?, count))
 }
 
-fn measure(rt: &HostRuntime, name: &str, others: &[u8]) -> Result<(), Fault> {
-    let body = fs::read(rt, name)?;
-    let start = Instant::now(rt)?;
-    let dump = checked(rt.alloc(), &body)?;
-    let check = since(rt, start)?;
-    let (flat, count) = flattened(rt, &dump)?;
+/// Prints what the check of this dump took, and what its flattening takes.
+fn tell(rt: &HostRuntime, dump: &CheckedDump, check: u128, others: &[u8]) -> Result<(), Fault> {
+    let (flat, count) = flattened(rt, dump)?;
     read_others(others)?;
-    let (again, _) = flattened(rt, &dump)?;
+    let (again, _) = flattened(rt, dump)?;
     println!(rt;
         "{} {} {} {}",
         check / 1000,
@@ -41,6 +41,14 @@ fn measure(rt: &HostRuntime, name: &str, others: &[u8]) -> Result<(), Fault> {
         count
     )?;
     Ok(())
+}
+
+fn measure(rt: &HostRuntime, name: &str, others: &[u8]) -> Result<(), Fault> {
+    let body = fs::read(rt, name)?;
+    let start = Instant::now(rt)?;
+    let dump = checked(rt.alloc(), &body)?;
+    let check = since(rt, start)?;
+    tell(rt, &dump, check, others)
 }
 
 pub(crate) fn run(rt: &HostRuntime) -> Result<(), Fault> {

@@ -3,6 +3,8 @@
 //! found.
 #![tactic(auto)]
 
+ghost use Rattle.std.specs.Prelude.{◌≡◌, false};
+
 mod answers;
 mod fault;
 mod flat;
@@ -14,7 +16,8 @@ mod shared;
 mod uploads;
 
 use fault::Fault;
-use sqlite::Connection;
+use shared::Measured;
+use sqlite::{Alter, Connection};
 use std::env;
 use std::process::ExitCode;
 use tables::Tables;
@@ -60,22 +63,28 @@ fn measure(rt: &HostRuntime, name: &str) -> Result<(), Fault> {
     }
 }
 
-/// The same of what is measured over the tables of the database `index.db`, which is made where
-/// there is none.
+/// The same of what is measured over the tables of a database.
+fn measure_over<S: Alter + Drop>(rt: &HostRuntime, name: &str, conn: Connection<S>) -> Measured<S>
+    requires mode { conn.in_transaction ≡ false }
+{
+    match Tables::open(conn) {
+        Ok(tables) => match name {
+            "answers" => answers::run(rt, tables),
+            "queries" => queries::run(rt, tables),
+            _ => rows::run(rt, tables),
+        },
+        Err((fault, conn)) => (Err(Fault::Tables(fault)), conn),
+    }
+}
+
+/// The same of the database `index.db`, which is made where there is none.
 fn over_file(rt: &HostRuntime, name: &str) -> Result<(), Fault> {
     let Ok(conn) = Connection::open(rt, "index.db") else {
         return Err(Fault::Data);
     };
-    let Ok(tables) = Tables::open(conn) else {
-        return Err(Fault::Data);
-    };
-    let conn = match name {
-        "answers" => answers::run(rt, tables),
-        "queries" => queries::run(rt, tables),
-        _ => rows::run(rt, tables),
-    };
-    if conn?.close().is_err() {
+    let (answer, conn) = measure_over(rt, name, conn);
+    if conn.close().is_err() {
         return Err(Fault::Data);
     }
-    Ok(())
+    answer
 }

@@ -2,12 +2,13 @@
 //! microseconds, the status and the body of each. Of `memory FILE` it prints how long a put into an
 //! empty database in memory takes, the check of the dump, and the replacement.
 use crate::fault::Fault;
-use crate::shared::{checked, document, number, project, put, since, words};
+use crate::shared::{Measured, checked, document, number, project, put, since, words};
 use desk::{Desk, Query, Reply, TableDesk};
+use dump::CheckedDump;
 use flatten::flatten;
 use lsif::RequestKind;
 use positions::Position;
-use sqlite::{Alter, Connection};
+use sqlite::Alter;
 use std::alloc::Global;
 use std::fs;
 use std::time::Instant;
@@ -71,27 +72,57 @@ fn served<S: Alter>(rt: &HostRuntime, desk: &mut TableDesk<S>, line: &str) -> Re
     Ok(())
 }
 
-/// Prints how long a put of this dump into an empty database in memory takes.
-fn put_in_memory(rt: &HostRuntime, body: &[u8]) -> Result<(), Fault> {
-    let mut desk = TableDesk::open_in_memory(rt.alloc())?;
+/// Prints how long a put of this dump takes.
+fn tell_put<S: Alter>(rt: &HostRuntime, desk: &mut TableDesk<S>, body: &[u8]) -> Result<(), Fault> {
     let start = Instant::now(rt)?;
-    let reply = put(rt.alloc(), &mut desk, "app", body)?;
+    let reply = put(rt.alloc(), desk, "app", body)?;
     let time = since(rt, start)?;
     println!(rt; "memory {} {}", time / 1000, reply.status())?;
     Ok(())
 }
 
-/// Prints how long its check takes, and the replacement of its rows.
-fn parts_in_memory(rt: &HostRuntime, body: &[u8]) -> Result<(), Fault> {
-    let mut tables = TableDesk::open_in_memory(rt.alloc())?.into_tables();
+/// Prints how long the rows of a dump are made and put.
+fn tell_replacement<S: Alter>(
+    rt: &HostRuntime,
+    tables: &mut Tables<S>,
+    dump: &CheckedDump,
+) -> Result<(), Fault> {
+    let start = Instant::now(rt)?;
+    tables.replace_dump("app", "k", "{}", &flatten(rt.alloc(), dump)?)?;
+    println!(rt; "replacement {} 200", since(rt, start)? / 1000)?;
+    Ok(())
+}
+
+/// Prints how long the check of this dump takes, and the replacement of its rows.
+fn tell_parts<S: Alter>(
+    rt: &HostRuntime,
+    tables: &mut Tables<S>,
+    body: &[u8],
+) -> Result<(), Fault> {
     let start = Instant::now(rt)?;
     let dump = checked(rt.alloc(), body)?;
     println!(rt; "check {} 200", since(rt, start)? / 1000)?;
-    let start = Instant::now(rt)?;
-    let rows = flatten(rt.alloc(), &dump)?;
-    tables.replace_dump("app", "k", "{}", &rows)?;
-    println!(rt; "replacement {} 200", since(rt, start)? / 1000)?;
-    Ok(())
+    tell_replacement(rt, tables, &dump)
+}
+
+/// Prints how long a put of this dump by the first desk takes, and its parts by the tables of the
+/// second.
+fn tell_both<S: Alter + Drop>(
+    rt: &HostRuntime,
+    mut first: TableDesk<S>,
+    second: TableDesk<S>,
+    body: &[u8],
+) -> Result<(), Fault> {
+    tell_put(rt, &mut first, body)?;
+    drop(first);
+    let mut tables = second.into_tables();
+    tell_parts(rt, &mut tables, body)
+}
+
+/// The same of desks over empty databases in memory.
+fn put_in_memory(rt: &HostRuntime, body: &[u8]) -> Result<(), Fault> {
+    let first = TableDesk::open_in_memory(rt.alloc())?;
+    tell_both(rt, first, TableDesk::open_in_memory(rt.alloc())?, body)
 }
 
 fn serve_all<S: Alter>(rt: &HostRuntime, desk: &mut TableDesk<S>) -> Result<(), Fault> {
@@ -100,7 +131,6 @@ fn serve_all<S: Alter>(rt: &HostRuntime, desk: &mut TableDesk<S>) -> Result<(), 
         if let Some(name) = line.strip_prefix("memory ") {
             let body = fs::read(rt, name)?;
             put_in_memory(rt, &body)?;
-            parts_in_memory(rt, &body)?;
         } else {
             served(rt, desk, line)?;
         }
@@ -108,11 +138,8 @@ fn serve_all<S: Alter>(rt: &HostRuntime, desk: &mut TableDesk<S>) -> Result<(), 
     Ok(())
 }
 
-pub(crate) fn run<S: Alter + Drop>(
-    rt: &HostRuntime,
-    tables: Tables<S>,
-) -> Result<Connection<S>, Fault> {
+pub(crate) fn run<S: Alter + Drop>(rt: &HostRuntime, tables: Tables<S>) -> Measured<S> {
     let mut desk = TableDesk::new(rt.alloc(), tables);
-    serve_all(rt, &mut desk)?;
-    Ok(desk.into_tables().into_connection())
+    let answer = serve_all(rt, &mut desk);
+    (answer, desk.into_tables().into_connection())
 }

@@ -3,6 +3,7 @@
 use crate::fault::Fault;
 use crate::shared::checked;
 use desk::TableDesk;
+use dump::CheckedDump;
 use flatten::{Rows, flatten};
 use sqlite::Alter;
 use std::alloc::Global;
@@ -13,6 +14,20 @@ use tags::{Tag, read_tags};
 /// How many calls there are.
 const CALLS: usize = 9;
 
+fn put<S: Alter>(tables: &mut Tables<S>, key: &str, rows: &Rows<'_>) -> Result<usize, TablesFault> {
+    tables.replace_dump("app", key, "dump", rows)?;
+    Ok(1)
+}
+
+fn put_tags<S: Alter>(
+    alloc: Global,
+    tables: &mut Tables<S>,
+    tags: &[Tag],
+) -> Result<usize, TablesFault> {
+    tables.replace_tags(alloc, "app", "k1", "tags", tags)?;
+    Ok(1)
+}
+
 /// What a call finds, or 1 where it puts.
 fn answer<S: Alter>(
     alloc: Global,
@@ -21,25 +36,16 @@ fn answer<S: Alter>(
     rows: &Rows<'_>,
     tags: &[Tag],
 ) -> Result<usize, TablesFault> {
-    Ok(match call {
-        0 => {
-            tables.replace_dump("app", "k0", "dump", rows)?;
-            1
-        }
-        1 => {
-            tables.replace_tags(alloc, "app", "k1", "tags", tags)?;
-            1
-        }
-        3 => tables.names_prefix(alloc, "", None)?.len(),
-        4 => tables.names_exact(alloc, "a", Some("app"))?.len(),
-        5 => usize::from(tables.kept_reply("app", "k1")?.is_some()),
-        6 => {
-            tables.replace_dump("app", "k6", "dump", rows)?;
-            1
-        }
-        7 => usize::from(tables.remove("app", "k7")?),
-        _ => tables.projects(alloc)?.len(),
-    })
+    match call {
+        0 => put(tables, "k0", rows),
+        1 => put_tags(alloc, tables, tags),
+        3 => Ok(tables.names_prefix(alloc, "", None)?.len()),
+        4 => Ok(tables.names_exact(alloc, "a", Some("app"))?.len()),
+        5 => Ok(usize::from(tables.kept_reply("app", "k1")?.is_some())),
+        6 => put(tables, "k6", rows),
+        7 => Ok(usize::from(tables.remove("app", "k7")?)),
+        _ => Ok(tables.projects(alloc)?.len()),
+    }
 }
 
 fn tell(rt: &HostRuntime, call: usize, answer: Result<usize, TablesFault>) -> Result<(), Fault> {
@@ -56,6 +62,7 @@ fn call_all<S: Alter>(
     rows: &Rows<'_>,
     tags: &[Tag],
 ) -> Result<(), Fault> {
+    println!(rt; "opened")?;
     for call in 0..CALLS {
         let first = answer(rt.alloc(), tables, call, rows, tags);
         tell(rt, call, first)?;
@@ -67,14 +74,33 @@ fn call_all<S: Alter>(
     Ok(())
 }
 
+/// Calls the tables of a desk.
+fn call_tables<S: Alter + Drop>(
+    rt: &HostRuntime,
+    desk: TableDesk<S>,
+    rows: &Rows<'_>,
+    tags: &[Tag],
+) -> Result<(), Fault> {
+    let mut tables = desk.into_tables();
+    call_all(rt, &mut tables, rows, tags)
+}
+
+/// Calls new tables in memory.
+fn call_new(rt: &HostRuntime, rows: &Rows<'_>, tags: &[Tag]) -> Result<(), Fault> {
+    println!(rt; "read")?;
+    call_tables(rt, TableDesk::open_in_memory(rt.alloc())?, rows, tags)
+}
+
+/// The same with the rows of a dump and the tags of a text.
+fn call_with(rt: &HostRuntime, dump: &CheckedDump, text: &[u8]) -> Result<(), Fault> {
+    let tags = read_tags(rt.alloc(), text)?;
+    let rows = flatten(rt.alloc(), dump)?;
+    call_new(rt, &rows, &tags)
+}
+
 pub(crate) fn run(rt: &HostRuntime) -> Result<(), Fault> {
     let body = fs::read(rt, "dump")?;
     let text = fs::read(rt, "tags")?;
     let dump = checked(rt.alloc(), &body)?;
-    let rows = flatten(rt.alloc(), &dump)?;
-    let tags = read_tags(rt.alloc(), &text)?;
-    println!(rt; "read")?;
-    let mut tables = TableDesk::open_in_memory(rt.alloc())?.into_tables();
-    println!(rt; "opened")?;
-    call_all(rt, &mut tables, &rows, &tags)
+    call_with(rt, &dump, &text)
 }

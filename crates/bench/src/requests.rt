@@ -2,9 +2,10 @@
 //! as the file `count` says, and prints the nanoseconds of one query of each kind.
 use crate::fault::Fault;
 use crate::shared::{document, number, project, put, since};
-use desk::{Desk, MemoryDesk, Query, TableDesk};
+use desk::{Desk, Query, TableDesk};
 use lsif::RequestKind;
 use positions::Position;
+use sqlite::Alter;
 use std::alloc::Global;
 use std::fs;
 use std::time::Instant;
@@ -18,9 +19,9 @@ fn definition(alloc: Global) -> Result<Query, Fault> {
     })
 }
 
-fn ask(
+fn ask<S: Alter>(
     rt: &HostRuntime,
-    desk: &mut MemoryDesk,
+    desk: &mut TableDesk<S>,
     query: &Query,
     name: &str,
     count: u32,
@@ -36,11 +37,15 @@ fn ask(
     Ok(())
 }
 
-pub(crate) fn run(rt: &HostRuntime) -> Result<(), Fault> {
+fn measure<S: Alter>(rt: &HostRuntime, desk: &mut TableDesk<S>) -> Result<(), Fault> {
     let count = number(fs::read_to_string(rt, "count")?.trim_end())?;
-    let mut desk = TableDesk::open_in_memory(rt.alloc())?;
-    put(rt.alloc(), &mut desk, "app", &fs::read(rt, "dump")?)?;
-    ask(rt, &mut desk, &Query::Projects, "projects", count)?;
+    put(rt.alloc(), desk, "app", &fs::read(rt, "dump")?)?;
+    ask(rt, desk, &Query::Projects, "projects", count)?;
     let definition = definition(rt.alloc())?;
-    ask(rt, &mut desk, &definition, "definition", count)
+    ask(rt, desk, &definition, "definition", count)
+}
+
+pub(crate) fn run(rt: &HostRuntime) -> Result<(), Fault> {
+    let mut desk = TableDesk::open_in_memory(rt.alloc())?;
+    measure(rt, &mut desk)
 }

@@ -2,14 +2,14 @@
 //! memory, and prints the nanoseconds of each; then asks the tables what the file `asked` says, a
 //! line each, and prints the kind, the nanoseconds and how much was found.
 use crate::fault::Fault;
-use crate::shared::{checked, number, since};
+use crate::shared::{Measured, checked, number, since};
 use desk::TableDesk;
 use dump::Role;
 use flatten::{Rows, flatten};
 use lsif::RequestKind;
 use machine::Covering;
 use positions::Position;
-use sqlite::{Alter, Connection};
+use sqlite::Alter;
 use std::alloc::Global;
 use std::fs;
 use std::time::Instant;
@@ -29,22 +29,35 @@ fn put<S: Alter>(
     Ok(())
 }
 
-fn put_in_memory(rt: &HostRuntime, rows: &Rows<'_>) -> Result<(), Fault> {
-    let mut tables = TableDesk::open_in_memory(rt.alloc())?.into_tables();
+/// Puts these rows twice into the tables of a desk.
+fn put_twice<S: Alter + Drop>(
+    rt: &HostRuntime,
+    desk: TableDesk<S>,
+    rows: &Rows<'_>,
+) -> Result<(), Fault> {
+    let mut tables = desk.into_tables();
     put(rt, &mut tables, "memory", "m1", rows)?;
     put(rt, &mut tables, "memory", "m2", rows)
 }
 
-fn put_all<S: Alter>(rt: &HostRuntime, tables: &mut Tables<S>) -> Result<(), Fault> {
-    let body = fs::read(rt, "made")?;
-    let dump = checked(rt.alloc(), &body)?;
-    let rows = flatten(rt.alloc(), &dump)?;
-    put(rt, tables, "first", "k", &rows)?;
+/// Puts these rows once and under each key, and in memory.
+fn put_rows<S: Alter>(
+    rt: &HostRuntime,
+    tables: &mut Tables<S>,
+    rows: &Rows<'_>,
+) -> Result<(), Fault> {
+    put(rt, tables, "first", "k", rows)?;
     let keys = fs::read_to_string(rt, "keys")?;
     for key in keys.lines() {
-        put(rt, tables, "replaced", key, &rows)?;
+        put(rt, tables, "replaced", key, rows)?;
     }
-    put_in_memory(rt, &rows)
+    put_twice(rt, TableDesk::open_in_memory(rt.alloc())?, rows)
+}
+
+fn put_dump<S: Alter>(rt: &HostRuntime, tables: &mut Tables<S>) -> Result<(), Fault> {
+    let body = fs::read(rt, "made")?;
+    let dump = checked(rt.alloc(), &body)?;
+    put_rows(rt, tables, &flatten(rt.alloc(), &dump)?)
 }
 
 /// How many ranges cover a position, which is written as a uri, a line and a character.
@@ -58,6 +71,20 @@ fn cover<S: Alter>(alloc: Global, tables: &mut Tables<S>, what: &str) -> Result<
     }
 }
 
+/// How much a line of the dump has.
+fn found_at<S: Alter>(
+    alloc: Global,
+    tables: &mut Tables<S>,
+    kind: &str,
+    line: u32,
+) -> Result<usize, Fault> {
+    match kind {
+        "hover" => Ok(usize::from(tables.hover("app", line)?.is_some())),
+        "marks" => Ok(tables.marks(alloc, "app", line)?.len()),
+        _ => Ok(tables.items(alloc, "app", line, Role::Definitions)?.len()),
+    }
+}
+
 /// How much is found.
 fn found<S: Alter>(
     alloc: Global,
@@ -65,20 +92,16 @@ fn found<S: Alter>(
     kind: &str,
     what: &str,
 ) -> Result<usize, Fault> {
-    Ok(match kind {
-        "covering" => cover(alloc, tables, what)?,
-        "hover" => usize::from(tables.hover("app", number(what)?)?.is_some()),
-        "marks" => tables.marks(alloc, "app", number(what)?)?.len(),
-        "items" => tables
-            .items(alloc, "app", number(what)?, Role::Definitions)?
-            .len(),
-        "bearers" => tables.bearers(alloc, what)?.len(),
-        "name" => tables.names_exact(alloc, what, None)?.len(),
-        "prefix" => tables.names_prefix(alloc, what, None)?.len(),
-        "kept" => usize::from(tables.kept_reply("app", what)?.is_some()),
-        "profile" => usize::from(tables.profile("app")?.is_some()),
-        _ => tables.projects(alloc)?.len(),
-    })
+    match kind {
+        "covering" => cover(alloc, tables, what),
+        "hover" | "marks" | "items" => found_at(alloc, tables, kind, number(what)?),
+        "bearers" => Ok(tables.bearers(alloc, what)?.len()),
+        "name" => Ok(tables.names_exact(alloc, what, None)?.len()),
+        "prefix" => Ok(tables.names_prefix(alloc, what, None)?.len()),
+        "kept" => Ok(usize::from(tables.kept_reply("app", what)?.is_some())),
+        "profile" => Ok(usize::from(tables.profile("app")?.is_some())),
+        _ => Ok(tables.projects(alloc)?.len()),
+    }
 }
 
 fn ask<S: Alter>(rt: &HostRuntime, tables: &mut Tables<S>, line: &str) -> Result<(), Fault> {
@@ -104,12 +127,13 @@ fn put_tags<S: Alter>(rt: &HostRuntime, tables: &mut Tables<S>) -> Result<(), Fa
     Ok(())
 }
 
-pub(crate) fn run<S: Alter + Drop>(
-    rt: &HostRuntime,
-    mut tables: Tables<S>,
-) -> Result<Connection<S>, Fault> {
-    put_all(rt, &mut tables)?;
-    put_tags(rt, &mut tables)?;
-    ask_all(rt, &mut tables)?;
-    Ok(tables.into_connection())
+fn measure<S: Alter>(rt: &HostRuntime, tables: &mut Tables<S>) -> Result<(), Fault> {
+    put_dump(rt, tables)?;
+    put_tags(rt, tables)?;
+    ask_all(rt, tables)
+}
+
+pub(crate) fn run<S: Alter + Drop>(rt: &HostRuntime, mut tables: Tables<S>) -> Measured<S> {
+    let answer = measure(rt, &mut tables);
+    (answer, tables.into_connection())
 }

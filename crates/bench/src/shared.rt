@@ -1,11 +1,15 @@
 //! What several measurements do: the words of their files, dumps and uploads, and the time since a
 //! moment.
 use crate::fault::Fault;
-use desk::{Command, Desk, DocUri, Key, ProjectName, Reply};
+use desk::{Command, Desk, DocUri, Key, ProjectName, Reply, TableDesk};
 use dump::{CheckedDump, read_dump};
 use lsif::{Counted, Profile};
+use sqlite::{Alter, Connection};
 use std::alloc::Global;
 use std::time::Instant;
+
+/// How a measurement over the tables of a database ended, and the connection.
+pub(crate) type Measured<S> = (Result<(), Fault>, Connection<S>);
 
 pub(crate) fn number(text: &str) -> Result<u32, Fault> {
     let Ok(number) = text.parse() else {
@@ -47,9 +51,9 @@ pub(crate) fn key(alloc: Global) -> Result<Key, Fault> {
 }
 
 /// The reply to the upload of a dump by profile 1.
-pub(crate) fn put<D: Desk>(
+pub(crate) fn put<S: Alter>(
     alloc: Global,
-    desk: &mut D,
+    desk: &mut TableDesk<S>,
     name: &str,
     body: &[u8],
 ) -> Result<Reply, Fault> {
