@@ -90,10 +90,12 @@ class Editor:
         return self.last
 
     def read(self) -> dict[str, Any]:
-        """The next message."""
-        length = int(self.run.stdout.readline().split(b":")[1])  # type: ignore[union-attr]
-        self.run.stdout.readline()  # type: ignore[union-attr]
-        message: dict[str, Any] = json.loads(self.run.stdout.read(length))  # type: ignore[union-attr]
+        """The next message, behind a head of its length alone."""
+        head = self.run.stdout.readline()  # type: ignore[union-attr]
+        name, _, length = head.partition(b": ")
+        assert name == b"Content-Length", head
+        assert self.run.stdout.readline() == b"\r\n"  # type: ignore[union-attr]
+        message: dict[str, Any] = json.loads(self.run.stdout.read(int(length)))  # type: ignore[union-attr]
         assert message.pop("jsonrpc") == "2.0"
         return message
 
