@@ -11,58 +11,31 @@ import sys
 import time
 from typing import Any, Optional
 
-SHOWN = "SELECT line, first, last, parent, def, refs, hover FROM range_row WHERE slot = ?1 AND "
-START = SHOWN + "uri = ?2 AND first <= ?3 AND last > first ORDER BY first DESC, last LIMIT 1"
-PARENT = SHOWN + "line = ?2 AND uri = ?3"
+from sqlite_selections import DOCUMENT, HOVER, ITEMS, MARKS, Row, Selections, packed
+
 BEARERS = (
     "SELECT slot.project, bearer.line, bearer.kind, bearer.def, bearer.refs, bearer.hover,"
     " more.decl, more.imp FROM bearer LEFT JOIN slot ON slot.id = bearer.slot"
     " LEFT JOIN more ON more.slot = bearer.slot AND more.line = bearer.line"
     " WHERE bearer.keytext = ?1"
 )
-MARKS = "SELECT kind, keytext FROM mark WHERE slot = ?1 AND line = ?2"
-ITEMS = "SELECT uri, first, last FROM item WHERE slot = ?1 AND result = ?2 AND role = ?3"
-HOVER = "SELECT contents FROM hover WHERE slot = ?1 AND result = ?2"
-SLOT = "SELECT id FROM slot WHERE project = ?1 AND part = ?2"
-DUMP = 1
 IMPORT, EXPORT = 0, 1
 # The places of the columns that a row of ranges has of each kind of result.
 DEFINITION_COLUMN, REFERENCES_COLUMN, HOVER_COLUMN = 4, 5, 6
-
-Row = tuple[Any, ...]
 
 
 def position(packed: int) -> dict[str, int]:
     return {"character": packed % 2**31, "line": packed // 2**31}
 
 
-class Answers:
+class Answers(Selections):
     """The answers from a database."""
 
-    def __init__(self, base: sqlite3.Connection) -> None:
-        self.base = base
-
-    def one(self, text: str, *values: int | str) -> Optional[Row]:
-        found: Optional[Row] = self.base.execute(text, values).fetchone()
-        return found
-
-    def every(self, text: str, *values: int | str) -> list[Row]:
-        return self.base.execute(text, values).fetchall()
-
-    def slot_of(self, project: str) -> int:
-        slot: int = self.every(SLOT, project, DUMP)[0][0]
-        return slot
-
     def covering(self, slot: int, uri: str, at: int) -> list[Row]:
-        """The ranges that cover a position, the innermost first."""
-        found = []
-        row = self.one(START, slot, uri, at)
-        while row is not None:
-            if at < row[2]:
-                found.append(row)
-            row = None if row[3] is None else self.one(PARENT, slot, row[3], uri)
+        """The ranges that cover a position; where there are none, the document is looked for."""
+        found = self.climb(slot, uri, at)
         if not found:
-            self.one("SELECT slot FROM document WHERE slot = ?1 AND uri = ?2", slot, uri)
+            self.one(DOCUMENT, slot, uri)
         return found
 
     def picked(
@@ -129,7 +102,7 @@ class Answers:
 
     def body(self, kind: str, project: str, uri: str, line: str, character: str) -> str:
         """The body of the reply to a query."""
-        at = int(line) * 2**31 + int(character)
+        at = packed(line, character)
         if kind == "hover":
             return '{"contents":' + self.hover(project, uri, at) + "}"
         if kind == "definition":

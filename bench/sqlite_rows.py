@@ -3,7 +3,8 @@ the same statements."""
 
 import sqlite3
 from dataclasses import dataclass
-from typing import Any
+
+from sqlite_selections import DUMP, Row
 
 # The tables whose rows are of a part of a project, in the order in which the program fills them.
 CHILDREN = (
@@ -18,9 +19,6 @@ CHILDREN = (
 )
 PRAGMAS = ("PRAGMA journal_mode = WAL", "PRAGMA synchronous = FULL", "PRAGMA foreign_keys = ON")
 INSERT_SLOT = "INSERT INTO slot (project, part) VALUES (?1, ?2)"
-DUMP, TAGS = 1, 2
-
-Row = tuple[Any, ...]
 
 
 @dataclass(frozen=True)

@@ -8,20 +8,22 @@ usage: bench/tables_peer.py REPLACEMENTS OWN PEER      (beside tables.sh, which 
 import sqlite3
 import sys
 import time
-from typing import Optional
 
-from sqlite_rows import DUMP, INSERT_SLOT, TAGS, Row, Rows, insert, opened, read_rows
+from sqlite_rows import INSERT_SLOT, Rows, insert, opened, read_rows
+from sqlite_selections import (
+    DOCUMENT,
+    DUMP,
+    HOVER,
+    ITEMS,
+    MARKS,
+    TAGS,
+    Row,
+    Selections,
+    packed,
+)
 
-SLOT = "SELECT id FROM slot WHERE project = ?1 AND part = ?2"
-TEXTS = {
-    "hover": "SELECT contents FROM hover WHERE slot = ?1 AND result = ?2",
-    "marks": "SELECT kind, keytext FROM mark WHERE slot = ?1 AND line = ?2",
-    "items": "SELECT uri, first, last FROM item WHERE slot = ?1 AND result = ?2 AND role = ?3",
-    "profile": "SELECT profile FROM part_profile WHERE slot = ?1",
-}
-SHOWN = "SELECT line, first, last, parent, def, refs, hover FROM range_row WHERE slot = ?1 AND "
-START = SHOWN + "uri = ?2 AND first <= ?3 AND last > first ORDER BY first DESC, last LIMIT 1"
-PARENT = SHOWN + "line = ?2 AND uri = ?3"
+PROFILE = "SELECT profile FROM part_profile WHERE slot = ?1"
+TEXTS = {"hover": HOVER, "marks": MARKS, "items": ITEMS, "profile": PROFILE}
 MORE = "SELECT decl, imp FROM more WHERE slot = ?1 AND line = ?2"
 PROJECT = "SELECT project FROM slot WHERE id = ?1"
 BEARERS = "SELECT slot, line, kind, def, refs, hover FROM bearer WHERE keytext = ?1"
@@ -52,31 +54,14 @@ def put_tags(base: sqlite3.Connection, own: str) -> None:
     source.close()
 
 
-class Selections:
-    """What is selected of a database with one project, `app`."""
-
-    def __init__(self, base: sqlite3.Connection) -> None:
-        self.base = base
-
-    def every(self, text: str, *values: int | str) -> list[Row]:
-        return self.base.execute(text, values).fetchall()
-
-    def one(self, text: str, *values: int | str) -> Optional[Row]:
-        found: Optional[Row] = self.base.execute(text, values).fetchone()
-        return found
+class Found(Selections):
+    """What is found in a database with one project, `app`."""
 
     def covering(self, slot: int, what: str) -> list[Row]:
         """The ranges that cover a position, which is written as a uri, a line and a character."""
         uri, line, character = what.split(" ")
-        self.every("SELECT slot FROM document WHERE slot = ?1 AND uri = ?2", slot, uri)
-        at = int(line) * 2**31 + int(character)
-        found = []
-        row = self.one(START, slot, uri, at)
-        while row is not None:
-            if at < row[2]:
-                found.append(row)
-            row = None if row[3] is None else self.one(PARENT, slot, row[3], uri)
-        return found
+        self.every(DOCUMENT, slot, uri)
+        return self.climb(slot, uri, packed(line, character))
 
     def with_projects(self, found: list[Row]) -> list[tuple[str, Row]]:
         """These rows, whose first column is a slot, with their projects, in order."""
@@ -109,7 +94,7 @@ class Selections:
             return len(self.prefixed(what))
         if kind == "bearers":
             return len(self.bearers(what))
-        slot = self.every(SLOT, "app", DUMP)[0][0]
+        slot = self.slot_of("app")
         if kind == "covering":
             return len(self.covering(slot, what))
         values = {
@@ -129,12 +114,12 @@ def main() -> None:
     for run in range(runs):
         print("replaced", replaced(base, rows, f"k{run}"))
     put_tags(base, own)
-    selections = Selections(base)
+    found = Found(base)
     with open("asked", encoding="utf-8") as file:
         for line in file:
             kind, what = line.rstrip("\n").split(" ", 1)
             start = time.perf_counter_ns()
-            count = selections.count(kind, what)
+            count = found.count(kind, what)
             print(kind, time.perf_counter_ns() - start, count)
 
 
