@@ -7,7 +7,7 @@ import os
 from contextlib import contextmanager
 from typing import TYPE_CHECKING, BinaryIO, Callable, Iterator, TypeVar
 
-from google.protobuf.message import DecodeError  # type: ignore[import]
+from google.protobuf.message import DecodeError
 
 from navtools.scip_pb2 import Document, Metadata, SymbolInformation
 

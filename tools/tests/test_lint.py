@@ -1,16 +1,38 @@
 """The types of all Python here, its layout and what a linter finds, by Debian's mypy, black and
 flake8. Where one isn't installed its test is skipped."""
 
+import ast
 import os
 import shutil
 import subprocess
+import sys
+import tomllib
 import unittest
-from importlib.util import find_spec
+from pathlib import Path
 
 from tests.servers import TOP
 
 CHECKED = ["tools/navtools", "tools/wheel", "tools/tests", "bench", "packaging/stage", "quick"]
 BLACK = "23."
+
+
+def python_files(path: Path) -> list[Path]:
+    """The modules and the scripts of a folder, or the one file."""
+    found = sorted(path.rglob("*")) if path.is_dir() else [path]
+    texts = [own for own in found if own.suffix in (".py", "") and own.is_file()]
+    texts = [own for own in texts if "samples" not in own.parts]
+    return [own for own in texts if own.suffix or b"python3" in own.read_bytes().split(b"\n")[0]]
+
+
+def imported(path: Path) -> list[str]:
+    """The modules that a file imports by their whole names."""
+    found = []
+    for node in ast.walk(ast.parse(path.read_text("utf-8"))):
+        if isinstance(node, ast.Import):
+            found += [name.name for name in node.names]
+        elif isinstance(node, ast.ImportFrom) and node.module and not node.level:
+            found += [f"{node.module}.{name.name}" for name in node.names]
+    return found
 
 
 class Lint(unittest.TestCase):
@@ -31,14 +53,29 @@ class Lint(unittest.TestCase):
         return done.stdout if done.returncode != 0 else ""
 
     def test_types(self) -> None:
-        """The types of what the page's Markdown is made by are read from that library."""
-        if find_spec("markdown_it") is None:
-            self.skipTest("markdown_it isn't installed (Debian's package python3-markdown-it)")
+        """Libraries that needn't be installed are named in pyproject.toml: where one isn't, what it
+        answers may be anything."""
         words = ["--strict", "--cache-dir", os.devnull, "--no-error-summary", *CHECKED]
-        said = self.said_by("mypy", *words)
-        if "Library stubs not installed" in said:
-            self.skipTest("mypy has no stubs (Debian's package python3-typeshed)")
-        self.assertEqual(said, "")
+        self.assertEqual(self.said_by("mypy", *words), "")
+
+    def test_libraries(self) -> None:
+        """What is imported is of Python, of this repository, or named as what may be missing."""
+        with open(os.path.join(TOP, "pyproject.toml"), "rb") as file:
+            overrides = tomllib.load(file)["tool"]["mypy"]["overrides"]
+        named = {
+            module.removesuffix(".*")
+            for own in overrides
+            if own.get("ignore_missing_imports")
+            for module in own["module"]
+        }
+        files = [path for name in CHECKED for path in python_files(Path(TOP, name))]
+        own = {"navtools", "tests", *(path.stem for path in files)}
+        for path in files:
+            for module in imported(path):
+                root = module.partition(".")[0]
+                known = root in sys.stdlib_module_names or root in own
+                is_named = any(f"{module}.".startswith(f"{name}.") for name in named)
+                self.assertTrue(known or is_named, f"{path}: {module}")
 
     def test_layout(self) -> None:
         """Layouts differ between the years of black."""
