@@ -2,12 +2,14 @@
 slowly: what the tests hold the tools' output to."""
 
 import json
-import re
 from typing import Any, Callable, Optional
+
+from tests.url_text import url_text
 
 Element = dict[str, Any]
 
 MOST_ID, MOST_NUMBER, MOST_LINE, MOST_LEVELS = 9007199254740991, 2147483647, 1_048_576, 127
+MOST_ELEMENTS = 100_000
 ROLES = ("definitions", "references", "referenceResults")
 TEXT_LABELS = {"resultSet", "definitionResult", "referenceResult", "project", "metaData"}
 RESULTS = {
@@ -79,7 +81,7 @@ def bad_vertex(element: Element) -> bool:
     label, get = element["label"], element.get
     if label == "document":
         uri = get("uri")
-        return not isinstance(uri, str) or not re.match("[A-Za-z][A-Za-z0-9+.-]*:", uri)
+        return not isinstance(uri, str) or url_text(uri) is None
     if label == "range":
         start, end = position(get("start")), position(get("end"))
         return start is None or end is None or start > end
@@ -111,13 +113,15 @@ class Checker:
         self.results = RESULTS[profile]
         self.vertices: dict[Any, Element] = {}
         self.ids: set[Any] = set()
-        self.urls: set[str] = set()
+        self.urls: set[Optional[str]] = set()
         self.single: set[tuple[str, Any]] = set()
         self.next: dict[Any, Any] = {}
         self.home: dict[Any, Any] = {}
         self.spans: dict[Any, list[tuple[Any, ...]]] = {}
         self.ended: dict[Any, set[str]] = {}
-        self.items: list[Element] = []
+        self.items: list[tuple[int, Element]] = []
+        self.lines: dict[Any, int] = {}
+        self.number = 0
 
     def label(self, own: Any) -> str:
         """The label of a vertex, where it has one in this profile."""
@@ -126,12 +130,13 @@ class Checker:
 
     def line(self, number: int, text: bytes) -> Optional[str]:
         """The fault of a line."""
+        self.number = number
         if len(text) > MOST_LINE:
             return "L01"
         try:
             element = json.loads(text.decode("utf-8"))
             json.dumps(element, ensure_ascii=False, allow_nan=False).encode("utf-8")
-        except ValueError:
+        except (ValueError, RecursionError):
             return "L02"
         if depth(element) > MOST_LEVELS:
             return "L02"
@@ -147,7 +152,8 @@ class Checker:
         self.ids.add(key(element["id"]))
         if (number == 1) != is_metadata:
             return "L06"
-        return self.vertex(element) if element["type"] == "vertex" else self.edge(element)
+        code = self.vertex(element) if element["type"] == "vertex" else self.edge(element)
+        return code or ("L20" if number > MOST_ELEMENTS else None)
 
     def vertex(self, element: Element) -> Optional[str]:
         """The fault of a vertex."""
@@ -159,10 +165,11 @@ class Checker:
         if bad_vertex(element):
             return "L07"
         self.vertices[key(element["id"])] = element
+        self.lines[key(element["id"])] = self.number
         if element["label"] == "document":
-            if element["uri"] in self.urls:
+            if url_text(element["uri"]) in self.urls:
                 return "L19"
-            self.urls.add(element["uri"])
+            self.urls.add(url_text(element["uri"]))
         if element["label"] == "$event" and element["scope"] == "document":
             done = self.ended.setdefault(key(element["data"]), set())
             if (
@@ -231,7 +238,7 @@ class Checker:
         if label == "item" and out != "other":
             if key(shard) not in self.vertices or self.label(shard) not in ("document", "project"):
                 return "L16"
-            self.items.append(element)
+            self.items.append((self.number, element))
         for own in (source, *targets):
             if "end" in self.ended.get(self.home.get(key(own)), set()):
                 return "L18"
@@ -284,20 +291,25 @@ class Checker:
             spans.append(span)
         return None
 
-    def end(self) -> Optional[str]:
-        """The fault of the whole dump."""
-        for own, element in self.vertices.items():
-            if element["label"] == "range" and own not in self.home:
-                return "E01"
-        for item in self.items:
-            shard = key(item.get("shard", item.get("document")))
-            if (
-                item.get("property") != "referenceResults"
-                and self.vertices[shard]["label"] == "document"
-            ):
-                if any(self.home.get(key(own)) != shard for own in item["inVs"]):
-                    return "E02"
-        return None
+    def end(self) -> Optional[tuple[int, str]]:
+        """The fault of the whole dump: the line of the first element that has one, and its code."""
+        alone = [
+            (self.lines[own], "E01")
+            for own, element in self.vertices.items()
+            if element["label"] == "range" and own not in self.home
+        ]
+        return min(
+            [*alone, *((n, "E02") for n, item in self.items if self.is_astray(item))], default=None
+        )
+
+    def is_astray(self, item: Element) -> bool:
+        """Whether a target of an item isn't in the document that its shard names (E02)."""
+        shard = key(item.get("shard", item.get("document")))
+        if item.get("property") == "referenceResults":
+            return False
+        if self.vertices[shard]["label"] != "document":
+            return False
+        return any(self.home.get(key(own)) != shard for own in item["inVs"])
 
 
 def key(own: Any) -> Any:
@@ -326,16 +338,21 @@ def depth(value: Any) -> int:
     return 1 + max(map(depth, value), default=0) if isinstance(value, list) else 0
 
 
+def lines_of(body: bytes) -> list[bytes]:
+    """The lines of a body, without their line feeds."""
+    return body.removesuffix(b"\n").split(b"\n") if body else []
+
+
 def fault(body: bytes, profile: str) -> Optional[str]:
     """The first fault of a dump as `line N: CODE`, or None where the server accepts it in a
     profile."""
     checker, number = Checker(profile), 0
-    for number, text in enumerate(body.removesuffix(b"\n").split(b"\n") if body else [], 1):
+    for number, text in enumerate(lines_of(body), 1):
         code = checker.line(number, text)
         if code:
             return f"line {number}: {code}"
-    code = checker.end() if number else "L06"
-    return f"end: {code}" if code else None
+    found = checker.end() if number else (1, "L06")
+    return f"line {found[0]}: {found[1]}" if found else None
 
 
 Accept = Callable[[bytes, str], Optional[str]]

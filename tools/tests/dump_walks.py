@@ -20,6 +20,7 @@ LABELS = {
     "declaration": "declarationResult",
     "implementation": "implementationResult",
 }
+PACKAGE = ("manager", "name", "version")
 OF_PROFILE = {"1": list(LABELS)[:3], "2": list(LABELS)}
 
 
@@ -121,7 +122,7 @@ class Walk:
     def key(self, moniker: Any) -> tuple[Any, ...]:
         """The key of a moniker."""
         package = self.vertices.get(self.packages.get(moniker))
-        of_package = package and tuple(package[name] for name in ("manager", "name", "version"))
+        of_package = package and tuple(package.get(part, "") for part in PACKAGE)
         return (*(self.vertices[moniker][name] for name in ("scheme", "identifier")), of_package)
 
     @functools.cache

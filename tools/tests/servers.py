@@ -1,4 +1,5 @@
-"""Real servers for tests, over the built program, and a relay that loses answers on their way."""
+"""Servers for tests, of the built program or of what stands in for it, and a relay that loses
+answers on their way."""
 
 import os
 import socket
@@ -13,9 +14,10 @@ SECONDS = 10
 REQUESTS = 1_000_000
 NOT_BUILT = "the program isn't built, and CODENAV_PROGRAM names none"
 BUILT = os.path.join(TOP, "crates", "codenav", "out", "codenav")
+STAND_IN = os.path.join(TOP, "tools", "tests", "stand_in.py")
 
 
-def program() -> Optional[str]:
+def built_program() -> Optional[str]:
     """The program that CODENAV_PROGRAM names, or the one that this clone has built; None where it
     hasn't."""
     named = os.environ.get("CODENAV_PROGRAM")
@@ -24,19 +26,21 @@ def program() -> Optional[str]:
     return BUILT if os.path.isfile(BUILT) else None
 
 
+def program() -> str:
+    """The built program, or what stands in for it where it isn't built."""
+    return built_program() or STAND_IN
+
+
 class OnServer(unittest.TestCase):
-    """Tests that ask a server of the built program, which each test has for itself, empty at first;
-    they may kill it and start it again."""
+    """Tests that ask a server, which each test has for itself, empty at first; they may kill it and
+    start it again."""
 
     program: str
     url: str
     database = ":memory:"
 
     def setUp(self) -> None:
-        found = program()
-        if found is None:
-            self.skipTest(NOT_BUILT)
-        self.program, self.port = found, free_port()
+        self.program, self.port = program(), free_port()
         self.url = f"http://127.0.0.1:{self.port}"
         self.start()
         self.addCleanup(lambda: ended(self.server))

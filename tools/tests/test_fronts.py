@@ -65,13 +65,12 @@ class OfFront:
 
         @classmethod
         def setUpClass(cls) -> None:
-            built = program()
-            why = lacking(cls.kind) if built else "the program isn't built"
-            if built is None or why:
-                raise unittest.SkipTest(str(why))
+            why = lacking(cls.kind)
+            if why:
+                raise unittest.SkipTest(why)
             cls.stack = ExitStack()
             folder = cls.stack.enter_context(tempfile.TemporaryDirectory())
-            url = cls.stack.enter_context(serving(built, quiet=True))
+            url = cls.stack.enter_context(serving(program(), quiet=True))
             cls.front = cls.stack.enter_context(fronted(cls.kind, folder, [host_of(url)]))
 
         @classmethod
@@ -180,7 +179,7 @@ class OfFront:
                 self.assertEqual(front.ask("GET", HOVER)[2], b'{"contents":"one"}')
 
         def own_server(self) -> str:
-            return host_of(self.enterContext(serving(str(program()), quiet=True)))
+            return host_of(self.enterContext(serving(program(), quiet=True)))
 
         def test_away(self) -> None:
             """While the server is away, requests wait, and /health says so."""
@@ -200,7 +199,7 @@ class OfFront:
             self.assertEqual((status, json.loads(body)["fault"]), (503, "front"))
             self.assertEqual(found, [])
             held.close()
-            server = started(str(program()), port, 100, quiet=True)
+            server = started(program(), port, 100, quiet=True)
             self.addCleanup(ended, server)
             waiting.join(20)
             self.assertEqual(found, [(200, b'{"projects":[]}')])

@@ -14,7 +14,7 @@ from configparser import RawConfigParser
 from navtools.__main__ import TOOLS
 from navtools.client import request
 from navtools.serving import free_port
-from tests.servers import TOP, program
+from tests.servers import NOT_BUILT, TOP, built_program
 
 PACKAGING = os.path.join(TOP, "packaging")
 UNITS = ("service", "codenav-backup.service", "codenav-health.service")
@@ -99,9 +99,9 @@ class Files(unittest.TestCase):
 
 class LaidOut(unittest.TestCase):
     def setUp(self) -> None:
-        found = program()
+        found = built_program()
         if found is None:
-            self.skipTest("the program isn't built, and CODENAV_PROGRAM names none")
+            self.skipTest(NOT_BUILT)
         self.program = found
         self.folder = self.enterContext(tempfile.TemporaryDirectory())
 

@@ -18,7 +18,7 @@ from dataclasses import dataclass, field
 from typing import Iterator
 
 from navtools.serving import free_port
-from tests.servers import NOT_BUILT, TOP, program
+from tests.servers import NOT_BUILT, TOP, built_program
 
 PAGES = sorted(glob.glob("*.md", root_dir=TOP)) + sorted(glob.glob("docs/*.md", root_dir=TOP))
 LONGEST_LINE = 100
@@ -278,7 +278,7 @@ class Pages(unittest.TestCase):
         self.assertEqual(ELSEWHERE - {name for _, _, name in names}, set())
 
     def test_examples(self) -> None:
-        built = program()
+        built = built_program()
         if built is None:
             self.skipTest(NOT_BUILT)
         missing = [package for name, package in NEEDED.items() if not shutil.which(name)]

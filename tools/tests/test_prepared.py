@@ -14,7 +14,7 @@ from typing import Any, Optional
 
 from navtools import prepare
 from tests.accepted import fault
-from tests.servers import TOP, program
+from tests.servers import TOP, built_program
 
 SAMPLES = os.path.join(TOP, "tools", "tests", "samples")
 ROUNDS = int(os.environ.get("CODENAV_ROUNDS", "6"))
@@ -142,7 +142,7 @@ class Mutated(unittest.TestCase):
         """What refuses a dump: the definitions in Python, and the built program where there is
         one."""
         found = fault(body, profile)
-        built = program()
+        built = built_program()
         if found is None and built is not None:
             with tempfile.NamedTemporaryFile() as file:
                 file.write(body)

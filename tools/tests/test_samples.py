@@ -21,7 +21,7 @@ from navtools import ask, prepare, scip_to_lsif, upload
 from navtools.scip_pb2 import Index
 from navtools.serving import serving
 from tests.accepted import fault
-from tests.servers import NOT_BUILT, program
+from tests.servers import program
 
 TOP = os.path.dirname(os.path.dirname(os.path.dirname(os.path.abspath(__file__))))
 SAMPLES = os.path.join(TOP, "tools", "tests", "samples")
@@ -78,11 +78,8 @@ class Samples(unittest.TestCase):
         self.assertEqual(seen, set(os.listdir(SAMPLES)) - {"questions.json"})
 
     def test_the_answers_of_a_server(self) -> None:
-        built = program()
-        if built is None:
-            self.skipTest(NOT_BUILT)
         for group in groups():
-            with tempfile.TemporaryDirectory() as folder, serving(built, quiet=True) as url:
+            with tempfile.TemporaryDirectory() as folder, serving(program(), quiet=True) as url:
                 for sample in group:
                     out = self.accept(sample, folder)
                     words = ["--profile", "2", url, project_of(sample), out]

@@ -17,7 +17,7 @@ from navtools.sets.publish import Store
 from navtools.surfaces.homes import home_of
 from tests import fronts
 from tests.fronts import NOBODY, Front, fronted, host_of, lacking
-from tests.servers import NOT_BUILT, TOP, program
+from tests.servers import TOP, program
 from tests.test_pages import FENCE, examples, text_of
 
 PAGE = "docs/SCALE.md"
@@ -49,13 +49,12 @@ def with_block(text: str, start: str, block: str) -> str:
 
 class Page(unittest.TestCase):
     def setUp(self) -> None:
-        found = program()
-        why = NOT_BUILT if found is None else lacking("lua") or lacking("haproxy")
+        why = lacking("lua") or lacking("haproxy")
         if why:
             self.skipTest(why)
         self.stack = self.enterContext(ExitStack())
         self.folder = self.enterContext(tempfile.TemporaryDirectory())
-        self.servers = [self.enterContext(serving(str(found), quiet=True)) for _ in range(3)]
+        self.servers = [self.enterContext(serving(program(), quiet=True)) for _ in range(3)]
 
     def front(self, kind: str, servers: list[str], change: Change) -> Front:
         """A front whose files are changed."""

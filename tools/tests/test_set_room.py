@@ -15,7 +15,7 @@ from unittest import mock
 
 from navtools import client
 from navtools.sets import publish
-from tests.servers import OnServer
+from tests.servers import NOT_BUILT, OnServer, built_program
 from tests.test_set_service import NAME, Revisions, revision, split_into
 
 BIG = 12_000
@@ -54,6 +54,8 @@ class NoRoom(OnServer):
     """A server with a set, and a revision of it whose second part needs more room."""
 
     def setUp(self) -> None:
+        if built_program() is None:
+            self.skipTest(NOT_BUILT)
         self.folder = self.enterContext(tempfile.TemporaryDirectory())
         super().setUp()
         self.enterContext(mock.patch.object(client, "WAITS", ()))

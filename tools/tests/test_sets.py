@@ -21,7 +21,7 @@ from navtools.sets.crossing import Cut, Shared
 from navtools.sets.flat import Flat, flattened
 from navtools.sets.write import Lines, Part
 from tests.dump_walks import OF_PROFILE, Maker, Question, Walk, answered, body_of, questions
-from tests.servers import NOT_BUILT, TOP, program
+from tests.servers import TOP, program
 
 URIS = ["file:///a/x", "file:///a/y", "file:///b/x", "file:///b/y", "file:///c"]
 SEEDS = range(40)
@@ -141,9 +141,7 @@ def replayed(requests: list[bytes], folder: str) -> list[Any]:
     path = os.path.join(folder, "requests")
     with open(path, "wb") as out:
         out.write(b"".join(requests))
-    done = subprocess.run(
-        [str(program()), "replay", ":memory:", path], capture_output=True, check=True
-    )
+    done = subprocess.run([program(), "replay", ":memory:", path], capture_output=True, check=True)
     found, at = [], 0
     while at < len(done.stdout):
         begin = done.stdout.index(b"\r\n\r\n", at)
@@ -199,7 +197,6 @@ class EqualAnswers(unittest.TestCase):
             for question, one, other in unequal(case):
                 self.assertEqual(one, other, f"seed {seed}, profile {case.profile}, {question}")
 
-    @unittest.skipUnless(program(), NOT_BUILT)
     def test_random_dumps_in_the_program(self) -> None:
         """The same, answered by the program."""
         for seed in SEEDS[:20]:
@@ -239,7 +236,6 @@ class EqualAnswers(unittest.TestCase):
         self.assertGreater(len(parts), 1)
         self.assertGreater(len(asked), 200)
 
-    @unittest.skipUnless(program(), NOT_BUILT)
     def test_a_crate_in_the_program(self) -> None:
         """The demo crate by the program."""
         path, asked = self.demo()

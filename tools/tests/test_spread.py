@@ -25,7 +25,7 @@ from navtools.surfaces.spread import Spread, made_surface
 from navtools.workspace import FILE
 from tests.dump_walks import OF_PROFILE, Walk, answered, questions
 from tests.fronts import LONGEST, NOBODY, fronted, host_of, lacking
-from tests.servers import NOT_BUILT, REQUESTS, TOP, program
+from tests.servers import REQUESTS, TOP, program
 from tests.test_lsp import Editor
 from tests.test_set_service import MOST_STEPS, answer_of, asked_at, revision, split_into
 
@@ -47,11 +47,11 @@ class OnServers(unittest.TestCase):
     longest = LONGEST
 
     def setUp(self) -> None:
-        found = program()
-        if found is None or lacking("lua"):
-            self.skipTest(NOT_BUILT if found is None else str(lacking("lua")))
+        why = lacking("lua")
+        if why:
+            self.skipTest(why)
         self.folder = self.enterContext(tempfile.TemporaryDirectory())
-        self.program, self.ports = found, [free_port() for _ in range(SERVERS)]
+        self.program, self.ports = program(), [free_port() for _ in range(SERVERS)]
         self.servers = [f"http://127.0.0.1:{port}" for port in self.ports]
         self.running = [self.start(port) for port in self.ports]
         self.addCleanup(self.end_servers)

@@ -13,7 +13,7 @@ from navtools.sets.publish import Publish, Store
 from navtools.surfaces.homes import home_of
 from navtools.surfaces.names import names_of_all
 from navtools.workspace import FILE
-from tests.servers import NOT_BUILT, program
+from tests.servers import program
 from tests.test_set_service import asked_at, revision, split_into
 from tests.test_spread import OnServers, crate
 
@@ -27,11 +27,8 @@ def line(name: str, file: str, number: int) -> bytes:
 
 class TwoServers(unittest.TestCase):
     def setUp(self) -> None:
-        found = program()
-        if found is None:
-            self.skipTest(NOT_BUILT)
         self.folder = self.enterContext(tempfile.TemporaryDirectory())
-        self.servers = [self.enterContext(serving(found, quiet=True)) for _ in range(2)]
+        self.servers = [self.enterContext(serving(program(), quiet=True)) for _ in range(2)]
 
     def name_at(self, at: int, start: str) -> str:
         """A name that begins so and whose home is a server."""
@@ -50,7 +47,7 @@ class TwoServers(unittest.TestCase):
     def test_merged(self) -> None:
         """The order is that of one server, by name, project and line, whichever server has what;
         one server that has all answers the same."""
-        one = self.enterContext(serving(str(program()), quiet=True))
+        one = self.enterContext(serving(program(), quiet=True))
         names = [self.name_at(at, start) for start in "abc" for at in (1, 0)]
         for number, name in enumerate(names):
             body = b"".join(

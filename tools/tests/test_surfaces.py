@@ -16,7 +16,7 @@ from navtools.sets.graph import Graph
 from navtools.surfaces import found, surface
 from tests.accepted import fault
 from tests.dump_walks import OF_PROFILE, Maker, Question, Walk, answered, body_of, questions
-from tests.servers import NOT_BUILT, TOP, program
+from tests.servers import TOP
 from tests.test_sets import Bodies, of_reply, parts_of, put_of, replayed, request_of, walks
 
 SUFFIX = "-surface"
@@ -165,7 +165,6 @@ class EqualAnswers(unittest.TestCase):
                 if question.request != "hover":
                     self.assertEqual(one, other, f"seed {seed}, {name}, {question}")
 
-    @unittest.skipUnless(program(), NOT_BUILT)
     def test_random_dumps_in_the_program(self) -> None:
         """The same, answered by the program."""
         with tempfile.TemporaryDirectory() as folder:
@@ -173,7 +172,6 @@ class EqualAnswers(unittest.TestCase):
                 found = list(random_case(seed).unequal_in_program(folder))
                 self.assertEqual(found, [], f"seed {seed}")
 
-    @unittest.skipUnless(program(), NOT_BUILT)
     def test_crates(self) -> None:
         """The crates of demo/, which differ where there are no surfaces."""
         case = crates()
