@@ -36,13 +36,10 @@ os.copy_file_range = slow
 
 
 class OnService(unittest.TestCase):
-    """A folder for a service of the built program, and how its tools are called."""
+    """A folder for a service, and how its tools are called."""
 
     def setUp(self) -> None:
-        found = program()
-        if found is None:
-            self.skipTest("the program isn't built, and CODENAV_PROGRAM names none")
-        self.program = found
+        self.program = program()
         self.base = self.enterContext(tempfile.TemporaryDirectory())
         self.folder, self.copies = f"{self.base}/service", f"{self.base}/copies"
         os.mkdir(self.folder)
@@ -102,6 +99,15 @@ class OnService(unittest.TestCase):
 
     def answers(self) -> bool:
         return request(f"{self.url()}/projects", seconds=5).status == 200
+
+    def ports(self) -> list[str]:
+        """Which of the service's ports answer."""
+        ports = {"--port": self.port, "--second-port": self.second}
+        return [
+            name
+            for name, port in ports.items()
+            if request(f"http://127.0.0.1:{port}/projects", seconds=5).status == 200
+        ]
 
     def put(self, text: str, key: str, url: str = "") -> bytes:
         """What an upload of a dump whose hover says the text is answered."""
@@ -286,6 +292,22 @@ class Copies(OnService):
         status, said = self.called("restore", copy, self.folder)
         self.assertEqual((status, "the copy changed" in said), (2, True))
 
+    def test_the_port(self) -> None:
+        """A side has its port: a turn without a front stays on it, and each restore goes to the
+        other side."""
+        process = self.service()
+        self.assertEqual(self.ports(), ["--port"])
+        self.assertEqual(self.backup()[0], 0)
+        copy, server = f"{self.copies}/{self.copied()[0]}", self.known().server
+        self.assertEqual(self.called("turn", self.folder)[0], 0)
+        self.until(lambda: self.known().server != server and self.answers())
+        self.assertEqual(self.ports(), ["--port"])
+        for port in "--second-port", "--port":
+            self.ended(process)
+            self.assertEqual(self.called("restore", copy, self.folder)[0], 0)
+            process = self.service()
+            self.assertEqual(self.ports(), [port])
+
     def copied(self) -> list[str]:
         return [name for name in self.names() if name.endswith("Z")]
 
@@ -376,9 +398,10 @@ class Turns(OnService):
 
         writing = threading.Thread(target=write)
         writing.start()
-        for side in "b", "a":
+        for side, port in ("b", "--second-port"), ("a", "--port"):
             status, said = self.called("turn", self.folder)
             self.assertEqual((status, side_of(self.folder)), (0, side), said)
+            self.assertEqual(self.ports(), [port])
             self.assertFalse(os.path.exists(database_at(self.folder, "ab".replace(side, ""))))
             count = len(answers)
             self.until(lambda: len(answers) > count + 3)
