@@ -76,7 +76,8 @@ def reply_at(call: argparse.Namespace, maps: Maps) -> Reply:
     """What is found at the place that a call names; empty, with a line, where the place is new.
     Raises NoReply."""
     sources = sources_of(call.revision, call.indexed, call.project, os.curdir)
-    questions = Questions(call.project, fetch_from(call.url, SECONDS), Indexed(sources, maps, warn))
+    indexed = Indexed(sources, maps, warn)
+    questions = Questions(call.project, fetch_from(call.url, SECONDS), indexed)
     character = character_at(call.file, call.line, call.column, call.utf16)
     more = {"declaration": "no"} if call.what == "references" and call.no_declaration else {}
     path = asked_path(call.file, maps)
@@ -86,8 +87,7 @@ def reply_at(call: argparse.Namespace, maps: Maps) -> Reply:
         warn(str(fault))
         return Reply(None if call.what == "hover" else [], "")
     finally:
-        for source in sources.values():
-            source.end()
+        indexed.end()
     if reply.of:
         warn(f"{call.file} changed since: the answer is of {reply.of}")
     return reply

@@ -24,6 +24,8 @@ Position = tuple[int, int]
 
 MOST_MAPS = 32
 """Maps that are kept, those that were used last."""
+MOST_CHECKOUTS = 8
+"""Revisions whose texts are read by git at once."""
 
 
 class NotThere(Exception):
@@ -129,6 +131,17 @@ class Checkout:
             revision.end()
 
 
+def is_in_checkout(path: str) -> bool:
+    """Whether a file is in a work tree of git."""
+    folder = os.path.dirname(os.path.realpath(path))
+    while not os.path.lexists(os.path.join(folder, ".git")):
+        above = os.path.dirname(folder)
+        if above == folder:
+            return False
+        folder = above
+    return True
+
+
 def text_of(path: str) -> str:
     """The text of a file. Raises BadCall where it can't be read."""
     try:
@@ -228,7 +241,8 @@ class Indexed:
 
     `today` reads a file, as an editor has it; `say` is called with a line about a file whose places
     can't be mapped, once for each line. `others` knows the sources of projects that `sources`
-    doesn't have, by a project and the path of a file.
+    doesn't have, by a project and the path of a file. Of what neither has, an index says itself of
+    which revision it is.
     """
 
     def __init__(
@@ -241,8 +255,45 @@ class Indexed:
     ) -> None:
         self.sources, self.maps, self.say = sources, maps, say
         self.today, self.others = today, others
+        self.learnt: dict[str, tuple[str, str]] = {}
+        self.checkouts: dict[str, Checkout] = {}
         self.kept: dict[str, tuple[str, str, TextMap]] = {}
         self.said: set[str] = set()
+
+    def end(self) -> None:
+        """Ends what reads texts."""
+        for source in [*self.sources.values(), *self.checkouts.values()]:
+            source.end()
+
+    def learn(self, project: str, revision: str, why: str) -> None:
+        """Takes of which revision an index says that it is, or, of none, why."""
+        if self.learnt.get(project) == (revision, why):
+            return
+        self.said.discard(self.reason(project))
+        self.learnt[project] = revision, why
+        used = {one for one, _ in self.learnt.values()}
+        for other in [one for one in self.checkouts if one not in used]:
+            self.checkouts.pop(other).end()
+
+    def reason(self, project: str) -> str:
+        """Why the places of a project aren't mapped for want of a revision, or nothing."""
+        revision, why = self.learnt.get(project, ("", ""))
+        return f"{project}: {why}; its places aren't mapped" if why and not revision else ""
+
+    def source(self, project: str, path: str) -> Optional[Source]:
+        """Where the texts are that were indexed: as was said, by the settings of the file itself,
+        or as the index says."""
+        known = self.sources.get(project) or self.others(project, path)
+        revision, _ = self.learnt.get(project, ("", ""))
+        if known or not revision:
+            return known
+        checkout = (
+            self.checkouts.pop(revision) if revision in self.checkouts else Checkout(revision)
+        )
+        self.checkouts[revision] = checkout
+        if len(self.checkouts) > MOST_CHECKOUTS:
+            self.checkouts.pop(next(iter(self.checkouts))).end()
+        return checkout
 
     def tell(self, line: str) -> None:
         """Says a line, once."""
@@ -256,8 +307,9 @@ class Indexed:
 
         Raises BadCall where there is no such file.
         """
-        source = self.sources.get(project)
+        source = self.source(project, path)
         if source is None:
+            self.tell(self.reason(project))
             return path, None, ""
         try:
             old = source.old_path(path)
@@ -324,9 +376,9 @@ class Indexed:
     def file_map(self, project: str, uri: str) -> FileMap:
         """Where a document is today, and the map to it."""
         path = path_of(uri, self.maps)
-        source = path and (self.sources.get(project) or self.others(project, path))
+        source = path and self.source(project, path)
         if not path or not source:
-            return FileMap(path, None)
+            return FileMap(path, None, self.reason(project) if path else "")
         try:
             new, text = source.new_path(path), source.text(path)
         except BadCall as fault:

@@ -27,6 +27,7 @@ from navtools.left_out import Row, rows_of, table
 from navtools.lsif import NotADump
 from navtools.places import uri_of
 from navtools.progress import Heard, Stage, Watched
+from navtools.records import Prepared, new_record
 from navtools.revisions import indexed_at
 from navtools.sets import split
 from navtools.sets.manifest import set_name, shown_name
@@ -224,9 +225,28 @@ def made_dump(call: argparse.Namespace, raw: str, work: str) -> tuple[str, list[
     if not (call.set and is_split and not call.without):
         lines, is_over = prepared(raw, dump, call.folder, call.profile, call.without)
         call.set = call.set or is_over
+        if not is_recorded(call, dump):
+            call.set = is_over = True
         if not (is_over and is_split):
             return dump, lines
     return raw, []
+
+
+def is_recorded(call: argparse.Namespace, path: str) -> bool:
+    """Adds to a dump, unless it becomes a set, of which revision it is; says whether it's within
+    the limits of the server then. A dump that has a record keeps it, and is of that revision.
+
+    Raises BadCall where the call names another one.
+    """
+    dump = Prepared(path)
+    call.where = dump.root or call.where
+    if dump.is_recorded:
+        own = dump.record.revision if dump.record else ""
+        if call.revision and own != call.commit:
+            of = f"revision {own}" if own else "no revision"
+            raise BadCall(f"the dump says itself that it's of {of}, and not of {call.revision}")
+        call.commit = own
+    return call.set or dump.is_recorded or dump.add(new_record(call.commit, call.where))
 
 
 def check_all(call: argparse.Namespace, bodies: list[Body]) -> None:
@@ -341,12 +361,6 @@ def send_all(call: argparse.Namespace, bodies: list[Body], work: str) -> list[st
     return [*sent, f"{call.project}: and removed its set of {count} parts"] if count else sent
 
 
-def revision_line(commit: str, is_set: bool) -> str:
-    """What is said of the revision that was indexed: a set keeps it, and a project doesn't."""
-    how = "which the set keeps" if is_set else f"where files changed ask with --revision {commit}"
-    return f"the index is of revision {commit}: {how}"
-
-
 def servers_in(call: argparse.Namespace) -> list[str]:
     """The servers that a set is published to, by the command line or by the settings in FOLDER;
     none where it goes to one."""
@@ -374,6 +388,7 @@ def published(call: argparse.Namespace) -> int:
         surface_name(name)
         call.home = home_of(call.servers, name)
     set_name(call.project) if call.set else project_of(call.project)
+    call.where = uri_of(call.folder, [])
     call.commit, fault = indexed_at(call.folder, call.revision)
     if fault:
         print(f"{TOOL}: {fault}", file=sys.stderr)
@@ -391,10 +406,9 @@ def published(call: argparse.Namespace) -> int:
     for line in sent:
         print(f"uploaded {line}")
     if sent and bodies[0].part == "lsif":
-        where = uri_of(call.folder, [])
-        print(f"documents are below {where}: elsewhere ask with --map {where}=FOLDER")
+        print(f"documents are below {call.where}: elsewhere ask with --map {call.where}=FOLDER")
         if call.commit:
-            print(revision_line(call.commit, call.set))
+            print(f"the index is of revision {call.commit}, which it keeps")
     for line in table(left_out):
         print(line)
     return 0

@@ -2,17 +2,20 @@
 today."""
 
 import os
-from typing import Any, Callable, NamedTuple
+from typing import Any, Callable, NamedTuple, Optional, cast
 
+from navtools.addresses import below
 from navtools.client import NoReply, address, found_in, request
-from navtools.indexed import Asked, Checkout, Indexed
-from navtools.places import is_mapped
+from navtools.indexed import Asked, Indexed, NotThere, is_in_checkout
+from navtools.places import is_mapped, path_of, uri_of
 from navtools.sets.ask import Asked as Index
 from navtools.sets.manifest import set_name
+from navtools.versions import Versions
 from navtools.words import project_of
 
 Fetch = Callable[[str, dict[str, Any], str], Any]
 MOST_NUMBER = 2147483647
+TRIES = 4
 MEMBERS = {"hover": "contents"}
 """The member of a reply that has what was found; it's `places` of other queries."""
 
@@ -90,41 +93,88 @@ class Reply(NamedTuple):
 class Questions:
     """Asks one project or set.
 
-    The revision of a set is that of its manifest, unless the call names one: so the first question
-    to a set may be asked twice.
+    An index says of which revision it is. What it said before an answer is compared with what it
+    says after it, and where these differ the question is asked again: so places are mapped by the
+    revision of the index that answered.
     """
 
     def __init__(self, name: str, fetch: Fetch, indexed: Indexed) -> None:
         self.name, self.indexed = name, indexed
         self.index = Index(name, fetch)
+        self.versions = Versions(name, self.index)
 
     def ask(self, what: str, path: str, line: int, character: int, **more: str) -> Reply:
         """What is found at a place of a file. Raises NotThere where the place is new, and
         NoReply."""
-        place = self.indexed.asked(self.name, path, line, character)
-        try:
-            found = self.found(what, place, more)
-            is_learnt = self.learns_revision()
-        except NoReply as fault:
-            is_learnt = self.learns_revision()
-            if not is_learnt:
-                raise self.told(fault, place, path) from None
-        if is_learnt:
-            place = self.indexed.asked(self.name, path, line, character)
+        for _ in range(TRIES):
+            found: Any = None
+            of, fault = "", cast(Optional[Exception], None)
+            self.learn(path)
             try:
-                found = self.found(what, place, more)
-            except NoReply as fault:
-                raise self.told(fault, place, path) from None
-        return Reply(found if what == "hover" else self.indexed.places(found), place.of)
+                place = self.indexed.asked(self.name, path, line, character)
+                found, of = self.found(what, place, more), place.of
+            except NotThere as new:
+                fault = new
+            except NoReply as refusal:
+                fault = self.told(refusal, place.uri, path)
+            if not self.is_as_before([] if what == "hover" else found or [], path):
+                continue
+            if fault is not None:
+                raise fault
+            return Reply(found if what == "hover" else self.indexed.places(found), of)
+        raise NoReply(f"{self.name} is published again and again")
 
-    def told(self, fault: NoReply, place: Asked, path: str) -> NoReply:
+    def learn(self, path: str, again: bool = False) -> None:
+        """Learns of which revision the index is, unless that's known. Raises NoReply."""
+        if self.name not in self.indexed.sources:
+            try:
+                version = self.versions.before(self.name, again)
+            except NoReply as fault:
+                raise self.told(fault, self.uri(path), path) from None
+            self.indexed.learn(self.name, version.revision, version.why)
+
+    def is_as_before(self, places: list[dict[str, Any]], path: str) -> bool:
+        """Whether the indexes that have these places, and the one that was asked, are of the
+        revisions by which they were asked; else what they are of now is known. Raises NoReply."""
+        is_same = True
+        for name in [self.name, *self.others(places)]:
+            if name not in self.indexed.sources:
+                try:
+                    version, is_own = self.versions.after(name)
+                except NoReply as fault:
+                    raise self.told(fault, self.uri(path), path) from None
+                is_same = is_same and is_own
+                self.indexed.learn(name, version.revision, version.why)
+        return is_same
+
+    def others(self, places: list[dict[str, Any]]) -> list[str]:
+        """The other projects that have places in files of checkouts, and of whose revision nothing
+        was said."""
+        found: dict[str, None] = {}
+        for project, uri in {(one["project"], one["uri"]): None for one in places}:
+            path = None if project in (self.name, *found) else path_of(uri, self.indexed.maps)
+            if path and is_in_checkout(path) and not self.indexed.others(project, path):
+                found[project] = None
+        return list(found)
+
+    def uri(self, path: str) -> str:
+        """The address of a document, by its file as it is today or by itself."""
+        return uri_of(path, self.indexed.maps) if os.path.isabs(path) else path
+
+    def told(self, fault: NoReply, uri: str, path: str) -> NoReply:
         """A fault with the address that was asked, and of a document that isn't there with what can
         be done."""
-        text = f"{fault}: {place.uri}"
+        text = f"{fault}: {uri}"
         if str(fault) != "D02 no such document":
             return NoReply(text)
-        if os.path.isabs(path) and is_mapped(path, self.indexed.maps):
-            return NoReply(f"{text}, which --map makes of {path}: the project has no such document")
+        folder = self.versions.folder(self.name)
+        if folder and below(folder, uri) is None:
+            return NoReply(
+                f"{text}: the project's documents are below {folder}, and --map {folder}=FOLDER says where these are here"
+            )
+        if folder or os.path.isabs(path) and is_mapped(path, self.indexed.maps):
+            which = "" if folder else f", which --map makes of {path}"
+            return NoReply(f"{text}{which}: the project has no such document")
         return NoReply(
             f"{text}: the project has no such document, or its dump was made in another folder, which --map URI=FOLDER says"
         )
@@ -133,12 +183,3 @@ class Questions:
         """What the index has at a place that it knows."""
         at = {"uri": place.uri, "line": place.line, "character": place.character}
         return self.index.query(what, {**at, **more}, MEMBERS.get(what, "places"))
-
-    def learns_revision(self) -> bool:
-        """Whether the manifest of the set, which was read meanwhile, says of which revision it is,
-        and nothing else did."""
-        head = self.index.sets.heads.get(self.index.name)
-        if head is None or not head.revision or self.name in self.indexed.sources:
-            return False
-        self.indexed.sources[self.name] = Checkout(head.revision)
-        return True

@@ -35,6 +35,7 @@ pub fn fahrenheit(celsius: i32) -> i32
 Degrees Fahrenheit of degrees Celsius, rounded towards zero."""
 FOLDER = "temperature=demo/crate"
 TAG = "demo/crate/src/lib.rs:17:8: is_warm"
+NOT_MAPPED = "ask: temperature: no revision is kept with its index; its places aren't mapped"
 NO_DUMP = "D01 project has no dump: file:///src/tr/crate/src/lib.rs"
 
 
@@ -56,21 +57,26 @@ def steps(url: str, dump: str) -> list[Step]:
         tagged = f'{{"accepted":"tags","count":{sum(1 for _ in lines)}}}'
     ask, project = ["tools/ask", *MAP, url, "temperature"], [url, "temperature"]
     upload = ["tools/upload-lsif", "--retry", *project, dump]
-    at_definition = ":".join(AT_DEFINITION)
+    at_definition, uses = ":".join(AT_DEFINITION), ":".join(DEFINITION[1:])
+
+    def asked(words: list[str], output: str) -> Step:
+        # with the revision, which the dump doesn't keep
+        return Step([*ask, *words], f"{NOT_MAPPED}\n{output}", requests=2)
+
     return [
         Step(upload, accepted),
         Step(upload, accepted),
-        Step([*ask, *DEFINITION], at_definition),
-        Step([*ask, "references", *AT_DEFINITION], ":".join(DEFINITION[1:]) + "\n" + at_definition),
-        Step([*ask, "hover", *AT_DEFINITION], HOVER),
+        asked(DEFINITION, at_definition),
+        asked(["references", *AT_DEFINITION], f"{uses}\n{at_definition}"),
+        asked(["hover", *AT_DEFINITION], HOVER),
         Step(["tools/upload-tags", "--retry", *project, TAGS], tagged),
         Step(["tools/ask", "--tags", FOLDER, *project, "names", "is_warm"], TAG),
         Step(["tools/list", url], "temperature: dump and tags"),
         Step(["tools/remove", *project], "temperature: removed"),
-        # where there's no such project it asks for a set of that name too
-        Step([*ask, *DEFINITION], f"ask: {NO_DUMP}", 2, requests=2),
+        # where there's no such project it asks for a set of that name, and once more
+        Step([*ask, *DEFINITION], f"ask: {NO_DUMP}", 2, requests=3),
         Step(upload, accepted),
-        Step([*ask, *DEFINITION], at_definition),
+        asked(DEFINITION, at_definition),
     ]
 
 

@@ -15,6 +15,7 @@ RAW = os.path.join(TOP, "demo", "crate.raw.lsif")
 TAGS = os.path.join(TOP, "demo", "crate.tags")
 ROOT = "file:///src/tr/crate"
 AT = ["18", "12"]
+NOT_MAPPED = "ask: app: no revision is kept with its index; its places aren't mapped\n"
 
 
 class Asking(OnServer):
@@ -45,7 +46,7 @@ class Asking(OnServer):
             (
                 2,
                 "",
-                f"ask: D02 no such document: {uri}: the project has no such document, or its dump was made in another folder, "
+                f"{NOT_MAPPED}ask: D02 no such document: {uri}: the project has no such document, or its dump was made in another folder, "
                 "which --map URI=FOLDER says\n",
             ),
         )
@@ -54,7 +55,7 @@ class Asking(OnServer):
             (
                 2,
                 "",
-                f"ask: D02 no such document: file:///elsewhere/src/lib.rs, which --map makes of {file}: the project has no such "
+                f"{NOT_MAPPED}ask: D02 no such document: file:///elsewhere/src/lib.rs, which --map makes of {file}: the project has no such "
                 "document\n",
             ),
         )

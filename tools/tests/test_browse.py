@@ -21,6 +21,7 @@ from navtools.browsing.folder import Folder
 from navtools.browsing.markdown import ELEMENTS, tree_of
 from navtools.browsing.server import Pages
 from navtools.client import Answer
+from navtools.records import ADDRESS
 from navtools.workspace import Settings
 from tests.repository import InRepository
 
@@ -83,11 +84,18 @@ class Served:
 
     def asked(self, path: str, reply: Any, status: int = 200) -> tuple[int, Any, Optional[str]]:
         """The status and the answer to a question that the server answers so, and the address that
-        the server was asked by."""
-        answer = Answer("http://127.0.0.1:1", status, json.dumps(reply).encode())
-        with mock.patch.object(questions, "request", return_value=answer) as request:
+        the server was asked by; of a record of the revision it has none."""
+        answer, asked = Answer("http://127.0.0.1:1", status, json.dumps(reply).encode()), []
+
+        def request(url: str, **_: Any) -> Answer:
+            if urlencode({"uri": ADDRESS}) in url:
+                return answer._replace(status=200, body=b'{"contents":null}')
+            asked.append(url)
+            return answer
+
+        with mock.patch.object(questions, "request", request):
             code, body, _ = self.got(path)
-        return code, json.loads(body), request.call_args_list[0].args[0] if request.called else None
+        return code, json.loads(body), asked[0] if asked else None
 
 
 class Browse(Served, unittest.TestCase):
@@ -102,6 +110,10 @@ class Browse(Served, unittest.TestCase):
         os.symlink(self.home.name, os.path.join(self.top, "up"))
         os.symlink("src/a.rs", os.path.join(self.top, "again.rs"))
         self.serve(Settings("http://127.0.0.1:1", "app", self.top))
+        said = "app: no revision is kept with its index; its places aren't mapped"
+        question = "/ask?what=hover&path=src/a.rs&line=0&character=0"
+        first, again = (self.asked(question, {"contents": None})[1]["said"] for _ in range(2))
+        self.assertEqual((first, again), (said, ""))
 
     def tearDown(self) -> None:
         self.stop()

@@ -13,11 +13,19 @@ from typing import Any, ClassVar, Optional
 from urllib.parse import parse_qsl, urlsplit
 
 from navtools.places import uri_of
+from navtools.records import ADDRESS
 
 TOP = os.path.dirname(os.path.dirname(os.path.dirname(os.path.abspath(__file__))))
 LSP = os.path.join(TOP, "tools", "lsp")
 TEXT = "fn main() {}\n"
 PLACE: dict[str, Any] = {"start": {"line": 1, "character": 2}, "end": {"line": 1, "character": 5}}
+NOT_MAPPED = [
+    (
+        "window/logMessage",
+        3,
+        "codenav: app: no revision is kept with its index; its places aren't mapped",
+    )
+]
 TAG = {
     "name": "main",
     "file": "src/main.rs",
@@ -30,7 +38,7 @@ TAG = {
 
 class Replies(BaseHTTPRequestHandler):
     """Answers each GET by the stored status and body, and keeps the paths and parameters that were
-    asked."""
+    asked, but for those of the record of the revision, of which it has none."""
 
     status, body = 200, b"{}"
     asked: list[tuple[str, dict[str, str]]] = []
@@ -40,8 +48,11 @@ class Replies(BaseHTTPRequestHandler):
         """Answers one request."""
         parts = urlsplit(self.path)
         asked = dict(parse_qsl(parts.query))
-        type(self).asked.append((parts.path, asked))
         status, body = self.status, self.body
+        if asked.get("uri") == ADDRESS and status == 200:
+            body = b'{"contents":null}'
+        else:
+            type(self).asked.append((parts.path, asked))
         if parts.path == "/names":
             tags = json.loads(body).get("tags", []) if body.startswith(b"{") else []
             own = [tag for tag in tags if tag["project"] == asked.get("project", tag["project"])]
@@ -148,7 +159,8 @@ class Lsp(unittest.TestCase):
         Replies.gate, Replies.asked = None, []
 
     def editor(self, *words: str, url: str = "") -> Editor:
-        """An editor that has initialized the bridge, in the folder, for the project `app`."""
+        """An editor that has initialized the bridge, in the folder, for the project `app`, and to
+        which was said once that nothing is mapped."""
         editor = Editor(*words, url or self.url, "app")
         result, _ = editor.call(
             "initialize",
@@ -156,6 +168,11 @@ class Lsp(unittest.TestCase):
         )
         editor.notify("initialized", {})
         self.assertEqual(result["capabilities"]["positionEncoding"], "utf-16")
+        if not url:
+            stored = Replies.status, Replies.body
+            self.answer({"contents": None})
+            self.assertEqual(editor.call("textDocument/hover", self.at), (None, NOT_MAPPED))
+            (Replies.status, Replies.body), Replies.asked = stored, []
         return editor
 
     def answer(self, reply: Any, status: int = 200) -> None:
@@ -276,7 +293,7 @@ class Lsp(unittest.TestCase):
         editor = Editor(self.url, "app")
         editor.call("initialize", {"rootUri": uri_of(link, []), "capabilities": {}})
         found = editor.call("textDocument/definition", {**self.at, "textDocument": {"uri": own}})
-        self.assertEqual(found, ([{"uri": own, "range": PLACE}], []))
+        self.assertEqual(found, ([{"uri": own, "range": PLACE}], NOT_MAPPED))
         self.assertEqual(Replies.asked[-1][1]["uri"], self.uri)
         editor.end("shutdown", "exit")
 
@@ -492,10 +509,19 @@ class Lsp(unittest.TestCase):
         self.editor("--log", log).end("shutdown", "exit")
         with open(log, "rb") as file:
             lines = [line.split(b" ", 1) for line in file.read().splitlines()]
-        self.assertEqual([way for way, _ in lines], [b"<-", b"->", b"<-", b"<-", b"->", b"<-"])
         self.assertEqual(
-            [json.loads(body).get("method") for _, body in lines],
-            ["initialize", None, "initialized", "shutdown", None, "exit"],
+            [(way, json.loads(body).get("method")) for way, body in lines],
+            [
+                (b"<-", "initialize"),
+                (b"->", None),
+                (b"<-", "initialized"),
+                (b"<-", "textDocument/hover"),
+                (b"->", "window/logMessage"),
+                (b"->", None),
+                (b"<-", "shutdown"),
+                (b"->", None),
+                (b"<-", "exit"),
+            ],
         )
 
     def test_what_is_refused(self) -> None:

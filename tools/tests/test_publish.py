@@ -85,7 +85,7 @@ class Publish(OnCheckout):
             (status, said[0]), (0, f"uploaded app: a dump of {count} elements, profile 1")
         )
         self.assertRegex(said[1], r"^uploaded app: [0-9]+ tags$")
-        where = f"file://{self.checkout}"
+        where = "file:///src/tr/crate"
         self.assertEqual(
             said[2], f"documents are below {where}: elsewhere ask with --map {where}=FOLDER"
         )
@@ -123,12 +123,9 @@ class Publish(OnCheckout):
         return path
 
     def test_the_revision_of_a_project(self) -> None:
-        """What is checked out where nothing is changed, or what is named; a project keeps none, so
-        it's said how to ask."""
+        """What is checked out where nothing is changed, or what is named."""
         commit = self.committed()
-        line = (
-            f"the index is of revision {commit}: where files changed ask with --revision {commit}"
-        )
+        line = f"the index is of revision {commit}, which it keeps"
         call = ["--no-tags", "--dump", RAW, "app", self.checkout]
         status, said, stages = self.published(*call)
         self.assertEqual((status, said[2], "revision" in stages), (0, line, False))
@@ -154,7 +151,7 @@ class Publish(OnCheckout):
         commit = self.committed()
         status, said, _ = self.published("--set", "--no-tags", "--dump", RAW, "app", self.checkout)
         self.assertEqual(status, 0)
-        self.assertIn(f"the index is of revision {commit}: which the set keeps", said)
+        self.assertIn(f"the index is of revision {commit}, which it keeps", said)
         path = self.change()
         maps = ["--map", f"file:///src/tr/crate={self.checkout}"]
         with redirect_stdout(io.StringIO()) as out, redirect_stderr(io.StringIO()) as warned:

@@ -3,9 +3,11 @@ and those of the index lead to one another."""
 
 import os
 import threading
+from contextlib import suppress
 from typing import Iterator, Optional
 
 from navtools.browsing.folder import MOST_BYTES, Folder, Refused
+from navtools.client import NoReply
 from navtools.indexed import Checkout
 from navtools.moved.text_map import TextMap
 from navtools.moved.tokens import tokens_of
@@ -36,8 +38,7 @@ class View:
             if self.checkout:
                 self.checkout.end()
             for indexed in self.workspace.mapping.values():
-                for source in indexed.sources.values():
-                    source.end()
+                indexed.end()
 
     def text(self, path: str) -> str:
         """The text of a file, by its whole path; raises Refused."""
@@ -74,8 +75,10 @@ class View:
         not the same, and how the indexed text is called."""
         settings = self.workspace.settings(path) or self.settings
         project = self.workspace.projects(settings, path)[0]
-        indexed = self.workspace.questions(settings, project).indexed
-        _, found, label = indexed.map_of(project, path)
+        questions = self.workspace.questions(settings, project)
+        with suppress(NoReply):
+            questions.learn(path, again=True)
+        _, found, label = questions.indexed.map_of(project, path)
         return (None, "") if found is None or found.is_same else (found, label)
 
     def ask(self, what: str, path: str, line: int, character: int) -> tuple[Reply, str]:

@@ -1,0 +1,360 @@
+"""Tests that a question about a file that changed since it was indexed is right without an option,
+or says why not: by the revision that a project or a set keeps itself, also while another one is
+published."""
+
+import io
+import json
+import os
+import shutil
+import unittest
+from contextlib import redirect_stderr, redirect_stdout
+from random import Random
+from typing import Any
+
+from navtools import ask, prepare, publish, upload
+from navtools.indexed import Indexed
+from navtools.questions import Questions, fetch_from
+from navtools.records import Prepared, new_record
+from navtools.sets.publish import Publish, Store, remove_set
+from navtools.workspace import Settings
+from tests.repository import InRepository, git_in
+from tests.servers import TOP, OnServer
+from tests.test_browse import Served
+from tests.test_lsp import Editor
+from tests.test_set_service import NAME, revision, split_into
+
+ROOT = "file:///src/tr"
+RAW = {name: os.path.join(TOP, "demo", f"{name}.raw.lsif") for name in ("crate", "user")}
+PROJECTS = {"crate": "temperature", "user": "kettle"}
+TOP_LINES = "// one\n// two\n"
+CALL = ("crate/src/lib.rs", "scale::fahrenheit", len("scale::"))
+"""The use of a function: its file, a text that stands there once, and where the word is in it."""
+
+
+def at(text: str, part: str, behind: int) -> tuple[int, int]:
+    """The line and the column, from 1, of a place in a text that is behind the beginning of the
+    only place of a part."""
+    before, _, after = text.partition(part)
+    assert after and part not in after, part
+    return before.count("\n") + 1, len(before.rpartition("\n")[2]) + behind + 1
+
+
+def quietly(tool: Any, *words: str) -> tuple[int, str, str]:
+    """The status of a tool, what it prints, and what it says as an error."""
+    with redirect_stdout(io.StringIO()) as said, redirect_stderr(io.StringIO()) as warned:
+        status = tool(list(words))
+    return status, said.getvalue(), warned.getvalue()
+
+
+class Kept(Served, OnServer, InRepository):
+    """The demo crates, each in a checkout of its own and published from there, and then changed."""
+
+    def setUp(self) -> None:
+        OnServer.setUp(self)
+        InRepository.setUp(self)
+        self.commits = {}
+        for name in PROJECTS:
+            top = os.path.join(self.home, name)
+            shutil.copytree(os.path.join(TOP, "demo", name), top)
+            self.git("init", "-q", top=top)
+            self.commits[name] = self.commit(top)
+            shutil.copytree(top, os.path.join(self.home, "kept", name), symlinks=True)
+
+    def published(self, name: str, *words: str) -> None:
+        """Publishes a crate's checkout."""
+        call = ["--no-tags", "--program", self.program, "--dump", RAW[name], *words, self.url]
+        status, _, said = quietly(publish.main, *call, PROJECTS[name], f"{self.home}/{name}")
+        self.assertEqual(status, 0, said)
+
+    def uploaded(self, name: str) -> None:
+        """Uploads a crate's dump without a record."""
+        dump = os.path.join(self.home, f"{name}.lsif")
+        self.assertEqual(quietly(prepare.main, "--strip", RAW[name], dump)[0], 0)
+        self.assertEqual(quietly(upload_dump, self.url, PROJECTS[name], dump)[0], 0)
+
+    def change(self, name: str) -> None:
+        """Adds two lines on top of a file."""
+        path = os.path.join(self.home, name)
+        with open(path, encoding="utf-8") as file:
+            text = file.read()
+        self.write(name, TOP_LINES + text, self.home)
+
+    def place(self, name: str, part: str, behind: int) -> tuple[str, int, int]:
+        """A file below the home, and where a text stands in it today."""
+        path = os.path.join(self.home, name)
+        with open(path, encoding="utf-8") as file:
+            return (path, *at(file.read(), part, behind))
+
+    def asked(self, what: str, place: tuple[str, int, int]) -> tuple[int, list[str], str]:
+        """The status, the places and the lines of `ask`, with the home's folder as HOME."""
+        words = ["--map", f"{ROOT}={self.home}", self.url, "temperature", what, *map(str, place)]
+        status, said, warned = quietly(ask.main, *words)
+        lines = [os.path.abspath(line).replace(self.home, "HOME") for line in said.splitlines()]
+        return status, lines, warned.replace(self.home, "HOME")
+
+    def test_what_is_known(self) -> None:
+        """Of each way in which a crate came to the server, and became what it is now: whether the
+        question finds the place in today's text, and what is said."""
+        crate = os.path.join(self.home, "crate")
+        commit = self.commits["crate"]
+        changed = f"ask: HOME/crate/src/lib.rs changed since: the answer is of {commit}\n"
+
+        def nothing() -> None:
+            pass
+
+        def forgotten() -> None:
+            shutil.rmtree(os.path.join(crate, ".git"))
+
+        def shallow() -> None:
+            self.commit(crate)
+            shutil.move(crate, f"{crate}.full")
+            git_in(self.home, "clone", "-q", "--depth", "1", f"file://{crate}.full", crate)
+
+        def another() -> None:
+            forgotten()
+            self.git("init", "-q", top=crate)
+            self.commit(crate)
+
+        not_mapped = "; its places aren't mapped\n"
+        for publishing, then, said in (
+            (lambda: self.published("crate"), nothing, ""),
+            (lambda: self.published("crate", "--set"), nothing, ""),
+            (
+                lambda: self.published("crate"),
+                forgotten,
+                f"HOME/crate/src: not in a checkout of git{not_mapped}",
+            ),
+            (
+                lambda: self.published("crate"),
+                shallow,
+                f"HOME/crate: a shallow clone without {commit}: `git fetch --depth 1 origin {commit}` gets it{not_mapped}",
+            ),
+            (
+                lambda: self.published("crate"),
+                another,
+                f"HOME/crate: git knows no revision {commit}{not_mapped}",
+            ),
+            (
+                lambda: self.uploaded("crate"),
+                nothing,
+                f"temperature: no revision is kept with its index{not_mapped}",
+            ),
+        ):
+            with self.subTest(said):
+                publishing()
+                self.change("crate/src/lib.rs")
+                then()
+                status, places, warned = self.asked("definition", self.place(*CALL))
+                right = ["HOME/crate/src/scale.rs:4:8"], changed
+                self.assertEqual((places, warned), ([], f"ask: {said}") if said else right)
+                shutil.rmtree(crate)
+                shutil.copytree(f"{self.home}/kept/crate", crate, symlinks=True)
+
+    def test_work_that_is_not_committed(self) -> None:
+        self.change("crate/src/scale.rs")
+        self.published("crate")
+        self.change("crate/src/lib.rs")
+        said = "temperature: its index is of files that weren't committed; its places aren't mapped"
+        self.assertEqual(self.asked("definition", self.place(*CALL))[1:], ([], f"ask: {said}\n"))
+
+    def test_places_of_other_projects(self) -> None:
+        """Each is mapped by the revision of its own index, where its file is in a checkout that has
+        it; of one without a revision that's said."""
+        self.published("crate")
+        definition = "crate/src/scale.rs", "pub fn fahrenheit", len("pub fn ")
+        here = ["HOME/crate/src/lib.rs:18:12", "HOME/crate/src/scale.rs:4:8"]
+        there = "ask: kettle: no revision is kept with its index; its places aren't mapped\n"
+        for publishing, said in ((self.uploaded, there), (self.published, "")):
+            publishing("user")
+            places = ["HOME/user/src/lib.rs:5:25", *here]
+            self.assertEqual(self.asked("references", self.place(*definition)), (0, places, said))
+        self.change("user/src/lib.rs")
+        places = ["HOME/user/src/lib.rs:7:25", *here]
+        self.assertEqual(self.asked("references", self.place(*definition)), (0, places, ""))
+        self.git("commit", "-qam", "y", top=os.path.join(self.home, "user"))
+        self.published("user")
+        places = ["HOME/user/src/lib.rs:5:25", *here]
+        self.assertEqual(self.asked("references", self.place(*definition))[1], places)
+
+    def test_a_place_elsewhere(self) -> None:
+        """Where the checkout that was published was another folder, the address that its documents
+        are below is named."""
+        self.published("crate")
+        path = self.place(*CALL)
+        status, _, said = quietly(ask.main, self.url, "temperature", "definition", *map(str, path))
+        root = f"{ROOT}/crate"
+        line = (
+            f"ask: D02 no such document: file://{path[0]}: the project's documents are below {root}, "
+            f"and --map {root}=FOLDER says where these are here\n"
+        )
+        self.assertEqual((status, said), (2, line))
+
+    def test_an_editor_and_a_page(self) -> None:
+        """Both are open while the crate is changed and published anew, by and by."""
+        self.published("crate")
+        maps = [(ROOT, self.home)]
+        self.top = os.path.join(self.home, "crate")
+        self.serve(Settings(self.url, "temperature", self.top, maps))
+        self.addCleanup(self.stop)
+        editor = Editor("--map", f"{ROOT}={self.home}", self.url, "temperature")
+        self.addCleanup(editor.end, "shutdown", "exit")
+        editor.call("initialize", {"rootUri": f"file://{self.top}", "capabilities": {}})
+        for number in range(3):
+            if number:
+                self.change("crate/src/lib.rs")
+                self.change("crate/src/scale.rs")
+            for is_published in (False, True):
+                if is_published and number:
+                    self.commit(self.top)
+                    self.published_with_lines(2 * number)
+                _, line, column = self.place(*CALL)
+                text = {"uri": f"file://{self.top}/src/lib.rs"}
+                position = {"line": line - 1, "character": column - 1}
+                places, _ = editor.call(
+                    "textDocument/definition", {"textDocument": text, "position": position}
+                )
+                found = [(one["uri"], one["range"]["start"]) for one in places]
+                wanted = {"line": 3 + 2 * number, "character": 7}
+                self.assertEqual(found, [(f"file://{self.top}/src/scale.rs", wanted)])
+                query = f"what=definition&path=src/lib.rs&line={line - 1}&character={column - 1}"
+                rows = json.loads(self.got(f"/ask?{query}")[1])["places"]
+                self.assertEqual(
+                    [row["href"] for row in rows], [f"/files/src/scale.rs#L{wanted['line'] + 1}C8"]
+                )
+
+    def published_with_lines(self, number: int) -> None:
+        """Publishes the crate as its indexer would write it with so many lines more on top of each
+        file."""
+        dump = os.path.join(self.home, "lines.lsif")
+        with open(RAW["crate"], "rb") as raw, open(dump, "wb") as out:
+            for line in raw:
+                element = json.loads(line)
+                if element["label"] == "range":
+                    element["start"]["line"] += number
+                    element["end"]["line"] += number
+                out.write(json.dumps(element).encode() + b"\n")
+        call = ["--no-tags", "--program", self.program, "--dump", dump, self.url, "temperature"]
+        self.assertEqual(quietly(publish.main, *call, self.top)[0], 0)
+
+
+class Switched(OnServer, InRepository):
+    """Revisions of the demo crate, of which one after the other is on the server, as a project or
+    as a set: the n-th has n lines on top of a file."""
+
+    def setUp(self) -> None:
+        OnServer.setUp(self)
+        InRepository.setUp(self)
+        shutil.copytree(os.path.join(TOP, "demo", "crate"), self.top, dirs_exist_ok=True)
+        self.path = os.path.join(self.top, "src", "scale.rs")
+        with open(self.path, encoding="utf-8") as file:
+            self.text = file.read()
+        self.commits = [self.with_lines(number) for number in range(4)]
+        self.bodies = [revision(number) for number in range(4)]
+        self.made = 0
+
+    def with_lines(self, number: int) -> str:
+        """Commits the file with so many lines on top; answers the commit."""
+        lines = "".join(f"// line {line}\n" for line in range(number))
+        self.write("src/scale.rs", lines + self.text)
+        return self.commit()
+
+    def put(self, number: int, is_set: bool, is_kept: bool = True) -> None:
+        """Publishes a revision, as a set or a project in the place of the one that's there."""
+        self.made += 1
+        folder, commit = os.path.join(self.home, f"set{self.made}"), self.commits[number]
+        if is_set:
+            split_into(folder, self.bodies[number], *(["--revision", commit] if is_kept else []))
+            Publish(Store(self.url), folder, in_place_of_project=True).run()
+            return
+        dump = f"{folder}.lsif"
+        with open(dump, "wb") as out:
+            out.write(self.bodies[number])
+        if is_kept:
+            self.assertTrue(Prepared(dump).add(new_record(commit, ROOT)))
+        self.assertEqual(quietly(upload_dump, self.url, NAME, dump)[0], 0)
+        remove_set(Store(self.url), NAME)
+
+    def test_each_request(self) -> None:
+        """Another revision is published before the n-th request of a question: the answer is that
+        of one of the two, wholly, with its places where they are today."""
+        for was_set in (False, True):
+            for is_set in (False, True):
+                for first in range(1, 10):
+                    self.put(1, was_set)
+                    asker = Asker(self, {first: lambda own=is_set: self.put(3, own)})
+                    self.assertEqual((asker.ask(), asker.said), (asker.right(), []))
+                    is_last = asker.requests < first
+                    self.assertEqual(asker.ask(), asker.right())
+                    if is_last:
+                        break
+                self.assertTrue(is_last)
+
+    def test_random_turns(self) -> None:
+        """One asker meanwhile revisions come in any order, some of them without saying which they
+        are; then either that's said, or the answer is right."""
+        for seed in range(4):
+            random = Random(seed)
+            turns = {
+                turn: lambda number=random.randrange(4), is_set=random.random() < 0.4, is_kept=random.random() < 0.8: self.put(  # type: ignore[misc]
+                    number, is_set, is_kept
+                )
+                for turn in sorted(random.sample(range(2, 80), 16))
+            }
+            self.put(0, False)
+            asker = Asker(self, turns)
+            while asker.requests < 80:
+                count = len(asker.said)
+                found = asker.ask()
+                if len(asker.said) == count and not asker.is_of_none():
+                    self.assertEqual(found, asker.right(), (seed, asker.requests))
+
+
+class Asker:
+    """A tool that runs on and asks for references again and again; before some of its requests
+    something happens."""
+
+    def __init__(self, test: Switched, turns: dict[int, Any]) -> None:
+        self.test, self.turns, self.requests = test, turns, 0
+        self.said: list[str] = []
+        self.fetch = fetch_from(test.url, 30)
+        maps = [(f"{ROOT}/crate", test.top)]
+        self.questions = Questions(NAME, self.fetched, Indexed({}, maps, self.said.append))
+        test.addCleanup(self.questions.indexed.end)
+
+    def fetched(self, path: str, parameters: dict[str, Any], member: str) -> Any:
+        """Makes a request, after what comes before it."""
+        self.requests += 1
+        if turn := self.turns.get(self.requests):
+            turn()
+        return self.fetch(path, parameters, member)
+
+    def place(self) -> tuple[int, int]:
+        """Where the function is defined today, from 0."""
+        with open(self.test.path, encoding="utf-8") as file:
+            line, column = at(file.read(), "pub fn fahrenheit", len("pub fn "))
+        return line - 1, column - 1
+
+    def ask(self) -> list[tuple[str, int, int]]:
+        """The references to the function, by their files' names, lines and characters."""
+        found = self.questions.ask("references", self.test.path, *self.place()).found
+        return sorted(
+            (os.path.basename(one["path"]), one["start"]["line"], one["start"]["character"])
+            for one in found
+        )
+
+    def right(self) -> list[tuple[str, int, int]]:
+        """What these are today."""
+        return [("lib.rs", 17, 11), ("scale.rs", *self.place())]
+
+    def is_of_none(self) -> bool:
+        """Whether it's known, and was said, that the index is of no revision."""
+        return bool(self.questions.indexed.reason(NAME))
+
+
+def upload_dump(words: list[str]) -> int:
+    """Uploads a dump."""
+    return upload.main("lsif", words)
+
+
+if __name__ == "__main__":
+    unittest.main()
