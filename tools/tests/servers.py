@@ -6,7 +6,10 @@ import socket
 import threading
 import unittest
 from typing import Callable, Optional
+from urllib.parse import urlencode
 
+from navtools.client import Answer
+from navtools.records import ADDRESS
 from navtools.serving import ended, free_port, started
 
 TOP = os.path.dirname(os.path.dirname(os.path.dirname(os.path.abspath(__file__))))
@@ -29,6 +32,19 @@ def built_program() -> Optional[str]:
 def program() -> str:
     """The built program, or what stands in for it where it isn't built."""
     return built_program() or STAND_IN
+
+
+def replying(answer: Answer, asked: list[str]) -> Callable[..., Answer]:
+    """What stands in for requests: each gets the answer, and its address is kept, but for those of
+    the record of a revision, of which there is none."""
+
+    def request(url: str, **_: object) -> Answer:
+        if urlencode({"uri": ADDRESS}) in url and answer.status == 200:
+            return answer._replace(body=b'{"contents":null}')
+        asked.append(url)
+        return answer
+
+    return request
 
 
 class OnServer(unittest.TestCase):

@@ -21,9 +21,9 @@ from navtools.browsing.folder import Folder
 from navtools.browsing.markdown import ELEMENTS, tree_of
 from navtools.browsing.server import Pages
 from navtools.client import Answer
-from navtools.records import ADDRESS
 from navtools.workspace import Settings
 from tests.repository import InRepository
+from tests.servers import replying
 
 CROSS = {"Sec-Fetch-Site": "cross-site"}
 PLACE: dict[str, Any] = {
@@ -85,15 +85,9 @@ class Served:
     def asked(self, path: str, reply: Any, status: int = 200) -> tuple[int, Any, Optional[str]]:
         """The status and the answer to a question that the server answers so, and the address that
         the server was asked by; of a record of the revision it has none."""
-        answer, asked = Answer("http://127.0.0.1:1", status, json.dumps(reply).encode()), []
-
-        def request(url: str, **_: Any) -> Answer:
-            if urlencode({"uri": ADDRESS}) in url:
-                return answer._replace(status=200, body=b'{"contents":null}')
-            asked.append(url)
-            return answer
-
-        with mock.patch.object(questions, "request", request):
+        answer = Answer("http://127.0.0.1:1", status, json.dumps(reply).encode())
+        asked: list[str] = []
+        with mock.patch.object(questions, "request", replying(answer, asked)):
             code, body, _ = self.got(path)
         return code, json.loads(body), asked[0] if asked else None
 

@@ -9,7 +9,7 @@ import shutil
 import unittest
 from contextlib import redirect_stderr, redirect_stdout
 from random import Random
-from typing import Any
+from typing import Any, Callable
 
 from navtools import ask, prepare, publish, upload
 from navtools.indexed import Indexed
@@ -85,7 +85,7 @@ class Kept(Served, OnServer, InRepository):
         with open(path, encoding="utf-8") as file:
             return (path, *at(file.read(), part, behind))
 
-    def asked(self, what: str, place: tuple[str, int, int]) -> tuple[int, list[str], str]:
+    def answer(self, what: str, place: tuple[str, int, int]) -> tuple[int, list[str], str]:
         """The status, the places and the lines of `ask`, with the home's folder as HOME."""
         words = ["--map", f"{ROOT}={self.home}", self.url, "temperature", what, *map(str, place)]
         status, said, warned = quietly(ask.main, *words)
@@ -115,22 +115,25 @@ class Kept(Served, OnServer, InRepository):
             self.git("init", "-q", top=crate)
             self.commit(crate)
 
+        def published(*words: str) -> Callable[[], None]:
+            return lambda: self.published("crate", *words)
+
         not_mapped = "; its places aren't mapped\n"
-        for publishing, then, said in (
-            (lambda: self.published("crate"), nothing, ""),
-            (lambda: self.published("crate", "--set"), nothing, ""),
+        cases: list[tuple[Callable[[], None], Callable[[], None], str]] = [
+            (published(), nothing, ""),
+            (published("--set"), nothing, ""),
             (
-                lambda: self.published("crate"),
+                published(),
                 forgotten,
                 f"HOME/crate/src: not in a checkout of git{not_mapped}",
             ),
             (
-                lambda: self.published("crate"),
+                published(),
                 shallow,
                 f"HOME/crate: a shallow clone without {commit}: `git fetch --depth 1 origin {commit}` gets it{not_mapped}",
             ),
             (
-                lambda: self.published("crate"),
+                published(),
                 another,
                 f"HOME/crate: git knows no revision {commit}{not_mapped}",
             ),
@@ -139,12 +142,13 @@ class Kept(Served, OnServer, InRepository):
                 nothing,
                 f"temperature: no revision is kept with its index{not_mapped}",
             ),
-        ):
+        ]
+        for publishing, then, said in cases:
             with self.subTest(said):
                 publishing()
                 self.change("crate/src/lib.rs")
                 then()
-                status, places, warned = self.asked("definition", self.place(*CALL))
+                status, places, warned = self.answer("definition", self.place(*CALL))
                 right = ["HOME/crate/src/scale.rs:4:8"], changed
                 self.assertEqual((places, warned), ([], f"ask: {said}") if said else right)
                 shutil.rmtree(crate)
@@ -155,7 +159,7 @@ class Kept(Served, OnServer, InRepository):
         self.published("crate")
         self.change("crate/src/lib.rs")
         said = "temperature: its index is of files that weren't committed; its places aren't mapped"
-        self.assertEqual(self.asked("definition", self.place(*CALL))[1:], ([], f"ask: {said}\n"))
+        self.assertEqual(self.answer("definition", self.place(*CALL))[1:], ([], f"ask: {said}\n"))
 
     def test_places_of_other_projects(self) -> None:
         """Each is mapped by the revision of its own index, where its file is in a checkout that has
@@ -164,17 +168,17 @@ class Kept(Served, OnServer, InRepository):
         definition = "crate/src/scale.rs", "pub fn fahrenheit", len("pub fn ")
         here = ["HOME/crate/src/lib.rs:18:12", "HOME/crate/src/scale.rs:4:8"]
         there = "ask: kettle: no revision is kept with its index; its places aren't mapped\n"
-        for publishing, said in ((self.uploaded, there), (self.published, "")):
-            publishing("user")
+        for is_kept, said in ((False, there), (True, "")):
+            self.published("user") if is_kept else self.uploaded("user")
             places = ["HOME/user/src/lib.rs:5:25", *here]
-            self.assertEqual(self.asked("references", self.place(*definition)), (0, places, said))
+            self.assertEqual(self.answer("references", self.place(*definition)), (0, places, said))
         self.change("user/src/lib.rs")
         places = ["HOME/user/src/lib.rs:7:25", *here]
-        self.assertEqual(self.asked("references", self.place(*definition)), (0, places, ""))
+        self.assertEqual(self.answer("references", self.place(*definition)), (0, places, ""))
         self.git("commit", "-qam", "y", top=os.path.join(self.home, "user"))
         self.published("user")
         places = ["HOME/user/src/lib.rs:5:25", *here]
-        self.assertEqual(self.asked("references", self.place(*definition))[1], places)
+        self.assertEqual(self.answer("references", self.place(*definition))[1], places)
 
     def test_a_place_elsewhere(self) -> None:
         """Where the checkout that was published was another folder, the address that its documents
@@ -274,6 +278,10 @@ class Switched(OnServer, InRepository):
         self.assertEqual(quietly(upload_dump, self.url, NAME, dump)[0], 0)
         remove_set(Store(self.url), NAME)
 
+    def putting(self, number: int, is_set: bool, is_kept: bool) -> Callable[[], None]:
+        """What does so."""
+        return lambda: self.put(number, is_set, is_kept)
+
     def test_each_request(self) -> None:
         """Another revision is published before the n-th request of a question: the answer is that
         of one of the two, wholly, with its places where they are today."""
@@ -281,7 +289,7 @@ class Switched(OnServer, InRepository):
             for is_set in (False, True):
                 for first in range(1, 10):
                     self.put(1, was_set)
-                    asker = Asker(self, {first: lambda own=is_set: self.put(3, own)})
+                    asker = Asker(self, {first: self.putting(3, is_set, True)})
                     self.assertEqual((asker.ask(), asker.said), (asker.right(), []))
                     is_last = asker.requests < first
                     self.assertEqual(asker.ask(), asker.right())
@@ -295,8 +303,8 @@ class Switched(OnServer, InRepository):
         for seed in range(4):
             random = Random(seed)
             turns = {
-                turn: lambda number=random.randrange(4), is_set=random.random() < 0.4, is_kept=random.random() < 0.8: self.put(  # type: ignore[misc]
-                    number, is_set, is_kept
+                turn: self.putting(
+                    random.randrange(4), random.random() < 0.4, random.random() < 0.8
                 )
                 for turn in sorted(random.sample(range(2, 80), 16))
             }

@@ -13,6 +13,7 @@ from urllib.parse import quote
 
 from navtools import ask, client, places, prepare, questions, rows, tags, upload
 from navtools.client import Answer
+from tests.servers import replying
 
 TOP = os.path.dirname(os.path.dirname(os.path.dirname(os.path.abspath(__file__))))
 RAW = os.path.join(TOP, "demo", "crate.raw.lsif")
@@ -332,19 +333,21 @@ class Places(unittest.TestCase):
             )
 
 
+NOT_MAPPED = "ask: app: no revision is kept with its index; its places aren't mapped\n"
+
+
 class Ask(unittest.TestCase):
     AT = ["http://127.0.0.1:1", "app"]
 
     def asked(self, words: list[str], reply: dict[str, Any]) -> tuple[int, str, str, str]:
         """The status, the address that was asked, and what was printed of a reply."""
         answer = Answer(self.AT[0], 404 if "fault" in reply else 200, json.dumps(reply).encode())
-        with mock.patch.object(
-            questions, "request", return_value=answer
-        ) as request, redirect_stdout(io.StringIO()) as said, redirect_stderr(
+        asked: list[str] = []
+        with mock.patch.object(questions, "request", replying(answer, asked)), redirect_stdout(
             io.StringIO()
-        ) as warned:
+        ) as said, redirect_stderr(io.StringIO()) as warned:
             status = ask.main(words)
-        return status, request.call_args_list[0].args[0], said.getvalue(), warned.getvalue()
+        return status, asked[0], said.getvalue(), warned.getvalue()
 
     def place(self, file: str, start: tuple[int, int], end: tuple[int, int]) -> dict[str, Any]:
         """An answer with one place, which two projects have."""
@@ -440,7 +443,7 @@ class Ask(unittest.TestCase):
             with self.subTest(words):
                 self.assertEqual(
                     self.asked(["--tags", "lib=/lib", *self.AT, *words], reply),
-                    (status, self.AT[0] + path, said, ""),
+                    (status, self.AT[0] + path, said, "" if "names" in words else NOT_MAPPED),
                 )
 
     def test_a_place_that_is_the_whole_file(self) -> None:
@@ -462,7 +465,8 @@ class Ask(unittest.TestCase):
                     (
                         0,
                         f"{file.name}:1:1\n",
-                        f"ask: nothing but a range over all of {file.name} covers this place\n"
+                        NOT_MAPPED
+                        + f"ask: nothing but a range over all of {file.name} covers this place\n"
                         * warns,
                     ),
                 )
