@@ -10,7 +10,8 @@ from __future__ import annotations
 
 import argparse
 import os
-from typing import TYPE_CHECKING, Any, Callable, NamedTuple, Optional, Protocol
+import time
+from typing import TYPE_CHECKING, Any, Callable, NamedTuple, Optional, Protocol, TypeVar
 
 from navtools.places import Maps, path_of, shown, uri_of
 from navtools.words import BadCall, project_of
@@ -20,7 +21,9 @@ if TYPE_CHECKING:
     from navtools.revisions import Revision
 
 Position = tuple[int, int]
-
+Found = TypeVar("Found")
+FRESH = 5.0
+"""Seconds for which it stands that git didn't find something."""
 
 MOST_MAPS = 32
 """Maps that are kept, those that were used last."""
@@ -85,7 +88,7 @@ class Checkout:
         self.label = revision
         self.tops: dict[str, str] = {}
         self.revisions: dict[str, Revision] = {}
-        self.faults: dict[str, str] = {}
+        self.faults: dict[str, tuple[float, str]] = {}
 
     def of(self, path: str) -> Revision:
         """The revision of the work tree that a file is in. Raises BadCall where it's in none, or
@@ -93,24 +96,24 @@ class Checkout:
         folder = os.path.dirname(os.path.realpath(path))
         while not os.path.isdir(folder):
             folder = os.path.dirname(folder)
-        if folder not in self.tops:
-            from navtools.revisions import top_of  # here, since few calls name a revision
+        from navtools.revisions import Revision, checked_top  # here, since few calls need git
 
-            self.tops[folder] = top_of(folder)
-        top = self.tops[folder]
-        if not top:
-            raise BadCall(f"{folder}: not in a checkout of git")
-        if top in self.faults:
-            raise BadCall(self.faults[top])
-        if top not in self.revisions:
+        top = self.once(self.tops, folder, checked_top)
+        return self.once(self.revisions, top, lambda own: Revision(own, self.label))
+
+    def once(self, known: dict[str, Found], key: str, find: Callable[[str], Found]) -> Found:
+        """What is known of a folder, or is found of it now. Raises BadCall, for some seconds without
+        another look."""
+        if key not in known:
+            since, fault = self.faults.get(key, (0.0, ""))
+            if fault and time.monotonic() - since < FRESH:
+                raise BadCall(fault)
             try:
-                from navtools.revisions import Revision
-
-                self.revisions[top] = Revision(top, self.label)
-            except BadCall as fault:
-                self.faults[top] = str(fault)
+                known[key] = find(key)
+            except BadCall as failed:
+                self.faults[key] = time.monotonic(), str(failed)
                 raise
-        return self.revisions[top]
+        return known[key]
 
     def old_path(self, path: str) -> str:
         """The path that a file of today had, before it was renamed."""

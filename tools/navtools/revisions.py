@@ -10,18 +10,25 @@ import secrets
 import shutil
 import subprocess
 import tempfile
+import threading
 import time
+from contextlib import suppress
 from typing import Optional
 
+from navtools.indexed import FRESH
 from navtools.words import BadCall
 
-FRESH = 5.0
-"""Seconds for which the list of renamed files stands where a name isn't found."""
+SECONDS, AWAY = 10.0, 60.0
+"""Seconds for which git is waited for, and for which it isn't asked again where none came."""
+NO_ANSWER = "{}: git gives no answer"
 ENVIRONMENT = {"GIT_OPTIONAL_LOCKS": "0", "GIT_NO_LAZY_FETCH": "1", "LC_ALL": "C"}
 
 
-def git(folder: str, *words: str, **variables: str) -> Optional[bytes]:
-    """What a git command prints; None where it fails, or there is no git."""
+def git(
+    folder: str, *words: str, seconds: Optional[float] = SECONDS, **variables: str
+) -> Optional[bytes]:
+    """What a git command prints; None where it fails, or there is no git. Raises BadCall where it
+    doesn't end in time."""
     try:
         done = subprocess.run(
             ["git", "-C", folder, *words],
@@ -29,9 +36,14 @@ def git(folder: str, *words: str, **variables: str) -> Optional[bytes]:
             capture_output=True,
             check=False,
             env={**os.environ, **ENVIRONMENT, **variables},
+            timeout=seconds,
         )
-    except OSError:
+    except (FileNotFoundError, PermissionError):
         return None
+    except OSError as fault:
+        raise BadCall(f"{folder}: git can't be started: {fault.strerror}") from None
+    except subprocess.TimeoutExpired:
+        raise BadCall(NO_ANSWER.format(folder)) from None
     return done.stdout if done.returncode == 0 else None
 
 
@@ -43,6 +55,16 @@ def line_of(output: Optional[bytes]) -> str:
 def top_of(folder: str) -> str:
     """The top of the work tree that a folder is in; empty where it's in none."""
     return line_of(git(folder, "rev-parse", "--show-toplevel"))
+
+
+def checked_top(folder: str) -> str:
+    """The top of the work tree that a folder is in. Raises BadCall where it's in none."""
+    top = top_of(folder)
+    if not top and not shutil.which("git"):
+        raise BadCall(f"{folder}: git isn't installed")
+    if not top:
+        raise BadCall(f"{folder}: not in a checkout of git")
+    return top
 
 
 def found_in(top: str, name: str) -> str:
@@ -88,7 +110,8 @@ def indexed_at(folder: str, given: Optional[str]) -> tuple[str, str]:
     if not top and given:
         raise BadCall(f"{folder}: not in a checkout of git, so {given} can't be looked up")
     commit = commit_of(top, given) if given else found_in(folder, "HEAD^{commit}")
-    if not commit or git(top, "diff", "--quiet", "--ignore-submodules", commit, "--") is not None:
+    words = ["diff", "--quiet", "--ignore-submodules", commit, "--"]
+    if not commit or git(top, *words, seconds=None) is not None:
         return commit, ""
     if given:
         return (
@@ -106,42 +129,84 @@ def no_revision(top: str, revision: str) -> str:
 
 
 class Batch:
-    """A `git cat-file` that is asked for one object after the other."""
+    """A `git cat-file` that is asked for one object after the other. It's started where it's needed,
+    and again where it ended; one that gives no answer in time is ended, and isn't asked again at
+    once."""
 
     def __init__(self, top: str, *words: str) -> None:
+        self.top, self.words = top, words
         self.end_line = os.fsencode(f"{secrets.token_hex(20)} missing\n")
-        self.process = subprocess.Popen(
-            ["git", "-C", top, "cat-file", *words],
-            stdin=subprocess.PIPE,
-            stdout=subprocess.PIPE,
-            stderr=subprocess.DEVNULL,
-            env={**os.environ, **ENVIRONMENT},
-        )
+        self.process: Optional[subprocess.Popen[bytes]] = None
+        self.away = 0.0
 
     def asked(self, line: str) -> bytes:
+        """What it prints of an object; nothing where it ends at this one alone, as at one that a
+        partial clone would fetch. Raises BadCall where it gives no answer."""
+        if "\n" in line:
+            return b""
+        none = b"0" * 40
+        for asked in (os.fsencode(line), none, os.fsencode(line)):
+            found = self.answer(asked) if time.monotonic() >= self.away else None
+            if found is not None and asked != none:
+                return found
+            if found is None:
+                self.end()
+                if asked == none or time.monotonic() < self.away:
+                    self.away = max(self.away, time.monotonic() + FRESH)
+                    raise BadCall(NO_ANSWER.format(self.top))
+        return b""
+
+    def answer(self, line: bytes) -> Optional[bytes]:
         """What it prints of an object, up to what it says of one that can't be there, which is
-        asked for next.
+        asked for next; None where it ended before.
 
         The size that git prints isn't how much comes: it's that of the stored text, before the
         filters.
         """
-        assert self.process.stdin is not None and self.process.stdout is not None
-        if "\n" in line:
-            return b""
-        try:
-            self.process.stdin.write(os.fsencode(line) + b"\n" + self.end_line.split()[0] + b"\n")
-            self.process.stdin.flush()
-        except OSError:
-            return b""
+        process = self.process = self.process or self.started()
+        assert process.stdin is not None and process.stdout is not None
+        timer = threading.Timer(SECONDS, self.give_up, [process])
+        timer.daemon = True
+        timer.start()
         lines = []
-        while (found := self.process.stdout.readline()) not in (b"", self.end_line):
-            lines.append(found)
+        try:
+            process.stdin.write(line + b"\n" + self.end_line.split()[0] + b"\n")
+            process.stdin.flush()
+            while (found := process.stdout.readline()) != self.end_line:
+                if not found:
+                    return None
+                lines.append(found)
+        except OSError:
+            return None
+        finally:
+            timer.cancel()
         return b"".join(lines)
+
+    def started(self) -> subprocess.Popen[bytes]:
+        """A process of git. Raises BadCall."""
+        try:
+            return subprocess.Popen(
+                ["git", "-C", self.top, "cat-file", *self.words],
+                stdin=subprocess.PIPE,
+                stdout=subprocess.PIPE,
+                stderr=subprocess.DEVNULL,
+                env={**os.environ, **ENVIRONMENT},
+            )
+        except OSError as fault:
+            raise BadCall(f"{self.top}: git can't be started: {fault.strerror}") from None
+
+    def give_up(self, process: subprocess.Popen[bytes]) -> None:
+        """Ends a process that gives no answer."""
+        self.away = time.monotonic() + AWAY
+        process.kill()
 
     def end(self) -> None:
         """Ends it."""
-        self.process.kill()
-        self.process.communicate()
+        process, self.process = self.process, None
+        if process is not None:
+            process.kill()
+            with suppress(OSError):
+                process.communicate()
 
 
 class Revision:
@@ -193,7 +258,10 @@ class Revision:
         found = self.blobs.asked(f"{blob} {name}") if blob else b""
         _, mark, body = found.partition(b"\n")
         if not mark:
-            raise BadCall(f"{name}: not in {self.name}")
+            is_gone = self.names.asked(self.commit).endswith(b" missing\n")
+            raise BadCall(
+                no_revision(self.top, self.name) if is_gone else f"{name}: not in {self.name}"
+            )
         try:
             return body[:-1].decode()
         except UnicodeDecodeError:

@@ -2,8 +2,12 @@
 revision, and what is said where there is none."""
 
 import os
+import time
 from typing import Any, Optional
+from unittest import mock
 
+import navtools.indexed
+from navtools import revisions
 from navtools.indexed import Asked, Indexed, NotThere, sources_of
 from navtools.places import uri_of
 from navtools.revisions import Revision, top_of
@@ -113,6 +117,61 @@ class Revisions(InRepository):
         self.git("clone", "-q", "--filter=blob:none", f"file://{self.top}", partial)
         with self.assertRaisesRegex(BadCall, f"^a: not in {commit}$"):
             self.revision(commit, partial).text("a")
+
+    def test_git_that_ends(self) -> None:
+        """It's started again; where there's no repository any more, that it gives no answer is
+        said, and when there is one again it's asked."""
+        self.write("a", "x\n")
+        self.commit()
+        revision, git = self.revision(), os.path.join(self.top, ".git")
+        self.enterContext(mock.patch.object(revisions, "FRESH", 0.0))
+        for is_there in (True, True, False, True):
+            for batch in revision.names, revision.blobs:
+                if batch.process is not None:
+                    batch.process.kill()
+                    batch.process.wait()
+            if is_there:
+                self.assertEqual((revision.old_name("a"), revision.text("a")), ("a", "x\n"))
+                continue
+            os.rename(git, f"{git}.away")
+            with self.assertRaisesRegex(BadCall, f"^{self.top}: git gives no answer$"):
+                revision.text("a")
+            os.rename(f"{git}.away", git)
+
+    def test_git_that_hangs(self) -> None:
+        """It's ended, and not waited for again at once."""
+        self.write("a", "x\n")
+        self.commit()
+        revision = self.revision()
+        path = self.write("git", "#!/bin/sh\nexec sleep 60\n", self.home)
+        os.chmod(path, 0o755)
+        self.enterContext(mock.patch.object(revisions, "SECONDS", 0.5))
+        with mock.patch.dict(os.environ, {"PATH": f"{self.home}:{os.environ['PATH']}"}):
+            started = time.monotonic()
+            for _ in range(50):
+                with self.assertRaisesRegex(BadCall, f"^{self.top}: git gives no answer$"):
+                    revision.text("a")
+            self.assertLess(time.monotonic() - started, 5)
+            with self.assertRaisesRegex(BadCall, f"^{self.top}: git gives no answer$"):
+                top_of(self.top)
+
+    def test_objects_that_git_packs_or_loses(self) -> None:
+        self.write("a", "x\n")
+        commit = self.commit()
+        self.write("a", "y\n")
+        self.commit()
+        revision = self.revision(commit)
+        self.assertEqual(revision.text("a"), "x\n")
+        self.git("gc", "-q", "--prune=now")
+        self.assertEqual(revision.text("a"), "x\n")
+        self.git("checkout", "-q", "--orphan", "other")
+        self.commit()
+        self.git("branch", "-qD", "master")
+        self.git("reflog", "expire", "--expire=now", "--all")
+        self.git("gc", "-q", "--prune=now")
+        revision.end()
+        with self.assertRaisesRegex(BadCall, f"^{self.top}: git knows no revision {commit}$"):
+            revision.text("a")
 
     def test_submodules_and_worktrees(self) -> None:
         inner, tree = os.path.join(self.home, "inner"), os.path.join(self.home, "tree")
@@ -227,6 +286,20 @@ class Mapped(InRepository):
         line = f"{os.path.dirname(outside)}: not in a checkout of git; its places aren't mapped"
         self.assertEqual(self.said[1:], [line])
         self.assertEqual(self.indexed("HEAD").asked("app", "urn:x", 2, 4), Asked("urn:x", 2, 4, ""))
+
+    def test_a_commit_that_is_fetched(self) -> None:
+        """It's asked for again some time after it wasn't there."""
+        self.write("src/a.rs", NEW)
+        self.commit()
+        shallow = os.path.join(self.home, "shallow")
+        self.git("clone", "-q", "--depth", "1", f"file://{self.top}", shallow)
+        path = os.path.join(shallow, "src", "a.rs")
+        indexed = self.indexed(self.revision)
+        with mock.patch.object(navtools.indexed, "FRESH", 0.0):
+            self.assertEqual(indexed.asked("app", path, 4, 4)[1:], (4, 4, ""))
+            self.git("fetch", "-q", "--depth", "1", "origin", self.revision, top=shallow)
+            self.assertEqual(indexed.asked("app", path, 4, 4)[1:], (2, 4, self.revision))
+        self.assertEqual(len(self.said), 1)
 
     def test_a_folder_of_indexed_texts(self) -> None:
         old = os.path.join(self.home, "old")
