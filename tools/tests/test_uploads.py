@@ -17,7 +17,7 @@ from navtools import projects, remove, upload
 from navtools.client import address, found_in, request
 from navtools.serving import serving
 from tests.repository import git_in
-from tests.servers import TOP, OnServer, Relay
+from tests.servers import NOT_BUILT, TOP, OnServer, Relay, built_program
 from tests.test_explain import DOCUMENT, META, edge, vertex
 
 DUMP = """{"id":1,"type":"vertex","label":"metaData","version":"0.6.0"}
@@ -172,6 +172,8 @@ class Uploads(OnServer):
     def test_a_dump_that_is_never_accepted(self) -> None:
         """A ring of results that lead to each other makes more pairs than the server takes: that's
         reported, and it isn't sent again."""
+        if built_program() is None:
+            self.skipTest(NOT_BUILT)
         lines = [META, DOCUMENT]
         lines += [vertex(3 + own, "referenceResult") for own in range(RING)]
         for own in range(RING):
