@@ -13,7 +13,7 @@ FOLDER = Path(TOP, "tools", "navtools")
 MOST_LINES = 300
 # each layer: the ones that it may import, and its modules; `cli` may import all
 LAYERS = {
-    "ground": ("", "words outputs notes progress addresses"),
+    "ground": ("", "words outputs notes progress addresses records"),
     "program": ("ground", "serving"),
     "texts": ("ground", "places columns revisions indexed moved.*"),
     "client": ("ground", "client projects remove upload"),
@@ -28,7 +28,10 @@ LAYERS = {
         "sets.split sets.flat sets.keys sets.crossing sets.cuts sets.write sets.cut_tags"
         " sets.manifest sets.publish surfaces.*",
     ),
-    "asking": ("ground texts client sets", "questions workspace tags sets.ask surfaces.names"),
+    "asking": (
+        "ground texts client sets",
+        "questions workspace versions tags sets.ask surfaces.names",
+    ),
     "publishing": ("ground texts client program dumps index sets", "publish left_out"),
     "lsp": ("ground texts asking", "lsp jsonrpc"),
     "browse": ("ground texts asking", "browse browsing.*"),
@@ -38,6 +41,7 @@ LAYERS = {
 IMPORTS = """
 browsing.answers -> ask
 browsing.answers -> client
+browsing.view -> client
 publish -> __main__
 publish -> workspace
 sets.cut_tags -> tagging
@@ -57,6 +61,7 @@ indexed
 lsif
 lsp
 publish
+revisions
 rewriting
 sets.flat
 sets.graph
