@@ -7,10 +7,9 @@ import os
 import sys
 from typing import Any, Optional
 
-from navtools.client import SECONDS
+from navtools.client import SECONDS, named_by_call
 from navtools.indexed import Indexed, NotThere, add_indexed, position_of, sources_of
 from navtools.places import (
-    Maps,
     Place,
     asked_path,
     character_at,
@@ -19,10 +18,11 @@ from navtools.places import (
     place_line,
     units,
 )
-from navtools.questions import Questions, Reply, fetch_from, name_of
+from navtools.questions import Questions, Reply, fetch_from
 from navtools.sets.ask import Asked as Index
 from navtools.tags import folders_of, places_of
-from navtools.words import Help, add_server, parsed, server_of, status_of
+from navtools.words import Help, add_server, first_place, parsed, server_of, status_of
+from navtools.workspace import FILE, Settings, nearest, settings_by
 
 KINDS = {
     "definition": "where it's defined",
@@ -40,7 +40,7 @@ def hover_text(contents: Any) -> str:
     return contents if isinstance(contents, str) else str(contents["value"])
 
 
-def tags_of(call: argparse.Namespace) -> list[dict[str, Any]]:
+def tags_of(call: argparse.Namespace, settings: Settings) -> list[dict[str, Any]]:
     """The tags of the names that a call asks for. Raises NoReply."""
     parameters = {"name": call.name} if call.prefix is None else {"prefix": call.prefix}
     if call.all_projects:
@@ -49,9 +49,9 @@ def tags_of(call: argparse.Namespace) -> list[dict[str, Any]]:
 
         if servers := servers_given(call.servers, os.curdir):
             return names_of_all(
-                servers, call.project, parameters, lambda url: fetch_from(url, SECONDS)
+                servers, settings.project, parameters, lambda url: fetch_from(url, SECONDS)
             )
-    index = Index(call.project, fetch_from(call.url, SECONDS))
+    index = Index(settings.project, fetch_from(settings.server, SECONDS))
     return index.names(parameters, call.all_projects)
 
 
@@ -72,12 +72,13 @@ def warn(line: str) -> None:
     print(f"ask: {line}", file=sys.stderr)
 
 
-def reply_at(call: argparse.Namespace, maps: Maps) -> Reply:
+def reply_at(call: argparse.Namespace, settings: Settings) -> Reply:
     """What is found at the place that a call names; empty, with a line, where the place is new.
     Raises NoReply."""
-    sources = sources_of(call.revision, call.indexed, call.project, os.curdir)
+    project, maps = settings.project, settings.maps
+    sources = sources_of(list(settings.revisions), settings.indexed, project, settings.folder)
     indexed = Indexed(sources, maps, warn)
-    questions = Questions(call.project, fetch_from(call.url, SECONDS), indexed)
+    questions = Questions(project, fetch_from(settings.server, SECONDS), indexed)
     character = character_at(call.file, call.line, call.column, call.utf16)
     more = {"declaration": "no"} if call.what == "references" and call.no_declaration else {}
     path = asked_path(call.file, maps)
@@ -93,18 +94,18 @@ def reply_at(call: argparse.Namespace, maps: Maps) -> Reply:
     return reply
 
 
-def found_lines(call: argparse.Namespace, maps: Maps, folders: dict[str, str]) -> list[str]:
+def found_lines(call: argparse.Namespace, settings: Settings) -> list[str]:
     """What is printed of the answer, a place of several projects once."""
     if call.what == "names":
-        tags = tags_of(call)
-        named = list(places_of(tags, lambda project: folders.get(project, os.curdir)))
+        tags = tags_of(call, settings)
+        named = list(places_of(tags, lambda project: settings.tags.get(project, settings.folder)))
         if len(named) < len(tags):
             warn(
                 f"{len(tags) - len(named)} of {len(tags)} tags aren't shown, for their files aren't here: "
                 "--tags PROJECT=FOLDER says where a project's tags file was made"
             )
         return [f"{place_line(place, call.utf16)}: {tag['name']}" for tag, place in named]
-    found = reply_at(call, maps).found
+    found = reply_at(call, settings).found
     if call.what == "hover":
         return [] if found is None else [hover_text(found)]
     if call.what != "references" and len(found) == 1 and is_whole_file(found[0], call.file):
@@ -115,7 +116,12 @@ def found_lines(call: argparse.Namespace, maps: Maps, folders: dict[str, str]) -
 
 def words_parser() -> argparse.ArgumentParser:
     """What the command line may be."""
-    parser = argparse.ArgumentParser(prog="ask", description=__doc__, formatter_class=Help)
+    parser = argparse.ArgumentParser(
+        prog="ask",
+        usage="%(prog)s [-h] [OPTION..] [[URL] PROJECT] WHAT ..",
+        description=__doc__,
+        formatter_class=Help,
+    )
     parser.add_argument(
         "--map",
         action="append",
@@ -137,9 +143,17 @@ def words_parser() -> argparse.ArgumentParser:
     )
     add_indexed(parser)
     add_server(parser)
-    parser.add_argument("project", metavar="PROJECT")
+    parser.add_argument(
+        "project",
+        metavar="PROJECT",
+        help=f"a project or a set; without it the one that the nearest {FILE} above the file says, with its map and its revision",
+    )
     kinds = parser.add_subparsers(
-        dest="what", metavar="WHAT", required=True, help="what to ask for; each has --help"
+        dest="what",
+        metavar="WHAT",
+        required=True,
+        help="what to ask for; each has --help",
+        prog="ask [OPTION..] [[URL] PROJECT]",
     )
     for kind, text in KINDS.items():
         one = kinds.add_parser(
@@ -175,10 +189,37 @@ def words_parser() -> argparse.ArgumentParser:
     return parser
 
 
+def with_names(words: list[str], parser: argparse.ArgumentParser) -> list[str]:
+    """The words of a call, with an empty URL and PROJECT where these are left out: where WHAT comes
+    first, or in the second place with no CODENAV_URL. So of a project that is called as a WHAT the
+    URL is needed."""
+    at = first_place(parser, words)
+    kinds = (*KINDS, "names")
+    if words[at : at + 1] and words[at] in kinds:
+        return [*words[:at], "", "", *words[at:]]
+    if words[at + 1 : at + 2] and words[at + 1] in kinds and "://" not in words[at]:
+        return [*words[:at], os.environ.get("CODENAV_URL", ""), *words[at:]]
+    return words
+
+
+def settings_of(call: argparse.Namespace) -> Settings:
+    """What a call is asked by, with the settings above the file. Raises BadCall."""
+    folder = os.path.dirname(os.path.abspath(call.file)) if "file" in call else os.curdir
+    given = Settings(
+        call.url and named_by_call(server_of(call.url)),
+        call.project,
+        os.curdir,
+        maps_of(call.map),
+        folders_of(call.tags),
+        tuple(call.revision),
+        call.indexed,
+    )
+    return settings_by(given, nearest(folder), f"above {folder}")
+
+
 def asked(call: argparse.Namespace) -> int:
     """Asks and prints the answer; answers 0 with an answer and 1 with an empty one."""
-    call.url, call.project = server_of(call.url), name_of(call.project)
-    lines = found_lines(call, maps_of(call.map), folders_of(call.tags))
+    lines = found_lines(call, settings_of(call))
     for line in lines:
         print(line)
     return 0 if lines else 1
@@ -186,5 +227,6 @@ def asked(call: argparse.Namespace) -> int:
 
 def main(words: Optional[list[str]] = None) -> int:
     """Reads the command line; answers 0 with an answer, 1 with an empty one, 2 at a fault."""
-    call = parsed(words_parser(), words)
+    parser = words_parser()
+    call = parsed(parser, with_names(sys.argv[1:] if words is None else words, parser))
     return status_of("ask", lambda: asked(call))

@@ -12,17 +12,20 @@ from navtools.browsing.answers import Browser
 from navtools.browsing.colours import MISSING, lexer_of
 from navtools.browsing.folder import Folder
 from navtools.browsing.server import Pages
+from navtools.client import named_by_call
 from navtools.indexed import add_indexed, sources_of
 from navtools.places import maps_of
-from navtools.questions import name_of
 from navtools.tags import folders_of
-from navtools.words import BadCall, add_server, parsed, server_of
-from navtools.workspace import Settings
+from navtools.words import URL_HELP, BadCall, add_words, server_of, url_in
+from navtools.workspace import FILE, Settings, nearest, settings_by
 
 
 def words_parser() -> argparse.ArgumentParser:
     """What the command line may be."""
-    parser = argparse.ArgumentParser(prog="browse", description=__doc__)
+    form = "[[URL] PROJECT] FOLDER"
+    parser = argparse.ArgumentParser(
+        prog="browse", usage=f"%(prog)s [-h] [OPTION..] {form}", description=__doc__
+    )
     parser.add_argument(
         "--map",
         action="append",
@@ -45,9 +48,11 @@ def words_parser() -> argparse.ArgumentParser:
     )
     parser.add_argument("--port", type=int, default=8081, help="8081 without it; 0 for a free one")
     add_indexed(parser)
-    add_server(parser)
-    parser.add_argument("project", metavar="PROJECT")
-    parser.add_argument("folder", metavar="FOLDER")
+    add_words(
+        parser,
+        form,
+        f"{URL_HELP}. Without PROJECT it's the one that the nearest {FILE} above FOLDER says, with its map and its revision",
+    )
     return parser
 
 
@@ -59,24 +64,28 @@ def browser_of(call: argparse.Namespace) -> Browser:
         raise BadCall(
             "--search takes an address with {} in it, as http://localhost:6070/search?q={}"
         )
-    folder = Folder(call.folder)
-    sources_of(call.revision, call.indexed, call.project, folder.given)
-    settings = Settings(
-        server_of(call.url),
-        name_of(call.project),
+    url, words = url_in(call.words)
+    if not 1 <= len(words) <= 2:
+        raise BadCall("it takes [[URL] PROJECT] FOLDER")
+    folder, project = Folder(words[-1]), words[0] if words[1:] else ""
+    given = Settings(
+        url and named_by_call(server_of(url)),
+        project,
         folder.given,
         maps_of(call.map),
         folders_of(call.tags),
         tuple(call.revision),
         call.indexed,
     )
+    settings = settings_by(given, nearest(folder.given), f"above {folder.given}")
+    sources_of(list(settings.revisions), settings.indexed, settings.project, settings.folder)
     return Browser(folder, settings, call.search)
 
 
 def main(words: Optional[list[str]] = None) -> int:
     """Reads the command line and serves until it's interrupted; answers 0 then, and 2 at a
     fault."""
-    call = parsed(words_parser(), words)
+    call = words_parser().parse_intermixed_args(words)
     try:
         pages = Pages(browser_of(call), call.port)
     except (BadCall, OverflowError) as fault:

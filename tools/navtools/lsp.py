@@ -10,9 +10,9 @@ import argparse
 import json
 import os
 import sys
-from dataclasses import replace
 from typing import Any, BinaryIO, Callable, Optional
 
+from navtools.client import named_by_call
 from navtools.indexed import NotThere, add_indexed, sources_of, text_of
 from navtools.jsonrpc import (
     INVALID_PARAMS,
@@ -158,8 +158,8 @@ class Bridge:
         )
         root = (path_of(uri, []) if isinstance(uri, str) else None) or os.getcwd()
         root = os.path.normpath(root)
-        given = self.given and replace(
-            self.given, folder=root, maps=[*self.given.maps, *link_map(root)]
+        given = self.given and self.given._replace(
+            folder=root, maps=[*self.given.maps, *link_map(root)]
         )
         self.workspace = Workspace(root, given, self.warn, self.today)
         return {"capabilities": CAPABILITIES, "serverInfo": {"name": "codenav"}}
@@ -388,7 +388,7 @@ def settings_given(call: argparse.Namespace) -> Optional[Settings]:
         return None
     sources_of(call.revision, call.indexed, call.project, os.getcwd())
     return Settings(
-        server_of(call.url),
+        named_by_call(server_of(call.url)),
         name_of(call.project),
         os.getcwd(),
         maps_of(call.map),

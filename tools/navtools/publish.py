@@ -25,6 +25,7 @@ from navtools.client import address, found_in, refusal_of, reply_in, request_aga
 from navtools.indexers import INDEXERS, fitting, indexed, is_scip, named
 from navtools.left_out import Row, rows_of, table
 from navtools.lsif import NotADump
+from navtools.outputs import whole_file
 from navtools.places import uri_of
 from navtools.progress import Heard, Stage, Watched
 from navtools.records import Prepared, new_record
@@ -43,8 +44,18 @@ from navtools.surfaces.spread import (
     surface_file,
     surface_name,
 )
-from navtools.words import BadCall, add_server, parsed, project_of, server_of, status_of
+from navtools.words import (
+    URL_HELP,
+    BadCall,
+    add_server,
+    add_words,
+    parsed,
+    project_of,
+    server_of,
+    status_of,
+)
 from navtools.workspace import FILE, found_in_file
+from navtools.checkout_settings import new_settings, plain, target_of
 
 TOOL = "publish"
 OVER = "over the limits"
@@ -376,10 +387,8 @@ def published(call: argparse.Namespace) -> int:
     if call.rebalance is not None:
         call.servers = servers_in(call)
         return rebalanced(call)
+    call.url, call.project, call.folder = target_of(call.words)
     call.home, call.set = server_of(call.url), call.set or "@" in call.project
-    call.folder = os.path.realpath(call.folder)
-    if not os.path.isdir(call.folder):
-        raise BadCall(f"{call.folder}: not a folder")
     call.servers = servers_in(call)
     if call.servers_that_join and not call.servers:
         raise BadCall("--servers-that-join takes --servers, or `servers` in the settings")
@@ -398,6 +407,7 @@ def published(call: argparse.Namespace) -> int:
     try:
         with work_folder(call.keep) as work:
             bodies, left_out = made(call, work)
+            settings = settings_of(call) if call.write_settings else ""
             sent = [] if call.dry_run else send_all(call, bodies, work)
     except Refused as fault:
         for line in str(fault).splitlines():
@@ -409,9 +419,27 @@ def published(call: argparse.Namespace) -> int:
         print(f"documents are below {call.where}: elsewhere ask with --map {call.where}=FOLDER")
         if call.commit:
             print(f"the index is of revision {call.commit}, which it keeps")
+    path = os.path.join(call.folder, FILE)
+    pinned = found_in_file(path).get("revision") if os.path.isfile(path) else None
+    if sent and pinned not in (None, call.commit):
+        print(f"{TOOL}: {path}: tools go by its revision {pinned} there", file=sys.stderr)
+    if sent and settings:
+        with whole_file(path) as file:
+            file.write(settings.encode())
+        print(f"written {path}")
     for line in table(left_out):
         print(line)
     return 0
+
+
+def settings_of(call: argparse.Namespace) -> str:
+    """The text of the settings of what is published; nothing where FOLDER has them. Raises
+    BadCall."""
+    wanted: dict[str, Any] = {"server": plain(call.url), "project": call.project}
+    if call.servers:
+        wanted["servers"] = [plain(server) for server in call.servers]
+    wanted["map"] = {call.where: os.curdir}
+    return new_settings(os.path.join(call.folder, FILE), wanted, call.overwrite)
 
 
 def add_rebalance(group: Any) -> None:
@@ -448,8 +476,10 @@ def words_parser(is_of_all: bool = False) -> argparse.ArgumentParser:
         + (f"   where there is {' or '.join(one.marks)}" if one.marks else "")
         for one in INDEXERS
     )
+    form = "[[URL] PROJECT] [FOLDER]"
     parser = argparse.ArgumentParser(
         prog=TOOL,
+        usage=None if is_of_all else f"%(prog)s [-h] [OPTION..] {form}",
         description=__doc__,
         formatter_class=argparse.RawDescriptionHelpFormatter,
         epilog=f"known indexers, and how each is called in FOLDER:\n{known}\n\n"
@@ -515,13 +545,23 @@ def words_parser(is_of_all: bool = False) -> argparse.ArgumentParser:
     parser.add_argument(
         "--dry-run", action="store_true", help="make and check all, and upload nothing"
     )
-    add_server(parser)
     if is_of_all:
+        add_server(parser)
         parser.set_defaults(folder=os.curdir)
         return parser
-    parser.add_argument("project", metavar="PROJECT")
     parser.add_argument(
-        "folder", metavar="FOLDER", nargs="?", default=os.curdir, help="the checkout; . without it"
+        "--write-settings",
+        action="store_true",
+        help=f"write FOLDER's {FILE} with what is published, unless it has other settings",
+    )
+    parser.add_argument(
+        "--overwrite", action="store_true", help="with --write-settings, other settings too"
+    )
+    add_words(
+        parser,
+        form,
+        f"{URL_HELP}. PROJECT, and URL too, may be left out where FOLDER's {FILE} has them. FOLDER is the checkout, and . without it; one whose "
+        "name could be a project's is written as ./NAME",
     )
     return parser
 
@@ -531,5 +571,6 @@ def main(words: Optional[list[str]] = None) -> int:
     be carried out."""
     words = sys.argv[1:] if words is None else words
     is_of_all = any(word.partition("=")[0] == "--rebalance" for word in words)
-    call = parsed(words_parser(is_of_all), words)
+    parser = words_parser(is_of_all)
+    call = parsed(parser, words) if is_of_all else parser.parse_intermixed_args(words)
     return status_of(TOOL, lambda: published(call))

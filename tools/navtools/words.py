@@ -57,14 +57,32 @@ def key_of(text: str) -> str:
     return text
 
 
+URL_HELP = (
+    "the server, as http://127.0.0.1:8080; may be left out where CODENAV_URL has it. CODENAV_TOKEN (a bearer token), "
+    "CODENAV_USER (name:password) or ~/.netrc have the login that a proxy asks for"
+)
+
+
+def add_words(parser: argparse.ArgumentParser, form: str, text: str) -> None:
+    """Adds the words of a command line that aren't options, of which the first ones may be left
+    out."""
+    parser.add_argument("words", nargs="*", metavar=form, help=text)
+
+
+def url_in(words: list[str], most: int = 2) -> tuple[str, list[str]]:
+    """The address of a server that words begin with, or nothing, and the words behind it, of which
+    there are so many at most."""
+    has_url = bool(words) and ("://" in words[0] or len(words) > most)
+    return (words[0], words[1:]) if has_url else ("", words)
+
+
 def add_server(parser: argparse.ArgumentParser, is_optional: bool = False) -> None:
     """Adds the address of the server, the first word of a command line that isn't an option."""
     parser.add_argument(
         "url",
         metavar="URL",
         nargs="?" if is_optional else None,  # type: ignore[arg-type]
-        help="the server, as http://127.0.0.1:8080; may be left out where CODENAV_URL has it. CODENAV_TOKEN (a bearer token), "
-        "CODENAV_USER (name:password) or ~/.netrc have the login that a proxy asks for",
+        help=URL_HELP,
     )
 
 

@@ -6,11 +6,9 @@ each of its project, and needs no command line.
 """
 
 import os
-import tomllib
-from dataclasses import dataclass, field
-from typing import Any, Callable, Iterator, Optional
+from typing import Any, Callable, Iterator, NamedTuple, Optional
 
-from navtools.client import NoReply
+from navtools.client import NoReply, named_by_file
 from navtools.indexed import Indexed, Source, sources_of
 from navtools.places import Maps, link_map
 from navtools.questions import Fetch, Questions, Reply, fetch_from, name_of
@@ -35,8 +33,7 @@ UNKNOWN = ("D01 ", "D02 ")
 """How faults begin of a project that has no dump, or not the document."""
 
 
-@dataclass(frozen=True)
-class Settings:
+class Settings(NamedTuple):
     """What is known of the files below a folder: the server, the project or set, where its
     documents and the tags files of projects are on this machine, and which texts were indexed.
     """
@@ -44,8 +41,8 @@ class Settings:
     server: str
     project: str
     folder: str
-    maps: Maps = field(default_factory=list)
-    tags: dict[str, str] = field(default_factory=dict)
+    maps: Maps = []
+    tags: dict[str, str] = {}
     revisions: tuple[str, ...] = ()
     indexed: Optional[str] = None
 
@@ -61,6 +58,8 @@ class Settings:
 
 def found_in_file(path: str) -> dict[str, Any]:
     """The keys of a file `.codenav.toml`, each with a value of its kind. Raises BadCall."""
+    import tomllib  # here, since few calls of `ask` need it
+
     try:
         with open(path, "rb") as file:
             found = tomllib.load(file)
@@ -75,6 +74,7 @@ def found_in_file(path: str) -> dict[str, Any]:
             raise BadCall(f"{path}: {key} isn't a {CALLED[KEYS[key]]}")
     if not all(type(server) is str for server in found.get("servers", [])):
         raise BadCall(f"{path}: the values of servers are texts")
+    named_by_file([found.get("server", ""), *found.get("servers", [])])
     for key in ("map", "tags", "revisions"):
         if not all(type(value) is str and value for value in found.get(key, {}).values()):
             raise BadCall(f"{path}: the values of {key} are texts, and not empty")
@@ -133,12 +133,43 @@ def folders_above(folder: str) -> Iterator[str]:
         folder = above
 
 
+def nearest(folder: str) -> Optional[str]:
+    """The path of the nearest `.codenav.toml` of a folder and those above it."""
+    paths = (os.path.join(above, FILE) for above in folders_above(os.path.abspath(folder)))
+    return next((path for path in paths if os.path.isfile(path)), None)
+
+
 def servers_above(folder: str) -> list[str]:
     """The texts of `servers` in the nearest `.codenav.toml` of a folder and those above it; none
     where it has no such key. Raises BadCall."""
-    paths = (os.path.join(above, FILE) for above in folders_above(os.path.abspath(folder)))
-    nearest = next(filter(os.path.isfile, paths), None)
-    return list(found_in_file(nearest).get("servers", [])) if nearest else []
+    path = nearest(folder)
+    return list(found_in_file(path).get("servers", [])) if path else []
+
+
+def settings_by(given: Settings, path: Optional[str], at: str) -> Settings:
+    """What a command line says, whose server and project may be empty. Without a project it's that
+    of a file `.codenav.toml`, with what the file says of it besides; without a server it's that of
+    CODENAV_URL or of the file. `at` is where the file was looked for. Raises BadCall."""
+    if given.project:
+        server = given.server or os.environ.get("CODENAV_URL")
+        if not server and path:
+            server = found_in_file(path).get("server")
+        if not server:
+            raise BadCall(f"no server: neither CODENAV_URL nor a {FILE} {at} has one")
+        return given._replace(server=server_of(server), project=name_of(given.project))
+    if not path:
+        raise BadCall(f"no project, and no {FILE} {at} says one")
+    own = settings_in(path)
+    is_said = any("=" not in one for one in given.revisions)
+    return Settings(
+        server_of(given.server) if given.server else own.server,
+        own.project,
+        own.folder,
+        [*given.maps, *own.maps],
+        {**own.tags, **given.tags},
+        (*own.revisions, *given.revisions),
+        given.indexed or (None if is_said else own.indexed),
+    )
 
 
 class Workspace:
