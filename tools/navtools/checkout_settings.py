@@ -28,7 +28,7 @@ def target_of(words: list[str]) -> tuple[str, str, str]:
         named_by_call(server_of(url))
     own, known = found.get("server", ""), os.environ.get("CODENAV_URL", "")
     server = url or (known or own if project else own or known)
-    project = project or found.get("project") or found.get("set", "")
+    project = project or str(found.get("project", found.get("set", "")))
     if not project or not server:
         raise BadCall(f"no {'server' if project else 'project'}, and {path} says none")
     return server, project, folder
