@@ -146,6 +146,31 @@ class Publish(OnCheckout):
         line = f"publish: {self.checkout}: not in a checkout of git, so HEAD can't be looked up\n"
         self.assertEqual((status, said, stages), (2, [], line))
 
+    def test_the_record_of_a_revision(self) -> None:
+        """It counts for the limits before a dump is taken for small enough; and a dump that has one
+        stays of that revision."""
+        commit, kept = self.committed(), os.path.join(self.home, "kept")
+        call = ["--no-tags", "--keep", kept, "app", self.checkout]
+        status, said, _ = self.published("--dump", RAW, *call)
+        count = int(said[0].split()[5])
+        self.assertEqual((status, said[0].split()[1:5]), (0, ["app:", "a", "dump", "of"]))
+        for most, is_set in ((count, False), (count - 1, True)):
+            with mock.patch.object(outputs, "MOST_ELEMENTS", most):
+                status, said, _ = self.published("--dump", RAW, *call)
+            self.assertEqual((status, "a set" in said[0]), (0, is_set), most)
+            self.assertIn(f"the index is of revision {commit}, which it keeps", said)
+        self.assertEqual(self.published("--dump", RAW, *call)[0], 0)
+        dump = os.path.join(self.home, "old.lsif")
+        shutil.copy(os.path.join(kept, "dump.lsif"), dump)
+        self.change()
+        git_in(self.checkout, "commit", "-qam", "y")
+        status, said, _ = self.published("--dump", dump, *call)
+        self.assertEqual(status, 0)
+        self.assertIn(f"the index is of revision {commit}, which it keeps", said)
+        status, _, stages = self.published("--dump", dump, "--revision", "HEAD", *call)
+        fault = f"publish: the dump says itself that it's of revision {commit}, and not of HEAD"
+        self.assertEqual((status, stages.splitlines()[-1]), (2, fault))
+
     def test_the_revision_of_a_set(self) -> None:
         """A set keeps it, so that a question about a file that changed needs no option."""
         commit = self.committed()
