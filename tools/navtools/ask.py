@@ -7,7 +7,7 @@ import os
 import sys
 from typing import Any, Optional
 
-from navtools.client import SECONDS, named_by_call
+from navtools.client import SECONDS
 from navtools.indexed import Indexed, NotThere, add_indexed, position_of, sources_of
 from navtools.places import (
     Place,
@@ -21,8 +21,8 @@ from navtools.places import (
 from navtools.questions import Questions, Reply, fetch_from
 from navtools.sets.ask import Asked as Index
 from navtools.tags import folders_of, places_of
-from navtools.words import Help, add_server, first_place, parsed, server_of, status_of
-from navtools.workspace import FILE, Settings, nearest, settings_by
+from navtools.words import Help, add_server, first_place, parsed, status_of
+from navtools.settings import FILE, Settings, given_server, nearest, settings_by
 
 KINDS = {
     "definition": "where it's defined",
@@ -206,7 +206,7 @@ def settings_of(call: argparse.Namespace) -> Settings:
     """What a call is asked by, with the settings above the file. Raises BadCall."""
     folder = os.path.dirname(os.path.abspath(call.file)) if "file" in call else os.curdir
     given = Settings(
-        call.url and named_by_call(server_of(call.url)),
+        call.url and given_server(call.url),
         call.project,
         os.curdir,
         maps_of(call.map),

@@ -12,12 +12,11 @@ from navtools.browsing.answers import Browser
 from navtools.browsing.colours import MISSING, lexer_of
 from navtools.browsing.folder import Folder
 from navtools.browsing.server import Pages
-from navtools.client import named_by_call
 from navtools.indexed import add_indexed, sources_of
 from navtools.places import maps_of
 from navtools.tags import folders_of
-from navtools.words import URL_HELP, BadCall, add_words, server_of, url_in
-from navtools.workspace import FILE, Settings, nearest, settings_by
+from navtools.words import URL_HELP, BadCall, add_words, url_in
+from navtools.settings import FILE, Settings, given_server, nearest, settings_by
 
 
 def words_parser() -> argparse.ArgumentParser:
@@ -69,7 +68,7 @@ def browser_of(call: argparse.Namespace) -> Browser:
         raise BadCall("it takes [[URL] PROJECT] FOLDER")
     folder, project = Folder(words[-1]), words[0] if words[1:] else ""
     given = Settings(
-        url and named_by_call(server_of(url)),
+        url and given_server(url),
         project,
         folder.given,
         maps_of(call.map),

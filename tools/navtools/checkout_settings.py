@@ -6,9 +6,9 @@ import os
 from typing import Any
 from urllib.parse import urlsplit
 
-from navtools.client import named_by_call, place_of
+from navtools.client import place_of
 from navtools.words import BadCall, server_of, url_in
-from navtools.workspace import FILE, found_in_file
+from navtools.settings import FILE, found_in_file, given_server
 
 
 def target_of(words: list[str]) -> tuple[str, str, str]:
@@ -25,7 +25,7 @@ def target_of(words: list[str]) -> tuple[str, str, str]:
     path = os.path.join(folder, FILE)
     found = found_in_file(path) if os.path.isfile(path) else {}
     if url:
-        named_by_call(server_of(url))
+        given_server(url)
     own, known = found.get("server", ""), os.environ.get("CODENAV_URL", "")
     server = url or (known or own if project else own or known)
     project = project or str(found.get("project", found.get("set", "")))

@@ -12,7 +12,6 @@ import os
 import sys
 from typing import Any, BinaryIO, Callable, Optional
 
-from navtools.client import named_by_call
 from navtools.indexed import NotThere, add_indexed, sources_of, text_of
 from navtools.jsonrpc import (
     INVALID_PARAMS,
@@ -27,10 +26,10 @@ from navtools.jsonrpc import (
     write_message,
 )
 from navtools.places import Place, link_map, maps_of, path_of, uri_of
-from navtools.questions import name_of
 from navtools.tags import folders_of, places_of
-from navtools.words import BadCall, add_server, parsed, server_of
-from navtools.workspace import Settings, Workspace
+from navtools.words import BadCall, add_server, parsed
+from navtools.settings import Settings, given_server, name_of
+from navtools.workspace import Workspace
 
 MOST = 2147483647
 MOST_SYMBOLS = 256
@@ -388,7 +387,7 @@ def settings_given(call: argparse.Namespace) -> Optional[Settings]:
         return None
     sources_of(call.revision, call.indexed, call.project, os.getcwd())
     return Settings(
-        named_by_call(server_of(call.url)),
+        given_server(call.url),
         name_of(call.project),
         os.getcwd(),
         maps_of(call.map),

@@ -54,7 +54,7 @@ from navtools.words import (
     server_of,
     status_of,
 )
-from navtools.workspace import FILE, found_in_file
+from navtools.settings import FILE, found_in_file
 from navtools.checkout_settings import new_settings, plain, target_of
 
 TOOL = "publish"

@@ -9,21 +9,13 @@ from navtools.client import NoReply, address, found_in, request
 from navtools.indexed import Asked, Indexed, NotThere, is_in_checkout
 from navtools.places import is_mapped, path_of, uri_of
 from navtools.sets.ask import Asked as Index
-from navtools.sets.manifest import set_name
 from navtools.versions import Versions
-from navtools.words import project_of
 
 Fetch = Callable[[str, dict[str, Any], str], Any]
 MOST_NUMBER = 2147483647
 TRIES = 4
 MEMBERS = {"hover": "contents"}
 """The member of a reply that has what was found; it's `places` of other queries."""
-
-
-def name_of(text: str) -> str:
-    """The text, where it's the name of a project, or of a set as `NAME@BRANCH`. Raises BadCall."""
-    set_name(text) if "@" in text else project_of(text)
-    return text
 
 
 class Fetcher:

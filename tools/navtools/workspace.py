@@ -6,170 +6,17 @@ each of its project, and needs no command line.
 """
 
 import os
-from typing import Any, Callable, Iterator, NamedTuple, Optional
+from typing import Any, Callable, Iterator, Optional
 
-from navtools.client import NoReply, named_by_file
+from navtools.client import NoReply
 from navtools.indexed import Indexed, Source, sources_of
-from navtools.places import Maps, link_map
-from navtools.questions import Fetch, Questions, Reply, fetch_from, name_of
-from navtools.words import BadCall, project_of, server_of
+from navtools.questions import Fetch, Questions, Reply, fetch_from
+from navtools.settings import FILE, Settings, folders_above, settings_in
+from navtools.words import BadCall
 
-FILE = ".codenav.toml"
-KEYS = {
-    "server": str,
-    "project": str,
-    "set": str,
-    "map": dict,
-    "tags": dict,
-    "revision": str,
-    "revisions": dict,
-    "indexed": str,
-    "servers": list,
-}
-CALLED = {dict: "table", list: "list", str: "text"}
-"""How the kinds of values are called."""
 SECONDS = 30
 UNKNOWN = ("D01 ", "D02 ")
 """How faults begin of a project that has no dump, or not the document."""
-
-
-class Settings(NamedTuple):
-    """What is known of the files below a folder: the server, the project or set, where its
-    documents and the tags files of projects are on this machine, and which texts were indexed.
-    """
-
-    server: str
-    project: str
-    folder: str
-    maps: Maps = []
-    tags: dict[str, str] = {}
-    revisions: tuple[str, ...] = ()
-    indexed: Optional[str] = None
-
-    def tags_folder(self, project: str) -> Optional[str]:
-        """The folder in which a project's tags file was made: its own, where none is named, at the
-        top of the files."""
-        return self.tags.get(project, self.folder if project == self.project else None)
-
-    def projects(self) -> list[str]:
-        """The projects whose names are shown: its own, and those whose tags files are here."""
-        return list(dict.fromkeys([self.project, *self.tags]))
-
-
-def found_in_file(path: str) -> dict[str, Any]:
-    """The keys of a file `.codenav.toml`, each with a value of its kind. Raises BadCall."""
-    import tomllib  # here, since few calls of `ask` need it
-
-    try:
-        with open(path, "rb") as file:
-            found = tomllib.load(file)
-    except (tomllib.TOMLDecodeError, UnicodeDecodeError) as fault:
-        raise BadCall(f"{path}: {fault}") from None
-    except OSError as fault:
-        raise BadCall(f"{path}: {fault.strerror}") from None
-    for key, value in found.items():
-        if key not in KEYS:
-            raise BadCall(f"{path}: no key {key!r}: there are {', '.join(KEYS)}")
-        if type(value) is not KEYS[key]:
-            raise BadCall(f"{path}: {key} isn't a {CALLED[KEYS[key]]}")
-    if not all(type(server) is str for server in found.get("servers", [])):
-        raise BadCall(f"{path}: the values of servers are texts")
-    named_by_file([found.get("server", ""), *found.get("servers", [])])
-    for key in ("map", "tags", "revisions"):
-        if not all(type(value) is str and value for value in found.get(key, {}).values()):
-            raise BadCall(f"{path}: the values of {key} are texts, and not empty")
-    return found
-
-
-def settings_in(path: str) -> Settings:
-    """What a file `.codenav.toml` says; folders are named from its own folder. Raises BadCall."""
-    found = found_in_file(path)
-    try:
-        return settings_of(found, os.path.dirname(path))
-    except BadCall as fault:
-        raise BadCall(f"{path}: {fault}") from None
-
-
-def settings_of(found: dict[str, Any], folder: str) -> Settings:
-    """The settings of a file in a folder. Raises BadCall."""
-
-    def path(text: str) -> str:
-        return os.path.normpath(os.path.join(folder, text))
-
-    server = found.get("server", os.environ.get("CODENAV_URL", ""))
-    names = [found[key] for key in ("project", "set") if key in found]
-    if not server:
-        raise BadCall("no server, and CODENAV_URL has none")
-    if len(names) != 1:
-        raise BadCall(
-            "it names neither a project nor a set"
-            if not names
-            else "it names both a project and a set"
-        )
-    revisions = [
-        f"{project_of(name)}={revision}" for name, revision in found.get("revisions", {}).items()
-    ]
-    return Settings(
-        server_of(server),
-        name_of(names[0]),
-        folder,
-        [
-            *((uri.rstrip("/"), path(to)) for uri, to in found.get("map", {}).items()),
-            *link_map(folder),
-        ],
-        {project_of(name): path(to) for name, to in found.get("tags", {}).items()},
-        (*revisions, *([found["revision"]] if "revision" in found else [])),
-        path(found["indexed"]) if "indexed" in found else None,
-    )
-
-
-def folders_above(folder: str) -> Iterator[str]:
-    """A folder and those above it."""
-    while True:
-        yield folder
-        above = os.path.dirname(folder)
-        if above == folder:
-            return
-        folder = above
-
-
-def nearest(folder: str) -> Optional[str]:
-    """The path of the nearest `.codenav.toml` of a folder and those above it."""
-    paths = (os.path.join(above, FILE) for above in folders_above(os.path.abspath(folder)))
-    return next((path for path in paths if os.path.isfile(path)), None)
-
-
-def servers_above(folder: str) -> list[str]:
-    """The texts of `servers` in the nearest `.codenav.toml` of a folder and those above it; none
-    where it has no such key. Raises BadCall."""
-    path = nearest(folder)
-    return list(found_in_file(path).get("servers", [])) if path else []
-
-
-def settings_by(given: Settings, path: Optional[str], at: str) -> Settings:
-    """What a command line says, whose server and project may be empty. Without a project it's that
-    of a file `.codenav.toml`, with what the file says of it besides; without a server it's that of
-    CODENAV_URL or of the file. `at` is where the file was looked for. Raises BadCall."""
-    if given.project:
-        server = given.server or os.environ.get("CODENAV_URL")
-        if not server and path:
-            server = found_in_file(path).get("server")
-        if not server:
-            raise BadCall(f"no server: neither CODENAV_URL nor a {FILE} {at} has one")
-        return given._replace(server=server_of(server), project=name_of(given.project))
-    if not path:
-        raise BadCall(f"no project, and no {FILE} {at} says one")
-    own = settings_in(path)
-    is_said = any("=" not in one for one in given.revisions)
-    return Settings(
-        server_of(given.server) if given.server else own.server,
-        own.project,
-        own.folder,
-        [*given.maps, *own.maps],
-        {**own.tags, **given.tags},
-        (*own.revisions, *given.revisions),
-        given.indexed or (None if is_said else own.indexed),
-    )
 
 
 class Workspace:

@@ -21,7 +21,7 @@ from navtools.browsing.folder import Folder
 from navtools.browsing.markdown import ELEMENTS, tree_of
 from navtools.browsing.server import Pages
 from navtools.client import Answer
-from navtools.workspace import Settings
+from navtools.settings import Settings
 from tests.repository import InRepository
 from tests.servers import replying
 

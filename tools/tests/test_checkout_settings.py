@@ -12,7 +12,7 @@ from typing import Any, Optional
 from unittest import mock
 
 from navtools import ask, browse, client, publish
-from navtools.workspace import FILE
+from navtools.settings import FILE
 from tests.repository import InRepository
 from tests.servers import TOP, OnServer
 from tests.test_kept_revision import RAW, ROOT, quietly

@@ -16,7 +16,7 @@ from navtools.indexed import Indexed
 from navtools.questions import Questions, fetch_from
 from navtools.records import Prepared, new_record
 from navtools.sets.publish import Publish, Store, remove_set
-from navtools.workspace import Settings
+from navtools.settings import Settings
 from tests.repository import InRepository, git_in
 from tests.servers import TOP, OnServer
 from tests.test_browse import Served

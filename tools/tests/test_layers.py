@@ -28,13 +28,14 @@ LAYERS = {
         "sets.split sets.flat sets.keys sets.crossing sets.cuts sets.write sets.cut_tags"
         " sets.manifest sets.publish surfaces.*",
     ),
+    "settings": ("ground texts client sets", "settings checkout_settings"),
     "asking": (
-        "ground texts client sets",
+        "ground texts client sets settings",
         "questions workspace versions tags sets.ask surfaces.names",
     ),
-    "publishing": ("ground texts client program dumps index sets", "publish left_out"),
-    "lsp": ("ground texts asking", "lsp jsonrpc"),
-    "browse": ("ground texts asking", "browse browsing.*"),
+    "publishing": ("ground texts client program dumps index sets settings", "publish left_out"),
+    "lsp": ("ground texts settings asking", "lsp jsonrpc"),
+    "browse": ("ground texts settings asking", "browse browsing.*"),
     "service": ("ground client program", "service.*"),
     "cli": ("", "__main__ ask try_it"),
 }
@@ -43,7 +44,6 @@ browsing.answers -> ask
 browsing.answers -> client
 browsing.view -> client
 publish -> __main__
-publish -> workspace
 sets.cut_tags -> tagging
 sets.split -> indexers
 surfaces.rebalance -> questions

@@ -22,7 +22,7 @@ from navtools.sets.manifest import PartEntry
 from navtools.sets.publish import Claim, Late, Publish, Store, claimed, remove_set
 from navtools.surfaces.homes import home_of, shard_of
 from navtools.surfaces.spread import Spread, made_surface
-from navtools.workspace import FILE
+from navtools.settings import FILE
 from tests.dump_walks import OF_PROFILE, Walk, answered, questions
 from tests.fronts import LONGEST, NOBODY, fronted, host_of, lacking
 from tests.servers import REQUESTS, TOP, program

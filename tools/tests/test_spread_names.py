@@ -12,7 +12,7 @@ from navtools.serving import free_port, serving
 from navtools.sets.publish import Publish, Store
 from navtools.surfaces.homes import home_of
 from navtools.surfaces.names import names_of_all
-from navtools.workspace import FILE
+from navtools.settings import FILE
 from tests.servers import program
 from tests.test_set_service import asked_at, revision, split_into
 from tests.test_spread import OnServers, crate

@@ -15,7 +15,8 @@ from navtools import prepare, upload
 from navtools.indexed import text_of
 from navtools.places import units, uri_of
 from navtools.words import BadCall
-from navtools.workspace import FILE, Settings, Workspace, settings_in
+from navtools.settings import FILE, Settings, settings_in
+from navtools.workspace import Workspace
 from tests.repository import InRepository, checkouts
 from tests.servers import TOP, OnServer
 from tests.test_lsp import Editor

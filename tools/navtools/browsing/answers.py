@@ -17,7 +17,7 @@ from navtools.client import NoReply
 from navtools.indexed import NotThere
 from navtools.places import units
 from navtools.tags import places_of
-from navtools.workspace import Settings
+from navtools.settings import Settings
 
 Parameters = dict[str, str]
 QUERIES = ("definition", "references", "hover")

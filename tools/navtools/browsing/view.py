@@ -14,7 +14,8 @@ from navtools.moved.tokens import tokens_of
 from navtools.questions import Reply
 from navtools.revisions import git, line_of, top_of
 from navtools.words import BadCall
-from navtools.workspace import Settings, Workspace
+from navtools.settings import Settings
+from navtools.workspace import Workspace
 
 TODAY = "Without ?revision= in the address the page is that of today's file."
 

@@ -12,7 +12,7 @@ from navtools.projects import listed
 from navtools.sets.ask import Asked, Fetch, Found, order_of_tag
 from navtools.sets.manifest import PARTS, set_name
 from navtools.surfaces.homes import Ring, servers_of
-from navtools.workspace import servers_above
+from navtools.settings import servers_above
 
 
 def servers_given(given: Optional[str], folder: str) -> list[str]:
