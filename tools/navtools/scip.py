@@ -73,7 +73,8 @@ def quiet() -> Iterator[None]:
 
 
 class IndexFile:
-    """An index in a file that is read twice, and where in it each document's messages are."""
+    """An index in a file that is read several times, and where in it each document's messages
+    are."""
 
     def __init__(self, file: BinaryIO, name: str) -> None:
         """Reads the metadata; raises NotAnIndex where there is none, as in what is no index."""
@@ -107,23 +108,20 @@ class IndexFile:
                 ) from None
         return found
 
-    def survey(self, path_of: Callable[[str, int], str]) -> Iterator[tuple[str, Document]]:
-        """The messages of documents in their order, the first time, each with the path that it's
-        filed under; without one, which `path_of` answers by an empty text, it's left out."""
+    def find(self, path_of: Callable[[str, int], str]) -> None:
+        """Finds the messages of documents in their order, each filed under a path; without one,
+        which `path_of` answers by an empty text, it's left out."""
         for number, piece in messages(self.file, self.name):
-            self.watch(piece[0])
             if number == EXTERNAL_FIELD:
                 self.external.append(piece)
             elif number == DOCUMENT_FIELD:
-                document = self.read([piece], Document)
-                path = path_of(document.relative_path, piece[0])
+                path = path_of(self.read([piece], Document).relative_path, piece[0])
                 if path:
                     self.pieces.setdefault(path, []).append(piece)
-                    yield path, document
 
     def documents(self) -> Iterator[tuple[str, Document]]:
         """The documents, one at a time, whole."""
-        for path, pieces in self.pieces.items():
+        for path, pieces in list(self.pieces.items()):
             self.watch(pieces[0][0])
             yield path, self.read(pieces, Document)
 

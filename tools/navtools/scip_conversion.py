@@ -8,14 +8,33 @@ from navtools.notes import Notes
 from navtools.outputs import Early, Progress, excesses, whole_file
 from navtools.scip import IndexFile, NotAnIndex
 from navtools.scip_documents import Documents, Texts
+from navtools.scip_elements import Elements, Writer
+from navtools.scip_occurrences import Occurrences
 from navtools.scip_survey import Survey
-from navtools.scip_meanings import Elements, Writer
 from navtools.scip_writer import Conversion
 from navtools.words import BadCall
 
 ADVICE = (
     "leave documents out by --without GLOB, or index parts of the code as projects of their own"
 )
+
+
+def surveyed(
+    index: IndexFile, occurrences: Occurrences, seen: Callable[[int, str], None]
+) -> Survey:
+    """What the first reading of an index learns. Documents whose text can't be read are left out of
+    it for the second. Raises BadCall where none can be read."""
+    survey = Survey()
+    for uri, document in index.documents():
+        stay = occurrences.of(uri, document)
+        if stay is None:
+            del index.pieces[uri]
+            continue
+        survey.learn(uri, document, stay)
+        seen(2 * survey.places, f"at {occurrences.documents.paths[uri]}")
+    occurrences.texts.finish()
+    survey.finish(index.external_symbols())
+    return survey
 
 
 def convert(
@@ -27,20 +46,23 @@ def convert(
 ) -> list[str]:
     """Writes the elements of an index; answers what is said of it. `seen` takes how many elements
     there will be at least, as soon as that's known."""
-    documents, survey = Documents(index, call.root, call.without, notes), Survey(notes)
+    documents, keeps = Documents(index, call.root, call.without, notes), call.keep_file_ranges
+    first, second = (
+        Occurrences(documents, Texts(documents, call.source, call.encoding, own), own, keeps)
+        for own in (notes, Notes())
+    )
+    index.find(documents.uri_of)
     progress = Progress(f"{call.tool}: reading", index.size)
     index.watch = progress.at
-    for uri, document in index.survey(documents.uri_of):
-        survey.learn(uri, document)
-        seen(2 * survey.places, f"at {documents.paths[uri]}")
-    survey.external(index.external_symbols())
+    survey = surveyed(index, first, seen)
     progress.end()
     progress = Progress(f"{call.tool}: writing", index.size)
     index.watch = progress.at
-    texts = Texts(documents, call.source, call.encoding, notes)
-    conversion = Conversion(writer, survey, documents, texts, call.keep_file_ranges)
+    conversion = Conversion(writer, survey, documents)
     for uri, document in index.documents():
-        conversion.document(uri, document)
+        stay = second.of(uri, document)
+        if stay is not None:
+            conversion.document(uri, document, stay)
     for information in index.external_symbols():
         conversion.information(information, "")
     conversion.finish()

@@ -2,124 +2,58 @@
 written when they're first needed.
 
 Symbols that occur at one place have a joint resultSet. It has the definitions, the declarations and
-the implementations of each, and a reference result that leads to each one's. `next` edges lead from
-it, over a helper for each further symbol that has a moniker, to the resultSet of the first one of
-which something is said. A helper has the moniker and the results of its symbol alone, so that other
-projects, which ask by monikers, get that symbol's places and no other's.
+the implementations of each, a reference result that leads to each one's, and the hover of the first
+one of which something is said. `next` edges lead from it over a helper for each symbol that has a
+moniker. A helper has the moniker and the results of its symbol alone, and no hover, so that other
+projects, which ask by monikers, get that symbol's places and text and no other's.
 """
 
-from json import dumps
-from typing import Any, BinaryIO, Protocol
+from typing import Iterator
 
 from navtools.scip import NotAnIndex
+from navtools.scip_elements import Elements
+from navtools.scip_occurrences import DEFINED, USED, Stay, key_of
+from navtools.scip_pb2 import Document
 from navtools.scip_survey import (
-    DEFINED,
-    FORWARD,
+    HAVING,
     RESULTS,
     SAID,
-    USED,
     Joint,
+    Joints,
+    Keys,
     Known,
     Survey,
+    mark,
 )
 from navtools.symbols import is_local, name_of
 
 LISTED = ("definition", "declaration", "implementation")
-LAST = 0x7FFFFFFF
 MOST_STEPS = 20_000_000
 
 
-class Elements(Protocol):
-    """What takes the elements of a conversion: a `Writer`, or what makes tables of them. `elements`
-    counts them."""
-
-    elements: int
-
-    def vertex(self, label: str, **members: Any) -> int:
-        """Takes a vertex and answers its id."""
-
-    def range(self, start: int, end: int) -> int:
-        """Takes a range, whose ends are packed, and answers its id."""
-
-    def edge(self, label: str, source: int, target: int) -> None:
-        """Takes an edge to one vertex."""
-
-    def edges(self, label: str, source: int, targets: list[int], *more: str) -> None:
-        """Takes an edge to several vertices."""
-
-    def items(self, result: int, places: list[int], shard: int, role: str = "") -> None:
-        """Takes the places of a result in a document, or the results that it leads to."""
-
-
-class Writer:
-    """Writes elements, whose ids are their lines, and counts them and their bytes. Most of them
-    have nothing but numbers and labels, and need no escapes."""
-
-    def __init__(self, out: BinaryIO) -> None:
-        self.out = out
-        self.elements = self.body_bytes = self.longest_line = 0
-
-    def line(self, rest: str) -> int:
-        """Writes an element by the text behind its id, which it answers."""
-        self.elements += 1
-        text = f'{{"id":{self.elements},{rest}'.encode()
-        self.out.write(text + b"\n")
-        size = len(text)
-        self.body_bytes += size + 1
-        if size > self.longest_line:
-            self.longest_line = size
-        return self.elements
-
-    def vertex(self, label: str, **members: Any) -> int:
-        """Writes a vertex and answers its id."""
-        if not members:
-            return self.line(f'"type":"vertex","label":"{label}"}}')
-        rest = dumps(members, ensure_ascii=False, separators=(",", ":"))
-        return self.line(f'"type":"vertex","label":"{label}",{rest[1:]}')
-
-    def range(self, start: int, end: int) -> int:
-        """Writes a range, whose ends are packed, and answers its id."""
-        return self.line(
-            f'"type":"vertex","label":"range","start":{{"line":{start >> 31},"character":{start & LAST}}},'
-            f'"end":{{"line":{end >> 31},"character":{end & LAST}}}}}'
-        )
-
-    def edge(self, label: str, source: int, target: int) -> None:
-        """Writes an edge to one vertex."""
-        self.line(f'"type":"edge","label":"{label}","outV":{source},"inV":{target}}}')
-
-    def edges(self, label: str, source: int, targets: list[int], *more: str) -> None:
-        """Writes an edge to several vertices; `more` are further members, as they're written."""
-        ids = ",".join(map(str, targets))
-        rest = "".join(f",{member}" for member in more)
-        self.line(f'"type":"edge","label":"{label}","outV":{source},"inVs":[{ids}]{rest}}}')
-
-    def items(self, result: int, places: list[int], shard: int, role: str = "") -> None:
-        """Writes the places of a result in a document, or the results that it leads to."""
-        more = (f'"property":"{role}"',) if role else ()
-        self.edges("item", result, places, f'"shard":{shard}', *more)
-
-
 class Meanings:
-    """What was written of symbols. Those that are local are forgotten with their document."""
+    """What was written of symbols. Those that are local are forgotten with their document, but for
+    those that the first reading keeps."""
 
     def __init__(self, writer: Elements, survey: Survey) -> None:
         self.writer, self.survey = writer, survey
         self.packages: dict[tuple[str, ...], int] = {}
         self.empties: dict[str, int] = {}
         self.locals: dict[str, Known] = {}
-        self.joints: dict[Joint, Known] = {}
-        self.joints_of: dict[str, list[Joint]] = {}
+        self.joints = Joints()
         self.shard = self.written = self.steps = 0
 
-    def begin(self, shared: list[Joint], home: int) -> None:
-        """Begins a document with the symbols that occur at one place in it."""
+    def begin(self, uri: str, document: Document, stay: Stay, home: int) -> None:
+        """Begins a document with its local symbols, and those of them that occur at one place."""
         self.shard = home
-        self.locals, self.joints, self.joints_of = {}, {}, {}
-        for keys in dict.fromkeys(shared):
-            for key in keys:
-                if is_local(key) or keys not in self.survey.joints:
-                    self.joints_of.setdefault(key, []).append(keys)
+        self.locals, self.joints = {}, Joints()
+        mark(stay, {}, self.locals)
+        for information in document.symbols:
+            if is_local(information.symbol):
+                self.survey.inform(key_of(information.symbol, uri), information, self.locals)
+        for keys in stay.shared():
+            if keys not in self.survey.joints.by_keys:
+                self.joints.add(keys)
 
     def spend(self, steps: int) -> None:
         """Counts steps, so that no shape of an index takes more than so many."""
@@ -131,9 +65,9 @@ class Meanings:
 
     def look(self, key: str) -> Known:
         """What is known of a symbol."""
-        table = self.locals if is_local(key) and key not in self.survey.kept else self.survey.known
-        known = table.get(key)
+        known = self.survey.known.get(key) or self.locals.get(key)
         if known is None:
+            table = self.locals if is_local(key) else self.survey.known
             known = table[key] = Known()
         return known
 
@@ -171,25 +105,23 @@ class Meanings:
 
     def has(self, key: str, request: str) -> bool:
         """Whether a symbol has a result for a request."""
-        survey = self.survey
-        if request == "definition":
-            return self.look(key).bits & (DEFINED | FORWARD) > 0 or key in survey.has_others
-        if request == "declaration":
-            return self.look(key).bits & FORWARD > 0
-        return request == "references" or key in survey.has_implementations
+        return self.look(key).bits & HAVING[request] > 0
 
     def result(self, key: str, request: str) -> int:
         """The result of a symbol for a request; it's written where there is none yet."""
         known = self.of(key)
-        return self.ensured(known, request)
+        found: int = getattr(known, request)
+        if not found:
+            found = self.unbound(known, request)
+            self.writer.edge(f"textDocument/{request}", known.vertex, found)
+        return found
 
-    def ensured(self, known: Known, request: str) -> int:
-        """The result for a request of what has a vertex."""
+    def unbound(self, known: Known, request: str) -> int:
+        """The result for a request of what may have no vertex yet."""
         found: int = getattr(known, request)
         if not found:
             found = self.writer.vertex(RESULTS[request])
             setattr(known, request, found)
-            self.writer.edge(f"textDocument/{request}", known.vertex, found)
         return found
 
     def own_references(self, key: str) -> int:
@@ -201,56 +133,66 @@ class Meanings:
             known.own = self.writer.vertex(RESULTS["references"])
         return known.own
 
-    def targets(self, key: str, request: str) -> list[int]:
+    def joints_of(self, key: str) -> Iterator[Joint]:
+        """The joints that a symbol is of."""
+        for joints in (self.survey.joints, self.joints):
+            for joint in joints.of.get(key, ()):
+                self.spend(1)
+                yield joint
+
+    def targets(self, key: str, request: str) -> Iterator[int]:
         """The results that get a symbol's places for a request: its own, and those of the joints
         that it's of."""
-        found = [self.result(key, request)]
-        for table in (self.survey.joints_of, self.joints_of):
-            for keys in table.get(key, ()):
-                self.spend(1)
-                if sum(self.has(one, request) for one in keys) > 1:
-                    found.append(self.joint_result(keys, request))
-        return found
+        yield self.result(key, request)
+        for joint in self.joints_of(key):
+            if self.having(joint)[request] > 1:
+                yield self.unbound(joint, request)
 
-    def joint_of(self, keys: Joint) -> Known:
-        """What is known of a joint."""
-        known = self.survey.joints.get(keys)
-        return self.joints.setdefault(keys, Known()) if known is None else known
+    def defined(self, key: str) -> list[int]:
+        """The results that get the places where a symbol is defined: of itself and of those that
+        are defined where it is, and of what these implement."""
+        found: dict[int, None] = {}
+        for one in dict.fromkeys((key, *self.survey.defined_by.get(key, ()))):
+            related = [("implementation", other) for other in self.survey.implemented.get(one, ())]
+            self.spend(1 + len(related))
+            for request, other in (("definition", one), *related):
+                if self.is_used(other):
+                    found.update(dict.fromkeys(self.targets(other, request)))
+        return list(found)
 
-    def joint_result(self, keys: Joint, request: str) -> int:
-        """The result of a joint for a request, which has the places of several symbols."""
-        known = self.joint_of(keys)
-        found: int = getattr(known, request)
-        if not found:
-            found = self.writer.vertex(RESULTS[request])
-            setattr(known, request, found)
-        return found
+    def having(self, joint: Joint) -> dict[str, int]:
+        """How many symbols of a joint have a result for each request."""
+        if not joint.having:
+            joint.having = {
+                request: sum(self.has(key, request) for key in joint.keys) for request in RESULTS
+            }
+            joint.teller = next((key for key in joint.keys if self.look(key).bits & SAID), "")
+        return joint.having
 
-    def joint(self, keys: Joint) -> int:
+    def joint(self, keys: Keys) -> int:
         """The joint resultSet of symbols."""
-        known = self.joint_of(keys)
-        if known.vertex:
-            return known.vertex
-        writer = self.writer
-        last = next((key for key in keys if self.look(key).bits & SAID), keys[0])
-        along = self.of(last).vertex
-        for key in reversed(keys):
-            if key != last and self.of(key).moniker:
-                along = self.helper(key, keys, along)
+        joint = self.survey.joints.by_keys.get(keys) or self.joints.by_keys[keys]
+        if joint.vertex:
+            return joint.vertex
+        writer, having = self.writer, self.having(joint)
+        along = self.helpers(joint)
         results = {"references": self.all_references(keys)}
         for request in LISTED:
-            having = [key for key in keys if self.has(key, request)]
-            if len(having) > 1:
-                results[request] = self.joint_result(keys, request)
-            elif having and (having[0] != last or along != self.of(last).vertex):
-                results[request] = self.result(having[0], request)
-        known.vertex = writer.vertex("resultSet")
-        writer.edge("next", known.vertex, along)
+            if having[request] == 1:
+                only = next(key for key in keys if self.has(key, request))
+                results[request] = self.result(only, request)
+            elif having[request]:
+                results[request] = self.unbound(joint, request)
+        joint.vertex = writer.vertex("resultSet")
+        if along:
+            writer.edge("next", joint.vertex, along)
         for request, result in results.items():
-            writer.edge(f"textDocument/{request}", known.vertex, result)
-        return known.vertex
+            writer.edge(f"textDocument/{request}", joint.vertex, result)
+        if joint.teller and self.look(joint.teller).hover:
+            writer.edge("textDocument/hover", joint.vertex, self.look(joint.teller).hover)
+        return joint.vertex
 
-    def all_references(self, keys: Joint) -> int:
+    def all_references(self, keys: Keys) -> int:
         """A reference result that leads to those of several symbols."""
         parts = [self.result(key, "references") for key in keys]
         own = self.writer.vertex(RESULTS["references"])
@@ -261,15 +203,25 @@ class Meanings:
         """Writes that a reference result leads to others."""
         self.writer.items(own, parts, self.shard, "referenceResults")
 
-    def helper(self, key: str, keys: Joint, along: int) -> int:
-        """A resultSet with a symbol's moniker and results alone, before another in the chain of a
-        joint."""
+    def helpers(self, joint: Joint) -> int:
+        """A chain of helpers for the symbols of a joint that have a moniker; 0 where none has. The
+        last one is a symbol's own vertex, where nothing is said of it."""
+        having = [key for key in joint.keys if self.of(key).moniker]
+        last = next((key for key in having if not self.look(key).bits & SAID), "")
+        along = self.of(last).vertex if last else 0
+        for key in reversed(having):
+            if key != last:
+                along = self.helper(key, joint, along)
+        return along
+
+    def helper(self, key: str, joint: Joint, along: int) -> int:
+        """A resultSet with a symbol's moniker and results alone, before another in a chain."""
         writer = self.writer
         results = {}
         for request in ("references", *LISTED):
             if self.has(key, request):
                 results[request] = self.result(key, request)
-            elif any(self.has(other, request) for other in keys):
+            elif joint.having[request]:
                 if request not in self.empties:
                     self.empties[request] = writer.vertex(RESULTS[request])
                 results[request] = self.empties[request]
@@ -277,13 +229,21 @@ class Meanings:
         writer.edge("moniker", own, self.look(key).moniker)
         for request, result in results.items():
             writer.edge(f"textDocument/{request}", own, result)
-        writer.edge("next", own, along)
+        if along:
+            writer.edge("next", own, along)
         return own
+
+    def tell(self, key: str, hover: int) -> None:
+        """Binds the hover of a symbol to its vertex, and to the joint ones that tell of it."""
+        self.look(key).hover = hover
+        found = [joint.vertex for joint in self.joints_of(key) if joint.teller == key]
+        for vertex in filter(None, (self.of(key).vertex, *found)):
+            self.writer.edge("textDocument/hover", vertex, hover)
 
     def finish(self) -> None:
         """Writes which symbols' references are each other's."""
         for key, others in self.survey.referenced.items():
             if self.shard and self.is_used(key):
-                parts = [self.own_references(key)]
-                parts += [self.own_references(other) for other in others if self.is_used(other)]
+                used = filter(self.is_used, dict.fromkeys((key, *others)))
+                parts = [self.own_references(other) for other in used]
                 self.lead(self.result(key, "references"), parts)

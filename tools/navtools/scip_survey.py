@@ -1,40 +1,41 @@
-"""The first reading of a SCIP index: which global symbols occur and are defined, how they're
-related, and which of them occur at one place together.
+"""The first reading of a SCIP index: which symbols occur and are defined, how they're related, and
+which of them occur at one place together.
 
 A local symbol is one of its document alone, and is forgotten with it, unless a relationship names
-it.
+it, or it's at a place with such a one or with a global one: then other documents add to what is
+found there.
 """
 
 from dataclasses import dataclass, field
-from typing import Iterable, Optional
+from typing import Iterable
 
-from navtools.notes import Notes
-from navtools.scip_pb2 import Document, Occurrence, SymbolInformation, SymbolRole
-from navtools.symbols import is_local, markdown, name_of
+from navtools.scip_occurrences import DEFINED, FORWARD, USED, Stay, key_of
+from navtools.scip_pb2 import Document, SymbolInformation
+from navtools.symbols import is_local, markdown
 
-Places = tuple[int, int, int, int]
-Joint = tuple[str, ...]
+Keys = tuple[str, ...]
 
-DEFINITION: int = SymbolRole.Value("Definition")
-FORWARD_DEFINITION: int = SymbolRole.Value("ForwardDefinition")
-MOST_NUMBER = 2147483647
-USED, DEFINED, FORWARD, SEVERAL, SAID = 1, 2, 4, 8, 16
-
-
+SEVERAL, SAID, ELSEWHERE, IMPLEMENTED = 8, 16, 32, 64
 RESULTS = {
     "definition": "definitionResult",
     "references": "referenceResult",
     "implementation": "implementationResult",
     "declaration": "declarationResult",
 }
+HAVING = {
+    "definition": DEFINED | FORWARD | ELSEWHERE,
+    "references": USED,
+    "implementation": IMPLEMENTED,
+    "declaration": FORWARD,
+}
 
 
 class Known:
-    """What is known of a symbol, or of several at one place: whether it's used, defined, declared
-    forward, used at several places, or something is said of it; and what was written of it, 0 where
-    nothing was: the vertex that has its results, its moniker, the reference result of its own
-    places where others' places belong to its references besides, its hover, and the result for each
-    request.
+    """What is known of a symbol, as bits: whether it's used, defined, declared forward, used at
+    several places, something is said of it, it's defined where another is, or has implementations;
+    and what was written of it, 0 where nothing was: the vertex that has its results, its moniker,
+    the reference result of its own places where others' places belong to its references besides,
+    its hover, and the result for each request.
     """
 
     __slots__ = ("bits", "vertex", "moniker", "own", "hover", *RESULTS)
@@ -44,20 +45,31 @@ class Known:
         self.definition = self.references = self.implementation = self.declaration = 0
 
 
-def key_of(symbol: str, uri: str) -> str:
-    """What distinguishes a symbol from others: a local one with its document."""
-    return f"{symbol}\0{uri}" if is_local(symbol) else symbol
+class Joint(Known):
+    """Symbols that occur at one place together. `having` counts those that have a result for each
+    request, when all is read, and `teller` is the first one of which something is said."""
+
+    __slots__ = ("keys", "having", "teller")
+
+    def __init__(self, keys: Keys) -> None:
+        super().__init__()
+        self.keys, self.teller = keys, ""
+        self.having: dict[str, int] = {}
 
 
-def place_of(occurrence: Occurrence) -> Optional[Places]:
-    """The start and the end of an occurrence, whose range has three numbers where it ends in its
-    first line, else four; None where it has no such range."""
-    found: tuple[int, ...] = tuple(occurrence.range)
-    if len(found) == 3:
-        found = (found[0], found[1], found[0], found[2])
-    if len(found) != 4 or min(found) < 0 or found[:2] > found[2:]:
-        return None
-    return found[0], found[1], found[2], found[3]
+class Joints:
+    """Joints by their symbols, in order, and those of each symbol."""
+
+    def __init__(self) -> None:
+        self.by_keys: dict[Keys, Joint] = {}
+        self.of: dict[str, list[Joint]] = {}
+
+    def add(self, keys: Keys) -> None:
+        """Adds the symbols of a place."""
+        if keys not in self.by_keys:
+            joint = self.by_keys[keys] = Joint(keys)
+            for key in keys:
+                self.of.setdefault(key, []).append(joint)
 
 
 def add(related: dict[str, dict[str, None]], one: str, other: str) -> None:
@@ -71,91 +83,76 @@ class Survey:
     is, besides itself, `implemented` those that it implements, and `referenced` those whose
     references are each other's."""
 
-    notes: Notes
     known: dict[str, Known] = field(default_factory=dict)
     defined_by: dict[str, dict[str, None]] = field(default_factory=dict)
     implemented: dict[str, dict[str, None]] = field(default_factory=dict)
     referenced: dict[str, dict[str, None]] = field(default_factory=dict)
-    has_implementations: set[str] = field(default_factory=set)
-    has_others: set[str] = field(default_factory=set)
-    kept: set[str] = field(default_factory=set)
-    joints: dict[Joint, Known] = field(default_factory=dict)
-    joints_of: dict[str, list[Joint]] = field(default_factory=dict)
+    joints: Joints = field(default_factory=Joints)
     places: int = 0
 
-    def learn(self, uri: str, document: Document) -> None:
+    def learn(self, uri: str, document: Document, stay: Stay) -> None:
         """Adds what a document says of symbols that aren't its own alone."""
-        known = self.known
-        at: dict[Places, str] = {}
-        shared: dict[Places, dict[str, None]] = {}
-        for occurrence in document.occurrences:
-            symbol = occurrence.symbol
-            place = place_of(occurrence) if symbol else None
-            if place is None:
-                continue
-            key = key_of(symbol, uri)
-            first = at.setdefault(place, key)
-            if first != key:
-                shared.setdefault(place, {first: None})[key] = None
-            if key is symbol:
-                own = known.get(symbol)
-                if own is None:
-                    if name_of(symbol) is None:
-                        continue
-                    own = known[symbol] = Known()
-                mark(own, occurrence.symbol_roles)
-        self.places += len(at)
+        self.places += len(stay.symbols)
+        own: dict[str, Known] = {}
+        mark(stay, self.known, own)
+        related: set[str] = set()
         for information in document.symbols:
-            self.inform(information, uri)
-        for keys in dict.fromkeys(tuple(found) for found in shared.values()):
-            self.join(tuple(key for key in keys if is_local(key) or key in known))
+            key = key_of(information.symbol, uri)
+            self.inform(key, information, own)
+            if information.relationships:
+                others = [key_of(other.symbol, uri) for other in information.relationships]
+                self.relate(key, information, others)
+                related.update((key, *others))
+        kept = set(related)
+        for keys in stay.shared():
+            if any(key in related or not is_local(key) for key in keys):
+                self.joints.add(keys)
+                kept.update(keys)
+        self.known.update((key, own[key]) for key in kept if key in own)
 
-    def inform(self, information: SymbolInformation, uri: str) -> None:
-        """Adds what is said of a symbol: whether there is a text, and how it's related to
-        others."""
-        key = key_of(information.symbol, uri)
-        own = self.known.get(key)
-        if own is None and (information.relationships or not is_local(key)):
-            own = self.known[key] = Known()
-        if own is not None and not own.bits & SAID and markdown(information):
-            own.bits |= SAID
-        for relation in information.relationships:
-            other = key_of(relation.symbol, uri)
-            self.kept.update(one for one in (key, other) if is_local(one))
+    def inform(self, key: str, information: SymbolInformation, own: dict[str, Known]) -> None:
+        """Notes whether something is said of a symbol."""
+        known = own.get(key) if is_local(key) else self.known.setdefault(key, Known())
+        if known is not None and not known.bits & SAID and markdown(information):
+            known.bits |= SAID
+
+    def relate(self, key: str, information: SymbolInformation, others: list[str]) -> None:
+        """Adds how a symbol is related to others."""
+        for relation, other in zip(information.relationships, others):
             if relation.is_definition:
                 add(self.defined_by, other, key)
-                self.has_others.add(key)
             if relation.is_implementation:
                 add(self.implemented, key, other)
-                self.has_implementations.add(other)
             if relation.is_reference:
                 add(self.referenced, key, other)
                 add(self.referenced, other, key)
 
-    def join(self, keys: Joint) -> None:
-        """Adds symbols that occur at one place, of which not all are local."""
-        if len(keys) < 2:
-            return
-        if keys in self.joints or all(map(is_local, keys)):
-            return
-        self.joints[keys] = Known()
+    def finish(self, externals: Iterable[SymbolInformation]) -> None:
+        """Adds what is said of symbols that no document defines, and computes which have results
+        by their relationships."""
+        for information in externals:
+            self.inform(information.symbol, information, {})
+            others = [other.symbol for other in information.relationships]
+            self.relate(information.symbol, information, others)
+        for related, bit, needed in (
+            (self.defined_by, ELSEWHERE, DEFINED | FORWARD),
+            (self.implemented, IMPLEMENTED, HAVING["definition"]),
+        ):
+            for key, others_of in related.items():
+                if key in self.known and self.known[key].bits & needed:
+                    for other in others_of:
+                        self.known.setdefault(other, Known()).bits |= bit
+
+
+def mark(stay: Stay, known: dict[str, Known], local: dict[str, Known]) -> None:
+    """Marks the symbols that occur in a document, in a table of the local ones and in one of the
+    others."""
+    for _, key, role, _ in stay.occurrences:
+        table = local if is_local(key) else known
+        own = table.get(key)
+        if own is None:
+            own = table[key] = Known()
+        own.bits |= role | (SEVERAL | USED if own.bits & USED else USED)
+    for keys in stay.shared():
         for key in keys:
-            if not is_local(key):
-                self.known[key].bits |= SEVERAL
-                self.joints_of.setdefault(key, []).append(keys)
-
-    def external(self, informations: Iterable[SymbolInformation]) -> None:
-        """Adds what is said of symbols that no document defines."""
-        for information in informations:
-            self.inform(information, "")
-
-
-def mark(known: Known, roles: int) -> None:
-    """Marks an occurrence of a symbol."""
-    bits = known.bits
-    bits |= SEVERAL | USED if bits & USED else USED
-    if roles & DEFINITION:
-        bits |= DEFINED
-    elif roles & FORWARD_DEFINITION:
-        bits |= FORWARD
-    known.bits = bits
+            (local if is_local(key) else known)[key].bits |= SEVERAL

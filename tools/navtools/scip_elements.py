@@ -1,0 +1,77 @@
+"""What the elements of a conversion go to, and how they're written as a dump."""
+
+from json import dumps
+from typing import Any, BinaryIO, Protocol
+
+LAST = 0x7FFFFFFF
+
+
+class Elements(Protocol):
+    """What takes the elements of a conversion: a `Writer`, or what makes tables of them. `elements`
+    counts them."""
+
+    elements: int
+
+    def vertex(self, label: str, **members: Any) -> int:
+        """Takes a vertex and answers its id."""
+
+    def range(self, start: int, end: int) -> int:
+        """Takes a range, whose ends are packed, and answers its id."""
+
+    def edge(self, label: str, source: int, target: int) -> None:
+        """Takes an edge to one vertex."""
+
+    def edges(self, label: str, source: int, targets: list[int], *more: str) -> None:
+        """Takes an edge to several vertices."""
+
+    def items(self, result: int, places: list[int], shard: int, role: str = "") -> None:
+        """Takes the places of a result in a document, or the results that it leads to."""
+
+
+class Writer:
+    """Writes elements, whose ids are their lines, and counts them and their bytes. Most of them
+    have nothing but numbers and labels, and need no escapes."""
+
+    def __init__(self, out: BinaryIO) -> None:
+        self.out = out
+        self.elements = self.body_bytes = self.longest_line = 0
+
+    def line(self, rest: str) -> int:
+        """Writes an element by the text behind its id, which it answers."""
+        self.elements += 1
+        text = f'{{"id":{self.elements},{rest}'.encode()
+        self.out.write(text + b"\n")
+        size = len(text)
+        self.body_bytes += size + 1
+        if size > self.longest_line:
+            self.longest_line = size
+        return self.elements
+
+    def vertex(self, label: str, **members: Any) -> int:
+        """Writes a vertex and answers its id."""
+        if not members:
+            return self.line(f'"type":"vertex","label":"{label}"}}')
+        rest = dumps(members, ensure_ascii=False, separators=(",", ":"))
+        return self.line(f'"type":"vertex","label":"{label}",{rest[1:]}')
+
+    def range(self, start: int, end: int) -> int:
+        """Writes a range, whose ends are packed, and answers its id."""
+        return self.line(
+            f'"type":"vertex","label":"range","start":{{"line":{start >> 31},"character":{start & LAST}}},'
+            f'"end":{{"line":{end >> 31},"character":{end & LAST}}}}}'
+        )
+
+    def edge(self, label: str, source: int, target: int) -> None:
+        """Writes an edge to one vertex."""
+        self.line(f'"type":"edge","label":"{label}","outV":{source},"inV":{target}}}')
+
+    def edges(self, label: str, source: int, targets: list[int], *more: str) -> None:
+        """Writes an edge to several vertices; `more` are further members, as they're written."""
+        ids = ",".join(map(str, targets))
+        rest = "".join(f",{member}" for member in more)
+        self.line(f'"type":"edge","label":"{label}","outV":{source},"inVs":[{ids}]{rest}}}')
+
+    def items(self, result: int, places: list[int], shard: int, role: str = "") -> None:
+        """Writes the places of a result in a document, or the results that it leads to."""
+        more = (f'"property":"{role}"',) if role else ()
+        self.edges("item", result, places, f'"shard":{shard}', *more)
