@@ -25,7 +25,7 @@ from navtools.scip_survey import (
     Survey,
     mark,
 )
-from navtools.symbols import is_local, name_of
+from navtools.symbols import is_local, is_packaged, name_of
 
 LISTED = ("definition", "declaration", "implementation")
 MOST_STEPS = 20_000_000
@@ -241,9 +241,10 @@ class Meanings:
             self.writer.edge("textDocument/hover", vertex, hover)
 
     def finish(self) -> None:
-        """Writes which symbols' references are each other's."""
+        """Writes which symbols' references are each other's. One that doesn't occur may be asked
+        for by other projects."""
         for key, others in self.survey.referenced.items():
-            if self.shard and self.is_used(key):
-                used = filter(self.is_used, dict.fromkeys((key, *others)))
+            used = [other for other in {key: None, **others} if self.is_used(other)]
+            if used and (self.is_used(key) or is_packaged(key)):
                 parts = [self.own_references(other) for other in used]
                 self.lead(self.result(key, "references"), parts)

@@ -46,6 +46,12 @@ def name_of(symbol: str) -> Optional[Name]:
     return Name(found[0], manager, package, version, found[4])
 
 
+def is_packaged(symbol: str) -> bool:
+    """Whether a symbol is a global one of a package that has a name, which joins projects."""
+    name = None if is_local(symbol) else name_of(symbol)
+    return name is not None and name.package != ""
+
+
 def markdown(information: SymbolInformation) -> str:
     """What is said of a symbol: its signature, as a block of code, and its documentation."""
     signature, blocks = information.signature_documentation, []

@@ -4,7 +4,6 @@ from typing import Any
 
 from navtools.scip_pb2 import Index
 
-ROOT = "file:///work/app"
 SYMBOLS = [
     *(f"scip-x npm app 1.0.0 {name}#" for name in "ab"),
     "scip-x npm lib . c#",
@@ -81,12 +80,12 @@ class Drawn:
             ],
         }
 
-    def index(self) -> Any:
+    def index(self, root: str) -> Any:
         """An index of two to four documents, of which some may be one in several messages."""
         symbols = self.draw(self.st.permutations(SYMBOLS))[: self.one_of(range(2, 6))]
         encodings = {name: self.one_of([1, 2, 2, 3]) for name in "abc"}
         index: Any = Index()
-        index.metadata.project_root = ROOT
+        index.metadata.project_root = root
         index.metadata.tool_info.name = "scip-x"
         for name in self.draw(self.st.lists(self.st.sampled_from("abc"), min_size=2, max_size=4)):
             encoding = encodings[name]
@@ -101,6 +100,6 @@ class Drawn:
         return index
 
 
-def indexes(strategies: Any) -> Any:
+def indexes(strategies: Any, root: str = "file:///work/app") -> Any:
     """The strategy of indexes."""
-    return strategies.composite(lambda draw: Drawn(draw, strategies).index())()
+    return strategies.composite(lambda draw: Drawn(draw, strategies).index(root))()

@@ -38,9 +38,10 @@ class Symbol:
 
 
 class Model:
-    """An index."""
+    """An index. `keeps` says that a range around a whole document is asked too."""
 
-    def __init__(self, index: Any) -> None:
+    def __init__(self, index: Any, keeps: bool = False) -> None:
+        self.keeps = keeps
         self.root = index.metadata.project_root.rstrip("/")
         self.symbols: dict[str, Symbol] = {}
         self.at: dict[str, dict[Span, list[str]]] = {}
@@ -133,29 +134,54 @@ class Model:
     def is_import(self, name: str) -> bool:
         """Whether other projects are asked about a symbol: a global one of a named package, which
         this index doesn't define."""
-        parts = None if "\0" in name else name_of(name)
-        return bool(parts and parts.package and not self.symbol(name).definitions)
+        return is_packaged(name) and not self.symbol(name).definitions
 
-    def ask(self, request: str, uri: str, position: Position, declaration: bool = True) -> Any:
+    def texts(self, span: tuple[str, Span], names: list[str]) -> list[str]:
+        """What is said at a place: of the occurrence there, or of the symbols."""
+        texts = [self.said.get(span, ""), *(self.symbol(name).text for name in names)]
+        return list(filter(None, texts))
+
+    def joined(self, request: str, name: str, other: "Model") -> bool:
+        """Whether what another project says of a symbol is a part of the answer: that defines it,
+        and this index doesn't. References are those of all."""
+        if request == "references":
+            return is_packaged(name)
+        return self.is_import(name) and bool(other.symbol(name).definitions)
+
+    def ask(self, question: Any, *others: "Model") -> Any:
         """The answer at a position: that of the smallest range there of which there is one, or of
-        which other projects are asked. A place with several symbols answers by all of them."""
+        which other projects are asked. A place with several symbols answers by all of them. Of a
+        hover these are the texts of which one is shown."""
+        request, declaration = question.request, question.declaration
+        places = self.at.get(question.uri, {})
         covering = [
-            (span, names)
-            for span, names in self.at.get(uri, {}).items()
-            if span[0] <= position < span[1] and (uri, span) not in self.around
+            span
+            for span in places
+            if span[0] <= question.position < span[1]
+            and (self.keeps or (question.uri, span) not in self.around)
         ]
-        covering.sort(key=lambda one: (reversed_(one[0][0]), one[0][1]))
-        for span, names in covering:
+        for span in sorted(covering, key=lambda span: (reversed_(span[0]), span[1])):
+            names = places[span]
             if request == "hover":
-                texts = [self.said.get((uri, span), ""), *(self.symbol(n).text for n in names)]
-                text = next(filter(None, texts), "")
-                if text or any(map(self.is_import, names)):
-                    return text or None
+                found = set(self.texts((question.uri, span), names)[:1])
+            else:
+                found = set().union(*(self.places(name, request, declaration) for name in names))
+            if request != "references" and not found and not any(map(self.is_import, names)):
                 continue
-            found = set().union(*(self.places(name, request, declaration) for name in names))
-            if request == "references" or found or any(map(self.is_import, names)):
-                return found
-        return None if request == "hover" else set()
+            for other, name in ((other, name) for other in others for name in names):
+                if self.joined(request, name, other):
+                    if request != "hover":
+                        found |= other.places(name, request, declaration)
+                    elif not self.texts((question.uri, span), names):
+                        found |= {other.symbol(name).text} - {""}
+            return found
+        return set()
+
+
+def is_packaged(name: str) -> bool:
+    """Whether a symbol is one of a named package, by which projects are joined."""
+    parts = None if "\0" in name else name_of(name)
+    return bool(parts and parts.package)
 
 
 def reversed_(position: Position) -> Position:

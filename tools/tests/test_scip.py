@@ -4,7 +4,6 @@ buffers, and the demo crate's."""
 import io
 import json
 import os
-import random
 import tempfile
 import unittest
 from contextlib import redirect_stderr
@@ -18,13 +17,11 @@ needs("google.protobuf", "python3-protobuf")
 from navtools import outputs, prepare, scip_to_lsif, why
 from navtools.explain import Dump
 from navtools.scip_pb2 import Index
-from tests.accepted import fault
 from tests.test_why import ANSWERS, TOP, found
 
 APP, LIB = "scip-x npm app 1.0.0 ", "scip-x npm lib . "
 UTF_8, UTF_16, UTF_32 = 1, 2, 3
 DEFINITION = 1
-ROUNDS = 100
 Value = Union[str, bytes, int, list[int]]
 
 
@@ -142,30 +139,6 @@ def place_list(graph: why.Graph) -> list[list[Any]]:
         [place["uri"], *place["start"].values(), *place["end"].values()]
         for place in map(graph.place, graph.homes)
     ]
-
-
-def random_index(chance: random.Random) -> bytes:
-    """An index of a few documents, with any symbols at any places, related in any way."""
-    symbols = [APP + "a#", APP + "b#", LIB + "c#", "s . . . d#", "local 0", "local 1", "bad", ""]
-    index: Any = Index()
-    index.ParseFromString(metadata())
-    for number in range(chance.randrange(1, 4)):
-        own = index.documents.add(relative_path=f"{number}.ts", position_encoding=UTF_16)
-        for _ in range(chance.randrange(12)):
-            line, start = chance.randrange(2), chance.randrange(4)
-            own.occurrences.add(
-                range=[line, start, line + chance.randrange(2), start + chance.randrange(4)],
-                symbol=chance.choice(symbols),
-                symbol_roles=chance.choice([0, 0, 1, 1, 64, 8]),
-                override_documentation=["x"] if chance.random() < 0.1 else [],
-            )
-        for symbol in chance.sample(symbols[:6], chance.randrange(5)):
-            one = own.symbols.add(symbol=symbol, documentation=chance.choice([[], ["text"]]))
-            for other in chance.sample(symbols[:6], chance.randrange(3)):
-                relation = chance.choice(["is_reference", "is_implementation", "is_definition"])
-                one.relationships.add(symbol=other, **{relation: True})
-    serialized: bytes = index.SerializeToString()
-    return serialized
 
 
 class Scip(unittest.TestCase):
@@ -528,17 +501,6 @@ class Scip(unittest.TestCase):
             with self.subTest(root, path=path):
                 graph = self.graph(metadata(root) + document(path), *words)
                 self.assertEqual(list(graph.documents.values()), [uri])
-
-    def test_any_index(self) -> None:
-        """Whatever an index has at which places, its dump is accepted in both profiles."""
-        for seed in range(ROUNDS):
-            chance = random.Random(seed)
-            index = random_index(chance)
-            words = ["--keep-file-ranges"] if chance.random() < 0.5 else []
-            status, body, said = self.converted(index, "--lenient", *words)
-            self.assertEqual(status, 0, f"{seed}: {said}")
-            for profile in ("1", "2"):
-                self.assertIsNone(fault(body or b"", profile), seed)
 
     def test_the_bytes_of_the_standard(self) -> None:
         """What protobuf reads of the samples is what was written here by hand, in the wire

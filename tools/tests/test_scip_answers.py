@@ -128,12 +128,11 @@ def questions(uris: Any) -> list[Question]:
     ]
 
 
-def said_by(model: Model, question: Question) -> Any:
-    """The answer of a model, as a walk has it."""
-    found = model.ask(question.request, question.uri, question.position, question.declaration)
+def is_said(found: Any, said: Any, question: Question) -> bool:
+    """Whether the answer of walks is that of a model."""
     if question.request == "hover":
-        return found and {"kind": "markdown", "value": found}
-    return {("dump", *place) for place in found}
+        return found["value"] in said if found else not said
+    return bool({tuple(place[1:]) for place in found} == said)
 
 
 class Answers(unittest.TestCase):
@@ -142,12 +141,12 @@ class Answers(unittest.TestCase):
         self.index = os.path.join(self.folder, "index.scip")
         self.dump = os.path.join(self.folder, "dump.lsif")
 
-    def converted(self, index: Any) -> bytes:
+    def converted(self, index: Any, *words: str) -> bytes:
         """The dump of an index."""
         with open(self.index, "wb") as out:
             out.write(index.SerializeToString())
         with redirect_stderr(io.StringIO()) as said:
-            status = scip_to_lsif.main(["--lenient", self.index, self.dump])
+            status = scip_to_lsif.main(["--lenient", *words, self.index, self.dump])
         self.assertEqual(status, 0, said.getvalue())
         with open(self.dump, "rb") as file:
             return file.read()
@@ -164,18 +163,38 @@ class Answers(unittest.TestCase):
                     said = sorted(f"{of[1][-1:]} {of[2][0]}" for of in found)
                     self.assertEqual(said, places)
 
-    def answers(self, index: Any) -> None:
+    def answers(self, index: Any, keeps: bool) -> None:
         """The dump is accepted, and answers each request at each position as the model does."""
-        body = self.converted(index)
+        body = self.converted(index, *(["--keep-file-ranges"] if keeps else []))
         for profile in ("1", "2"):
             self.assertIsNone(fault(body, profile))
-        walk, model = Walk(map(json.loads, body.splitlines()), "2"), Model(index)
+        walk, model = Walk(map(json.loads, body.splitlines()), "2"), Model(index, keeps)
         for question in questions(model.at):
-            found = answered({"dump": walk}, "dump", question)
-            self.assertEqual(found, said_by(model, question), question)
+            found, said = answered({"": walk}, "", question), model.ask(question)
+            self.assertTrue(is_said(found, said, question), (question, found, said))
 
     def test_random_indexes(self) -> None:
-        check_cases(self, 300, lambda drawn: {"index": indexes(drawn)}, self.answers)
+        check_cases(
+            self, 100, lambda st: {"index": indexes(st), "keeps": st.booleans()}, self.answers
+        )
+
+    def joined(self, index: Any, library: Any) -> None:
+        """The dumps of two indexes answer together."""
+        indexes_of = {"app": index, "lib": library}
+        every = {
+            name: Walk(map(json.loads, self.converted(own).splitlines()), "2")
+            for name, own in indexes_of.items()
+        }
+        model, other = Model(index), Model(library)
+        for question in questions(model.at):
+            found, said = answered(every, "app", question), model.ask(question, other)
+            self.assertTrue(is_said(found, said, question), (question, found, said))
+
+    def test_two_projects(self) -> None:
+        def drawn(st: Any) -> Any:
+            return {"index": indexes(st), "library": indexes(st, "file:///work/lib")}
+
+        check_cases(self, 40, drawn, self.joined)
 
 
 if __name__ == "__main__":

@@ -11,7 +11,7 @@ import tempfile
 import tracemalloc
 import unittest
 from contextlib import redirect_stderr
-from typing import IO
+from typing import IO, Any
 from unittest import mock
 
 from tests.packages import needs
@@ -25,15 +25,19 @@ from navtools.scip_pb2 import Index
 from navtools.sets import graph, scip_graph, split, stored
 from navtools.sets.crossing import Cut, Shared
 from navtools.sets.flat import Flat, flattened
+from tests.dump_walks import answered
+from tests.random_scip import indexes
+from tests.randomly import check_cases
+from tests.scip_model import Model
 from tests.servers import TOP
 from tests.test_samples import SAMPLES, groups
 from tests.test_scip import APP, DEFINITION, document, information, metadata
-from tests.test_scip import occurrence, random_index
-from tests.test_sets import bodies_of, flat_of
+from tests.test_scip import occurrence
+from tests.test_scip_answers import is_said, questions
+from tests.test_sets import bodies_of, flat_of, walks
 
 INDEX = os.path.join(TOP, "demo", "crate.scip")
 SOURCE = os.path.join(TOP, "demo", "crate")
-ROUNDS = 150
 SYMBOLS, DOCUMENTS, USES = 800, 40, 90
 
 
@@ -109,11 +113,21 @@ class SplitIndex(unittest.TestCase):
                 found = bodies(self.flat(hovers, profile, *words), hovers.name, profile)
             self.assertEqual(found, expected, f"{what}, profile {profile}")
 
+    def answers(self, index: Any) -> None:
+        """The parts are those of the dump, and answer as the model does."""
+        self.put(index.SerializeToString())
+        self.compare("a random index")
+        with tempfile.NamedTemporaryFile() as hovers, redirect_stderr(io.StringIO()):
+            flat = self.flat(hovers, "2")
+            parts = [f"set-{own:016x}" for own in range(len(flat.uris))]
+            every = walks(dict(zip(parts, bodies(flat, hovers.name, "2"))), {}, "2")
+        model, holder = Model(index), dict(zip(flat.uris, parts))
+        for question in questions(model.at):
+            found, said = answered(every, holder[question.uri], question), model.ask(question)
+            self.assertTrue(is_said(found, said, question), (question, found, said))
+
     def test_random_indexes(self) -> None:
-        """Symbols at any places, related in any way."""
-        for seed in range(ROUNDS):
-            self.put(random_index(random.Random(seed)))
-            self.compare(seed)
+        check_cases(self, 40, lambda st: {"index": indexes(st)}, self.answers)
 
     def test_samples(self) -> None:
         """The samples of indexers."""
