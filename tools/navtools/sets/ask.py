@@ -5,44 +5,23 @@ project, and the places of all parts are shown as the set's. Places of parts tha
 doesn't name, of a revision that comes or goes, are dropped; so are those of other revisions of a
 code base beside it (`NAME@BRANCH`), unless such a one is asked itself.
 
-What was read of manifests is kept, and read again where a part is gone or answers with places of a
-part that isn't known. So a query meanwhile a set is switched is answered from the old revision or
-from the new one.
+After an answer the marks of the manifests by which it's shown are read: those of the set that was
+asked, and of the sets that have places in it. Where one is another than before the question, or
+wasn't known then, the question is asked again. So a query meanwhile a set is switched is answered
+from the old revision or from the new one.
 """
 
-import time
-from typing import Any, Callable, Optional
+from typing import Any, Callable
 
-from navtools.client import NoReply
 from navtools.addresses import serialized
-from navtools.sets.manifest import (
-    ABOUT,
-    BRANCH,
-    DOCUMENT,
-    PART,
-    PARTS,
-    SURFACE,
-    Head,
-    NotAManifest,
-    base_name,
-    head_of,
-    shown_name,
-)
+from navtools.client import NoReply
+from navtools.sets.known import Fetch, Sets
+from navtools.sets.manifest import BRANCH, DOCUMENT, Head, shown_name
 
-Fetch = Callable[[str, dict[str, Any], str], Any]
 Found = dict[str, Any]
+Shown = tuple[Any, set[str]]
 ALIKE = 3
-BRIEF = 5.0
-AWAY_SECONDS = 60.0
-
-
-class UnknownPart(Exception):
-    """A project that has the form of a part, and that the manifest doesn't name; the text is the
-    set's name."""
-
-
-class Away(Exception):
-    """The server of another set than the one that is asked doesn't answer."""
+TRIES = 5
 
 
 def order_of(place: Found) -> tuple[Any, ...]:
@@ -56,52 +35,86 @@ def order_of_tag(tag: Found) -> tuple[Any, ...]:
     return (tag["name"].encode(), tag["project"], tag["line"])
 
 
-class Sets:
-    """The manifests on a server, as far as they were asked for."""
+class Asked:
+    """A project or a set that is asked, by the name that its users write.
 
-    def __init__(self, fetch: Fetch) -> None:
-        self.fetch = fetch
-        within = getattr(fetch, "within", None)
-        self.brief: Fetch = within(BRIEF) if within else fetch
-        self.heads: dict[str, Optional[Head]] = {}
-        self.away: dict[str, float] = {}
+    The name is taken for a project's up to when the server has no dump of it: so a project costs no
+    request more.
+    """
 
-    def head(self, name: str, fetch: Optional[Fetch] = None) -> Optional[Head]:
-        """The manifest of a set, or None where there is none."""
-        if name not in self.heads:
-            project = name + PARTS
-            tags = (fetch or self.fetch)("/names", {"prefix": ABOUT, "project": project}, "tags")
-            self.heads[name] = head_of(tags, project)
-        return self.heads[name]
+    def __init__(self, name: str, fetch: Fetch) -> None:
+        self.name = name.replace("@", BRANCH)
+        self.sets = Sets(fetch)
+        self.is_none = False
 
-    def other_head(self, name: str) -> Optional[Head]:
-        """The manifest of a set that wasn't asked for by its name: what is no manifest is none.
-        Raises Away where the set's server doesn't answer soon, which isn't tried again at once."""
-        if self.away.get(name, 0.0) > time.monotonic():
-            raise Away
-        try:
-            return self.head(name, self.brief)
-        except NotAManifest:
-            self.heads[name] = None
-            return None
-        except NoReply:
-            self.away[name] = time.monotonic() + AWAY_SECONDS
-            raise Away from None
+    def query(self, what: str, parameters: dict[str, Any], member: str) -> Any:
+        """What a query at a position found: the places, shown as those of sets and in order, or the
+        contents of a hover.
 
-    def is_changed(self, name: str) -> bool:
-        """Reads the manifest of a set again, and says whether it's another one; raises
-        NotAManifest."""
-        before, after = self.heads.pop(name, None), self.head(name)
-        if before is None or after is None:
-            return before is not after
-        return before.mark != after.mark
+        Raises NoReply, and NotAManifest.
+        """
+
+        def once() -> Shown:
+            head = self.sets.heads.get(self.name)
+            project = self.name if head is None else head.part_of(serialized(parameters["uri"]))
+            try:
+                found = self.sets.fetch(f"/projects/{project}/{what}", parameters, member)
+            except NoReply as fault:
+                if not is_missing(fault):
+                    raise
+                is_none = head is None and is_without_dump(fault)
+                return fault, self.looked_for() if is_none else self.own()
+            self.is_none = False
+            return self.shown(found) if member == "places" else (found, self.own())
+
+        found = self.checked(once)
+        if isinstance(found, NoReply):
+            raise self.explained(found, parameters["uri"])
+        return found
+
+    def checked(self, once: Callable[[], Shown]) -> Any:
+        """What is found, asked again up to when the manifests by which it's shown were the same
+        before and after it; raises NoReply."""
+        self.is_none = False
+        self.sets.forget_none()
+        for _ in range(TRIES):
+            self.sets.read.clear()
+            found, used = once()
+            changed = self.sets.changed(used, self.name)
+            if not changed:
+                return found
+        sets = ", ".join(map(shown_name, changed))
+        raise NoReply(f"the set {sets} is switched again and again")
+
+    def own(self) -> set[str]:
+        """The set that is asked; none where a project is."""
+        return {self.name} if self.sets.heads.get(self.name) else set()
+
+    def looked_for(self) -> set[str]:
+        """Where no project of the name answered, looks for a set, which is asked then. Where there
+        is none the project is asked once more, since it may have come for a set meanwhile."""
+        if self.is_none:
+            return set()
+        self.sets.forget(self.name)
+        self.is_none = self.sets.head(self.name) is None
+        return {self.name}
+
+    def explained(self, fault: NoReply, uri: str) -> NoReply:
+        """A fault of a part, as one of its set: a part that the manifest names and that is gone was
+        removed by hand."""
+        head, name = self.sets.heads.get(self.name), shown_name(self.name)
+        if head is None:
+            return fault
+        if is_without_dump(fault):
+            return NoReply(f"a part of the set {name} is gone; publish the set again")
+        return NoReply(f"D02 no such document in the set {name}{self.alike(head, serialized(uri))}")
 
     def documents(self, head: Head) -> list[str]:
         """The addresses of all documents of a set."""
         return [
             tag["name"][len(DOCUMENT) :]
             for project in head.holders()
-            for tag in self.fetch("/names", {"prefix": DOCUMENT, "project": project}, "tags")
+            for tag in self.sets.fetch("/names", {"prefix": DOCUMENT, "project": project}, "tags")
         ]
 
     def alike(self, head: Head, uri: str) -> str:
@@ -119,140 +132,67 @@ class Sets:
         first = [known for _, known in sorted(found)[:ALIKE]]
         return f"; there are {', '.join(first)}" if first else ""
 
-    def shown(self, project: str, asked: str) -> Optional[str]:
-        """What the project of a place is shown as where a project or a set is asked, or None where
-        its places are dropped; raises UnknownPart."""
-        name = self.set_of(project)
-        if name is None:
-            return project
-        if name != asked and (BRANCH in name or base_name(asked) == base_name(name)):
-            return None
-        return shown_name(name)
-
-    def set_of(self, project: str) -> Optional[str]:
-        """The set that has a project as a part, or as one of its surface; None where there is none.
-        Where the set's server is away, or has lost it, it's that of the project's name. Raises
-        UnknownPart."""
-        match = PART.fullmatch(project)
-        if match is None:
-            return None
-        name = match["set"]
-        whole = name.removesuffix(SURFACE)
-        try:
-            of_surface = self.other_head(whole) if whole != name else None
-            if of_surface is not None and project in of_surface.surface_projects():
-                return whole
-            own = self.other_head(name)
-        except Away:
-            return whole
-        if own is not None and project in own.projects():
-            return name
-        if own is not None or of_surface is not None:
-            raise UnknownPart(whole if own is None else name)
-        return whole if whole != name else None
-
-
-class Asked:
-    """A project or a set that is asked, by the name that its users write.
-
-    The name is taken for a project's up to when the server has no dump of it: so a project costs no
-    request more.
-    """
-
-    def __init__(self, name: str, fetch: Fetch) -> None:
-        self.name = name.replace("@", BRANCH)
-        self.sets = Sets(fetch)
-
-    def query(self, what: str, parameters: dict[str, Any], member: str) -> Any:
-        """What a query at a position found: the places, shown as those of sets and in order, or the
-        contents of a hover.
-
-        Raises NoReply, and NotAManifest.
-        """
-        for last in (False, False, True):
-            try:
-                found = self.once(what, parameters, member)
-            except NoReply as fault:
-                if last or not is_missing(fault) or not self.sets.is_changed(self.name):
-                    raise self.explained(fault, parameters["uri"]) from None
-                continue
-            if member != "places":
-                return found
-            places, unknown = self.shown(found)
-            if last or not any([self.sets.is_changed(name) for name in sorted(unknown)]):
-                return places
-        raise NoReply(f"the set {shown_name(self.name)} is switched again and again")
-
-    def once(self, what: str, parameters: dict[str, Any], member: str) -> Any:
-        """What the project answers, or the part of the set that has the document."""
-        head = self.sets.heads.get(self.name)
-        project = self.name if head is None else head.part_of(serialized(parameters["uri"]))
-        return self.sets.fetch(f"/projects/{project}/{what}", parameters, member)
-
-    def explained(self, fault: NoReply, uri: str) -> NoReply:
-        """A fault of a part, as one of its set: a part that the manifest names and that is gone was
-        removed by hand."""
-        head, name = self.sets.heads.get(self.name), shown_name(self.name)
-        if head is None or not is_missing(fault):
-            return fault
-        if str(fault).startswith("D01 "):
-            return NoReply(f"a part of the set {name} is gone; publish the set again")
-        return NoReply(
-            f"D02 no such document in the set {name}{self.sets.alike(head, serialized(uri))}"
-        )
-
-    def shown(self, places: list[Found]) -> tuple[list[Found], set[str]]:
-        """Places as they are shown, in order and each once, and the sets that have places of parts
-        that aren't known."""
-        found: dict[tuple[Any, ...], Found] = {}
-        unknown = set()
-        for place in places:
-            try:
-                project = self.sets.shown(place["project"], self.name)
-            except UnknownPart as fault:
-                unknown.add(str(fault))
-                continue
-            if project is not None:
-                own = {**place, "project": project}
-                found[order_of(own)] = own
-        return [found[order] for order in sorted(found)], unknown
+    def shown(self, places: list[Found]) -> Shown:
+        """Places as they are shown, in order and each once, and the sets whose manifests say so."""
+        own = self.own()
+        names, used = self.sets.shown({one["project"] for one in places}, self.name, bool(own))
+        shown = [
+            {**place, "project": names[place["project"]]}
+            for place in places
+            if place["project"] in names
+        ]
+        found = {order_of(place): place for place in shown}
+        return [found[order] for order in sorted(found)], used | own
 
     def names(self, parameters: dict[str, Any], every: bool) -> list[Found]:
         """The tags of a name or a prefix: those of the project or the set, or with `every` those of
         all on the server; raises NoReply, and NotAManifest."""
-        head = None
-        if not every:
-            tags = self.sets.fetch("/names", {**parameters, "project": self.name}, "tags")
-            head = None if tags else self.sets.head(self.name)
-            if head is None:
-                return list(tags)
-        if head is not None and head.is_spread():
-            tags = self.tags_of_parts(parameters)
-        else:
-            tags = self.sets.fetch("/names", parameters, "tags")
-        found = []
-        for tag in tags:
-            try:
-                project = self.sets.shown(tag["project"], self.name)
-            except UnknownPart:
-                continue
-            if project is not None and (every or project == shown_name(self.name)):
-                found.append({**tag, "project": project})
-        return sorted(found, key=order_of_tag)
+
+        def once() -> Shown:
+            if every:
+                return self.shown_tags(self.sets.fetch("/names", parameters, "tags"))
+            if not self.sets.heads.get(self.name):
+                own = {**parameters, "project": self.name}
+                tags = self.sets.fetch("/names", own, "tags")
+                self.is_none = self.is_none and not tags
+                used = set() if tags else self.looked_for()
+                if not self.own():
+                    return tags, used
+                self.sets.read.clear()
+            return self.tags_of_parts(parameters), self.own()
+
+        return list(self.checked(once))
+
+    def shown_tags(self, tags: list[Found]) -> Shown:
+        """Tags as they are shown, in order, and the sets whose manifests say so."""
+        names, used = self.sets.shown({tag["project"] for tag in tags}, self.name, False)
+        shown = [
+            {**tag, "project": names[tag["project"]]} for tag in tags if tag["project"] in names
+        ]
+        return sorted(shown, key=order_of_tag), used
 
     def tags_of_parts(self, parameters: dict[str, Any]) -> list[Found]:
-        """The tags of the set's parts, asked of each: a front over several servers sends what names
-        no project to any of them."""
-        for _ in range(3):
-            head, found = self.sets.head(self.name), []
-            for part in head.parts if head is not None else ():
-                found += self.sets.fetch("/names", {**parameters, "project": part.project}, "tags")
-            if not self.sets.is_changed(self.name):
-                return found
-        raise NoReply(f"the set {shown_name(self.name)} is switched again and again")
+        """The tags of the set that is asked, in order. On several servers each part is asked, since
+        a front sends what names no project to any of them."""
+        head, parts = self.sets.heads[self.name], self.sets.projects[self.name]
+        asked: list[dict[str, Any]] = [parameters]
+        if head is not None and head.is_spread():
+            asked = [{**parameters, "project": part.project} for part in head.parts]
+        found = [
+            {**tag, "project": shown_name(self.name)}
+            for own in asked
+            for tag in self.sets.fetch("/names", own, "tags")
+            if tag["project"] in parts
+        ]
+        return sorted(found, key=order_of_tag)
 
 
 def is_missing(fault: NoReply) -> bool:
     """Whether a query was refused since there is no dump of its project, or since the dump has no
     such document."""
-    return str(fault).startswith(("D01 ", "D02 "))
+    return is_without_dump(fault) or str(fault).startswith("D02 ")
+
+
+def is_without_dump(fault: NoReply) -> bool:
+    """Whether a query was refused since there is no dump of its project."""
+    return str(fault).startswith("D01 ")

@@ -39,6 +39,7 @@ LIST_LINES = 20_000
 NAME = re.compile(r"[a-z0-9_-]{1,47}")
 PART = re.compile(r"(?P<set>[a-z0-9_-]{1,47})-[0-9a-f]{16}")
 PARTS = "-parts"
+CLAIM = "-claim"
 SURFACE = "-surface"
 BRANCH = "--"
 Tag = dict[str, Any]
@@ -205,6 +206,12 @@ def listed(documents: Sequence[DocumentEntry]) -> Iterator[tuple[str, bytes]]:
 def fields_of(tag: Tag) -> dict[str, str]:
     """The fields of a tag."""
     return {key: value for key, value in tag["fields"]}
+
+
+def mark_in(tags: Iterable[Tag]) -> Optional[str]:
+    """The mark that tags of a manifest say, or None where there is no manifest."""
+    marks = [fields_of(tag).get("mark", "") for tag in tags if tag["name"] == f"{ABOUT}set"]
+    return marks[0] if marks else None
 
 
 def is_package(tag: Tag) -> bool:

@@ -18,12 +18,13 @@ import socket
 import time
 from contextlib import contextmanager
 from dataclasses import dataclass, field
-from typing import Any, Iterator, Optional
+from typing import Any, Iterable, Iterator, Optional
 
 from navtools.client import NoReply, address, found_in, refusal_of, request, request_again
 from navtools.sets.manifest import (
     MANIFEST,
     ABOUT,
+    CLAIM,
     DOCUMENT,
     PART,
     PARTS,
@@ -42,7 +43,6 @@ from navtools.sets.manifest import (
 )
 from navtools.words import BadCall, server_of, status_of
 
-CLAIM = "-claim"
 LEASE = 900
 RENEWED = 30
 MOST_LIVES = 1000
@@ -206,6 +206,12 @@ def claimed(store: Store, name: str) -> Iterator[Claim]:
             pass
 
 
+def parts_of(name: str, projects: Iterable[str]) -> list[str]:
+    """The projects that have the form of a set's parts."""
+    found = {project: PART.fullmatch(project) for project in sorted(projects)}
+    return [project for project, match in found.items() if match and match["set"] == name]
+
+
 @dataclass
 class Report:
     """What a publish did: how many parts there are, and which of them were there before, were put
@@ -292,9 +298,8 @@ class Publish:
     def remove_left(self, claim: Claim, there: dict[str, set[str]], old: Optional[Head]) -> None:
         """Removes parts of neither revision, which an interrupted publish left."""
         wanted = {*self.head.projects(), *(old.projects() if old else [])}
-        for project in sorted(there):
-            match = PART.fullmatch(project)
-            if match is not None and match["set"] == self.head.name and project not in wanted:
+        for project in parts_of(self.head.name, there):
+            if project not in wanted:
                 claim.renew()
                 self.store.remove(project)
                 self.report.removed += 1
@@ -355,13 +360,14 @@ def fetch_cuts(store: Store, name: str, folder: str) -> None:
 
 
 def remove_set(store: Store, name: str) -> int:
-    """Removes a set, its manifest first; answers how many parts it had."""
+    """Removes a set, its manifest first, and what interrupted publishes left of it; answers how many
+    parts it had."""
     head = store.head(name)
     if head is None:
         return 0
     with claimed(store, name) as claim:
         store.remove(name + PARTS)
-        for project in head.projects():
+        for project in parts_of(name, store.projects()):
             claim.renew()
             store.remove(project)
     store.remove(name + CLAIM)

@@ -10,8 +10,8 @@ from contextlib import ExitStack, contextmanager
 from dataclasses import dataclass, field
 from typing import Callable, Iterator, Optional
 
-from navtools.sets.manifest import PARTS, SURFACE, part_name
-from navtools.sets.publish import CLAIM, Claim, Late, Publish, Store, claimed
+from navtools.sets.manifest import CLAIM, PARTS, SURFACE, part_name
+from navtools.sets.publish import Claim, Late, Publish, Store, claimed
 from navtools.surfaces.places import Place, is_same
 from navtools.surfaces.spread import Spread, surface_file
 from navtools.words import BadCall

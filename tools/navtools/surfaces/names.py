@@ -9,7 +9,8 @@ from typing import Any, Callable, Optional, Sequence
 
 from navtools.client import NoReply
 from navtools.projects import listed
-from navtools.sets.ask import Asked, Fetch, Found, order_of_tag
+from navtools.sets.ask import Asked, Found, order_of_tag
+from navtools.sets.known import Fetch
 from navtools.sets.manifest import PARTS, set_name
 from navtools.surfaces.homes import Ring, servers_of
 from navtools.settings import servers_above
@@ -65,8 +66,11 @@ def names_of_all(
     for project, own in holders.items():
         stored = set_name(project) if "@" in project else project
         home = ring.home(stored)
-        if home in own or asked[home].has(stored):
-            kept += own.get(home, [])
+        if home not in own and asked[home].has(stored):
+            # it may have come there since its home was asked
+            own[home] = Asked(project, asked[home].ask).names(parameters, False)
+        if home in own:
+            kept += own[home]
         else:
             kept += list({str(tag): tag for tags in own.values() for tag in tags}.values())
     return sorted(kept, key=order_of_tag)

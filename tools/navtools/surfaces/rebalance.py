@@ -20,7 +20,7 @@ from typing import Callable, Iterator, Optional
 from navtools.client import NoReply
 from navtools.progress import Stage
 from navtools.questions import fetch_from
-from navtools.sets.ask import BRIEF, Sets
+from navtools.sets.known import BRIEF, Sets
 from navtools.sets.manifest import SURFACE, Head, shown_name
 from navtools.sets.publish import Store
 from navtools.surfaces.homes import Ring, named_in_front, servers_of

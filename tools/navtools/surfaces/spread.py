@@ -17,6 +17,7 @@ from navtools.client import NoReply
 from navtools.outputs import excesses, whole_file
 from navtools.sets import split
 from navtools.sets.manifest import (
+    CLAIM,
     MANIFEST,
     PACKAGE,
     PARTS,
@@ -29,7 +30,7 @@ from navtools.sets.manifest import (
     set_name,
     with_head,
 )
-from navtools.sets.publish import CLAIM, Claim, Publish, Store, content_of
+from navtools.sets.publish import Claim, Publish, Store, content_of
 from navtools.surfaces.surface import write_surface
 from navtools.words import BadCall
 
