@@ -5,7 +5,8 @@ from typing import NamedTuple, Optional
 
 from navtools.client import NoReply
 from navtools.records import AT, record_in
-from navtools.sets.ask import Asked, Away
+from navtools.sets.ask import Asked
+from navtools.sets.known import Away
 from navtools.sets.manifest import BRANCH
 from navtools.words import BadCall
 
@@ -59,9 +60,9 @@ class Versions:
         if name == self.name:
             return self.own()
         sets, own = self.index.sets, named(name)
+        if sets.heads.get(own) is not None:
+            return self.of_set(own) or Version()  # which the answer was checked by
         try:
-            if sets.heads.pop(own, None) is not None and sets.other_head(own) is not None:
-                return self.of_set(own) or Version()
             return self.recorded(own)
         except Away:
             return Version(why=f"the server of {name} doesn't answer")
