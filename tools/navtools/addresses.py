@@ -7,27 +7,30 @@ hexadecimal digits in upper case, and with the letter of a drive in lower case.
 import re
 import string
 from typing import Optional
-from urllib.parse import quote, unquote_to_bytes, urlsplit, urlunsplit
+from urllib.parse import quote, unquote_to_bytes
 
-KEPT = "".join(c for c in string.punctuation if c not in '"#<>?`{}%\\')
-FILE = re.compile(r"file:(?://(?P<host>[^/\\]*))?(?P<path>[/\\].*)", re.IGNORECASE | re.DOTALL)
-DRIVE = re.compile(r"/([A-Za-z])(?::|%3[Aa]|\|)(?=/|$)")
-SCHEME = re.compile(r"[A-Za-z][A-Za-z0-9+.-]*:")
+from navtools.urls import C0_OR_SPACE, UNSEEN, href
+
+KEPT = "".join(c for c in string.punctuation if c not in '"#<>?^`{}%\\')
+FILE = re.compile(
+    r"file:(?:[/\\]{2}(?P<host>(?![a-z][:|](?:[/\\?#]|$))[^/\\?#]*))?(?P<path>.*)", re.I | re.DOTALL
+)
+DRIVE = re.compile(r"^/([A-Za-z])[:|](?=/|$)")
 DIGITS = re.compile("%[0-9A-Fa-f]{2}")
-UNSEEN = "\t\n\r"
 
 
 def spelled(uri: str) -> str:
-    """An address in the one spelling; of other addresses than files' only the digits of `%c3`
-    change, since what `%2F` is there isn't known."""
+    """An address in the one spelling; of other addresses than files' it's the text by which the
+    server knows them, in which the digits of `%c3` alone change, since what `%2F` is there isn't
+    known."""
+    uri = UNSEEN.sub("", uri.strip(C0_OR_SPACE))
     found = FILE.fullmatch(uri)
     if found is None:
-        return DIGITS.sub(lambda digits: digits[0].upper(), uri)
-    host = (found["host"] or "").lower()
-    path = "".join(c for c in found["path"] if c not in UNSEEN).replace("\\", "/")
-    path = DRIVE.sub(lambda drive: f"/{drive[1].lower()}:", "/" + path.lstrip("/"), count=1)
-    plain = quote(unquote_to_bytes(path), safe=KEPT)
-    return f"file://{'' if host == 'localhost' else host}{without_dots(plain)}"
+        return DIGITS.sub(lambda digits: digits[0].upper(), serialized(uri))
+    path = quote(unquote_to_bytes(found["path"].replace("\\", "/")), safe=KEPT)
+    path = "/" + without_dots("/" + path.lstrip("/")).lstrip("/")
+    path = DRIVE.sub(lambda drive: f"/{drive[1].lower()}:", path)
+    return serialized(f"file://{found['host'] or ''}{path}")
 
 
 def without_dots(path: str) -> str:
@@ -44,9 +47,9 @@ def without_dots(path: str) -> str:
     return "/" + "/".join(kept) + ("/" if segments[-1] in (".", "..") and kept else "")
 
 
-def is_address(uri: object) -> bool:
-    """Whether a member is an address with a scheme, as the server asks of a document's."""
-    return isinstance(uri, str) and SCHEME.match(uri) is not None and "\0" not in uri
+def is_address(uri: str) -> bool:
+    """Whether a text is an address, as the server asks of a document's."""
+    return "\0" not in uri and href(uri) is not None
 
 
 def below(root: str, uri: str) -> Optional[str]:
@@ -57,21 +60,5 @@ def below(root: str, uri: str) -> Optional[str]:
 
 
 def serialized(uri: str) -> str:
-    """Nearly the text that the URL Standard makes of a uri: enough to find two of which it makes
-    one."""
-    parts = urlsplit(
-        re.sub(r"[\t\n\r]", "", uri).strip("".join(map(chr, range(33)))).replace("\\", "/")
-    )
-    segments: list[str] = []
-    for segment in parts.path.removeprefix("/").split("/"):
-        plain = segment.lower().replace("%2e", ".")
-        if plain == "..":
-            del segments[-1:]
-        elif plain != ".":
-            segments.append(quote(segment, safe="!$%&'()*+,-./:;=@[]_|~"))
-    host = (
-        ""
-        if (parts.scheme, parts.netloc.lower()) == ("file", "localhost")
-        else parts.netloc.lower()
-    )
-    return urlunsplit((parts.scheme, host, "/" + "/".join(segments), parts.query, parts.fragment))
+    """The text by which the server knows the document of an address; what is no address stays."""
+    return href(uri) or uri

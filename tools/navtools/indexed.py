@@ -13,6 +13,7 @@ import os
 import time
 from typing import TYPE_CHECKING, Any, Callable, NamedTuple, Optional, Protocol, TypeVar
 
+from navtools.addresses import spelled
 from navtools.places import Maps, path_of, shown, uri_of
 from navtools.words import BadCall, project_of
 
@@ -342,7 +343,7 @@ class Indexed:
         Raises NotThere where the place is new, and BadCall where there is no such file.
         """
         if not os.path.isabs(path):
-            return Asked(path, line, character, "")
+            return Asked(spelled(path), line, character, "")
         old, text_map, label = self.map_of(project, path)
         place = (line, character) if text_map is None else text_map.backward(line, character)
         if place is None:

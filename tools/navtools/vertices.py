@@ -51,10 +51,11 @@ class Mender:
         whole = (
             uri if is_address(uri) and uri[1:3] not in (":\\", ":/") else resolved(uri, self.root)
         )
-        if whole is None:
-            self.notes.leave_out("document whose address has no scheme", f"line {line}: {uri!r}")
+        own = spelled(whole or "")
+        if not is_address(own):
+            why = "has no scheme" if whole is None else "can't be read"
+            self.notes.leave_out(f"document whose address {why}", f"line {line}: {uri!r}")
             return None
-        own = spelled(whole)
         if own != uri:
             self.notes.mend("address of a document, in the one spelling", line)
             kept = {**vertex, "uri": own}

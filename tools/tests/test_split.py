@@ -98,6 +98,7 @@ class Split(unittest.TestCase):
                 META[:-1] + ',"positionEncoding":"utf-8"}'
             ],
             "no document to write": [META],
+            "line 2: its uri is no address (L07)": [META, DOCUMENT.replace("file:", "")],
             "line 3: its id was used before (L04)": [META, RANGE, RANGE],
             "a range is contained in no document (E01)": [META, DOCUMENT, RANGE],
             "line 3: a member is missing or names no earlier vertex": [META, DOCUMENT, inside],

@@ -44,11 +44,13 @@ class Flat:
     """The tables. A range is its rank among all; a meaning is a pair of first results and marks; a
     mark is `key * 2`, and one more for an export.
 
-    `first[d]` is the rank of the first range of document d. `places[i]` are ranks; those of a
+    `uris[d]` is the text by which the server knows document d, and `written[d]` the one that it has in
+    the dump; `first[d]` is the rank of its first range. `places[i]` are ranks; those of a
     result in a role begin at `first_place[result * ROLES + role]`.
     """
 
     uris: list[str]
+    written: list[str]
     column: Callable[[str], Numbers]
     start: Numbers
     end: Numbers
@@ -101,15 +103,15 @@ class Flat:
 
 
 def ordered_documents(graph: Graph, without: frozenset[str]) -> tuple[list[str], list[int]]:
-    """The addresses as the server spells them, in order, and which documents have them; but for
+    """The addresses as the server knows them, in order, and which documents have them; but for
     those left out."""
-    spelled = [serialized(uri) for uri in graph.uris]
-    twice = [uri for uri, count in Counter(spelled).items() if count > 1]
+    known = [serialized(uri) for uri in graph.uris]
+    twice = [uri for uri, count in Counter(known).items() if count > 1]
     if twice:
         raise NotADump(f"two documents have the address {twice[0]} (L19)")
-    kept = [own for own, uri in enumerate(spelled) if uri not in without]
-    kept.sort(key=lambda own: spelled[own].encode())
-    return [spelled[own] for own in kept], kept
+    kept = [own for own, uri in enumerate(known) if uri not in without]
+    kept.sort(key=lambda own: known[own].encode())
+    return [known[own] for own in kept], kept
 
 
 def refuse_overlaps(flat: Flat) -> None:
@@ -343,6 +345,7 @@ def flattened(graph: Graph, without: frozenset[str] = frozenset(), most: int = M
     start, end, meaning, is_place = map(graph.column, "qqib")
     flat = Flat(
         uris=uris,
+        written=[graph.uris[own] for own in kept],
         column=graph.column,
         start=start,
         end=end,

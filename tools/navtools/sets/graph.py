@@ -14,6 +14,7 @@ from dataclasses import dataclass, field
 from functools import partial
 from typing import Any, BinaryIO, Callable, Iterable, Iterator, Optional, Sequence
 
+from navtools.addresses import is_address
 from navtools.lsif import MOST_ELEMENT_BYTES, SPACE, Id, NotADump, is_id, scan
 from navtools.sets.stored import Numbers
 from navtools.vertices import VERSION
@@ -183,7 +184,10 @@ class Reader:
 
     def document(self, own: Id, element: Element) -> int:
         """A document."""
-        self.graph.uris.append(text_of(element, "uri"))
+        uri = text_of(element, "uri")
+        if not is_address(uri):
+            raise Faulty("its uri is no address (L07)")
+        self.graph.uris.append(uri)
         return (len(self.graph.uris) - 1) * KINDS + DOCUMENT
 
     def result(self, request: int) -> Callable[[Id, Element], int]:

@@ -204,7 +204,7 @@ class Part:
 
     def document(self, document: int, ranks: Sequence[int]) -> int:
         """A document with ranges; answers the id of the first of these."""
-        own = self.out.vertex("document", f',"uri":{as_text(self.flat.uris[document])}')
+        own = self.out.vertex("document", f',"uri":{as_text(self.flat.written[document])}')
         first = self.out.ranges(ranks)
         self.out.edges("contains", own, range(first, first + len(ranks)))
         return first
