@@ -21,6 +21,7 @@ from navtools.places import (
 from navtools.questions import Questions, Reply, fetch_from
 from navtools.sets.ask import Asked as Index
 from navtools.tags import folders_of, places_of
+from navtools.texts import counts_bytes
 from navtools.words import Help, add_server, first_place, parsed, status_of
 from navtools.settings import FILE, Settings, given_server, nearest, settings_by
 
@@ -80,6 +81,8 @@ def reply_at(call: argparse.Namespace, settings: Settings) -> Reply:
     indexed = Indexed(sources, maps, warn)
     questions = Questions(project, fetch_from(settings.server, SECONDS), indexed)
     character = character_at(call.file, call.line, call.column, call.utf16)
+    if counts_bytes(call.file, call.line):
+        warn(f"{call.file}:{call.line} isn't UTF-8: its columns count bytes")
     more = {"declaration": "no"} if call.what == "references" and call.no_declaration else {}
     path = asked_path(call.file, maps)
     try:

@@ -15,6 +15,7 @@ from typing import TYPE_CHECKING, Any, Callable, NamedTuple, Optional, Protocol,
 
 from navtools.addresses import spelled
 from navtools.places import Maps, path_of, shown, uri_of
+from navtools.texts import text_of
 from navtools.words import BadCall, project_of
 
 if TYPE_CHECKING:
@@ -144,17 +145,6 @@ def is_in_checkout(path: str) -> bool:
             return False
         folder = above
     return True
-
-
-def text_of(path: str) -> str:
-    """The text of a file. Raises BadCall where it can't be read."""
-    try:
-        with open(path, encoding="utf-8", newline="") as file:
-            return file.read()
-    except OSError as fault:
-        raise BadCall(f"{path}: {fault.strerror}") from None
-    except UnicodeDecodeError:
-        raise BadCall(f"{path}: not UTF-8") from None
 
 
 def add_indexed(parser: argparse.ArgumentParser) -> None:

@@ -12,7 +12,7 @@ import os
 import sys
 from typing import Any, BinaryIO, Callable, Optional
 
-from navtools.indexed import NotThere, add_indexed, sources_of, text_of
+from navtools.indexed import NotThere, add_indexed, sources_of
 from navtools.jsonrpc import (
     INVALID_PARAMS,
     INVALID_REQUEST,
@@ -25,10 +25,12 @@ from navtools.jsonrpc import (
     member,
     write_message,
 )
-from navtools.places import Place, link_map, maps_of, path_of, uri_of
-from navtools.tags import folders_of, places_of
-from navtools.words import BadCall, add_server, parsed
+from navtools.open_documents import OpenDocuments, document_name
+from navtools.places import Place, link_map, maps_of, path_of
 from navtools.settings import Settings, given_server, name_of
+from navtools.tags import folders_of, places_of
+from navtools.texts import body_of, is_read_as, text_of
+from navtools.words import BadCall, add_server, parsed
 from navtools.workspace import Workspace
 
 MOST = 2147483647
@@ -91,7 +93,7 @@ class Bridge:
         self.log = log
         self.workspace: Optional[Workspace] = None
         self.is_shut = False
-        self.texts: dict[str, str] = {}
+        self.open = OpenDocuments()
         self.edited: set[str] = set()
         self.refusal: Optional[str] = None
 
@@ -165,46 +167,47 @@ class Bridge:
 
     def opened(self, params: Any) -> None:
         """Keeps the text of a document that was opened."""
-        self.texts[member(params, "textDocument.uri", str)] = member(
-            params, "textDocument.text", str
+        self.open.put(
+            member(params, "textDocument.uri", str), member(params, "textDocument.text", str)
         )
 
     def changed(self, params: Any) -> None:
         """Keeps the text of a document that was changed; each change has the whole."""
         changes = member(params, "contentChanges", list)
         if changes:
-            self.texts[member(params, "textDocument.uri", str)] = member(changes[-1], "text", str)
+            uri = member(params, "textDocument.uri", str)
+            self.open.put(uri, member(changes[-1], "text", str))
 
     def closed(self, params: Any) -> None:
         """Forgets a document that was closed."""
-        self.texts.pop(member(params, "textDocument.uri", str), None)
+        self.open.remove(member(params, "textDocument.uri", str))
 
     def today(self, path: str) -> str:
         """The text of a file as the editor has it. Raises BadCall where it can't be read."""
-        text = self.texts.get(uri_of(path, []))
-        return text_of(path) if text is None else text
+        document = self.open.find(path)
+        return text_of(path) if document is None else document.text
 
     def warn(self, text: str) -> None:
         """Writes a line to the editor's log."""
         self.tell("window/logMessage", INFO, text)
 
-    def compare(self, uri: str, of: str) -> None:
+    def compare(self, name: str, of: str) -> None:
         """Says that the text in the editor isn't that of the file, or, where that's known, that it
         isn't the indexed one: once, up to when it's that again."""
-        text, path = self.texts.get(uri), path_of(uri, [])
-        is_edited = bool(of)
-        if text is not None and not of:
+        document, is_edited = self.open.find(name), bool(of)
+        if document is not None and not of:
             try:
-                is_edited = without_returns(text_of(path or "")) != without_returns(text)
+                is_edited = not is_read_as(body_of(name), document.text)
             except BadCall:
                 is_edited = True
-        if is_edited and uri not in self.edited:
+        if is_edited and name not in self.edited:
+            uri = self.open.uri_of(name)
             self.warn(
                 f"{uri} changed since: answers are of {of}"
                 if of
                 else f"{uri} isn't as in its file: positions are those of the indexed file"
             )
-        (self.edited.add if is_edited else self.edited.discard)(uri)
+        (self.edited.add if is_edited else self.edited.discard)(name)
 
     def ask(self, what: str, params: Any, **more: str) -> Any:
         """What a query at a position found, or None; a refusal is shown once, up to the next
@@ -214,17 +217,17 @@ class Bridge:
         character = member(params, "position.character", int)
         if self.workspace is None or not (0 <= line <= MOST and 0 <= character <= MOST):
             raise Fault(INVALID_PARAMS, "no position")
-        path = path_of(uri, []) or uri
+        name = document_name(uri)
         try:
-            reply = self.workspace.ask(what, path, line, character, **more)
+            reply = self.workspace.ask(what, name, line, character, **more)
         except NotThere as fault:
             self.warn(str(fault))
             return None
         except BadCall as fault:
-            self.compare(uri, "")
+            self.compare(name, "")
             self.tell_refusal(str(fault))
             return None
-        self.compare(uri, reply.of)
+        self.compare(name, reply.of)
         self.refusal = None
         return reply.found
 
@@ -238,7 +241,7 @@ class Bridge:
         """The places that a query at a position found, one that several projects have once."""
         found = [
             {
-                "uri": uri_of(place["path"], []) if place["path"] else place["uri"],
+                "uri": self.open.uri_of(place["path"] or place["uri"]),
                 "range": {"start": place["start"], "end": place["end"]},
             }
             for place in self.ask(what, params, **more) or []
@@ -276,36 +279,30 @@ class Bridge:
         prefix = member(params, "query", str)
         if not prefix or self.workspace is None:
             return []
-        paths = [path for path in (path_of(uri, []) for uri in self.texts) if path]
         symbols: list[Message] = []
         try:
-            for settings, tags in self.workspace.names(prefix, paths):
+            for settings, tags in self.workspace.names(prefix, self.open.paths()):
                 for tag, place in places_of(tags, settings.tags_folder):
                     if len(symbols) == MOST_SYMBOLS:
                         self.warn(
                             f"of the names that begin with {prefix!r} {MOST_SYMBOLS} are shown"
                         )
                         return symbols
-                    symbols.append(symbol(tag, place))
+                    symbols.append(symbol(tag, place, self.open.uri_of(place.name)))
         except BadCall as fault:
             self.tell_refusal(str(fault))
         return symbols
 
 
-def symbol(tag: dict[str, Any], place: Place) -> Message:
+def symbol(tag: dict[str, Any], place: Place, uri: str) -> Message:
     """A tag as the protocol has it."""
     start = {"line": place.line, "character": place.character}
     return {
         "name": tag["name"],
         "kind": SYMBOLS.get(tag["kind"], VARIABLE),
         "containerName": tag["project"],
-        "location": {"uri": uri_of(place.name, []), "range": {"start": start, "end": start}},
+        "location": {"uri": uri, "range": {"start": start, "end": start}},
     }
-
-
-def without_returns(text: str) -> str:
-    """A text with the line ends of Unix."""
-    return text.replace("\r\n", "\n")
 
 
 QUERIES = {

@@ -6,6 +6,7 @@ from urllib.parse import quote, unquote_to_bytes
 
 from navtools.addresses import KEPT as KEPT
 from navtools.addresses import below, spelled
+from navtools.texts import lines_of as lines_of
 from navtools.words import BadCall
 
 Maps = list[tuple[str, str]]
@@ -24,16 +25,6 @@ def characters(text: str, count: int) -> int:
             return index
         count -= units(character)
     return len(text) + max(count, 0)
-
-
-def lines_of(path: str) -> list[str]:
-    """The lines of a file without their ends; the last one is empty where a line feed ends the
-    file."""
-    with open(path, encoding="utf-8", newline="\n") as text:
-        try:
-            return [line.removesuffix("\r") for line in text.read().split("\n")]
-        except UnicodeDecodeError:
-            raise BadCall(f"{path}: not UTF-8") from None
 
 
 def character_at(path: str, line: int, column: int, utf16: bool) -> int:
@@ -94,13 +85,15 @@ def uri_of(path: str, maps: Maps) -> str:
 
 
 def path_of(uri: str, maps: Maps) -> Optional[str]:
-    """The whole path of a document's file; None where its address is no file's."""
+    """The whole path of a document's file; None where its address is no file's, or a path can't be
+    that."""
     uri = spelled(uri)
     for root, folder in maps:
         inside = below(root, uri)
         if inside is not None:
             return os.path.normpath(os.path.join(folder, plain(inside)))
-    return plain(uri[7:]) if uri.startswith("file:///") else None
+    is_path = uri.startswith("file:///") and "%00" not in uri
+    return plain(uri[7:]) if is_path else None
 
 
 def plain(part: str) -> str:

@@ -11,7 +11,7 @@ from navtools.words import BadCall
 from navtools.lsif import NotADump
 from navtools.mending import DROPPED, KEPT, Plan
 from navtools.overlaps import by_home
-from navtools.places import lines_of
+from navtools.texts import body_of
 from navtools.survey import RANGE
 
 
@@ -28,8 +28,8 @@ def convert(plan: Plan, source: Optional[str]) -> None:
     for home, ranges in by_home(kept, plan.home).items():
         path = path_of(plan, survey.uris[home], source)
         try:
-            columns = Columns(encoding, lines_of(path))
-        except (OSError, BadCall):
+            columns = Columns(encoding, body_of(path))
+        except BadCall:
             plan.notes.leave_out("document whose file can't be read", path)
             unread += 1
             for own in (home, *ranges):

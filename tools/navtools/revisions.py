@@ -16,6 +16,7 @@ from contextlib import suppress
 from typing import Optional
 
 from navtools.indexed import FRESH
+from navtools.texts import decoded
 from navtools.words import BadCall
 
 SECONDS, AWAY = 10.0, 60.0
@@ -253,7 +254,7 @@ class Revision:
 
     def text(self, name: str) -> str:
         """The text of a file of the revision, as a checkout writes it. Raises BadCall where there
-        is none in UTF-8."""
+        is none."""
         blob = self.blob(name)
         found = self.blobs.asked(f"{blob} {name}") if blob else b""
         _, mark, body = found.partition(b"\n")
@@ -263,9 +264,9 @@ class Revision:
                 no_revision(self.top, self.name) if is_gone else f"{name}: not in {self.name}"
             )
         try:
-            return body[:-1].decode()
-        except UnicodeDecodeError:
-            raise BadCall(f"{name}: not UTF-8 in {self.name}") from None
+            return decoded(body[:-1])
+        except ValueError as fault:
+            raise BadCall(f"{name}: {fault} in {self.name}") from None
 
     def old_name(self, name: str) -> str:
         """The name at the revision of a file of today."""

@@ -8,10 +8,10 @@ from typing import Optional
 from urllib.parse import quote
 
 from navtools.addresses import KEPT, is_address, spelled
-from navtools.columns import COUNTED, ENCODINGS, UTF_16, Columns, lines_in
+from navtools.columns import COUNTED, ENCODINGS, UTF_16, Columns
 from navtools.words import BadCall
 from navtools.notes import Notes
-from navtools.places import lines_of
+from navtools.texts import body_of
 from navtools.scip import IndexFile, NotAnIndex
 from navtools.scip_pb2 import Document
 
@@ -89,9 +89,9 @@ class Texts:
             )
             raise BadCall(f"{path} doesn't say what its characters count: give --encoding{known}")
         if encoding == UTF_16:
-            return Columns(encoding, [])
+            return Columns(encoding, b"")
         if document.text:
-            return Columns(encoding, lines_in(document.text))
+            return Columns(encoding, document.text.encode())
         if self.source is None:
             raise BadCall(
                 f"{path} counts {COUNTED[encoding]}, and its text isn't in the index: give --source, the folder that has it"
@@ -101,14 +101,14 @@ class Texts:
     def of_file(self, path: str, encoding: int) -> Optional[Columns]:
         """The columns of a document whose text is in a file below the folder of sources."""
         try:
-            lines = lines_of(os.path.join(self.source or "", path))
-        except (OSError, BadCall) as fault:
-            reason = fault.strerror if isinstance(fault, OSError) else "not UTF-8"
+            body = body_of(os.path.join(self.source or "", path))
+        except BadCall as fault:
+            reason = str(fault).rpartition(": ")[2]
             self.notes.leave_out(f"document whose file can't be read ({reason})", path)
             self.unread += 1
             return None
         self.read += 1
-        return Columns(encoding, lines)
+        return Columns(encoding, body)
 
     def finish(self) -> None:
         """Raises BadCall where no file could be read of those that were to be."""

@@ -124,9 +124,9 @@ class Files(unittest.TestCase):
                 )
 
     def test_files_of_calls(self) -> None:
-        path = self.written("binary", b"\xff\xfe")
+        path = self.written("binary", b"\xff\0")
         cases: list[tuple[str, Main, list[str], str]] = [
-            ("ask", ask.main, ["http://h", "app", "hover", path, "1", "1"], "binary: not UTF-8"),
+            ("ask", ask.main, ["http://h", "app", "hover", path, "1", "1"], "binary: not a text"),
             (
                 "ask",
                 ask.main,

@@ -82,19 +82,19 @@ class BadTexts(OnServer, InRepository):
         shutil.rmtree(os.path.join(self.top, ".git"))
         return "HEAD"
 
-    def other_bytes(self) -> str:
-        """A file whose text of today isn't UTF-8."""
+    def no_text(self) -> str:
+        """A file that is no text today."""
         commit = self.changed()
         with open(os.path.join(self.top, SCALE), "ab") as file:
-            file.write(b"// \xe9\n")
+            file.write(b"// \xe9\0\n")
         return commit
 
-    def other_bytes_before(self) -> str:
-        """A file whose indexed text isn't UTF-8, and that of today is."""
+    def no_text_before(self) -> str:
+        """A file that was no text when it was indexed, and is one today."""
         self.changed()
         text = self.read(SCALE)
         with open(os.path.join(self.top, SCALE), "ab") as file:
-            file.write(b"// \xe9\n")
+            file.write(b"// \xe9\0\n")
         self.git("add", SCALE)
         self.git("commit", "-qm", "x")
         commit = self.git("rev-parse", "HEAD")
@@ -180,12 +180,12 @@ ROWS = [
         ],
     ),
     Bad(BadTexts.no_checkout, 18, PLACES, [f"TOP/src: not in a checkout of git{UNMAPPED}"]),
-    Bad(BadTexts.other_bytes, 20, MOVED[:1], [f"TOP/{SCALE}: not UTF-8", *GONE]),
+    Bad(BadTexts.no_text, 20, MOVED[:1], [f"TOP/{SCALE}: not a text", *GONE]),
     Bad(
-        BadTexts.other_bytes_before,
+        BadTexts.no_text_before,
         20,
         MOVED,
-        [f"{SCALE}: not UTF-8 in REV{UNMAPPED}", CHANGED],
+        [f"{SCALE}: not a text in REV{UNMAPPED}", CHANGED],
     ),
     Bad(BadTexts.deleted, 20, MOVED[:1], [f"TOP/{SCALE}: No such file or directory", *GONE]),
     Bad(BadTexts.not_there, 18, PLACES, [f"{SCALE}: not in REV{UNMAPPED}"]),

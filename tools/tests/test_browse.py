@@ -213,9 +213,9 @@ class Browse(Served, unittest.TestCase):
 
     def test_files_that_are_not_shown(self) -> None:
         os.mkfifo(os.path.join(self.top, "pipe"))
-        with open(os.path.join(self.top, "latin"), "wb") as file:
-            file.write(b"\xe9\n")
-        for path, fault in ("pipe", "not a file"), ("latin", "not a text in UTF-8"):
+        with open(os.path.join(self.top, "binary"), "wb") as file:
+            file.write(b"\xe9\0\n")
+        for path, fault in ("pipe", "not a file"), ("binary", "not a text"):
             self.refused(f"/files/{path}", 403, fault)
         with mock.patch.object(folder, "MOST_BYTES", 10):
             self.refused("/files/src/a.rs", 403, "a file of 47 bytes, and 10 are shown at most")

@@ -35,8 +35,9 @@ class Revisions(InRepository):
         self.write("case.up", "loud\n")
         self.git("config", "filter.up.clean", "tr a-z A-Z")
         self.git("config", "filter.up.smudge", "tr A-Z a-z")
-        with open(os.path.join(self.top, "latin"), "wb") as file:
-            file.write(b"\xe9\n")
+        for other, body in ("latin", b"\xe9\n"), ("binary", b"\xe9\0"):
+            with open(os.path.join(self.top, other), "wb") as file:
+                file.write(body)
         self.commit()
         self.write("a b/x y.txt", "other\n")
         revision = self.revision()
@@ -47,10 +48,11 @@ class Revisions(InRepository):
             ("open", "no line feed"),
             ("ends.crlf", "one\r\ntwo\r\n"),
             ("case.up", "loud\n"),
+            ("latin", "\xe9\n"),
         ):
             self.assertEqual(revision.text(name), text, name)
         for name, fault in (
-            ("latin", "latin: not UTF-8 in HEAD"),
+            ("binary", "binary: not a text in HEAD"),
             ("a b", "a b: not in HEAD"),
             ("none", "none: not in HEAD"),
             ("x\ny", "x\ny: not in HEAD"),

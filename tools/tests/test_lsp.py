@@ -12,8 +12,10 @@ from http.server import BaseHTTPRequestHandler, ThreadingHTTPServer
 from typing import Any, ClassVar, Optional
 from urllib.parse import parse_qsl, urlsplit
 
+from navtools.open_documents import OpenDocuments, document_name
 from navtools.places import uri_of
 from navtools.records import ADDRESS
+from tests.editor_addresses import NAME, SAME, SPELLINGS
 
 TOP = os.path.dirname(os.path.dirname(os.path.dirname(os.path.abspath(__file__))))
 LSP = os.path.join(TOP, "tools", "lsp")
@@ -239,6 +241,62 @@ class Lsp(unittest.TestCase):
         )
         self.assertEqual(Replies.asked[0][1]["uri"], "file:///src/a%20b/src/main.rs")
         editor.end("shutdown", "exit")
+
+    def test_spellings(self) -> None:
+        """The text that an editor has is found, however it spells the address of its file, and
+        gets its own spelling back; a file with a mark that's as it was indexed is said to be
+        changed by nobody."""
+        text, new = "fn main() {}\r\n\t/* \U0001F600 */ main();\r\n", "// new\r\n\r\n"
+        indexed = self.enterContext(tempfile.TemporaryDirectory())
+        for folder in (self.folder, indexed):
+            with open(os.path.join(folder, NAME), "wb") as file:
+                file.write(text.encode("utf-8-sig"))
+        own, main = uri_of(os.path.join(self.folder, NAME), []), {"line": 0, "character": 3}
+        places = [{"project": "app", "uri": own, "start": main, "end": {**main, "character": 7}}]
+        self.answer({"places": places})
+        for one in SPELLINGS:
+            with self.subTest(one.editor):
+                uri = f"file://{one.host}{self.folder}/{one.name}"
+                editor, document = self.editor("--indexed", indexed), {"uri": uri}
+
+                def asked(line: int) -> Any:
+                    at = {"textDocument": document, "position": {"line": line, "character": 10}}
+                    found, said = editor.call("textDocument/definition", at)
+                    return [(it["uri"], it["range"]["start"]["line"]) for it in found], said
+
+                def sent(*parts: str) -> str:
+                    return "".join(parts).replace("\r\n", one.line_end)
+
+                Replies.asked = []
+                editor.notify(
+                    "textDocument/didOpen", {"textDocument": {**document, "text": sent(text)}}
+                )
+                self.assertEqual(asked(1), ([(uri, 0)], []))
+                changes = [{"text": sent(new, text)}]
+                editor.notify(
+                    "textDocument/didChange", {"textDocument": document, "contentChanges": changes}
+                )
+                found, said = asked(3)
+                self.assertEqual((found, len(said)), ([(uri, 2)], 1))
+                editor.notify("textDocument/didClose", {"textDocument": document})
+                self.assertEqual(asked(1), ([(own, 0)], []))
+                at = {"uri": own, "line": "1", "character": "10"}
+                self.assertEqual(Replies.asked, [("/projects/app/definition", at)] * 3)
+                editor.end("shutdown", "exit")
+
+    def test_open_documents(self) -> None:
+        """One document, by each address and path of it."""
+        link = os.path.join(self.folder, "link.rs")
+        os.symlink(self.path, link)
+        for uris in [*SAME, [self.uri, uri_of(link, [])]]:
+            for uri in uris:
+                documents = OpenDocuments()
+                documents.put(uri, "text")
+                for other in uris:
+                    self.assertEqual(documents.find(document_name(other)), (uri, "text"), other)
+                    self.assertEqual(documents.uri_of(document_name(other)), uri)
+                documents.remove(uri)
+                self.assertIsNone(documents.find(document_name(uri)))
 
     def test_symbols(self) -> None:
         """Of a project of which the folder isn't there nothing is shown; where a file changed

@@ -479,7 +479,7 @@ class Ask(unittest.TestCase):
             (reply[0], reply[3]), (2, f"ask: D01 project has no dump: {places.uri_of(RAW, [])}\n")
         )
         with tempfile.NamedTemporaryFile() as file:
-            file.write(b"\xff")
+            file.write(b"\xff\0")
             file.flush()
             rows = [
                 (words, f"not the address of a server, as http://127.0.0.1:8080: {words[0]!r}")
@@ -505,7 +505,7 @@ class Ask(unittest.TestCase):
                     ["--tags", "=b", *self.AT, "names", "f"],
                     "a project is 1 to 64 characters of a-z 0-9 _ -, not ''",
                 ),
-                ([*self.AT, "hover", file.name, "1", "1"], f"{file.name}: not UTF-8"),
+                ([*self.AT, "hover", file.name, "1", "1"], f"{file.name}: not a text"),
                 ([*self.AT, "hover", "no/file", "1", "1"], "no/file: No such file or directory"),
             ]
             rows += [

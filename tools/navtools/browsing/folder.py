@@ -7,8 +7,8 @@ from dataclasses import dataclass
 from typing import Iterator, Optional
 from urllib.parse import quote
 
-from navtools.indexed import text_of
 from navtools.places import KEPT
+from navtools.texts import text_of
 from navtools.words import BadCall
 
 MOST_BYTES = 10_000_000
@@ -84,8 +84,8 @@ class Folder:
         try:
             return text_of(path)
         except BadCall as fault:
-            is_text = not str(fault).endswith("not UTF-8")
-            raise Refused(403, str(fault) if is_text else "not a text in UTF-8") from None
+            is_text = not str(fault).endswith("not a text")
+            raise Refused(403, str(fault) if is_text else "not a text") from None
 
     def entries(self, at: str) -> list[Entry]:
         """What stands in a folder, folders first; no name that begins with a dot, and no link that

@@ -21,8 +21,8 @@ class TextMap:
     None where it isn't there or might be another."""
 
     def __init__(self, old: str, new: str) -> None:
-        self.is_same = old == new
         self.old, self.new = Side(old), Side(new)
+        self.is_same = self.old.lines == self.new.lines
         if not self.is_same:
             self.match()
 
