@@ -16,6 +16,7 @@ FILE = re.compile(
     r"file:(?:[/\\]{2}(?P<host>(?![a-z][:|](?:[/\\?#]|$))[^/\\?#]*))?(?P<path>.*)", re.I | re.DOTALL
 )
 DRIVE = re.compile(r"^/([A-Za-z])[:|](?=/|$)")
+WINDOWS = re.compile(r"[A-Za-z]:(?:/|$)")
 DIGITS = re.compile("%[0-9A-Fa-f]{2}")
 
 
@@ -55,8 +56,26 @@ def is_address(uri: str) -> bool:
 def below(root: str, uri: str) -> Optional[str]:
     """The rest of an address below another, or None where it isn't below; both in the one
     spelling."""
-    root = root.rstrip("/")
-    return uri[len(root) + 1 :] if uri.startswith(root + "/") else None
+    root = root.removesuffix("/") + "/"
+    return uri[len(root) :] if uri.startswith(root) else None
+
+
+def address_of(path: str) -> Optional[str]:
+    """The address of a file or a folder by its absolute path, on this system or on Windows; None of
+    other texts."""
+    plain = path.replace("\\", "/")
+    if not plain.startswith("/") and not WINDOWS.match(plain):
+        return None
+    quoted = quote(plain.encode("utf-8", "surrogatepass"), safe=KEPT)
+    begin = "file:" if path.startswith("\\\\") else "file://"
+    return spelled(f"{begin}{'' if plain.startswith('/') else '/'}{quoted}")
+
+
+def folder_address(text: str) -> str:
+    """The address of a folder, by that or by its absolute path: in the one spelling, and without a
+    slash at its end but for that of the top."""
+    uri = spelled(address_of(text) or text)
+    return uri if uri.endswith("//") or not uri.endswith("/") else uri[:-1]
 
 
 def serialized(uri: str) -> str:

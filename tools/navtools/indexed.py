@@ -170,7 +170,8 @@ def sources_of(
     `PROJECT=REV`, and a folder of the texts of that project."""
     sources: dict[str, Source] = {}
     for word in revisions:
-        other, mark, revision = word.rpartition("=")
+        other, mark, named = word.partition("=")
+        revision = named if mark else word
         if not revision or mark and not other:
             raise BadCall("--revision takes REV or PROJECT=REV, neither of them empty")
         sources[project_of(other) if mark else project] = Checkout(revision)

@@ -13,7 +13,7 @@ from typing import Optional
 
 from urllib.parse import unquote
 
-from navtools.addresses import below, spelled
+from navtools.addresses import below, folder_address
 from navtools.lsif import NotADump
 from navtools.overlaps import by_home, sorted_out
 from navtools.survey import (
@@ -179,7 +179,7 @@ class Plan:
 
     def leave_out_documents(self) -> None:
         """Drops the documents that the command line leaves out, with their ranges."""
-        root, left = spelled(self.survey.mender.root), set()
+        root, left = folder_address(self.survey.mender.root), set()
         for glob in self.choices.without:
             found = [number for number, uri in self.survey.uris.items() if is_like(uri, root, glob)]
             if not found:

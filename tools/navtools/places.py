@@ -5,7 +5,7 @@ from typing import Any, NamedTuple, Optional
 from urllib.parse import quote, unquote_to_bytes
 
 from navtools.addresses import KEPT as KEPT
-from navtools.addresses import below, spelled
+from navtools.addresses import below, folder_address, spelled
 from navtools.texts import lines_of as lines_of
 from navtools.words import BadCall
 
@@ -37,15 +37,25 @@ def character_at(path: str, line: int, column: int, utf16: bool) -> int:
     return column - 1 if utf16 else units(text[: column - 1])
 
 
-def maps_of(texts: list[str]) -> Maps:
-    """The pairs of a URI and a folder, each written as `URI=FOLDER`."""
-    maps = [
-        (spelled(uri.rstrip("/")), os.path.abspath(folder))
-        for uri, _, folder in (text.partition("=") for text in texts)
-        if uri and folder
-    ]
-    if len(maps) != len(texts):
+def cut(text: str) -> tuple[str, str]:
+    """The URI and the folder of `URI=FOLDER`, where each may have a `=`: it's cut at the first one
+    behind which a folder is, else at the first. Raises BadCall."""
+    parts = text.split("=")
+    cuts = [("=".join(parts[:at]), "=".join(parts[at:])) for at in range(1, len(parts))]
+    whole = [(uri, folder) for uri, folder in cuts if uri and folder]
+    if not whole:
         raise BadCall("--map takes URI=FOLDER, neither of them empty")
+    return next((pair for pair in whole if os.path.isdir(pair[1])), whole[0])
+
+
+def map_words(uri: str, folder: str) -> str:
+    """A map as a word of a command line, which is cut in one way."""
+    return f"{uri.replace('=', '%3D')}={folder}"
+
+
+def maps_of(texts: list[str]) -> Maps:
+    """The pairs of a URI and a folder, each written as `URI=FOLDER`. Raises BadCall."""
+    maps = [(folder_address(uri), os.path.abspath(folder)) for uri, folder in map(cut, texts)]
     real = [(uri, os.path.realpath(folder)) for uri, folder in maps]
     return maps + [one for one in real if one not in maps]
 
@@ -80,7 +90,7 @@ def uri_of(path: str, maps: Maps) -> str:
     for root, folder in maps:
         inside = os.path.relpath(path, folder)
         if is_inside(inside):
-            return root + "/" + quote(os.fsencode(inside), safe=KEPT)
+            return root.removesuffix("/") + "/" + quote(os.fsencode(inside), safe=KEPT)
     return "file://" + quote(os.fsencode(path), safe=KEPT)
 
 

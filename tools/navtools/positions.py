@@ -5,7 +5,7 @@ import os
 from typing import Optional
 from urllib.parse import unquote_to_bytes
 
-from navtools.addresses import below, spelled
+from navtools.addresses import below, folder_address
 from navtools.columns import COUNTED, ENCODINGS, Columns
 from navtools.words import BadCall
 from navtools.lsif import NotADump
@@ -44,7 +44,7 @@ def convert(plan: Plan, source: Optional[str]) -> None:
 
 def path_of(plan: Plan, uri: str, source: str) -> str:
     """The file of a document, below the folder that the root is mapped to."""
-    inside = below(spelled(plan.survey.mender.root), uri)
+    inside = below(folder_address(plan.survey.mender.root), uri)
     if inside is None:
         inside = uri.removeprefix("file://")
     return os.path.join(source, os.fsdecode(unquote_to_bytes(inside)))

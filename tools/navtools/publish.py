@@ -21,12 +21,13 @@ from typing import Any, Callable, Iterator, NamedTuple, Optional
 
 from navtools import explain, prepare
 from navtools.__main__ import main_of
+from navtools.addresses import folder_address
 from navtools.client import address, found_in, refusal_of, reply_in, request_again
 from navtools.indexers import INDEXERS, fitting, indexed, is_scip, named
 from navtools.left_out import Row, rows_of, table
 from navtools.lsif import NotADump
 from navtools.outputs import whole_file
-from navtools.places import uri_of
+from navtools.places import map_words, uri_of
 from navtools.progress import Heard, Stage, Watched
 from navtools.records import Prepared, new_record
 from navtools.revisions import indexed_at
@@ -240,7 +241,17 @@ def made_dump(call: argparse.Namespace, raw: str, work: str) -> tuple[str, list[
             call.set = is_over = True
         if not (is_over and is_split):
             return dump, lines
+    else:
+        call.where = index_root(raw) or call.where
     return raw, []
+
+
+def index_root(path: str) -> str:
+    """The address that an index says its documents are below."""
+    from navtools.scip import IndexFile  # here, since few dumps are such
+
+    with open(path, "rb") as file:
+        return folder_address(IndexFile(file, path).metadata.project_root)
 
 
 def is_recorded(call: argparse.Namespace, path: str) -> bool:
@@ -283,10 +294,10 @@ def parts_of(
 ) -> tuple[list[Body], list[str]]:
     """Splits a dump or an index and the tags into the parts of a set, which keeps the cuts of the
     set on the server; answers what the tool said too."""
-    name, where = set_name(call.project), uri_of(call.folder, [])
+    name = set_name(call.project)
     if not call.dry_run:
         fetch_cuts(Store(call.home), name, folder)
-    words = ["--name", name, "--profile", call.profile, "--map", f"{where}={call.folder}"]
+    words = ["--name", name, "--profile", call.profile, "--map", map_words(call.where, call.folder)]
     words += ["--revision", call.commit]
     for body in bodies:
         if body.part == "tags":
@@ -416,7 +427,8 @@ def published(call: argparse.Namespace) -> int:
     for line in sent:
         print(f"uploaded {line}")
     if sent and bodies[0].part == "lsif":
-        print(f"documents are below {call.where}: elsewhere ask with --map {call.where}=FOLDER")
+        words = map_words(call.where, "FOLDER")
+        print(f"documents are below {call.where}: elsewhere ask with --map {words}")
         if call.commit:
             print(f"the index is of revision {call.commit}, which it keeps")
     path = os.path.join(call.folder, FILE)

@@ -7,7 +7,7 @@ from typing import Any, Callable, NamedTuple, Optional, cast
 from navtools.addresses import below
 from navtools.client import NoReply, address, found_in, request
 from navtools.indexed import Asked, Indexed, NotThere, is_in_checkout
-from navtools.places import is_mapped, path_of, uri_of
+from navtools.places import is_mapped, map_words, path_of, uri_of
 from navtools.sets.ask import Asked as Index
 from navtools.versions import Versions
 
@@ -162,7 +162,7 @@ class Questions:
         folder = self.versions.folder(self.name)
         if folder and below(folder, uri) is None:
             return NoReply(
-                f"{text}: the project's documents are below {folder}, and --map {folder}=FOLDER says where these are here"
+                f"{text}: the project's documents are below {folder}, and --map {map_words(folder, 'FOLDER')} says where these are here"
             )
         if folder or os.path.isabs(path) and is_mapped(path, self.indexed.maps):
             which = "" if folder else f", which --map makes of {path}"

@@ -10,12 +10,14 @@ from itertools import count
 from typing import Any, Iterator, NamedTuple, Optional
 
 from navtools import outputs
+from navtools.addresses import folder_address
 
 ADDRESS = "codenav:index"
 AT = {"uri": ADDRESS, "line": 0, "character": 0}
 """Where a project is asked for the record, by a hover."""
 COMMIT = re.compile(r"[0-9a-f]{40}|[0-9a-f]{64}")
 MARK_BYTES = 16
+MARKS = re.compile(ADDRESS.encode() + rb"|\\u")
 
 
 class Record(NamedTuple):
@@ -60,33 +62,48 @@ def elements_of(record: Record, ids: Iterator[str]) -> Iterator[dict[str, Any]]:
     yield {"id": leads, **edge, "label": "textDocument/hover", "outV": place, "inV": hover}
 
 
+def common_folder(above: Optional[str], uri: str) -> str:
+    """The address of the folder that both a folder, where there is one, and a document are in;
+    empty where there is none."""
+    folder = uri.rpartition("/")[0]
+    if above is None or folder == above:
+        return folder
+    return os.path.commonprefix([f"{above}/", f"{folder}/"]).rpartition("/")[0]
+
+
 class Prepared:
     """A dump that the server takes: how many elements it has, the address of the folder that was
-    indexed, if it says so, and the record that it has already."""
+    indexed, which is the one that all documents are in where it doesn't say, and the record that it
+    has already."""
 
     def __init__(self, path: str) -> None:
         self.path, self.elements, self.root = path, 0, ""
+        self.above: Optional[str] = None
         self.taken: set[Any] = set()
         self.record: Optional[Record] = None
         self.is_recorded, self.is_ended = False, True
         with open(path, "rb") as dump:
             for line in dump:
                 self.take(line)
+        self.root = self.root or self.above or ""
 
     def take(self, line: bytes) -> None:
         """Takes the next line. Only those that may speak of a record, by a text or an escape of its
         characters, are read."""
         self.elements += 1
         self.is_ended = line.endswith(b"\n")
-        if self.elements > 1 and ADDRESS.encode() not in line and b"\\u" not in line:
+        is_document = not self.root and b'"document"' in line
+        if self.elements > 1 and not is_document and not MARKS.search(line):
             return
         element = json.loads(line)
         self.taken.add(element["id"])
         if self.elements == 1:
             root = element.get("projectRoot")
-            self.root = root.rstrip("/") if isinstance(root, str) else ""
+            self.root = folder_address(root) if isinstance(root, str) and root else ""
         elif element["label"] == "document":
             self.is_recorded = self.is_recorded or element["uri"] == ADDRESS
+            if element["uri"] != ADDRESS:
+                self.above = common_folder(self.above, element["uri"])
         elif element["label"] == "hoverResult":
             self.record = record_in(element["result"].get("contents")) or self.record
 

@@ -7,7 +7,7 @@ import posixpath
 from typing import Optional
 from urllib.parse import quote
 
-from navtools.addresses import KEPT, is_address, spelled
+from navtools.addresses import KEPT, address_of, folder_address, is_address, spelled
 from navtools.columns import COUNTED, ENCODINGS, UTF_16, Columns
 from navtools.words import BadCall
 from navtools.notes import Notes
@@ -16,12 +16,6 @@ from navtools.scip import IndexFile, NotAnIndex
 from navtools.scip_pb2 import Document
 
 COUNTS_UTF_16 = ("scip-typescript", "scip-java", "scip-dotnet", "scip-python", "scip-kotlin")
-DRIVE_END = 2
-
-
-def is_absolute(path: str) -> bool:
-    """Whether a path needs no root, on this system or on Windows."""
-    return path.startswith("/") or path[1:DRIVE_END] == ":" and path[:1].isalpha()
 
 
 class Documents:
@@ -36,17 +30,14 @@ class Documents:
         self.left: set[str] = set()
         tool = index.metadata.tool_info
         self.tool_info = {"name": tool.name, "version": tool.version}
-        given = index.metadata.project_root if root is None else os.path.abspath(root)
-        if root is not None and is_address(root) and not is_absolute(root):
-            given = root
-        given = given.replace("\\", "/")
-        if is_absolute(given):
-            given = f"file://{'' if given.startswith('/') else '/'}{quote(given, safe=KEPT)}"
-        elif not is_address(given):
+        given = index.metadata.project_root if root is None else root
+        if root is not None and not is_address(root) and address_of(root) is None:
+            given = os.path.abspath(root)
+        if not is_address(folder_address(given)):
             raise NotAnIndex(
                 f"{index.name}: the index has no address of its root, but {given!r}: give --root, the folder that was indexed"
             )
-        self.root = spelled(given.rstrip("/"))
+        self.root = folder_address(given)
 
     def uri_of(self, path: str, byte: int) -> str:
         """The address of a document by its path; the empty text where it's left out."""
@@ -58,10 +49,8 @@ class Documents:
         if any(fnmatch.fnmatchcase(path, glob) for glob in self.without):
             self.left.add(path)
             return ""
-        if is_absolute(path):
-            uri = spelled(f"file:///{quote(path.lstrip('/'), safe=KEPT)}")
-        else:
-            uri = spelled(f"{self.root}/{quote(path, safe=KEPT)}")
+        root = self.root.removesuffix("/")
+        uri = address_of(path) or spelled(f"{root}/{quote(path, safe=KEPT)}")
         self.paths.setdefault(uri, path)
         return uri
 

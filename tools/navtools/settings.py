@@ -4,6 +4,7 @@ line."""
 import os
 from typing import Any, Iterator, NamedTuple, Optional
 
+from navtools.addresses import folder_address
 from navtools.client import named_by_call, named_by_file
 from navtools.places import Maps, link_map
 from navtools.sets.manifest import set_name
@@ -117,7 +118,7 @@ def settings_of(found: dict[str, Any], folder: str) -> Settings:
         name_of(names[0]),
         folder,
         [
-            *((uri.rstrip("/"), path(to)) for uri, to in found.get("map", {}).items()),
+            *((folder_address(uri), path(to)) for uri, to in found.get("map", {}).items()),
             *link_map(folder),
         ],
         {project_of(name): path(to) for name, to in found.get("tags", {}).items()},

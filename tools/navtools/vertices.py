@@ -4,7 +4,7 @@ vertex of its label: it's left out."""
 from dataclasses import dataclass
 from typing import Any, Callable, Optional
 
-from navtools.addresses import is_address, spelled
+from navtools.addresses import address_of, folder_address, is_address, spelled
 from navtools.lsif import Element, span_of
 from navtools.notes import Notes
 
@@ -166,17 +166,12 @@ def shown(value: Any) -> str:
 
 def resolved(path: str, root: str) -> Optional[str]:
     """The address of a file that is written as a path; None where it isn't below anything."""
-    path = path.replace("\\", "/")
-    if path.startswith("/"):
-        return "file://" + escaped(path)
-    if path[1:2] == ":" and path[:1].isalpha():
-        return "file:///" + escaped(path)
-    return f"{root.rstrip('/')}/{escaped(path)}" if is_address(root) else None
-
-
-def escaped(path: str) -> str:
-    """A path with each `%` escaped."""
-    return path.replace("%", "%25")
+    own = address_of(path)
+    above = folder_address(root)
+    if own is not None or not is_address(above):
+        return own
+    inside = path.replace("\\", "/").replace("%", "%25")
+    return f"{above.removesuffix('/')}/{inside}"
 
 
 def whole_numbers(vertex: Element) -> Element:

@@ -4,7 +4,7 @@ slowly: what the tests hold the tools' output to."""
 import json
 from typing import Any, Callable, Optional
 
-from tests.url_text import url_text
+from navtools.urls import href
 
 Element = dict[str, Any]
 
@@ -81,7 +81,7 @@ def bad_vertex(element: Element) -> bool:
     label, get = element["label"], element.get
     if label == "document":
         uri = get("uri")
-        return not isinstance(uri, str) or url_text(uri) is None
+        return not isinstance(uri, str) or href(uri) is None
     if label == "range":
         start, end = position(get("start")), position(get("end"))
         return start is None or end is None or start > end
@@ -167,9 +167,9 @@ class Checker:
         self.vertices[key(element["id"])] = element
         self.lines[key(element["id"])] = self.number
         if element["label"] == "document":
-            if url_text(element["uri"]) in self.urls:
+            if href(element["uri"]) in self.urls:
                 return "L19"
-            self.urls.add(url_text(element["uri"]))
+            self.urls.add(href(element["uri"]))
         if element["label"] == "$event" and element["scope"] == "document":
             done = self.ended.setdefault(key(element["data"]), set())
             if (

@@ -13,10 +13,10 @@ import sqlite3
 from typing import Any, Optional
 from urllib.parse import parse_qsl
 
+from navtools.urls import href
 from tests import accepted
 from tests.dump_walks import LABELS, Question, Walk, answered
 from tests.tag_lines import Tag, read_tags
-from tests.url_text import url_text
 
 TOP = os.path.dirname(os.path.dirname(os.path.dirname(os.path.realpath(__file__))))
 METHODS = {
@@ -96,7 +96,7 @@ class Parameters:
 
     def question(self, request: str) -> Question:
         """What is asked at a position."""
-        uri = url_text(self.value("uri"))
+        uri = href(self.value("uri"))
         if uri is None:
             raise Refused("D03")
         position = self.number("line"), self.number("character")
@@ -111,7 +111,7 @@ def dump_of(body: bytes, profile: str) -> Walk:
     elements = [json.loads(line) for line in accepted.lines_of(body)]
     for one in elements:
         if (one["type"], one["label"]) == ("vertex", "document"):
-            one["uri"] = url_text(one["uri"])
+            one["uri"] = href(one["uri"])
     return Walk(elements, profile)
 
 

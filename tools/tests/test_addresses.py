@@ -1,6 +1,7 @@
 """Tests of the text that the URL Standard makes of an address, by which the server knows documents:
 by the standard's own words, by node, and by the program."""
 
+import contextlib
 import json
 import os
 import re
@@ -13,12 +14,16 @@ from urllib.parse import quote
 
 from navtools.addresses import spelled
 from navtools.client import NoReply
+from navtools.indexed import sources_of
+from navtools.places import map_words, maps_of, path_of, uri_of
 from navtools.questions import fetch_from
 from navtools.sets import split
 from navtools.sets.ask import Asked
 from navtools.sets.publish import Publish, Store
 from navtools.upload import fresh_key
 from navtools.urls import href
+from navtools.words import BadCall
+from navtools.workspace import settings_of
 from tests.dump_walks import body_of
 from tests.randomly import check_cases
 from tests.servers import NOT_BUILT, OnServer, program
@@ -105,6 +110,59 @@ def random_addresses(strategies: Any) -> Any:
         path.map("".join),
         own(["", "", "", " ", "? ", " ?", "  #", *TAILS.split()]),
     ).map("".join)
+
+
+class Maps(unittest.TestCase):
+    """What `--map` and its like take."""
+
+    def test_cuts(self) -> None:
+        """Either side may have a `=`; the folder is one that's there, where one is."""
+        top = os.path.realpath(self.enterContext(tempfile.TemporaryDirectory()))
+        self.enterContext(contextlib.chdir(top))
+        here, there = os.path.join(top, "x=y"), os.path.join(top, "z")
+        for folder in here, there:
+            os.mkdir(folder)
+        for text, uri, folder in (
+            ("file:///src=z", "file:///src", there),
+            ("file:///a=b=z", "file:///a=b", there),
+            ("file:///a=x=y", "file:///a", here),
+            ("file:///a=b=x=y", "file:///a=b", here),
+            ("file:///a%3Db=c=d", "file:///a=b", os.path.join(top, "c=d")),
+            ("file:///no=a=b", "file:///no", os.path.join(top, "a=b")),
+            ("file:///=z", "file:///", there),
+            ("file:///src/=z", "file:///src", there),
+            ("c:\\dir=z", "file:///c:/dir", there),
+            ("C:/dir/=z", "file:///c:/dir", there),
+            ("/src/a b=z", "file:///src/a%20b", there),
+            ("\\\\host\\share=z", "file://host/share", there),
+            ("vscode-remote://wsl%2Bubuntu/src=z", "vscode-remote://wsl%2Bubuntu/src", there),
+        ):
+            with self.subTest(text):
+                maps = maps_of([text])
+                self.assertEqual(maps, [(uri, folder)])
+                document = f"{uri.removesuffix('/')}/a%20b/c.rs"
+                path = os.path.join(folder, "a b", "c.rs")
+                self.assertEqual(path_of(document, maps), path)
+                self.assertEqual(uri_of(path, maps), document)
+                self.assertEqual(maps_of([map_words(uri, folder)]), maps)
+        for text in "", "a", "=z", "a=":
+            self.assertRaises(BadCall, maps_of, [text])
+
+    def test_settings(self) -> None:
+        """A table of maps in `.codenav.toml` is read in the same way."""
+        found = {"server": "http://h", "project": "app", "map": {"C:\\a=b/": "x"}}
+        maps = settings_of(found, "/top").maps
+        self.assertEqual(maps, [("file:///c:/a=b", "/top/x")])
+
+    def test_revisions(self) -> None:
+        """The revision of a project may have a `=`, as branches may."""
+        for word, project, revision in (
+            ("HEAD", "app", "HEAD"),
+            ("lib=HEAD", "lib", "HEAD"),
+            ("lib=a=b", "lib", "a=b"),
+        ):
+            found = sources_of([word], None, "app", os.curdir)
+            self.assertEqual({name: one.label for name, one in found.items()}, {project: revision})
 
 
 class Standard(unittest.TestCase):

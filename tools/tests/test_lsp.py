@@ -257,7 +257,8 @@ class Lsp(unittest.TestCase):
         for one in SPELLINGS:
             with self.subTest(one.editor):
                 uri = f"file://{one.host}{self.folder}/{one.name}"
-                editor, document = self.editor("--indexed", indexed), {"uri": uri}
+                editor, document = Editor("--indexed", indexed, self.url, "app"), {"uri": uri}
+                editor.call("initialize", {"rootUri": uri_of(self.folder, [])})
 
                 def asked(line: int) -> Any:
                     at = {"textDocument": document, "position": {"line": line, "character": 10}}

@@ -202,6 +202,37 @@ class Publish(OnCheckout):
                 self.assertEqual((status, said[0].rsplit(", ", 1)[1]), (0, "profile 2"))
                 self.assertEqual(self.answer(), DEFINITION)
 
+    def test_where_documents_are(self) -> None:
+        """What is said of the address of the documents leads to an answer as it stands: of a dump
+        that says it, one that doesn't, and an index; of a project and of a set."""
+        own, root = "file:///src/tr/crate", "file:///src/a=b"
+        with open(RAW, encoding="utf-8") as file:
+            raw = file.read().replace(own, root)
+        for number, (body, inside) in enumerate(
+            ((raw, ""), (raw.replace(f'"projectRoot":"{root}",', ""), "/src"))
+        ):
+            with open(os.path.join(self.home, str(number)), "w", encoding="utf-8") as file:
+                file.write(body)
+            self.check_said(file.name, f"{root}{inside}", self.checkout + inside)
+        self.check_said(SCIP, own, self.checkout)
+
+    def check_said(self, dump: str, where: str, folder: str) -> None:
+        """Publishes a dump, and asks as is said then."""
+        for words in [], ["--set"]:
+            with self.subTest(where, words=words):
+                call = ["--no-tags", *words, "--dump", dump, "app", self.checkout]
+                status, said, warned = self.published(*call)
+                self.assertEqual(status, 0, warned)
+                of = f"documents are below {where}: elsewhere ask with --map "
+                line = next(line for line in said if line.startswith("documents are"))
+                self.assertTrue(line.startswith(of), line)
+                given = line.removeprefix(of).replace("FOLDER", folder)
+                place = [os.path.join(self.checkout, "src", "lib.rs"), "18", "12"]
+                with redirect_stdout(io.StringIO()) as out, redirect_stderr(io.StringIO()):
+                    ask.main(["--map", given, self.url, "app", "definition", *place])
+                scale = os.path.join(self.checkout, "src", "scale.rs")
+                self.assertEqual(out.getvalue(), f"{scale}:4:8\n")
+
     def test_tags_alone(self) -> None:
         """Lines that the server would refuse are left out, and reported."""
         with open(os.path.join(self.checkout, "src", "latin.rs"), "wb") as file:
