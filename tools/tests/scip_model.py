@@ -163,9 +163,9 @@ class Model:
         for span in sorted(covering, key=lambda span: (reversed_(span[0]), span[1])):
             names = places[span]
             if request == "hover":
-                found = set(self.texts((question.uri, span), names)[:1])
+                found: set[Any] = set(self.texts((question.uri, span), names)[:1])
             else:
-                found = set().union(*(self.places(name, request, declaration) for name in names))
+                found = {one for name in names for one in self.places(name, request, declaration)}
             if request != "references" and not found and not any(map(self.is_import, names)):
                 continue
             for other, name in ((other, name) for other in others for name in names):

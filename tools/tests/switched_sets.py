@@ -6,7 +6,6 @@ import functools
 import io
 import os
 import random
-import tempfile
 from contextlib import redirect_stderr
 from typing import Any, Iterator, NamedTuple, Optional
 from unittest import mock

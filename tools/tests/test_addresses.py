@@ -20,13 +20,13 @@ from navtools.questions import fetch_from
 from navtools.sets import split
 from navtools.sets.ask import Asked
 from navtools.sets.publish import Publish, Store
+from navtools.settings import settings_of
 from navtools.upload import fresh_key
 from navtools.urls import href
 from navtools.words import BadCall
-from navtools.workspace import settings_of
 from tests.dump_walks import body_of
 from tests.randomly import check_cases
-from tests.servers import NOT_BUILT, OnServer, program
+from tests.servers import OnServer
 from tests.test_split import made
 
 NEWER = re.compile(r"\^|^[A-Za-z.+-]*:[^/\\].* [?#]")

@@ -3,7 +3,6 @@ module may be. What breaks a rule today is listed by name; a name that breaks no
 go from its list, so the lists only get shorter."""
 
 import ast
-import os
 import unittest
 from pathlib import Path
 

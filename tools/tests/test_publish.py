@@ -218,9 +218,9 @@ class Publish(OnCheckout):
 
     def check_said(self, dump: str, where: str, folder: str) -> None:
         """Publishes a dump, and asks as is said then."""
-        for words in [], ["--set"]:
-            with self.subTest(where, words=words):
-                call = ["--no-tags", *words, "--dump", dump, "app", self.checkout]
+        for option in "--no-tags", "--set":
+            with self.subTest(where, option=option):
+                call = ["--no-tags", option, "--dump", dump, "app", self.checkout]
                 status, said, warned = self.published(*call)
                 self.assertEqual(status, 0, warned)
                 of = f"documents are below {where}: elsewhere ask with --map "

@@ -12,10 +12,10 @@ from contextlib import redirect_stderr, redirect_stdout
 from typing import Any
 
 from navtools import prepare, upload
-from navtools.indexed import text_of
 from navtools.places import units, uri_of
 from navtools.words import BadCall
 from navtools.settings import FILE, Settings, settings_in
+from navtools.texts import text_of
 from navtools.workspace import Workspace
 from tests.repository import InRepository, checkouts
 from tests.servers import TOP, OnServer
