@@ -190,17 +190,15 @@ class Scene:
         if OTHER in self.others:
             self.put(servers, OTHER, self.others[OTHER])
         begin = len(servers.moments) - 1
-        ends = []
         with mock.patch.object(publish, "is_alive", lambda record: False):
             for what, revision, left in acts:
                 servers.left = left
                 try:
                     self.act(servers, what, revision)
-                    ends.append(len(servers.moments) - 1)
                 except Killed:
                     pass
         del servers.moments[:begin]
-        return History(self, servers, [end - begin for end in ends])
+        return History(self, servers)
 
     def act(self, servers: Servers, what: str, revision: int) -> None:
         """Does something to the set."""
@@ -258,8 +256,8 @@ def keys_at(walk: Walk, question: Question) -> set[Any]:
 class History:
     """The states that servers went through, and of which revisions of `code` each is."""
 
-    def __init__(self, scene: Scene, servers: Servers, ends: list[int]) -> None:
-        self.scene, self.servers, self.ends = scene, servers, ends
+    def __init__(self, scene: Scene, servers: Servers) -> None:
+        self.scene, self.servers = scene, servers
         manifests = [os.path.join(scene.folder_of(CODE, n), MANIFEST) for n in range(REVISIONS)]
         self.of_parts = {frozenset(read_head(own).projects()): n for n, own in enumerate(manifests)}
         self.revisions = {
