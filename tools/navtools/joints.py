@@ -11,9 +11,9 @@ nothing of the other heads, as it would from the joint result set.
 from typing import Iterator
 
 from navtools.mending import AS_SET, DROPPED, KEPT, MOVED, NewEdge, Plan
+from navtools.names import Bearer, Groups, symbols
 from navtools.survey import (
     HOVER,
-    MONIKER,
     NONE,
     RANGE,
     REFERENCE,
@@ -31,14 +31,16 @@ class Joints:
     def __init__(self, plan: Plan) -> None:
         self.plan = plan
         self.monikers: dict[int, list[int]] = {}
-        self.firsts: dict[tuple[str, int], int] = {}
+        self.holders: dict[tuple[str, int], int] = {}
         self.sets: dict[tuple[int, ...], int] = {}
         self.results: dict[tuple[int, ...], int] = {}
+        self.made: dict[int, tuple[int, ...]] = {}
         self.parts: dict[int, list[int]] = {}
         self.empty: dict[int, int] = {}
 
     def make(self) -> None:
-        """Joins the equal ranges, then the further edges of vertices."""
+        """Joins the further results of vertices, those of one symbol, the further `next` edges, and
+        then equal ranges."""
         plan = self.plan
         groups: dict[int, list[int]] = {}
         for own, first in plan.moved.items():
@@ -51,10 +53,10 @@ class Joints:
         }
         if groups or further:
             self.learn_monikers()
-        for label in (*RESULT_OF, "next"):
-            for source, targets in further.get(label, {}).items():
-                self.second(label, source, [plan.final[label][source], *targets])
-            self.firsts.clear()
+        for label in RESULT_OF:
+            self.seconds(label, further.get(label, {}))
+        self.share(list(symbols(plan)))
+        self.seconds("next", further.get("next", {}))
         for first, others in groups.items():
             self.place(first, others)
         self.fill()
@@ -70,17 +72,50 @@ class Joints:
             ):
                 self.monikers.setdefault(source, []).append(target)
 
-    def second(self, label: str, source: int, targets: list[int]) -> None:
-        """Joins what several edges of a vertex lead to where one may be."""
+    def seconds(self, label: str, further: dict[int, list[int]]) -> None:
+        """Joins what several edges of a label lead to where one may be."""
         plan = self.plan
-        if plan.state[source] == DROPPED or source in plan.mute:
-            return
-        if label == "next":
-            plan.set(label, source, self.joint(targets))
-        elif label == HOVERS:
-            return
-        else:
-            plan.set(label, source, self.result(RESULT_OF[label], targets))
+        for source, targets in further.items() if label != HOVERS else ():
+            if plan.is_asked(source):
+                both = [plan.final[label][source], *targets]
+                is_next = label == "next"
+                joint = self.joint(both) if is_next else self.result(RESULT_OF[label], both)
+                plan.set(label, source, joint)
+        self.holders.clear()
+
+    def share(self, found: list[list[Bearer]]) -> None:
+        """Gives the vertices of each symbol the results that one of them has."""
+        plan = self.plan
+        for label in RESULT_OF:
+            groups = Groups()
+            order: dict[int, tuple[bool, int]] = {}
+            for number, bearers in enumerate(found):
+                for is_import, line, own in bearers:
+                    holder = self.holder(label, own)
+                    holder = own if holder == NONE else holder
+                    groups.join(~number, holder)
+                    order[holder] = min(order.get(holder, (True, line)), (is_import, line))
+            members: dict[int, list[int]] = {}
+            for own in sorted(order, key=order.__getitem__):
+                members.setdefault(groups.of(own), []).append(own)
+            for those in members.values():
+                self.share_results(label, those)
+            self.holders.clear()
+        for bearers in found:
+            lines = sorted(bearer.line for bearer in bearers)
+            if len(lines) > 1:
+                plan.notes.mend("one symbol by its moniker in several places, joined", lines[1])
+
+    def share_results(self, label: str, those: list[int]) -> None:
+        """Gives the results that some vertices have to all of them; a hover to those that have
+        none."""
+        final = self.plan.final[label]
+        results = [final[own] for own in those if final[own] != NONE]
+        if results:
+            result = results[0] if label == HOVERS else self.result(RESULT_OF[label], results)
+            for own in those:
+                if label != HOVERS or final[own] == NONE:
+                    self.plan.set(label, own, result)
 
     def place(self, first: int, others: list[int]) -> None:
         """Joins what ranges at one place mean."""
@@ -112,17 +147,26 @@ class Joints:
             yield own
             own = self.plan.final["next"][own]
 
-    def first(self, label: str, own: int) -> int:
-        """The first result of a vertex for a request; it's kept for all on the way to it."""
+    def holder(self, label: str, own: int) -> int:
+        """The vertex along a chain that has the first result for a request; it's kept for all on
+        the way to it."""
         found, way = NONE, []
         for member in self.chain(own):
-            found = self.firsts.get((label, member), self.plan.final[label][member])
-            if found != NONE or (label, member) in self.firsts:
+            if (label, member) in self.holders:
+                found = self.holders[label, member]
                 break
             way.append(member)
+            if self.plan.final[label][member] != NONE:
+                found = member
+                break
         for member in way:
-            self.firsts[label, member] = found
+            self.holders[label, member] = found
         return found
+
+    def first(self, label: str, own: int) -> int:
+        """The first result of a vertex for a request."""
+        holder = self.holder(label, own)
+        return NONE if holder == NONE else self.plan.final[label][holder]
 
     def borne(self, own: int) -> list[int]:
         """The monikers of a vertex and of those that `next` edges lead to."""
@@ -206,14 +250,19 @@ class Joints:
         results = list(dict.fromkeys(results))
         if len(results) == 1:
             return results[0]
+        if kind != REFERENCE:
+            parts = (part for one in results for part in self.made.get(one, (one,)))
+            results = list(dict.fromkeys(parts))
+            self.plan.spend(len(results))
         key = tuple(results)
         if key not in self.results:
             own = self.results[key] = self.plan.fresh(kind)
+            self.made[own] = key
             if kind == REFERENCE:
                 self.plan.new_edges.append(NewEdge("item", own, results, "referenceResults"))
             else:
-                for result in results:
-                    self.parts.setdefault(result, []).append(own)
+                for part in results:
+                    self.parts.setdefault(part, []).append(own)
         return self.results[key]
 
     def fill(self) -> None:
@@ -233,48 +282,3 @@ class Joints:
             plan.new_edges += [
                 NewEdge("item", own, targets, None, home) for home, targets in homes.items()
             ]
-
-
-def bind_own_exports(plan: Plan) -> None:
-    """Gives what is imported in a dump that exports it itself, and has no definition there, the
-    definition of the export."""
-    keys, groups = plan.survey.keys, attached(plan)
-    exports: dict[bytes, int] = {}
-    imports: dict[bytes, dict[int, int]] = {}
-    definitions = plan.final["textDocument/definition"]
-    for source, target, line in plan.survey.edges["moniker"].all():
-        if plan.state[source] in (DROPPED, MOVED) or source in plan.mute:
-            continue
-        if plan.state[target] or not plan.fits("moniker", source, target):
-            continue
-        group = groups.get(target, [target])
-        plan.spend(len(group) - 1)
-        for moniker in group:
-            if moniker in keys and plan.kinds[moniker] == MONIKER and not plan.state[moniker]:
-                package = plan.final["packageInformation"][moniker]
-                key = keys[moniker][1:] + (keys[package] if package != NONE else b"")
-                if keys[moniker][:1] == b"i":
-                    imports.setdefault(key, {})[source] = line
-                elif exports.get(key, NONE) == NONE or definitions[exports[key]] == NONE:
-                    exports[key] = source
-    joints = Joints(plan)
-    for key in imports.keys() & exports.keys():
-        defined = joints.first("textDocument/definition", exports[key])
-        for source, line in imports[key].items() if defined != NONE else ():
-            if joints.first("textDocument/definition", source) == NONE:
-                plan.set("textDocument/definition", source, defined)
-                plan.notes.mend(
-                    "import of what the dump exports itself, bound to its definition", line
-                )
-
-
-def attached(plan: Plan) -> dict[int, list[int]]:
-    """The monikers that `attach` edges join, read both ways: of each of them the whole group."""
-    group: dict[int, list[int]] = {}
-    for source, target, _ in plan.survey.edges["attach"].all():
-        one, other = group.setdefault(source, [source]), group.setdefault(target, [target])
-        if one is not other:
-            small, large = sorted((one, other), key=len)
-            large += small
-            group.update((member, large) for member in small)
-    return group

@@ -211,16 +211,24 @@ class Plan:
                 self.state[own] = MOVED if self.state[first] == KEPT else DROPPED
                 self.moved[own] = first
             if outcome.around is not None and not self.choices.keep_file_ranges:
-                self.silence(outcome.around)
+                line = numbers.lines[outcome.around]
+                self.notes.mend(
+                    "range over a whole file, which stays as a place and isn't asked", line
+                )
+                equal = [own for own, first in outcome.equal.items() if first == outcome.around]
+                for own in (outcome.around, *equal):
+                    self.silence(own)
 
     def silence(self, own: int) -> None:
         """Leaves out what a range over a whole file would answer at each word that has nothing of
         its own."""
-        line = self.survey.numbers.lines[own]
-        self.notes.mend("range over a whole file, which stays as a place and isn't asked", line)
         self.mute.add(own)
         for final in self.final.values():
             final[own] = NONE
+
+    def is_asked(self, own: int) -> bool:
+        """Whether a range or a result set may be asked something."""
+        return self.state[own] != DROPPED and own not in self.mute
 
 
 def is_like(uri: str, root: str, glob: str) -> bool:

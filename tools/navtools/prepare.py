@@ -15,7 +15,8 @@ import sys
 from typing import BinaryIO, Optional
 
 from navtools import positions, rows
-from navtools.joints import Joints, bind_own_exports
+from navtools.addresses import address_of, is_address
+from navtools.joints import Joints
 from navtools.lsif import NotADump, Source, opened
 from navtools.mending import Choices, Plan
 from navtools.notes import Notes
@@ -61,7 +62,7 @@ WITH_EFFECT_IN_TWO = {
 
 def survey_dump(source: Source, call: argparse.Namespace, notes: Notes) -> Survey:
     """Reads the dump once."""
-    mender = Mender(notes, call.strip, call.keep_unique)
+    mender = Mender(notes, call.strip, call.keep_unique, root_of(call.root))
     survey = Survey(source.name, notes, mender, call.strip)
     early = Early("prepare-lsif", ADVICE)
     progress = Progress("prepare-lsif: reading", source.size)
@@ -75,6 +76,13 @@ def survey_dump(source: Source, call: argparse.Namespace, notes: Notes) -> Surve
     return survey
 
 
+def root_of(given: Optional[str]) -> str:
+    """The root that a call names, by its address or as a folder; the empty text where it names
+    none."""
+    is_folder = given is not None and not is_address(given) and address_of(given) is None
+    return os.path.abspath(given or "") if is_folder else given or ""
+
+
 def plan_of(survey: Survey, call: argparse.Namespace) -> Plan:
     """Decides what is written."""
     plan = Plan(survey, Choices(call.keep_file_ranges, call.without))
@@ -83,7 +91,6 @@ def plan_of(survey: Survey, call: argparse.Namespace) -> Plan:
     if call.without:
         drop_unreached(plan)
     plan.sort_ranges()
-    bind_own_exports(plan)
     Joints(plan).make()
     return plan
 
@@ -206,6 +213,11 @@ def parser_of_words() -> argparse.ArgumentParser:
         "--source",
         metavar="FOLDER",
         help="the files that were indexed, for a dump that counts bytes or code points",
+    )
+    parser.add_argument(
+        "--root",
+        metavar="ADDRESS",
+        help="the address, or the folder, that documents are below, in place of the dump's own",
     )
     parser.add_argument(
         "--profile",

@@ -14,9 +14,12 @@ from typing import Any, Iterator, Optional
 from navtools.columns import ENCODINGS
 from navtools.lsif import Element, Id, NotADump, Row, is_id, shard_of, span_of, targets_of, text_of
 from navtools.notes import Notes
-from navtools.vertices import Mender, inline
+from navtools.vertices import Mender, inline, is_path, without_text
 
 NONE = -1
+IMPORT, EXPORT, OF_PROJECT = 1, 2, 4
+"""What the first byte of a moniker's name says of it."""
+
 (
     UNKNOWN,
     OTHER,
@@ -125,10 +128,12 @@ class Survey:
     metadata: Optional[Row] = None
     elements: int = 0
     dropped: set[int] = field(default_factory=set)
-    documents: dict[str, int] = field(default_factory=dict)
+    roots: dict[str, Any] = field(default_factory=dict)
+    paths: list[tuple[Row, int, int]] = field(default_factory=list)
     merged: dict[int, int] = field(default_factory=dict)
     uris: dict[int, str] = field(default_factory=dict)
-    keys: dict[int, bytes] = field(default_factory=dict)
+    names: dict[int, bytes] = field(default_factory=dict)
+    packages: dict[int, bytes] = field(default_factory=dict)
     edges: dict[str, Pairs] = field(
         default_factory=lambda: {label: Pairs() for label in ("contains", *SINGLE, *MANY, "other")}
     )
@@ -182,10 +187,17 @@ class Survey:
         elif label == "$event":
             self.notes.mend("event, which has no effect, dropped", line)
             self.dropped.add(number)
-        elif kind == OTHER and self.strip:
-            self.dropped.add(number)
+        elif kind == OTHER:
+            if label == "source" and not self.roots.get("workspaceRoot"):
+                self.roots["workspaceRoot"] = row.element.get("workspaceRoot")
+            if self.strip:
+                self.dropped.add(number)
         else:
-            self.mend(row, kind, number)
+            size = len(row.text if row.text is not None else text_of(row.element))
+            if kind == DOCUMENT and is_path(row.element.get("uri")):
+                self.paths.append((Row(line, None, without_text(row.element)), number, size))
+            else:
+                self.mend(row, kind, number, size)
 
     def first(self, row: Row) -> None:
         """Takes the metaData."""
@@ -201,12 +213,10 @@ class Survey:
         if encoding not in ENCODINGS:
             raise self.refusal(row.line, "its positions are counted in a way that isn't known")
         self.encoding = encoding
-        root = row.element.get("projectRoot")
-        self.mender.root = root if isinstance(root, str) else ""
+        self.roots["projectRoot"] = row.element.get("projectRoot")
 
-    def mend(self, row: Row, kind: int, number: int) -> None:
+    def mend(self, row: Row, kind: int, number: int, size: int) -> None:
         """Takes the members of a vertex as they're mended."""
-        size = len(row.text if row.text is not None else text_of(row.element))
         element = self.mender.mended(row.element, row.line, size)
         if element is None:
             self.dropped.add(number)
@@ -215,25 +225,47 @@ class Survey:
             self.numbers.starts[number] = start_line << 31 | start
             self.numbers.ends[number] = end_line << 31 | end
         elif kind == DOCUMENT:
-            self.document(element["uri"], number, row.line)
-        elif kind == MONIKER and element.get("kind", "local") != "local":
-            key = digest(element["scheme"], element["identifier"])
-            self.keys[number] = element["kind"][:1].encode() + key
+            self.uris[number] = element["uri"]
+        elif kind == MONIKER:
+            self.moniker(row.element, number)
         elif kind == PACKAGE:
-            self.keys[number] = digest(
+            self.packages[number] = digest(
                 *(str(element.get(part, "")) for part in ("manager", "name", "version"))
             )
         elif element is not row.element and DEFINITION <= kind <= REFERENCE:
             self.inline(row, kind, number)
 
-    def document(self, uri: str, number: int, line: int) -> None:
-        """Takes a document: one whose address another has is that one."""
-        first = self.documents.setdefault(uri, number)
-        if first == number:
-            self.uris[number] = uri
-        else:
-            self.merged[number] = first
-            self.notes.mend("document of an address that another has, merged into that", line)
+    def moniker(self, moniker: Element, number: int) -> None:
+        """Takes what a moniker is to other projects of the dump, whether or not it's the same in
+        other dumps: nothing where it's local, or unique in its document alone."""
+        kind, unique = moniker.get("kind"), moniker.get("unique")
+        if kind in ("import", "export") and unique != "document":
+            flags = (IMPORT if kind == "import" else EXPORT) | (unique == "project") * OF_PROJECT
+            self.names[number] = bytes([flags]) + digest(moniker["scheme"], moniker["identifier"])
+
+    def find_root(self) -> None:
+        """Finds what documents are below: as the call says, or the `source` of LSIF 0.6, or else
+        the metaData."""
+        for member in ("workspaceRoot", "projectRoot"):
+            root = self.roots.get(member)
+            if not self.mender.root and isinstance(root, str):
+                self.mender.root = root
+
+    def merge_documents(self) -> None:
+        """Takes documents whose addresses are paths, which needed the root; and one whose address
+        another has is that one."""
+        for row, number, size in self.paths:
+            self.mend(row, DOCUMENT, number, size)
+        documents: dict[str, int] = {}
+        lines = self.numbers.lines
+        for number in sorted(self.uris, key=lines.__getitem__):
+            first = documents.setdefault(self.uris[number], number)
+            if first != number:
+                del self.uris[number]
+                self.merged[number] = first
+                self.notes.mend(
+                    "document of an address that another has, merged into that", lines[number]
+                )
 
     def inline(self, row: Row, kind: int, number: int) -> None:
         """Takes the places within a result."""
@@ -297,6 +329,8 @@ class Survey:
             other: Id = str(own) if isinstance(own, int) else int(own) if own.isdecimal() else ""
             hint = f"; {text(other)} is another id" if other in self.numbers.of else ""
             raise self.refusal(line, f"no vertex has the id {text(own)}, which is named here{hint}")
+        self.find_root()
+        self.merge_documents()
         hashes = sorted([*self.edge_ids, *map(hash, self.numbers.of)])
         if any(one == other for one, other in pairwise(hashes)):
             self.are_edges_sound = False

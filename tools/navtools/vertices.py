@@ -48,12 +48,12 @@ class Mender:
         if not isinstance(uri, str) or "\0" in uri or not uri:
             self.notes.leave_out("document without an address", f"line {line}")
             return None
-        whole = (
-            uri if is_address(uri) and uri[1:3] not in (":\\", ":/") else resolved(uri, self.root)
-        )
+        whole = absolute(uri, self.root)
         own = spelled(whole or "")
         if not is_address(own):
-            why = "has no scheme" if whole is None else "can't be read"
+            why = (
+                "has no scheme, and no root is known (--root)" if whole is None else "can't be read"
+            )
             self.notes.leave_out(f"document whose address {why}", f"line {line}: {uri!r}")
             return None
         if own != uri:
@@ -164,14 +164,26 @@ def shown(value: Any) -> str:
     return f"`{str(value)[:40]}`"
 
 
-def resolved(path: str, root: str) -> Optional[str]:
-    """The address of a file that is written as a path; None where it isn't below anything."""
-    own = address_of(path)
-    above = folder_address(root)
+def absolute(uri: str, root: str) -> Optional[str]:
+    """The address of a document that is written as one, or as a path; None where it isn't below
+    anything."""
+    if is_address(uri) and uri[1:3] not in (":\\", ":/"):
+        return uri
+    own, above = address_of(uri), folder_address(root)
     if own is not None or not is_address(above):
         return own
-    inside = path.replace("\\", "/").replace("%", "%25")
+    inside = uri.replace("\\", "/").replace("%", "%25")
     return f"{above.removesuffix('/')}/{inside}"
+
+
+def is_path(uri: Any) -> bool:
+    """Whether a document's address is a path that needs the root."""
+    return is_text(uri) and uri != "" and absolute(uri, "") is None
+
+
+def without_text(document: Element) -> Element:
+    """A document without its text, of which it's known that it was there."""
+    return {name: "" if name == "contents" else value for name, value in document.items()}
 
 
 def whole_numbers(vertex: Element) -> Element:

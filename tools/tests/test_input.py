@@ -348,6 +348,57 @@ class Input(unittest.TestCase):
             (2, None, "prepare-lsif: IN: no document is like `tests/*`, which is to be left out\n"),
         )
 
+    def test_the_root(self) -> None:
+        """Documents are below the root that the call names, that of the source, or that of the
+        metaData, wherever in the dump it stands: paths, what --without leaves out, and the files
+        of --source."""
+        source = vertex(9, "source", workspaceRoot="file:///w")
+        old, new = {**META, "projectRoot": "file:///w"}, {**META, "projectRoot": "file:///w/src"}
+        document = vertex(2, "document", uri="src/\u00e9.ts")
+        here = f"file://{os.path.realpath(os.curdir)}/x"
+        left_out = (
+            "left out: document whose address has no scheme, and no root is known (--root): 1"
+        )
+        for rows, words, root in (
+            ([old, document], [], "file:///w"),
+            ([META, source, document], [], "file:///w"),
+            ([META, document, source], [], "file:///w"),
+            ([document, META, source], [], "file:///w"),
+            ([new, source, document], [], "file:///w"),
+            ([{**META, "projectRoot": "/w"}, document], [], "file:///w"),
+            ([{**META, "projectRoot": "C:\\w"}, document], [], "file:///c:/w"),
+            ([old, document], ["--root", "file:///v/"], "file:///v"),
+            ([META, source, document], ["--root", "/v"], "file:///v"),
+            ([META, document], ["--root", "x"], here),
+            ([META, document], [], None),
+        ):
+            with self.subTest(rows=rows, words=words):
+                for more in ([], ["--strip"]):
+                    status, out, said = self.called(prepare, dumped(*rows), *words, *more)
+                    uris = [json.loads(row).get("uri") for row in (out or b"").splitlines()]
+                    uris = [uri for uri in uris if uri]
+                    if root is None:
+                        self.assertEqual((status, uris), (1, []))
+                        self.assertIn(left_out, said)
+                    else:
+                        self.assertEqual((status, uris), (0, [f"{root}/src/%C3%A9.ts"]), said)
+                globs = [*words, "--without", "src/*"]
+                self.assertEqual(self.called(prepare, dumped(*rows), *globs)[0], 2 * (root is None))
+        span = vertex(
+            3, "range", start={"line": 0, "character": 3}, end={"line": 0, "character": 4}
+        )
+        whole = vertex(2, "document", uri="file:///w/src/a.ts")
+        meta = {**META, "positionEncoding": "utf-8"}
+        with tempfile.TemporaryDirectory() as folder:
+            os.mkdir(os.path.join(folder, "src"))
+            with open(os.path.join(folder, "src", "a.ts"), "w", encoding="utf-8") as file:
+                file.write("\u00e9 x\n")
+            for rows, words in (([meta, source], []), ([meta], ["--root", "file:///w"])):
+                body = dumped(*rows, whole, span, edge(4, "contains", 2, [3]))
+                status, out, said = self.called(prepare, body, "--source", folder, *words)
+                self.assertEqual(status, 0, said)
+                self.assertIn(b'"start":{"line":0,"character":2}', out or b"")
+
     def test_addresses(self) -> None:
         for uri, wanted in (
             ("file:///c%3A/x", "file:///c:/x"),

@@ -1,0 +1,2 @@
+import { log } from "../lib/log";
+log("a");

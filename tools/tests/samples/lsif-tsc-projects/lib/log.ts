@@ -1,0 +1,2 @@
+export function log(s: string) {}
+log("");
