@@ -94,6 +94,8 @@ def reply_at(call: argparse.Namespace, settings: Settings) -> Reply:
         indexed.end()
     if reply.of:
         warn(f"{call.file} changed since: the answer is of {reply.of}")
+    if reply.why:
+        warn(reply.why)
     return reply
 
 

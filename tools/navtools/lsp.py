@@ -228,7 +228,10 @@ class Bridge:
             self.tell_refusal(str(fault))
             return None
         self.compare(name, reply.of)
-        self.refusal = None
+        if reply.why:
+            self.tell_refusal(reply.why)
+        else:
+            self.refusal = None
         return reply.found
 
     def tell_refusal(self, text: str) -> None:

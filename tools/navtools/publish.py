@@ -205,6 +205,7 @@ def made(call: argparse.Namespace, work: str) -> tuple[list[Body], list[Row]]:
     raw = raw_dump(call, work)
     if raw is not None:
         dump, lines = made_dump(call, raw, work)
+        call.profile = call.profile or profile_of(dump)
         left_out += rows_of(lines, call.profile)
         bodies.append(Body(call.project, "lsif", dump, call.profile))
     elif not call.no_index:
@@ -235,7 +236,7 @@ def made_dump(call: argparse.Namespace, raw: str, work: str) -> tuple[str, list[
     dump = os.path.join(work, "dump.lsif")
     is_split = is_scip(raw) and not call.servers
     if not (call.set and is_split and not call.without):
-        lines, is_over = prepared(raw, dump, call.folder, call.profile, call.without)
+        lines, is_over = prepared(raw, dump, call.folder, call.profile or "2", call.without)
         call.set = call.set or is_over
         if not is_recorded(call, dump):
             call.set = is_over = True
@@ -252,6 +253,16 @@ def index_root(path: str) -> str:
 
     with open(path, "rb") as file:
         return folder_address(IndexFile(file, path).metadata.project_root)
+
+
+def profile_of(path: str) -> str:
+    """The profile in which a prepared dump is read, where the call names none: 2 where it has
+    results of that alone. Of an index that is split itself it isn't known."""
+    if is_scip(path):
+        return "2"
+    labels = [f'"{label}"'.encode() for label in prepare.WITH_EFFECT_IN_TWO["vertex"]]
+    with open(path, "rb") as dump:
+        return "2" if any(label in line for line in dump for label in labels) else "1"
 
 
 def is_recorded(call: argparse.Namespace, path: str) -> bool:
@@ -517,8 +528,7 @@ def words_parser(is_of_all: bool = False) -> argparse.ArgumentParser:
     parser.add_argument(
         "--profile",
         choices=["1", "2"],
-        default="1",
-        help="how the dump is read, 1 without it; 2 has declarations and implementations too",
+        help="how the dump is read; 2 has declarations and implementations too, and is taken without it where the dump has such",
     )
     parser.add_argument(
         "--program",

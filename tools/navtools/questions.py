@@ -16,6 +16,7 @@ MOST_NUMBER = 2147483647
 TRIES = 4
 MEMBERS = {"hover": "contents"}
 """The member of a reply that has what was found; it's `places` of other queries."""
+OF_PROFILE_TWO = ("declaration", "implementation")
 
 
 class Fetcher:
@@ -75,11 +76,12 @@ SHAPES: dict[str, Callable[[Any], bool]] = {"places": is_place, "tags": is_tag}
 
 
 class Reply(NamedTuple):
-    """What was found, places as they are today or the contents of a hover, and how the indexed text
-    is called where that of today differs."""
+    """What was found, places as they are today or the contents of a hover; how the indexed text is
+    called where that of today differs; and why nothing can be found, where that's known."""
 
     found: Any
     of: str
+    why: str = ""
 
 
 class Questions:
@@ -113,7 +115,8 @@ class Questions:
                 continue
             if fault is not None:
                 raise fault
-            return Reply(found if what == "hover" else self.indexed.places(found), of)
+            why = self.why_empty(what, place.uri) if found == [] else ""
+            return Reply(found if what == "hover" else self.indexed.places(found), of, why)
         raise NoReply(f"{self.name} is published again and again")
 
     def learn(self, path: str, again: bool = False) -> None:
@@ -148,6 +151,20 @@ class Questions:
             if path and is_in_checkout(path) and not self.indexed.others(project, path):
                 found[project] = None
         return list(found)
+
+    def why_empty(self, what: str, uri: str) -> str:
+        """Why no index of the project's profile has what is asked for; nothing where it has."""
+        if what not in OF_PROFILE_TWO:
+            return ""
+        try:
+            is_one = self.index.query("profile", {"uri": uri}, "profile") == 1
+        except NoReply:
+            return ""
+        return (
+            f"{self.name} was uploaded in profile 1, which has no {what}s: --profile 2 has them"
+            if is_one
+            else ""
+        )
 
     def uri(self, path: str) -> str:
         """The address of a document, by its file as it is today or by itself."""

@@ -60,6 +60,30 @@ class Asking(OnServer):
             ),
         )
 
+    def test_what_the_profile_has_not(self) -> None:
+        file, dump = os.path.join(CRATE, "src", "lib.rs"), os.path.join(self.folder, "dump")
+        for what, profile, said in (
+            (
+                "implementation",
+                "1",
+                "ask: app was uploaded in profile 1, which has no implementations: --profile 2 has them\n",
+            ),
+            (
+                "declaration",
+                "1",
+                "ask: app was uploaded in profile 1, which has no declarations: --profile 2 has them\n",
+            ),
+            ("definition", "1", ""),
+            ("declaration", "2", ""),
+            ("implementation", "2", ""),
+        ):
+            with self.subTest(what, profile=profile):
+                words = ["--profile", profile, self.url, "app", dump]
+                with redirect_stdout(io.StringIO()), redirect_stderr(io.StringIO()):
+                    self.assertEqual(upload.main("lsif", words), 0)
+                words = ["--map", f"{ROOT}={CRATE}", self.url, "app", what, file, "1", "1"]
+                self.assertEqual(self.asked(*words), (1, "", NOT_MAPPED + said))
+
     def test_links(self) -> None:
         """The crate, a folder of it and a file of it are named by symbolic links."""
         names = {

@@ -227,8 +227,25 @@ class Lsp(unittest.TestCase):
                 self.answer(reply)
                 Replies.asked = []
                 self.assertEqual(editor.call(method, {**self.at, **more}), (result, []))
-                self.assertEqual(Replies.asked, [asked])
+                self.assertEqual(Replies.asked[:1], [asked])
+                is_asked_why = result == [] and method == "textDocument/implementation"
+                after = [(path + "profile", {"uri": self.uri})] if is_asked_why else []
+                self.assertEqual(Replies.asked[1:], after)
         self.assertEqual(editor.end("shutdown", "exit"), (0, b""))
+
+    def test_what_the_profile_has_not(self) -> None:
+        """It's said once that a project of profile 1 has no implementations."""
+        text = "app was uploaded in profile 1, which has no implementations: --profile 2 has them"
+        editor = self.editor()
+        for profile, told in (
+            (2, []),
+            (1, [("window/showMessage", 2, f"codenav: {text}")]),
+            (1, []),
+        ):
+            self.answer({"places": [], "profile": profile})
+            found = editor.call("textDocument/implementation", self.at)
+            self.assertEqual(found, ([], told))
+        editor.end("shutdown", "exit")
 
     def test_maps(self) -> None:
         self.answer(

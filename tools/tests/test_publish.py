@@ -2,6 +2,7 @@
 for rust-analyzer: it prints what that wrote."""
 
 import io
+import json
 import os
 import re
 import shutil
@@ -232,6 +233,32 @@ class Publish(OnCheckout):
                     ask.main(["--map", given, self.url, "app", "definition", *place])
                 scale = os.path.join(self.checkout, "src", "scale.rs")
                 self.assertEqual(out.getvalue(), f"{scale}:4:8\n")
+
+    def test_the_profile(self) -> None:
+        """Without one it's 2 where the dump has a declaration or an implementation."""
+        with open(RAW, "rb") as file:
+            body = file.read()
+        result = b'{"id":"i","type":"vertex","label":"implementationResult"}\n'
+        edge = (
+            b'{"id":"e","type":"edge","label":"textDocument/implementation","outV":%d,"inV":"i"}\n'
+        )
+        own = next(
+            row["id"] for row in map(json.loads, body.splitlines()) if row["label"] == "resultSet"
+        )
+        dump = os.path.join(self.home, "raw.lsif")
+        for more, words, profile in (
+            (b"", [], "1"),
+            (result + edge % own, [], "2"),
+            (result + edge % own, ["--profile", "1"], "1"),
+            (b"", ["--profile", "2"], "2"),
+        ):
+            with self.subTest(words, more=more):
+                with open(dump, "wb") as out:
+                    out.write(body + more)
+                status, said, _ = self.published(
+                    "--no-tags", *words, "--dump", dump, "app", self.checkout
+                )
+                self.assertEqual((status, said[0].rsplit(", ", 1)[1]), (0, f"profile {profile}"))
 
     def test_tags_alone(self) -> None:
         """Lines that the server would refuse are left out, and reported."""
