@@ -38,7 +38,7 @@ def hover_text(contents: Any) -> str:
     """The text of hover contents."""
     if isinstance(contents, list):
         return "\n\n".join(hover_text(part) for part in contents)
-    return contents if isinstance(contents, str) else str(contents["value"])
+    return str(contents if isinstance(contents, str) else contents["value"])
 
 
 def tags_of(call: argparse.Namespace, settings: Settings) -> list[dict[str, Any]]:

@@ -28,7 +28,7 @@ class Fetcher:
     def __call__(self, path: str, parameters: dict[str, Any], member: str) -> Any:
         url = address(self.server, path, parameters)
         found = found_in(request(url, seconds=self.seconds, most=self.most), member)
-        if member in SHAPES and not (type(found) is list and all(map(SHAPES[member], found))):
+        if member in SHAPES and not SHAPES[member](found):
             raise NoReply(f"not the {member} of codenav")
         return found
 
@@ -72,7 +72,30 @@ def is_tag(value: Any) -> bool:
     )
 
 
-SHAPES: dict[str, Callable[[Any], bool]] = {"places": is_place, "tags": is_tag}
+def is_hover(value: Any) -> bool:
+    """Whether a value is hover contents, or null: a text, one of a kind or in a language, or a list
+    of texts, some of them in languages."""
+    if type(value) is list:
+        return all(is_text(part, "language") for part in value)
+    return value is None or is_text(value, "language") or is_text(value, "kind")
+
+
+def is_text(value: Any, of: str) -> bool:
+    """Whether a value is a text, or one with a member that says what it's of."""
+    members = [value.get("value"), value.get(of)] if type(value) is dict else [value]
+    return all(type(member) is str for member in members)
+
+
+def is_list(value: Any, is_one: Callable[[Any], bool]) -> bool:
+    """Whether a value is a list of values that are such."""
+    return type(value) is list and all(map(is_one, value))
+
+
+SHAPES: dict[str, Callable[[Any], bool]] = {
+    "places": lambda found: is_list(found, is_place),
+    "tags": lambda found: is_list(found, is_tag),
+    "contents": is_hover,
+}
 
 
 class Reply(NamedTuple):

@@ -471,6 +471,39 @@ class Ask(unittest.TestCase):
                     ),
                 )
 
+    def test_hovers_of_any_form(self) -> None:
+        """Contents as the Language Server Protocol has them are printed; what else is JSON is
+        refused by one line."""
+        text, marked = {"kind": "markdown", "value": "b"}, {"language": "c", "value": "d"}
+        refused = "ask: not the contents of codenav: "
+        for contents, status, said in (
+            ("a", 0, "a\n"),
+            ("", 0, "\n"),
+            (text, 0, "b\n"),
+            (marked, 0, "d\n"),
+            (["a", marked], 0, "a\n\nd\n"),
+            ([], 0, "\n"),
+            (None, 1, ""),
+            ([None], 2, refused),
+            (["a", 1], 2, refused),
+            ([["a"]], 2, refused),
+            ([{}], 2, refused),
+            (1, 2, refused),
+            (True, 2, refused),
+            ({}, 2, refused),
+            ({"value": "a"}, 2, refused),
+            ({"kind": "markdown", "value": None}, 2, refused),
+            ({"language": 1, "value": "a"}, 2, refused),
+        ):
+            with self.subTest(contents=contents):
+                found = self.asked([*self.AT, "hover", RAW, "1", "1"], {"contents": contents})
+                self.assertEqual((found[0], found[2]), (status, said if status < 2 else ""))
+                lines = [line for line in found[3].splitlines() if "no revision" not in line]
+                self.assertEqual(len(lines), status == 2)
+                self.assertTrue(
+                    found[3].endswith(f"{refused}{places.uri_of(RAW, [])}\n") or status < 2
+                )
+
     def test_what_is_refused(self) -> None:
         reply = self.asked(
             [*self.AT, "hover", RAW, "1", "1"], {"fault": "D01", "text": "project has no dump"}

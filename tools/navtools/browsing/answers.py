@@ -58,7 +58,8 @@ class Browser:
             try:
                 reply, notes = view.ask(what, path, line, character)
                 if what == "hover":
-                    return {"nodes": nodes_in(reply.found), "said": said(notes, reply.of)}
+                    nodes = [] if reply.found is None else tree_of(reply.found)
+                    return {"nodes": nodes, "said": said(notes, reply.of)}
                 answer = self.places(view, reply.found, path, what)
                 if what == "references":
                     self.mark_definitions(view, answer, path, line, character)
@@ -211,14 +212,6 @@ def part_end(place: dict[str, Any], length: int) -> int:
     """Where a place ends on its first line."""
     end = place["end"]
     return min(int(end["character"]), length) if end["line"] == place["start"]["line"] else length
-
-
-def nodes_in(contents: Any) -> list[Any]:
-    """The nodes of hover contents."""
-    try:
-        return [] if contents is None else tree_of(contents)
-    except (TypeError, KeyError, AttributeError):
-        raise NoReply("not hover contents") from None
 
 
 def rows_of(tags: list[dict[str, Any]], folder: str, name: str) -> list[dict[str, Any]]:

@@ -27,16 +27,14 @@ ELEMENTS = {
 
 def tree_of(contents: Any) -> list[Node]:
     """The nodes of hover contents: a text in Markdown, `MarkedString`s, or `MarkupContent` (LSP
-    3.17). Raises TypeError or KeyError for what is none."""
+    3.17)."""
     if isinstance(contents, list):
         return [node for part in contents for node in tree_of(part)]
     if isinstance(contents, str):
         return markdown(contents)
     text = contents["value"]
-    if not isinstance(text, str):
-        raise TypeError
     if "language" in contents:
-        return [code(text, str(contents["language"]))]
+        return [code(text, contents["language"])]
     return (
         markdown(text)
         if contents.get("kind") == "markdown"
