@@ -9,14 +9,15 @@ import argparse
 import os
 import sys
 from dataclasses import dataclass
-from typing import Any, Iterator, Optional
+from typing import Any, Iterable, Iterator, Optional
 from urllib.parse import quote
 
 from navtools.ask import hover_text
 from navtools.addresses import serialized
-from navtools.explain import Dump, contained, ends, targets
+from navtools.edges import flaw
+from navtools.explain import Dump, ends, targets
 from navtools.places import KEPT, Maps, character_at, maps_of, place_line, place_of, uri_of
-from navtools.lsif import Element, Id, NotADump, Span, opened, plain
+from navtools.lsif import Element, Id, NotADump, Span, is_id, opened, plain
 from navtools.sets.manifest import part_file
 from navtools.words import BadCall
 
@@ -78,6 +79,7 @@ class Trail:
     nexts: list[int]
     bound: Optional[int]
     monikers: list[Moniker]
+    refused: list[str]
 
     def speaks(self, request: Request) -> bool:
         """Whether the request is asked of the range where no smaller one speaks."""
@@ -87,24 +89,53 @@ class Trail:
 
 
 class Graph:
-    """The edges of a dump that requests follow, by label and source, each as its line. An edge
-    without the ends that it should have is left out."""
+    """The edges of a dump that requests follow, by label and source, each as its line. Those that the
+    server doesn't take are left out, and kept with the reason."""
 
     def __init__(self, dump: Dump) -> None:
         self.dump = dump
         after = dump.count + 1
-        self.homes = contained(dump, after)
+        self.labels = {
+            line: label
+            for (kind, label), lines in dump.labels.items()
+            for line in (lines if kind == "vertex" else ())
+        }
+        self.homes: dict[Id, tuple[int, Id]] = {}
         self.documents = {
             line: str(element.get("uri"))
             for line, element in dump.before(after, "vertex", "document")
         }
         self.edges: dict[tuple[str, Id], list[int]] = {}
-        for label in FOLLOWED:
+        self.refused: dict[Any, list[tuple[int, str, str]]] = {}
+        for label in ("contains", *FOLLOWED):
             for line, edge in dump.before(after, "edge", label):
-                known = [own for own in ends(edge) if own in dump.first]
-                if len(known) > 1 or label == "item" and known:
-                    for own in known[:2] if label == "attach" else known[:1]:
-                        self.edges.setdefault((label, own), []).append(line)
+                self.take(line, label, edge)
+
+    def take(self, line: int, label: str, edge: Element) -> None:
+        """Takes an edge."""
+        own, reason = edge.get("outV"), flaw(edge, self.kind)
+        if reason:
+            refused = self.refused.setdefault(own if is_id(own) else None, [])
+            refused.append((line, label, reason))
+        elif label == "contains":
+            for end in edge["inVs"] if self.kind(own) == "document" else ():
+                self.homes.setdefault(end, (line, edge["outV"]))
+        else:
+            for end in dict.fromkeys((own, edge["inV"]) if label == "attach" else (own,)):
+                self.edges.setdefault((label, end), []).append(line)
+
+    def kind(self, own: Any) -> str:
+        """The label of a vertex; the empty text where none has the id."""
+        return self.labels.get(self.dump.first.get(own, 0), "") if is_id(own) else ""
+
+    def not_taken(self, those: Iterable[Id], labels: Iterable[str]) -> list[str]:
+        """What is said of the edges of some labels out of vertices that the server doesn't take."""
+        return [
+            f"{label} edge at line {line}, which the server doesn't take: {reason}"
+            for own in those
+            for line, label, reason in self.refused.get(own, ())
+            if label in labels
+        ]
 
     def out(self, label: str, own: Id) -> Iterator[tuple[int, Element]]:
         """The edges of a label out of a vertex, each with its line; of `attach` those into it
@@ -158,12 +189,18 @@ class Graph:
         """Where a request goes from a range."""
         chain = self.chain(own)
         bound = next((line for member in chain for line, _ in self.out(request.edge, member)), None)
+        monikers = self.monikers(chain)
+        named = [self.dump.at(moniker.line)["id"] for moniker in monikers]
+        results = [] if bound is None else self.results(self.dump.at(bound)["inV"])
         return Trail(
             self.dump.first[own],
             self.dump.span(own) or (0, 0, 0, 0),
             list(chain.values())[1:],
             bound,
-            self.monikers(chain),
+            monikers,
+            self.not_taken(chain, ("next", request.edge, "moniker"))
+            + self.not_taken(results, ("item",))
+            + self.not_taken(named, ("attach", "packageInformation")),
         )
 
     def covering(self, document: int, position: tuple[int, int]) -> list[Id]:
@@ -300,7 +337,7 @@ def steps(graph: Graph, trail: Trail, request: Request, maps: Maps) -> list[str]
         f"{moniker.kind} moniker at line {moniker.line}, by the edge at line {moniker.edge}: {moniker.key}"
         for moniker in trail.monikers
     ]
-    return [f"  {line}" for line in lines]
+    return [f"  {line}" for line in (*lines, *trail.refused)]
 
 
 def outcome(graph: Graph, trail: Optional[Trail], request: Request) -> list[str]:
@@ -316,7 +353,9 @@ def outcome(graph: Graph, trail: Optional[Trail], request: Request) -> list[str]
     count = len(places(graph, trail, request))
     lines = [f"answer: {count} place{'' if count == 1 else 's'} of this dump"]
     if trail.bound is not None and count == 0 and request is not REQUESTS["hover"]:
-        lines[0] += f", for no `item` edge of its {request.result} leads to a range"
+        is_taken = not any(line.startswith("item ") for line in trail.refused)
+        which = request.result if is_taken else f"{request.result} that the server takes"
+        lines[0] += f", for no `item` edge of its {which} leads to a range that a document contains"
     for moniker in trail.monikers:
         if moniker.kind in request.asks:
             lines.append(
@@ -356,7 +395,8 @@ def told(graph: Graph, call: argparse.Namespace, maps: Maps) -> int:
     position = position_of(call)
     trails = [graph.trail(own, request) for own in graph.covering(document, position)]
     head = f"{call.request} at {graph.documents[document]} (line {document}), {position[0]}:{position[1]}"
-    print("\n".join([head, *explained(graph, trails, request, maps)]), flush=True)
+    lines = graph.not_taken([graph.dump.at(document)["id"]], ("contains",))
+    print("\n".join([head, *lines, *explained(graph, trails, request, maps)]), flush=True)
     return 0 if asked(trails, request) else 1
 
 

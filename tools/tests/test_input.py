@@ -353,28 +353,30 @@ class Input(unittest.TestCase):
         metaData, wherever in the dump it stands: paths, what --without leaves out, and the files
         of --source."""
         source = vertex(9, "source", workspaceRoot="file:///w")
-        old, new = {**META, "projectRoot": "file:///w"}, {**META, "projectRoot": "file:///w/src"}
+        meta: dict[str, Any] = dict(META)
+        old, new = {**meta, "projectRoot": "file:///w"}, {**meta, "projectRoot": "file:///w/src"}
         document = vertex(2, "document", uri="src/\u00e9.ts")
         here = f"file://{os.path.realpath(os.curdir)}/x"
         left_out = (
             "left out: document whose address has no scheme, and no root is known (--root): 1"
         )
-        for rows, words, root in (
+        cases: list[tuple[list[dict[str, Any]], list[str], Optional[str]]] = [
             ([old, document], [], "file:///w"),
             ([META, source, document], [], "file:///w"),
             ([META, document, source], [], "file:///w"),
             ([document, META, source], [], "file:///w"),
             ([new, source, document], [], "file:///w"),
-            ([{**META, "projectRoot": "/w"}, document], [], "file:///w"),
-            ([{**META, "projectRoot": "C:\\w"}, document], [], "file:///c:/w"),
+            ([{**meta, "projectRoot": "/w"}, document], [], "file:///w"),
+            ([{**meta, "projectRoot": "C:\\w"}, document], [], "file:///c:/w"),
             ([old, document], ["--root", "file:///v/"], "file:///v"),
             ([META, source, document], ["--root", "/v"], "file:///v"),
             ([META, document], ["--root", "x"], here),
             ([META, document], [], None),
-        ):
+        ]
+        for rows, words, root in cases:
             with self.subTest(rows=rows, words=words):
-                for more in ([], ["--strip"]):
-                    status, out, said = self.called(prepare, dumped(*rows), *words, *more)
+                for strip in (words, [*words, "--strip"]):
+                    status, out, said = self.called(prepare, dumped(*rows), *strip)
                     uris = [json.loads(row).get("uri") for row in (out or b"").splitlines()]
                     uris = [uri for uri in uris if uri]
                     if root is None:
@@ -388,14 +390,16 @@ class Input(unittest.TestCase):
             3, "range", start={"line": 0, "character": 3}, end={"line": 0, "character": 4}
         )
         whole = vertex(2, "document", uri="file:///w/src/a.ts")
-        meta = {**META, "positionEncoding": "utf-8"}
+        meta["positionEncoding"] = "utf-8"
         with tempfile.TemporaryDirectory() as folder:
             os.mkdir(os.path.join(folder, "src"))
             with open(os.path.join(folder, "src", "a.ts"), "w", encoding="utf-8") as file:
                 file.write("\u00e9 x\n")
-            for rows, words in (([meta, source], []), ([meta], ["--root", "file:///w"])):
-                body = dumped(*rows, whole, span, edge(4, "contains", 2, [3]))
-                status, out, said = self.called(prepare, body, "--source", folder, *words)
+            of_source, of_call = [meta, source, whole, span], [meta, whole, span]
+            words = ["--source", folder]
+            for rows, more in ((of_source, words), (of_call, [*words, "--root", "file:///w"])):
+                body = dumped(*rows, edge(4, "contains", 2, [3]))
+                status, out, said = self.called(prepare, body, *more)
                 self.assertEqual(status, 0, said)
                 self.assertIn(b'"start":{"line":0,"character":2}', out or b"")
 

@@ -246,12 +246,13 @@ class Publish(OnCheckout):
             row["id"] for row in map(json.loads, body.splitlines()) if row["label"] == "resultSet"
         )
         dump = os.path.join(self.home, "raw.lsif")
-        for more, words, profile in (
+        cases: list[tuple[bytes, list[str], str]] = [
             (b"", [], "1"),
             (result + edge % own, [], "2"),
             (result + edge % own, ["--profile", "1"], "1"),
             (b"", ["--profile", "2"], "2"),
-        ):
+        ]
+        for more, words, profile in cases:
             with self.subTest(words, more=more):
                 with open(dump, "wb") as out:
                     out.write(body + more)

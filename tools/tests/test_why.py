@@ -4,19 +4,26 @@ small dumps."""
 import io
 import json
 import os
+import random
 import tempfile
 import unittest
-from contextlib import redirect_stderr, redirect_stdout
+from contextlib import redirect_stderr, redirect_stdout, suppress
 from typing import Any, NamedTuple, Optional
 
-from navtools import prepare, why
+from navtools import edges, prepare, why
 from navtools.explain import Dump
+from tests.accepted import Checker, is_id, key
 from tests.test_explain import BASE, META, edge, span, vertex
+from tests.test_prepared import dumps, lose, redirect, relabel, single, twist
 
 TOP = os.path.dirname(os.path.dirname(os.path.dirname(os.path.abspath(__file__))))
 ANSWERS = os.path.join(TOP, "tools", "tests", "answers.json")
 DUMPS = {"base.lsif": "app", "crate.raw.lsif": "temperature", "user.raw.lsif": "kettle"}
 Question = tuple[str, str, str, int, int]
+
+LATER = ("L11", "L12", "L14", "L16")
+"""Codes that other elements than the ends decide."""
+START = {"line": 0, "character": 0}
 
 PACKAGE = vertex("p", "packageInformation", manager="npm", name="lib", version="1.0.0")
 DOCUMENT = vertex(2, "document", uri="file:///src/a.ts")
@@ -97,6 +104,28 @@ EMPTY = [
     edge(5, "textDocument/definition", 3, 4),
     edge(6, "contains", 2, [3]),
 ]
+WITHOUT_PROPERTY = [
+    META,
+    DOCUMENT,
+    span(3, 0, 1),
+    vertex(4, "referenceResult"),
+    edge(5, "textDocument/references", 3, 4),
+    edge(6, "item", 4, [3], shard=2),
+    edge(7, "textDocument/definition", 3, 4),
+    edge(8, "contains", 2, [3]),
+    edge(9, "contains", 2, 3),
+]
+UNCONTAINED = [
+    META,
+    DOCUMENT,
+    span(3, 0, 1),
+    span(4, 1, 2),
+    vertex(5, "definitionResult"),
+    edge(6, "textDocument/definition", 3, 5),
+    edge(7, "item", 5, [4], shard=2),
+    edge(8, "contains", 2, [3]),
+    edge(9, "moniker", 3, 10),
+]
 CHAIN = [
     META,
     DOCUMENT,
@@ -176,7 +205,7 @@ ROWS = [
             "range at line 4, 0:5 to 0:8: asked, for it has a definition result",
             "  textDocument/definition edge at line 10, to the definitionResult at line 9",
             "range at line 3, 0:0 to 0:20: not asked, for a smaller range is",
-            "answer: 0 places of this dump, for no `item` edge of its definition result leads to a range",
+            "answer: 0 places of this dump, for no `item` edge of its definition result leads to a range that a document contains",
         ],
     ),
     Row(
@@ -269,7 +298,44 @@ ROWS = [
         [
             "range at line 3, 0:0 to 0:1: asked, for it has a definition result",
             "  textDocument/definition edge at line 5, to the definitionResult at line 4",
-            "answer: 0 places of this dump, for no `item` edge of its definition result leads to a range",
+            "answer: 0 places of this dump, for no `item` edge of its definition result leads to a range that a document contains",
+        ],
+    ),
+    Row(
+        WITHOUT_PROPERTY,
+        "references",
+        (0, 0),
+        0,
+        [
+            "contains edge at line 9, which the server doesn't take: it hasn't its ends in `outV` and `inVs` alone (L08 bad edge ends)",
+            "range at line 3, 0:0 to 0:1: asked, for it has a reference result",
+            "  textDocument/references edge at line 5, to the referenceResult at line 4",
+            "  item edge at line 6, which the server doesn't take: it leads from a referenceResult to a range without a `property` (L10 edge may not join these)",
+            "answer: 0 places of this dump, for no `item` edge of its reference result that the server takes leads to a range that a document contains",
+        ],
+    ),
+    Row(
+        WITHOUT_PROPERTY,
+        "definition",
+        (0, 0),
+        1,
+        [
+            "contains edge at line 9, which the server doesn't take: it hasn't its ends in `outV` and `inVs` alone (L08 bad edge ends)",
+            "range at line 3, 0:0 to 0:1: not asked: it has no definition result and no `next` edge, and no import moniker",
+            "  textDocument/definition edge at line 7, which the server doesn't take: it leads from a range to a referenceResult (L10 edge may not join these)",
+            "answer: empty, for no range here is asked",
+        ],
+    ),
+    Row(
+        UNCONTAINED,
+        "definition",
+        (0, 0),
+        0,
+        [
+            "range at line 3, 0:0 to 0:1: asked, for it has a definition result",
+            "  textDocument/definition edge at line 6, to the definitionResult at line 5",
+            "  moniker edge at line 9, which the server doesn't take: no vertex has the id 10 (L09 vertex not emitted before)",
+            "answer: 0 places of this dump, for no `item` edge of its definition result leads to a range that a document contains",
         ],
     ),
     Row(
@@ -331,6 +397,34 @@ class Why(unittest.TestCase):
         }
         self.assertEqual({(name, *place) for name, _, *place, _ in answers}, starts)
 
+    def test_edges_that_the_server_takes(self) -> None:
+        """Of changed dumps, why an edge isn't taken is the code that it has where all vertices stand
+        before it, and no other edge."""
+        for name, elements in dumps().items():
+            for seed in range(4):
+                chance = random.Random(f"{name} {seed}")
+                changed = [json.loads(json.dumps(element)) for element in elements]
+                for _ in range(8):
+                    with suppress(KeyError, TypeError, AttributeError, IndexError):
+                        chance.choice((redirect, twist, lose, relabel, single))(changed, chance)
+                self.compare([one for one in changed if isinstance(one.get("label"), str)])
+
+    def compare(self, elements: list[dict[str, Any]]) -> None:
+        """The reasons for the edges of a dump."""
+        labels, checker = {}, Checker("2")
+        checker.vertices = {key("shard"): {"label": "document"}}
+        for one in elements:
+            if one.get("type") == "vertex" and is_id(one.get("id")):
+                checker.vertices[key(one["id"])] = {**one, "start": START, "end": START}
+                labels[key(one["id"])] = one["label"]
+        for one in elements:
+            if one.get("type") == "edge" and one.get("label") in edges.JOINED:
+                checker.single, checker.next, checker.home, checker.spans = set(), {}, {}, {}
+                code = checker.edge({**one, "shard": "shard"})
+                reason = edges.flaw(one, lambda own: labels.get(key(own), ""))
+                said = reason.rpartition("(")[2][:3] or None
+                self.assertEqual(said, None if code in LATER else code, (one, reason))
+
     def test_documents(self) -> None:
         two = [
             *BASE,
@@ -386,14 +480,14 @@ class Why(unittest.TestCase):
                 )
 
     def test_what_is_refused(self) -> None:
-        wrong = [
-            *BASE[:5],
-            json.dumps({"id": 6, "type": "edge", "label": "next", "outV": 3, "inVs": [5]}),
-            *BASE[7:],
-        ]
+        wrong = [*BASE, vertex(12, "hoverResult"), edge(13, "textDocument/hover", 3, 12)]
         for dump, words, message in (
             (["{}"], ["a.ts", "1", "1"], "DUMP, line 1: no element with a type and a label"),
-            (wrong, ["a.ts", "1", "5"], "DUMP: not a dump that `codenav check-lsif` accepts"),
+            (
+                wrong,
+                ["a.ts", "1", "5", "--request", "hover"],
+                "DUMP: not a dump that `codenav check-lsif` accepts",
+            ),
             (BASE, ["a.ts", "0", "5"], "lines and columns count from 1, not 0"),
             (
                 BASE,
