@@ -70,6 +70,7 @@ vim.lsp.buf.workspace_symbol("is_w")
 show_list("symbol")
 
 at_call()
+messages.edited = nil
 vim.api.nvim_buf_set_lines(buffer, 0, 0, false, { "// edited" })
 vim.lsp.buf_request(buffer, "textDocument/hover", vim.lsp.util.make_position_params(), function() end)
 wait_for("an edited file", function() return messages.edited ~= nil end)
