@@ -12,6 +12,7 @@ from random import Random
 from typing import Any, Callable
 
 from navtools import ask, prepare, publish, upload
+from navtools.client import NoReply
 from navtools.indexed import Indexed
 from navtools.questions import Questions, fetch_from
 from navtools.records import Prepared, new_record
@@ -312,7 +313,11 @@ class Switched(OnServer, InRepository):
             asker = Asker(self, turns)
             while asker.requests < 80:
                 count = len(asker.said)
-                found = asker.ask()
+                try:
+                    found = asker.ask()
+                except NoReply as fault:
+                    self.assertIn("again and again", str(fault))
+                    continue
                 if len(asker.said) == count and not asker.is_of_none():
                     self.assertEqual(found, asker.right(), (seed, asker.requests))
 
