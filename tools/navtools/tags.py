@@ -1,14 +1,14 @@
-"""Tags that the server found, and the places that their addresses lead to (tags(5))."""
+"""Tags that the server found, and the places of their names in the files of today."""
 
-import functools
 import os
-import re
-from typing import Any, Callable, Iterable, Iterator, Optional
+from typing import Any, Callable, Iterator, Optional
 
-from navtools.places import Place, lines_of, units
+from navtools.places import Place, units
+from navtools.tagged import Tagged, Words
 from navtools.words import BadCall, project_of
 
-ADDRESS = re.compile(r"(?P<line>[0-9]+)?;?(?:(?P<mark>[/?])(?P<pattern>.*)(?P=mark))?", re.DOTALL)
+Tag = dict[str, Any]
+BATCH = 256
 
 
 def folders_of(texts: list[str]) -> dict[str, str]:
@@ -21,66 +21,64 @@ def folders_of(texts: list[str]) -> dict[str, str]:
     return folders
 
 
-def line_by(pattern: str, lines: list[str], first: int, backwards: bool) -> Optional[int]:
-    """The line that a pattern finds, from a line on, or from the end back: `^` at its beginning and
-    `$` at its end alone are more than themselves."""
-    at_end = re.search(r"(?<!\\)(\\\\)*\$$", pattern) is not None
-    text = re.sub(r"\\(.)", r"\1", pattern.removeprefix("^")[: -1 if at_end else None])
-    order: Iterable[int] = (
-        range(len(lines) - 1, -1, -1) if backwards else [*range(first, len(lines)), *range(first)]
-    )
-    for index in order:
-        line = lines[index]
-        if pattern.startswith("^"):
-            is_it = line == text if at_end else line.startswith(text)
-        else:
-            is_it = line.endswith(text) if at_end else text in line
-        if is_it:
-            return index
-    return None
-
-
-def line_at(tag: dict[str, Any], lines: list[str]) -> Optional[int]:
-    """The line of a tag in its file, from 0: by the address, else by the field `line`; None where
-    neither says it."""
-    parts = ADDRESS.fullmatch(tag["address"])
-    first = int(parts["line"]) - 1 if parts and parts["line"] else None
-    if parts and parts["mark"]:
-        found = line_by(parts["pattern"], lines, min(first or 0, len(lines)), parts["mark"] == "?")
-        if found is not None:
-            return found
-    numbers = (value for name, value in tag["fields"] if name == "line" and value.isdecimal())
-    if first is None:
-        first = next((int(value) - 1 for value in numbers), None)
-    return None if first is None else max(first, 0)
+def lines_in(path: str) -> list[str]:
+    """The lines of a file, none where it can't be read; bytes that aren't UTF-8 are a character
+    each."""
+    try:
+        with open(path, encoding="utf-8", errors="surrogateescape", newline="\n") as text:
+            return [line.removesuffix("\r") for line in text.read().split("\n")]
+    except (OSError, ValueError):
+        return []
 
 
 def places_of(
-    tags: list[dict[str, Any]], folder_of: Callable[[str], Optional[str]]
-) -> Iterator[tuple[dict[str, Any], Place]]:
+    tags: list[Tag], folder_of: Callable[[str], Optional[str]]
+) -> Iterator[tuple[Tag, Place]]:
     """Tags with the places of their names, without those of a project that has no folder; files are
     named from the folder of the project.
 
     Where a name isn't on its line, the place is the beginning of the line. Where nothing says the
     line any more, it's the top of the file, and a tag whose file isn't there either is left out:
     the folder is another one, or the file was removed.
+
+    Files are read for some tags first and for many more then, so that the first places don't wait
+    for the files of all.
     """
+    at, count = 0, BATCH
+    while at < len(tags):
+        yield from batch_of(tags[at : at + count], folder_of)
+        at, count = at + count, 16 * count
 
-    @functools.cache
-    def readable_lines(path: str) -> list[str]:
-        try:
-            return lines_of(path)
-        except (OSError, BadCall, ValueError):
-            return []
 
-    for tag in tags:
+def batch_of(
+    tags: list[Tag], folder_of: Callable[[str], Optional[str]]
+) -> Iterator[tuple[Tag, Place]]:
+    """Some tags with the places of their names."""
+    of_files: dict[str, list[int]] = {}
+    for number, tag in enumerate(tags):
         folder = folder_of(tag["project"])
         if folder is not None:
             path = os.path.normpath(os.path.join(folder, tag["file"]))
-            lines = readable_lines(path)
-            line = line_at(tag, lines)
-            if line is None and not lines:
-                continue
-            line = line or 0
-            before, name, _ = (lines[line] if line < len(lines) else "").partition(tag["name"])
-            yield tag, Place(path, line, units(before) if name else 0)
+            of_files.setdefault(path, []).append(number)
+    places: dict[int, Place] = {}
+    for path, numbers in of_files.items():
+        places.update(places_in(path, {number: tags[number] for number in numbers}))
+    return ((tags[number], places[number]) for number in sorted(places))
+
+
+def places_in(path: str, tags: dict[int, Tag]) -> Iterator[tuple[int, Place]]:
+    """The places of tags of one file, by their numbers."""
+    tagged = Tagged(lines_in(path))
+    of_lines: dict[int, list[int]] = {}
+    for number, tag in tags.items():
+        line = tagged.line_of(tag)
+        if line is not None or tagged.lines:
+            of_lines.setdefault(line or 0, []).append(number)
+    for line, numbers in of_lines.items():
+        words = Words(tagged.lines[line] if line < len(tagged.lines) else "")
+        columns = sorted((words.column(tags[number]["name"]), number) for number in numbers)
+        after = character = 0
+        for column, number in columns:
+            character += units(words.line[after:column])
+            after = column
+            yield number, Place(path, line, character)

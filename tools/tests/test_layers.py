@@ -14,7 +14,7 @@ MOST_LINES = 300
 LAYERS = {
     "ground": ("", "words outputs notes progress addresses records"),
     "program": ("ground", "serving"),
-    "texts": ("ground", "places columns revisions indexed moved.*"),
+    "texts": ("ground", "places columns revisions indexed tagged moved.*"),
     "client": ("ground", "client projects remove upload"),
     "dumps": (
         "ground texts",

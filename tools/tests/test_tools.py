@@ -11,7 +11,7 @@ from typing import Any
 from unittest import mock
 from urllib.parse import quote
 
-from navtools import ask, client, places, prepare, questions, rows, tags, upload
+from navtools import ask, client, places, prepare, questions, rows, upload
 from navtools.client import Answer
 from tests.servers import replying
 
@@ -311,26 +311,6 @@ class Places(unittest.TestCase):
             [places.path_of(uri, maps) for uri in ("http://h/y/b", "http://h/b", "file://host/b")],
             ["/tmp/x/y=z/b", None, None],
         )
-
-    def test_tags(self) -> None:
-        lines = ["int f;", "  /* a/b\\c */ f()", "f() $", "int f;", ""]
-        for address, fields, line in (
-            ("3", [], 2),
-            ("/^int f;$/", [], 0),
-            ("?^int f;$?", [], 3),
-            ("4;/^int f;$/", [], 3),
-            ("4;/a\\/b\\\\c/", [], 1),
-            ("/^int/", [], 0),
-            ("/ f()$/", [], 1),
-            ("/^f() \\$$/", [], 2),
-            ("/gone/", [], None),
-            ("/gone/", [["line", "4"]], 3),
-            ("2;/gone/", [["line", "4"]], 1),
-            ("/", [["line", "0"]], 0),
-        ):
-            self.assertEqual(
-                tags.line_at({"address": address, "fields": fields}, lines), line, address
-            )
 
 
 NOT_MAPPED = "ask: app: no revision is kept with its index; its places aren't mapped\n"
