@@ -7,7 +7,8 @@ import os
 import sys
 from typing import Any, Optional
 
-from navtools.client import SECONDS
+from navtools.by_name import ByName, add_by_name, has_dump, has_tags
+from navtools.client import SECONDS, NoReply
 from navtools.indexed import Indexed, NotThere, add_indexed, position_of, sources_of
 from navtools.places import (
     Place,
@@ -53,7 +54,12 @@ def tags_of(call: argparse.Namespace, settings: Settings) -> list[dict[str, Any]
                 servers, settings.project, parameters, lambda url: fetch_from(url, SECONDS)
             )
     index = Index(settings.project, fetch_from(settings.server, SECONDS))
-    return index.names(parameters, call.all_projects)
+    tags = index.names(parameters, call.all_projects)
+    if not tags and not call.all_projects and not has_dump(index) and not has_tags(index):
+        raise NoReply(
+            f"{settings.project} isn't known to {settings.server}: it has no dump, and no tag whose name begins with a letter"
+        )
+    return tags
 
 
 def is_whole_file(place: dict[str, Any], file: str) -> bool:
@@ -73,6 +79,17 @@ def warn(line: str) -> None:
     print(f"ask: {line}", file=sys.stderr)
 
 
+def answered(
+    questions: Questions, what: str, folder: str, path: str, line: int, character: int, **more: str
+) -> Reply:
+    """What the index has at a place, or where there are tags alone what these have. Raises
+    NoReply."""
+    try:
+        return questions.ask(what, path, line, character, **more)
+    except NoReply as fault:
+        return ByName(questions).instead(fault, folder, what, path, line, character)
+
+
 def reply_at(call: argparse.Namespace, settings: Settings) -> Reply:
     """What is found at the place that a call names; empty, with a line, where the place is new.
     Raises NoReply."""
@@ -86,12 +103,18 @@ def reply_at(call: argparse.Namespace, settings: Settings) -> Reply:
     more = {"declaration": "no"} if call.what == "references" and call.no_declaration else {}
     path = asked_path(call.file, maps)
     try:
-        reply = questions.ask(call.what, path, call.line - 1, character, **more)
+        at = settings.tags.get(project, settings.folder), path, call.line - 1, character
+        if call.what == "definition" and call.by_name:
+            reply = ByName(questions).reply(*at)
+        else:
+            reply = answered(questions, call.what, *at, **more)
     except NotThere as fault:
         warn(str(fault))
         return Reply(None if call.what == "hover" else [], "")
     finally:
         indexed.end()
+    if reply.note:
+        warn(reply.note)
     if reply.of:
         warn(f"{call.file} changed since: the answer is of {reply.of}")
     if reply.why:
@@ -168,6 +191,8 @@ def words_parser() -> argparse.ArgumentParser:
             one.add_argument(
                 "--no-declaration", action="store_true", help="without the declaration itself"
             )
+        if kind == "definition":
+            add_by_name(one)
         one.add_argument("file", metavar="FILE")
         one.add_argument("line", metavar="LINE", type=int)
         one.add_argument("column", metavar="COLUMN", type=int)

@@ -8,6 +8,7 @@ import argparse
 import sys
 from typing import Optional
 
+from navtools.by_name import add_by_name
 from navtools.browsing.answers import Browser
 from navtools.browsing.colours import MISSING, lexer_of
 from navtools.browsing.folder import Folder
@@ -47,6 +48,7 @@ def words_parser() -> argparse.ArgumentParser:
     )
     parser.add_argument("--port", type=int, default=8081, help="8081 without it; 0 for a free one")
     add_indexed(parser)
+    add_by_name(parser)
     add_words(
         parser,
         form,
@@ -75,6 +77,7 @@ def browser_of(call: argparse.Namespace) -> Browser:
         folders_of(call.tags),
         tuple(call.revision),
         call.indexed,
+        call.by_name,
     )
     settings = settings_by(given, nearest(folder.given), f"above {folder.given}")
     sources_of(list(settings.revisions), settings.indexed, settings.project, settings.folder)

@@ -12,6 +12,7 @@ import os
 import sys
 from typing import Any, BinaryIO, Callable, Optional
 
+from navtools.by_name import add_by_name
 from navtools.indexed import NotThere, add_indexed, sources_of
 from navtools.jsonrpc import (
     INVALID_PARAMS,
@@ -96,6 +97,7 @@ class Bridge:
         self.open = OpenDocuments()
         self.edited: set[str] = set()
         self.refusal: Optional[str] = None
+        self.noted = {""}
 
     def send(self, message: Message) -> None:
         """Sends a message."""
@@ -228,6 +230,9 @@ class Bridge:
             self.tell_refusal(str(fault))
             return None
         self.compare(name, reply.of)
+        if reply.note not in self.noted:
+            self.noted.add(reply.note)
+            self.tell("window/showMessage", INFO, reply.note)
         if reply.why:
             self.tell_refusal(reply.why)
         else:
@@ -368,6 +373,7 @@ def words_parser() -> argparse.ArgumentParser:
     )
     parser.add_argument("--log", metavar="FILE", help="write the traffic with the editor to FILE")
     add_indexed(parser)
+    add_by_name(parser)
     add_server(parser, is_optional=True)
     parser.add_argument(
         "project",
@@ -394,6 +400,7 @@ def settings_given(call: argparse.Namespace) -> Optional[Settings]:
         folders_of(call.tags),
         tuple(call.revision),
         call.indexed,
+        call.by_name,
     )
 
 

@@ -100,11 +100,13 @@ SHAPES: dict[str, Callable[[Any], bool]] = {
 
 class Reply(NamedTuple):
     """What was found, places as they are today or the contents of a hover; how the indexed text is
-    called where that of today differs; and why nothing can be found, where that's known."""
+    called where that of today differs; why nothing can be found, where that's known; and how else
+    it was found."""
 
     found: Any
     of: str
     why: str = ""
+    note: str = ""
 
 
 class Questions:

@@ -8,6 +8,7 @@ each of its project, and needs no command line.
 import os
 from typing import Any, Callable, Iterator, Optional
 
+from navtools.by_name import ByName
 from navtools.client import NoReply
 from navtools.indexed import Indexed, Source, sources_of
 from navtools.questions import Fetch, Questions, Reply, fetch_from
@@ -37,6 +38,7 @@ class Workspace:
         self.root, self.given, self.say, self.today = root, given, say, today
         self.read: dict[str, Optional[Settings]] = {}
         self.asking: dict[tuple[str, str], Questions] = {}
+        self.naming: dict[tuple[str, str], ByName] = {}
         self.mapping: dict[str, Indexed] = {}
         self.holders: dict[str, list[str]] = {}
 
@@ -79,6 +81,13 @@ class Workspace:
             self.asking[key] = Questions(project, fetch, self.mapping[settings.folder])
         return self.asking[key]
 
+    def by_name(self, settings: Settings, project: str) -> ByName:
+        """What answers by the tags of a project of the settings' server."""
+        key = settings.folder, project
+        if key not in self.naming:
+            self.naming[key] = ByName(self.questions(settings, project))
+        return self.naming[key]
+
     def source(self, project: str, path: str) -> Optional[Source]:
         """The texts that were indexed of a file of another project, where the file's own settings
         name that project and say so."""
@@ -107,14 +116,22 @@ class Workspace:
             raise BadCall(
                 f"neither a {FILE} above {path} nor the command line says of which project it is"
             )
+        if settings.by_name and what == "definition" and os.path.isabs(path):
+            folder = settings.tags_folder(settings.project)
+            return self.by_name(settings, settings.project).reply(folder, path, line, character)
         projects = self.projects(settings, path)
         for project in projects:
             try:
                 reply = self.questions(settings, project).ask(what, path, line, character, **more)
             except NoReply as fault:
-                if project == projects[-1] or not str(fault).startswith(UNKNOWN):
-                    raise NoReply(f"{project}: {fault}") from None
-                continue
+                if project != projects[-1] and str(fault).startswith(UNKNOWN):
+                    continue
+                try:
+                    folder = settings.tags_folder(project)
+                    by_name = self.by_name(settings, project)
+                    reply = by_name.instead(fault, folder, what, path, line, character)
+                except NoReply as own:
+                    raise NoReply(f"{project}: {own}") from None
             if what != "hover":
                 self.learn(project, reply.found)
             return reply

@@ -30,7 +30,7 @@ LAYERS = {
     "settings": ("ground texts client sets", "settings checkout_settings"),
     "asking": (
         "ground texts client sets settings",
-        "questions workspace versions tags sets.ask surfaces.names",
+        "questions workspace by_name versions tags sets.ask surfaces.names",
     ),
     "publishing": ("ground texts client program dumps index sets settings", "publish left_out"),
     "lsp": ("ground texts settings asking", "lsp jsonrpc"),
@@ -72,6 +72,7 @@ survey
 why
 """
 USES = """
+by_name: argparse
 indexed: argparse
 outputs: print
 progress: print

@@ -59,13 +59,15 @@ class Browser:
                 reply, notes = view.ask(what, path, line, character)
                 if what == "hover":
                     nodes = [] if reply.found is None else tree_of(reply.found)
-                    return {"nodes": nodes, "said": said(notes, reply.of)}
+                    return {"nodes": nodes, "said": said(notes, reply.note, reply.of)}
                 answer = self.places(view, reply.found, path, what)
+                if what == "references" and reply.note:
+                    return {**answer, "said": said(notes, reply.note, reply.of)}
                 if what == "references":
                     self.mark_definitions(view, answer, path, line, character)
             except NotThere as fault:
                 return {"places": [], "nodes": [], "said": about(fault), "is_new": True}
-        answer["said"] = said(answer["said"], notes, reply.of)
+        answer["said"] = said(answer["said"], notes, reply.note, reply.of)
         return answer
 
     def places(self, view: View, found: Any, path: str, what: str) -> dict[str, Any]:
