@@ -1,0 +1,156 @@
+"""Tests of definitions by name, where a project has tags alone and where they're asked for, and of
+what is said of projects that aren't known."""
+
+import io
+import os
+import tempfile
+import unittest
+from contextlib import redirect_stderr, redirect_stdout
+
+from navtools import ask, upload
+from navtools.browsing.answers import Browser
+from navtools.browsing.folder import Folder
+from navtools.by_name import name_at
+from navtools.places import uri_of
+from navtools.workspace import Settings
+from tests.servers import TOP, OnServer
+from tests.test_lsp import Editor
+
+DUMP = os.path.join(TOP, "demo", "base.lsif")
+FILES = {
+    "src/main.c": "int area(int r);\nint main(void) { return area(2) + twice(1) + gone(); }\n",
+    "src/help.c": "static int twice(int x) { return 2 * x; }\n",
+    "lib/area.c": "int area(int r) { return r * r; }\nstatic int twice(int x) { return x; }\n",
+    "lib/main.h": "int twice_as_much;\n",
+}
+TAGS = (
+    ("area", "lib/area.c", "/^int area(int r) { return r * r; }$/"),
+    ("main", "src/main.c", "2"),
+    ("twice", "lib/area.c", "/^static int twice(int x) { return x; }$/"),
+    ("twice", "src/help.c", "/^static int twice(int x) { return 2 * x; }$/"),
+    ("twice_as_much", "lib/main.h", "1"),
+)
+ALONE = "app has tags alone"
+
+
+class Names(unittest.TestCase):
+    def test_the_identifier_at_a_character(self) -> None:
+        for line, character, name in (
+            ("a.bc = d", 0, "a"),
+            ("a.bc = d", 1, "a"),
+            ("a.bc = d", 2, "bc"),
+            ("a.bc = d", 4, "bc"),
+            ("a.bc = d", 6, ""),
+            ("a.bc = d", 8, "d"),
+            ("a.bc = d", 99, "d"),
+            ("\U0001f600e\u0301f g", 2, "e\u0301f"),
+            ("\U0001f600e\u0301f g", 5, "e\u0301f"),
+            ("", 0, ""),
+        ):
+            self.assertEqual(name_at(line, character), name, (line, character))
+
+
+class OverTags(OnServer):
+    """Tests over a project that has tags alone."""
+
+    def setUp(self) -> None:
+        super().setUp()
+        self.folder = os.path.realpath(self.enterContext(tempfile.TemporaryDirectory()))
+        for name, text in {
+            **FILES,
+            "tags": "".join(map("{0[0]}\t{0[1]}\t{0[2]}\n".format, TAGS)),
+        }.items():
+            path = os.path.join(self.folder, name)
+            os.makedirs(os.path.dirname(path), exist_ok=True)
+            with open(path, "w", encoding="utf-8") as file:
+                file.write(text)
+        self.put("tags", "app", os.path.join(self.folder, "tags"))
+
+    def put(self, kind: str, *words: str) -> None:
+        """Uploads a dump or tags."""
+        with redirect_stdout(io.StringIO()):
+            self.assertEqual(upload.main(kind, [self.url, *words]), 0)
+
+    def asked(self, project: str, what: str, *words: str) -> tuple[int, list[str], str]:
+        """The status of `ask`, and what it prints on both outputs, from the folder on."""
+        with redirect_stdout(io.StringIO()) as said, redirect_stderr(io.StringIO()) as warned:
+            status = ask.main(
+                ["--tags", f"{project}={self.folder}", self.url, project, what, *words]
+            )
+        places = said.getvalue().replace(os.path.relpath(self.folder) + "/", "")
+        return status, places.replace(self.folder + "/", "").split(), warned.getvalue()
+
+    def test_ask(self) -> None:
+        main = os.path.join(self.folder, "src/main.c")
+        by_name = f"ask: {ALONE}: the definition is by name\n"
+        for what, column, found in (
+            ("definition", "27", (0, ["lib/area.c:1:5"], by_name)),
+            ("definition", "36", (0, ["src/help.c:1:12", "lib/area.c:2:12"], by_name)),
+            ("definition", "7", (0, ["src/main.c:2:5"], by_name)),
+            ("definition", "48", (1, [], by_name)),
+            ("references", "27", (1, [], f"ask: {ALONE}: no references\n")),
+            ("hover", "27", (1, [], f"ask: {ALONE}: no hover\n")),
+        ):
+            with self.subTest(what, column=column):
+                self.assertEqual(self.asked("app", what, main, "2", column), found)
+
+    def test_a_project_with_a_dump_is_asked_by_name_alone_where_that_is_wished(self) -> None:
+        self.put("lsif", "app", DUMP)
+        main = os.path.join(self.folder, "src/main.c")
+        status, found, said = self.asked("app", "definition", main, "2", "27")
+        self.assertEqual((status, found), (2, []))
+        self.assertIn("D02 no such document", said)
+        wished = "ask: the definition is by name, among the tags of app\n"
+        self.assertEqual(
+            self.asked("app", "definition", "--by-name", main, "2", "27"),
+            (0, ["lib/area.c:1:5"], wished),
+        )
+
+    def test_projects_that_are_not_known(self) -> None:
+        self.put("lsif", "dump", DUMP)
+        main = os.path.join(self.folder, "src/main.c")
+        for project in "app", "dump":
+            self.assertEqual(self.asked(project, "names", "none"), (1, [], ""))
+        unknown = f"ask: ap isn't known to {self.url}: it has no dump, and no tag whose name begins with a letter\n"
+        self.assertEqual(self.asked("ap", "names", "none"), (2, [], unknown))
+        status, _, said = self.asked("ap", "definition", main, "2", "27")
+        self.assertEqual((status, said.split(":")[1]), (2, " D01 project has no dump"))
+
+    def uri(self, name: str) -> str:
+        """The address of a file."""
+        return uri_of(os.path.join(self.folder, name), [])
+
+    def test_an_editor(self) -> None:
+        """What is said of the project is said once for each kind."""
+        editor = Editor(self.url, "app")
+        editor.call("initialize", {"rootUri": uri_of(self.folder, []), "capabilities": {}})
+        help_, area = ("src/help.c", 0, 11), ("lib/area.c", 1, 11)
+        note = f"codenav: {ALONE}: the definition is by name"
+        for character, places, said in (
+            (26, [("lib/area.c", 0, 4)], [note]),
+            (36, [help_, area], []),
+            (47, [], []),
+        ):
+            at = {"line": 1, "character": character}
+            found, told = editor.call(
+                "textDocument/definition",
+                {"textDocument": {"uri": self.uri("src/main.c")}, "position": at},
+            )
+            starts = [(one["uri"], *one["range"]["start"].values()) for one in found]
+            self.assertEqual(starts, [(self.uri(name), *place) for name, *place in places])
+            self.assertEqual([text for _, _, text in told], said)
+        self.assertEqual(editor.end("shutdown", "exit")[0], 0)
+
+    def test_the_page(self) -> None:
+        browser = Browser(Folder(self.folder), Settings(self.url, "app", self.folder))
+        at = {"path": "src/main.c", "line": "1", "character": "36"}
+        found = browser.asked({"what": "definition", **at})
+        self.assertEqual(
+            [row["href"] for row in found["places"]],
+            ["/files/src/help.c#L1C12", "/files/lib/area.c#L2C12"],
+        )
+        self.assertEqual(
+            found["said"], f"2 definitions in 2 files; {ALONE}: the definition is by name"
+        )
+        for what in "references", "hover":
+            self.assertEqual(browser.asked({"what": what, **at})["said"], f"{ALONE}: no {what}")
