@@ -103,11 +103,11 @@ def reply_at(call: argparse.Namespace, settings: Settings) -> Reply:
     more = {"declaration": "no"} if call.what == "references" and call.no_declaration else {}
     path = asked_path(call.file, maps)
     try:
-        at = settings.tags.get(project, settings.folder), path, call.line - 1, character
+        folder, line = settings.tags.get(project, settings.folder), call.line - 1
         if call.what == "definition" and call.by_name:
-            reply = ByName(questions).reply(*at)
+            reply = ByName(questions).reply(folder, path, line, character)
         else:
-            reply = answered(questions, call.what, *at, **more)
+            reply = answered(questions, call.what, folder, path, line, character, **more)
     except NotThere as fault:
         warn(str(fault))
         return Reply(None if call.what == "hover" else [], "")

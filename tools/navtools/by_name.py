@@ -81,7 +81,8 @@ class ByName:
         if not str(fault).startswith(NO_DUMP) or not os.path.isabs(path) or not self.has_tags():
             raise fault
         if what != "definition":
-            return Reply(None if what == "hover" else [], "", "", f"{name} has tags alone: no {what}")
+            note = f"{name} has tags alone: no {what}"
+            return Reply(None if what == "hover" else [], "", "", note)
         found = self.definitions(folder, path, line, character)
         return Reply(found, "", "", f"{name} has tags alone: the definition is by name")
 

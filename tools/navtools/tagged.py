@@ -126,11 +126,11 @@ class Words:
 class Tagged:
     """The lines of a file, as far as they are looked for.
 
-    ctags leaves out a byte order mark, and cuts a line at a carriage return or a NUL.
+    ctags cuts a line at a carriage return or a NUL.
     """
 
     def __init__(self, lines: list[str]) -> None:
-        self.lines = [*(line.removeprefix("\ufeff") for line in lines[:1]), *lines[1:]]
+        self.lines = lines
         self.cut = [CUT.split(line, maxsplit=1)[0] for line in self.lines]
         self.kept: dict[Pattern, list[int]] = {}
         self.cost = 1 + sum(map(len, lines)) // max(len(lines), 1) // 100

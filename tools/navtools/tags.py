@@ -5,6 +5,7 @@ from typing import Any, Callable, Iterator, Optional
 
 from navtools.places import Place, units
 from navtools.tagged import Tagged, Words
+from navtools.texts import lines_of
 from navtools.words import BadCall, project_of
 
 Tag = dict[str, Any]
@@ -21,13 +22,11 @@ def folders_of(texts: list[str]) -> dict[str, str]:
     return folders
 
 
-def lines_in(path: str) -> list[str]:
-    """The lines of a file, none where it can't be read; bytes that aren't UTF-8 are a character
-    each."""
+def readable_lines(path: str) -> list[str]:
+    """The lines of a file, none where it can't be read."""
     try:
-        with open(path, encoding="utf-8", errors="surrogateescape", newline="\n") as text:
-            return [line.removesuffix("\r") for line in text.read().split("\n")]
-    except (OSError, ValueError):
+        return lines_of(path)
+    except (OSError, BadCall, ValueError):
         return []
 
 
@@ -68,7 +67,7 @@ def batch_of(
 
 def places_in(path: str, tags: dict[int, Tag]) -> Iterator[tuple[int, Place]]:
     """The places of tags of one file, by their numbers."""
-    tagged = Tagged(lines_in(path))
+    tagged = Tagged(readable_lines(path))
     of_lines: dict[int, list[int]] = {}
     for number, tag in tags.items():
         line = tagged.line_of(tag)

@@ -12,7 +12,7 @@ from navtools.browsing.answers import Browser
 from navtools.browsing.folder import Folder
 from navtools.by_name import name_at
 from navtools.places import uri_of
-from navtools.workspace import Settings
+from navtools.settings import Settings
 from tests.servers import TOP, OnServer
 from tests.test_lsp import Editor
 
@@ -111,7 +111,8 @@ class OverTags(OnServer):
         main = os.path.join(self.folder, "src/main.c")
         for project in "app", "dump":
             self.assertEqual(self.asked(project, "names", "none"), (1, [], ""))
-        unknown = f"ask: ap isn't known to {self.url}: it has no dump, and no tag whose name begins with a letter\n"
+        unknown = f"ask: ap isn't known to {self.url}: it has no dump, and no tag whose name "
+        unknown += "begins with a letter\n"
         self.assertEqual(self.asked("ap", "names", "none"), (2, [], unknown))
         status, _, said = self.asked("ap", "definition", main, "2", "27")
         self.assertEqual((status, said.split(":")[1]), (2, " D01 project has no dump"))
@@ -124,13 +125,11 @@ class OverTags(OnServer):
         """What is said of the project is said once for each kind."""
         editor = Editor(self.url, "app")
         editor.call("initialize", {"rootUri": uri_of(self.folder, []), "capabilities": {}})
-        help_, area = ("src/help.c", 0, 11), ("lib/area.c", 1, 11)
+        twice = [("src/help.c", 0, 11), ("lib/area.c", 1, 11)]
+        rows: list[tuple[int, list[tuple[str, int, int]], list[str]]]
         note = f"codenav: {ALONE}: the definition is by name"
-        for character, places, said in (
-            (26, [("lib/area.c", 0, 4)], [note]),
-            (36, [help_, area], []),
-            (47, [], []),
-        ):
+        rows = [(26, [("lib/area.c", 0, 4)], [note]), (36, twice, []), (47, [], [])]
+        for character, places, said in rows:
             at = {"line": 1, "character": character}
             found, told = editor.call(
                 "textDocument/definition",
