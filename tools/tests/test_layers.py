@@ -12,13 +12,13 @@ FOLDER = Path(TOP, "tools", "navtools")
 MOST_LINES = 300
 # each layer: the ones that it may import, and its modules; `cli` may import all
 LAYERS = {
-    "ground": ("", "words outputs notes progress addresses records"),
+    "ground": ("", "words outputs notes progress addresses urls records"),
     "program": ("ground", "serving"),
-    "texts": ("ground", "places columns revisions indexed tagged moved.*"),
+    "texts": ("ground", "texts places columns revisions indexed tagged moved.*"),
     "client": ("ground", "client projects remove upload"),
     "dumps": (
         "ground texts",
-        "lsif survey vertices mending overlaps joints unreached positions rewriting prepare rows"
+        "lsif survey vertices edges mending names overlaps joints unreached positions rewriting prepare rows"
         " scip scip_* symbols explain sentences why sets.graph sets.scip_graph sets.stored",
     ),
     "index": ("ground dumps", "indexers tagging"),
@@ -30,23 +30,22 @@ LAYERS = {
     "settings": ("ground texts client sets", "settings checkout_settings"),
     "asking": (
         "ground texts client sets settings",
-        "questions workspace by_name versions tags sets.ask surfaces.names",
+        "questions workspace by_name versions tags sets.ask sets.known surfaces.names",
     ),
     "publishing": ("ground texts client program dumps index sets settings", "publish left_out"),
-    "lsp": ("ground texts settings asking", "lsp jsonrpc"),
+    "lsp": ("ground texts settings asking", "lsp open_documents jsonrpc"),
     "browse": ("ground texts settings asking", "browse browsing.*"),
     "service": ("ground client program", "service.*"),
     "cli": ("", "__main__ ask try_it"),
 }
 IMPORTS = """
 browsing.answers -> ask
-browsing.answers -> client
 browsing.view -> client
 publish -> __main__
 sets.cut_tags -> tagging
 sets.split -> indexers
 surfaces.rebalance -> questions
-surfaces.rebalance -> sets.ask
+surfaces.rebalance -> sets.known
 upload -> lsif
 upload -> revisions
 upload -> rows

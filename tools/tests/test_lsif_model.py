@@ -8,7 +8,7 @@ import random
 import tempfile
 import unittest
 from contextlib import redirect_stderr
-from typing import Any
+
 
 from navtools import prepare
 from tests.accepted import fault

@@ -13,7 +13,6 @@ from navtools.browsing.folder import Folder, Refused, href
 from navtools.browsing.markdown import tree_of
 from navtools.browsing.outline import Outlines
 from navtools.browsing.view import View, permalink
-from navtools.client import NoReply
 from navtools.indexed import NotThere
 from navtools.places import units
 from navtools.tags import places_of
