@@ -7,7 +7,6 @@ UTS #46, and the labels aren't checked.
 
 import ipaddress
 import re
-import string
 import unicodedata
 from stringprep import in_table_b1
 from typing import Callable, Optional
@@ -17,10 +16,13 @@ PORTS = {"ftp": "21", "file": "", "http": "80", "https": "443", "ws": "80", "wss
 C0_OR_SPACE = "".join(map(chr, range(0x21)))
 UNSEEN = re.compile("[\t\n\r]")
 SCHEME = re.compile(r"([A-Za-z][A-Za-z0-9+.-]*):")
-SAME = re.compile(r"file://(?:/(?!\.{1,2}(?:/|$))[A-Za-z0-9!$&'()*+,:;=@_~.-]*)+")
+SAME = re.compile(r"file://(?:/(?!\.{1,2}(?:/|$))(?:[A-Za-z0-9!$&'()*+,:;=@_~.-]|%(?!2[Ee]))*)+")
 """Addresses of which the standard makes the same text, as nearly all are."""
 DRIVE = re.compile("[A-Za-z][:|]")
-SINGLE_DOT, DOUBLE_DOT = re.compile(r"\.|%2e", re.I), re.compile(r"(\.|%2e){2}", re.I)
+SINGLE_DOT, DOUBLE_DOT = (".", "%2e"), ("..", ".%2e", "%2e.", "%2e%2e")
+MOST_DOTS = len("%2e%2e")
+MOST_DOMAIN = 253
+"""Characters of a domain that isn't ASCII, of which Punycode takes long where they are many."""
 FORBIDDEN_HOST = re.compile("[\0\t\n\r #/:<>?@\\[\\\\\\]^|]")
 FORBIDDEN_DOMAIN = re.compile("[\0-\x20#%/:<>?@\\[\\\\\\]^|\x7f]")
 NUMBER = re.compile("[0-9]+|0[Xx][0-9A-Fa-f]*")
@@ -28,16 +30,8 @@ NUMBER = re.compile("[0-9]+|0[Xx][0-9A-Fa-f]*")
 
 def encoded(more: str) -> Callable[[str], str]:
     """What percent-encodes the C0 control set and further characters."""
-    kept = frozenset(map(ord, string.printable[:-5])) - frozenset(map(ord, more))
-
-    def encode(text: str) -> str:
-        if text.isascii() and text.isprintable() and not any(c in text for c in more):
-            return text
-        return "".join(
-            chr(byte) if byte in kept else f"%{byte:02X}" for byte in text.encode("utf-8")
-        )
-
-    return encode
+    runs = re.compile(f"(?:[^ -~]|[{re.escape(more)}])+" if more else "[^ -~]+")
+    return lambda text: runs.sub(lambda run: "%" + run[0].encode().hex("%").upper(), text)
 
 
 in_opaque = encoded("")
@@ -113,12 +107,13 @@ def path_of(scheme: str, text: str) -> str:
     segments = text.split("/")
     for number, segment in enumerate(segments, 1):
         is_last = number == len(segments)
-        if DOUBLE_DOT.fullmatch(segment):
+        dots = segment.lower() if len(segment) <= MOST_DOTS else ""
+        if dots in DOUBLE_DOT:
             is_drive = scheme == "file" and len(path) == 1 and DRIVE.fullmatch(path[0])
             if not is_drive:
                 del path[-1:]
             path += [""] * is_last
-        elif SINGLE_DOT.fullmatch(segment):
+        elif dots in SINGLE_DOT:
             path += [""] * is_last
         else:
             if scheme == "file" and not path and DRIVE.fullmatch(segment):
@@ -179,7 +174,7 @@ def domain_of(text: str) -> str:
     lower = "".join(c.lower() for c in unicodedata.normalize("NFKC", text))
     mapped = unicodedata.normalize("NFKC", lower)
     kept = "".join(c for c in mapped if not in_table_b1(c))
-    if "\ufffd" in kept:
+    if "\ufffd" in kept or len(kept) > MOST_DOMAIN:
         raise ValueError
     return ".".join(
         label if label.isascii() else "xn--" + label.encode("punycode").decode()

@@ -8,6 +8,7 @@ import re
 import shutil
 import subprocess
 import tempfile
+import time
 import unittest
 from typing import Any, Optional
 from urllib.parse import quote
@@ -87,6 +88,8 @@ MADE: dict[str, Optional[str]] = {
     "http://a%41\u00e9/": "http://xn--aa-cja/",
     "http://fa\u00df.de/": "http://xn--fa-hia.de/",
     "http://a%zz/": None,
+    "file:///a%2Eb/%2f%C3%A9": "file:///a%2Eb/%2f%C3%A9",
+    "file:///a/%2e%2E/\u00e9 \u00e9": "file:///%C3%A9%20%C3%A9",
     "http://": None,
     "a": None,
     "": None,
@@ -188,6 +191,23 @@ class Standard(unittest.TestCase):
             check=True,
         )
         self.assertEqual(dict(zip(known, json.loads(done.stdout))), {a: MADE[a] for a in known})
+
+    def test_long(self) -> None:
+        """No address of hundreds of kilobytes takes long."""
+        count = 200_000
+        begun = time.process_time()
+        for address in (
+            "foo:/" + "a/../" * count,
+            "foo://" + "[" * count,
+            "foo://" + "[a]" * count + "x:y",
+            "foo:/" + "\u00e9a" * count,
+            "http://" + "@" * count + "h",
+            "http://" + "1" * count,
+            "http://" + "".join(chr(0x4E00 + own % 20000) for own in range(count)),
+            "file://" + "/a" * count + "?",
+        ):
+            href(address)
+        self.assertLess(time.process_time() - begun, 20)
 
     def test_once(self) -> None:
         """What was made once stays, and so does the one spelling of the tools, which the server
