@@ -287,7 +287,7 @@ class Documents(OnServer):
                 path, parts = os.path.join(folder, "dump"), os.path.join(folder, "set")
                 with open(path, "wb") as out:
                     out.write(body)
-                words = ["--jobs", "1", "--elements", "20", "--lenient", path, parts]
+                words = ["--jobs", "1", "--elements", "30", path, parts]
                 self.assertEqual(split.main(words), 0)
                 Publish(Store(self.url), parts).run()
             for own in addresses:
