@@ -35,22 +35,22 @@ def add_by_name(parser: argparse.ArgumentParser) -> None:
 
 
 def has_dump(index: Asked) -> bool:
-    """Whether the server has a dump of a project or a set. Raises NoReply."""
-    if index.sets.head(index.name) is not None:
-        return True
+    """Whether the server has a dump of a project or a set, or doesn't say that it has none."""
     try:
-        index.sets.fetch(f"/projects/{index.name}/profile", {}, "profile")
+        if index.sets.head(index.name) is None:
+            index.sets.fetch(f"/projects/{index.name}/profile", {}, "profile")
     except NoReply as fault:
-        if not str(fault).startswith(NO_DUMP):
-            raise
-        return False
+        return not str(fault).startswith(NO_DUMP)
     return True
 
 
 def has_tags(index: Asked) -> bool:
     """Whether a project has tags whose names begin with a letter or `_`: the server can be asked
-    for no others but by listing all projects. Raises NoReply."""
-    return any(index.names({"prefix": beginning}, False) for beginning in BEGINNINGS)
+    for no others but by listing all projects."""
+    try:
+        return any(index.names({"prefix": beginning}, False) for beginning in BEGINNINGS)
+    except NoReply:
+        return False
 
 
 def name_at(line: str, character: int) -> str:

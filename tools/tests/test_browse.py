@@ -408,7 +408,7 @@ class Browse(Served, unittest.TestCase):
                 "said": "2 names",
                 "names": [
                     {"name": "run", "place": "src/a.rs:2", "href": "/files/src/a.rs#L2C4"},
-                    {"name": "run", "place": "src/a.rs:1", "href": "/files/src/a.rs#L1C1"},
+                    {"name": "run", "place": "src/a.rs:2", "href": "/files/src/a.rs#L2C4"},
                 ],
             },
         )
