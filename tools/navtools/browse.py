@@ -77,11 +77,10 @@ def browser_of(call: argparse.Namespace) -> Browser:
         folders_of(call.tags),
         tuple(call.revision),
         call.indexed,
-        call.by_name,
     )
     settings = settings_by(given, nearest(folder.given), f"above {folder.given}")
     sources_of(list(settings.revisions), settings.indexed, settings.project, settings.folder)
-    return Browser(folder, settings, call.search)
+    return Browser(folder, settings, call.search, call.by_name)
 
 
 def main(words: Optional[list[str]] = None) -> int:

@@ -87,9 +87,13 @@ class Bridge:
     """Serves an editor. What the server refuses is an empty answer and a message to the user."""
 
     def __init__(
-        self, given: Optional[Settings], out: BinaryIO, log: Callable[[str, bytes], None]
+        self,
+        given: Optional[Settings],
+        out: BinaryIO,
+        log: Callable[[str, bytes], None],
+        is_by_name: bool = False,
     ) -> None:
-        self.given = given
+        self.given, self.is_by_name = given, is_by_name
         self.out = out
         self.log = log
         self.workspace: Optional[Workspace] = None
@@ -164,7 +168,7 @@ class Bridge:
         given = self.given and self.given._replace(
             folder=root, maps=[*self.given.maps, *link_map(root)]
         )
-        self.workspace = Workspace(root, given, self.warn, self.today)
+        self.workspace = Workspace(root, given, self.warn, self.today, self.is_by_name)
         return {"capabilities": CAPABILITIES, "serverInfo": {"name": "codenav"}}
 
     def opened(self, params: Any) -> None:
@@ -400,7 +404,6 @@ def settings_given(call: argparse.Namespace) -> Optional[Settings]:
         folders_of(call.tags),
         tuple(call.revision),
         call.indexed,
-        call.by_name,
     )
 
 
@@ -418,6 +421,7 @@ def main(words: Optional[list[str]] = None) -> int:
         print(f"lsp: {fault}", file=sys.stderr)
         return 2
     try:
-        return serve(Bridge(given, sys.stdout.buffer, log), Inbox(sys.stdin.buffer, log))
+        bridge = Bridge(given, sys.stdout.buffer, log, call.by_name)
+        return serve(bridge, Inbox(sys.stdin.buffer, log))
     except BrokenPipeError:
         os._exit(1)

@@ -15,7 +15,7 @@ import sys
 from typing import BinaryIO, Optional
 
 from navtools import positions, rows
-from navtools.addresses import address_of, is_address
+from navtools.addresses import address_of, folder_address, is_address
 from navtools.joints import Joints
 from navtools.lsif import NotADump, Source, opened
 from navtools.mending import Choices, Plan
@@ -77,10 +77,12 @@ def survey_dump(source: Source, call: argparse.Namespace, notes: Notes) -> Surve
 
 
 def root_of(given: Optional[str]) -> str:
-    """The root that a call names, by its address or as a folder; the empty text where it names
-    none."""
-    is_folder = given is not None and not is_address(given) and address_of(given) is None
-    return os.path.abspath(given or "") if is_folder else given or ""
+    """The address of the root that a call names, by that or as a folder; the empty text where it
+    names none."""
+    if given is None:
+        return ""
+    is_folder = not is_address(given) and address_of(given) is None
+    return folder_address(os.path.abspath(given) if is_folder else given)
 
 
 def plan_of(survey: Survey, call: argparse.Namespace) -> Plan:

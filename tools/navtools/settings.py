@@ -49,7 +49,6 @@ class Settings(NamedTuple):
     tags: dict[str, str] = {}
     revisions: tuple[str, ...] = ()
     indexed: Optional[str] = None
-    by_name: bool = False
 
     def tags_folder(self, project: str) -> Optional[str]:
         """The folder in which a project's tags file was made: its own, where none is named, at the
@@ -174,5 +173,4 @@ def settings_by(given: Settings, path: Optional[str], at: str) -> Settings:
         {**own.tags, **given.tags},
         (*own.revisions, *given.revisions),
         given.indexed or (None if is_said else own.indexed),
-        given.by_name,
     )

@@ -11,6 +11,7 @@ from hashlib import blake2b
 from itertools import pairwise
 from typing import Any, Iterator, Optional
 
+from navtools.addresses import folder_address
 from navtools.columns import ENCODINGS
 from navtools.lsif import Element, Id, NotADump, Row, is_id, shard_of, span_of, targets_of, text_of
 from navtools.notes import Notes
@@ -249,7 +250,7 @@ class Survey:
         for member in ("workspaceRoot", "projectRoot"):
             root = self.roots.get(member)
             if not self.mender.root and isinstance(root, str):
-                self.mender.root = root
+                self.mender.root = folder_address(root)
 
     def merge_documents(self) -> None:
         """Takes documents whose addresses are paths, which needed the root; and one whose address

@@ -34,8 +34,9 @@ class Mender:
         return vertex if mend is None else mend(self, vertex, line, size)
 
     def metadata(self, vertex: Element, line: int, size: int) -> Element:
-        """The version is that of the server, and positions count as its do."""
-        changed = dict(vertex)
+        """The version is that of the server, positions count as its do, and the root is the one
+        that documents are below."""
+        changed = {**vertex, "projectRoot": self.root} if self.root else dict(vertex)
         if "positionEncoding" in vertex and vertex["positionEncoding"] != "utf-16":
             del changed["positionEncoding"]
         if vertex.get("version") != VERSION:

@@ -25,7 +25,7 @@ class Workspace:
 
     `given` is what the command line says, for the files below the editor's folder, `root`, and for
     those that nothing else is known of. `say` is called with a line for the user, `today` reads a
-    file as the editor has it.
+    file as the editor has it. With `is_by_name` definitions are looked for by name.
     """
 
     def __init__(
@@ -34,8 +34,10 @@ class Workspace:
         given: Optional[Settings],
         say: Callable[[str], None],
         today: Callable[[str], str],
+        is_by_name: bool = False,
     ) -> None:
         self.root, self.given, self.say, self.today = root, given, say, today
+        self.is_by_name = is_by_name
         self.read: dict[str, Optional[Settings]] = {}
         self.asking: dict[tuple[str, str], Questions] = {}
         self.naming: dict[tuple[str, str], ByName] = {}
@@ -116,7 +118,7 @@ class Workspace:
             raise BadCall(
                 f"neither a {FILE} above {path} nor the command line says of which project it is"
             )
-        if settings.by_name and what == "definition" and os.path.isabs(path):
+        if self.is_by_name and what == "definition" and os.path.isabs(path):
             folder = settings.tags_folder(settings.project)
             return self.by_name(settings, settings.project).reply(folder, path, line, character)
         projects = self.projects(settings, path)

@@ -8,11 +8,12 @@ import unittest
 from contextlib import redirect_stderr, redirect_stdout
 
 from navtools import ask, upload
+from navtools.browse import browser_of, words_parser
 from navtools.browsing.answers import Browser
 from navtools.browsing.folder import Folder
 from navtools.by_name import name_at
 from navtools.places import uri_of
-from navtools.settings import Settings
+from navtools.settings import FILE, Settings
 from tests.servers import TOP, OnServer
 from tests.test_lsp import Editor
 
@@ -139,6 +140,26 @@ class OverTags(OnServer):
             self.assertEqual(starts, [(self.uri(name), *place) for name, *place in places])
             self.assertEqual([text for _, _, text in told], said)
         self.assertEqual(editor.end("shutdown", "exit")[0], 0)
+
+    def test_where_it_is_wished(self) -> None:
+        """An editor and the page are answered by name of a project that has a dump, whoever says
+        which project it is."""
+        self.put("lsif", "app", DUMP)
+        with open(os.path.join(self.folder, FILE), "w", encoding="utf-8") as file:
+            file.write(f'server = "{self.url}"\nproject = "app"\n')
+        for words in ["--by-name", self.url, "app"], ["--by-name"]:
+            with self.subTest(words=words):
+                editor = Editor(*words)
+                editor.call("initialize", {"rootUri": uri_of(self.folder, []), "capabilities": {}})
+                at = {"line": 1, "character": 26}
+                document = {"textDocument": {"uri": self.uri("src/main.c")}, "position": at}
+                found, _ = editor.call("textDocument/definition", document)
+                self.assertEqual([one["uri"] for one in found], [self.uri("lib/area.c")])
+                self.assertEqual(editor.end("shutdown", "exit")[0], 0)
+        call = words_parser().parse_intermixed_args(["--by-name", self.folder])
+        at_area = {"path": "src/main.c", "line": "1", "character": "26"}
+        found = browser_of(call).asked({"what": "definition", **at_area})
+        self.assertEqual([row["href"] for row in found["places"]], ["/files/lib/area.c#L1C5"])
 
     def test_the_page(self) -> None:
         browser = Browser(Folder(self.folder), Settings(self.url, "app", self.folder))

@@ -384,6 +384,8 @@ class Input(unittest.TestCase):
                         self.assertIn(left_out, said)
                     else:
                         self.assertEqual((status, uris), (0, [f"{root}/src/%C3%A9.ts"]), said)
+                        said_root = json.loads((out or b"").split(b"\n")[0])["projectRoot"]
+                        self.assertEqual(said_root, root)
                 globs = [*words, "--without", "src/*"]
                 self.assertEqual(self.called(prepare, dumped(*rows), *globs)[0], 2 * (root is None))
         span = vertex(

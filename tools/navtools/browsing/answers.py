@@ -31,6 +31,7 @@ class Browser:
     folder: Folder
     settings: Settings
     search: str = ""
+    is_by_name: bool = False
     views: dict[str, View] = field(default_factory=dict)
     outlines: dict[str, Outlines] = field(default_factory=dict)
     lock: threading.Lock = field(default_factory=threading.Lock)
@@ -39,7 +40,9 @@ class Browser:
         """The files of the revision that an address has, or those of today."""
         revision = parameters.get("revision", "")
         with self.lock:
-            view = self.views.pop(revision, None) or View(self.folder, self.settings, revision)
+            view = self.views.pop(revision, None) or View(
+                self.folder, self.settings, revision, self.is_by_name
+            )
             self.views[revision] = view
             if len(self.views) > MOST_VIEWS:
                 self.views.pop(next(iter(self.views))).end()

@@ -26,12 +26,16 @@ class View:
     Git's processes answer one at a time, so whoever asks a view holds its lock.
     """
 
-    def __init__(self, folder: Folder, settings: Settings, revision: str = "") -> None:
+    def __init__(
+        self, folder: Folder, settings: Settings, revision: str = "", is_by_name: bool = False
+    ) -> None:
         self.folder, self.settings, self.revision = folder, settings, revision
         self.checkout = Checkout(revision) if revision else None
         self.notes: list[str] = []
         self.lock = threading.RLock()
-        self.workspace = Workspace(folder.given, settings, self.notes.append, self.today)
+        self.workspace = Workspace(
+            folder.given, settings, self.notes.append, self.today, is_by_name
+        )
 
     def end(self) -> None:
         """Ends what reads texts, when nobody asks any more."""
