@@ -181,13 +181,14 @@ def sources_of(
 
 
 class Asked(NamedTuple):
-    """What the index knows a place by: the document, the line and the character; and how the
-    indexed text is called, where today's differs."""
+    """What the index knows a place by: the document, the line and the character; how the indexed
+    text is called, where today's differs; and why the place isn't mapped, where it can't be."""
 
     uri: str
     line: int
     character: int
     of: str
+    fault: str = ""
 
 
 class FileMap(NamedTuple):
@@ -296,23 +297,21 @@ class Indexed:
             self.said.add(line)
             self.say(line)
 
-    def map_of(self, project: str, path: str) -> tuple[str, Optional[TextMap], str]:
-        """The path that a file of today had, the map to its text, and how the indexed text is
-        called; without a map places are as in the index.
+    def map_of(self, project: str, path: str) -> tuple[str, FileMap]:
+        """The path that a file of today had, and the map from its text; without one places are as
+        in the index.
 
         Raises BadCall where there is no such file.
         """
         source = self.source(project, path)
         if source is None:
-            self.tell(self.reason(project))
-            return path, None, ""
+            return path, FileMap(path, None, self.reason(project))
         try:
             old = source.old_path(path)
             text = source.text(old)
         except BadCall as fault:
-            self.tell(f"{fault}; its places aren't mapped")
-            return path, None, ""
-        return old, self.kept_map(path, text, self.today(path)), source.label
+            return path, FileMap(path, None, f"{fault}; its places aren't mapped")
+        return old, FileMap(path, self.kept_map(path, text, self.today(path)), "", source.label)
 
     def kept_map(self, path: str, text: str, today: str) -> TextMap:
         """The map from the indexed text of a file to that of today; those that were used last are
@@ -335,13 +334,13 @@ class Indexed:
         """
         if not os.path.isabs(path):
             return Asked(spelled(path), line, character, "")
-        old, text_map, label = self.map_of(project, path)
+        old, (_, text_map, fault, label) = self.map_of(project, path)
         place = (line, character) if text_map is None else text_map.backward(line, character)
         if place is None:
             where = f"{shown(path)}:{line + 1}"
             raise NotThere(f"{where}: this word isn't in the text that was indexed ({label})")
         is_same = text_map is None or text_map.is_same
-        return Asked(uri_of(old, self.maps), *place, "" if is_same else label)
+        return Asked(uri_of(old, self.maps), *place, "" if is_same else label, fault)
 
     def places(self, found: list[dict[str, Any]]) -> list[dict[str, Any]]:
         """The places of an answer as they are today, each with the member `path`, which is None of

@@ -127,11 +127,11 @@ class Questions:
         NoReply."""
         for _ in range(TRIES):
             found: Any = None
-            of, fault = "", cast(Optional[Exception], None)
+            fault = cast(Optional[Exception], None)
             self.learn(path)
             try:
                 place = self.indexed.asked(self.name, path, line, character)
-                found, of = self.found(what, place, more), place.of
+                found = self.found(what, place, more)
             except NotThere as new:
                 fault = new
             except NoReply as refusal:
@@ -140,8 +140,9 @@ class Questions:
                 continue
             if fault is not None:
                 raise fault
+            self.indexed.tell(place.fault)
             why = self.why_empty(what, place.uri) if found == [] else ""
-            return Reply(found if what == "hover" else self.indexed.places(found), of, why)
+            return Reply(found if what == "hover" else self.indexed.places(found), place.of, why)
         raise NoReply(f"{self.name} is published again and again")
 
     def learn(self, path: str, again: bool = False) -> None:

@@ -46,7 +46,7 @@ class Asking(OnServer):
             (
                 2,
                 "",
-                f"{NOT_MAPPED}ask: D02 no such document: {uri}: the project has no such document, or its dump was made in another folder, "
+                f"ask: D02 no such document: {uri}: the project has no such document, or its dump was made in another folder, "
                 "which --map URI=FOLDER says\n",
             ),
         )
@@ -55,7 +55,7 @@ class Asking(OnServer):
             (
                 2,
                 "",
-                f"{NOT_MAPPED}ask: D02 no such document: file:///elsewhere/src/lib.rs, which --map makes of {file}: the project has no such "
+                f"ask: D02 no such document: file:///elsewhere/src/lib.rs, which --map makes of {file}: the project has no such "
                 "document\n",
             ),
         )

@@ -229,6 +229,12 @@ class Mapped(InRepository):
             "end": {"line": line, "character": end},
         }
 
+    def asked(self, indexed: Indexed, path: str, line: int, character: int) -> Asked:
+        """What is asked at a place of a file, of which it's said why it isn't mapped."""
+        found = indexed.asked("app", path, line, character)
+        indexed.tell(found.fault)
+        return found
+
     def test_questions_and_places(self) -> None:
         indexed = self.indexed("HEAD")
         uri = uri_of(self.path, [])
@@ -279,12 +285,12 @@ class Mapped(InRepository):
         self.assertEqual((lines, self.said), ([4], []))
         indexed = self.indexed("none")
         for _ in range(2):
-            self.assertEqual(indexed.asked("app", self.path, 2, 4).line, 2)
+            self.assertEqual(self.asked(indexed, self.path, 2, 4).line, 2)
             self.assertEqual(indexed.places([self.place(2, 4, 7)])[0]["start"]["line"], 2)
         line = f"{self.top}: git knows no revision none; its places aren't mapped"
         self.assertEqual(self.said, [line])
         outside = self.write("plain/a.rs", TEXT, self.home)
-        self.assertEqual(self.indexed("HEAD").asked("app", outside, 2, 4).line, 2)
+        self.assertEqual(self.asked(self.indexed("HEAD"), outside, 2, 4).line, 2)
         line = f"{os.path.dirname(outside)}: not in a checkout of git; its places aren't mapped"
         self.assertEqual(self.said[1:], [line])
         self.assertEqual(self.indexed("HEAD").asked("app", "urn:x", 2, 4), Asked("urn:x", 2, 4, ""))
@@ -298,9 +304,9 @@ class Mapped(InRepository):
         path = os.path.join(shallow, "src", "a.rs")
         indexed = self.indexed(self.revision)
         with mock.patch.object(navtools.indexed, "FRESH", 0.0):
-            self.assertEqual(indexed.asked("app", path, 4, 4)[1:], (4, 4, ""))
+            self.assertEqual(self.asked(indexed, path, 4, 4)[1:4], (4, 4, ""))
             self.git("fetch", "-q", "--depth", "1", "origin", self.revision, top=shallow)
-            self.assertEqual(indexed.asked("app", path, 4, 4)[1:], (2, 4, self.revision))
+            self.assertEqual(self.asked(indexed, path, 4, 4)[1:4], (2, 4, self.revision))
         self.assertEqual(len(self.said), 1)
 
     def test_a_folder_of_indexed_texts(self) -> None:
@@ -310,7 +316,7 @@ class Mapped(InRepository):
         indexed = self.indexed(folder=old)
         self.assertEqual(indexed.asked("app", self.path, 4, 4).line, 2)
         other = self.write("src/new.rs", TEXT)
-        self.assertEqual(indexed.asked("app", other, 2, 4).line, 2)
+        self.assertEqual(self.asked(indexed, other, 2, 4).line, 2)
         missing = os.path.join(old, "src/new.rs")
         line = f"{missing}: No such file or directory; its places aren't mapped"
         self.assertEqual(self.said, [line])

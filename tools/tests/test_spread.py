@@ -371,10 +371,11 @@ class Called(OnServers):
         status, said, warned = self.call(ask.main, *words, *place)
         path = os.path.join(TOP, "demo", "crate", "src", "scale.rs")
         self.assertEqual((status, os.path.abspath(said)), (0, f"{path}:4:8\n"), warned)
-        self.assertEqual(self.by_an_editor(user), {(uri_of(path, []), 3)})
+        self.assertEqual(self.by_an_editor(user, code), {(uri_of(path, []), 3)})
 
-    def by_an_editor(self, user: str) -> set[tuple[str, int]]:
-        """Where an editor is led to from the call in the user's crate."""
+    def by_an_editor(self, user: str, code: str) -> set[tuple[str, int]]:
+        """Where an editor is led to from the call in the user's crate; of neither set a revision is
+        kept."""
         home = os.path.join(TOP, "demo")
         editor = Editor("--map", f"file:///src/tr={home}", self.front.url, user)
         root = os.path.join(home, "user")
@@ -385,7 +386,13 @@ class Called(OnServers):
             "position": {"line": 4, "character": 24},
         }
         found, said = editor.call("textDocument/definition", place)
-        self.assertEqual((said, editor.end("shutdown", "exit")[0]), ([], 0))
+        kept = [
+            f"codenav: {name}: no revision is kept with its index; its places aren't mapped"
+            for name in (user, code)
+        ]
+        self.assertEqual(
+            ([text for _, _, text in said], editor.end("shutdown", "exit")[0]), (kept, 0)
+        )
         return {(place["uri"], place["range"]["start"]["line"]) for place in found}
 
     def test_servers_that_join(self) -> None:

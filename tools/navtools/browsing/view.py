@@ -83,7 +83,7 @@ class View:
         questions = self.workspace.questions(settings, project)
         with suppress(NoReply):
             questions.learn(path, again=True)
-        _, found, label = questions.indexed.map_of(project, path)
+        _, (_, found, _, label) = questions.indexed.map_of(project, path)
         return (None, "") if found is None or found.is_same else (found, label)
 
     def ask(self, what: str, path: str, line: int, character: int) -> tuple[Reply, str]:
