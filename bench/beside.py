@@ -5,11 +5,11 @@ The scripts ask, kill, fill and refuse the program, or try it in an editor or a 
 usage: bench/beside.py [--only NAME[,NAME..]] [--until FILE] PROGRAM
 
 Parts run side by side, one processor less than there are, and beside them the one that mostly
-waits; one that measures a time runs at the end, alone. The gate calls it beside `rt ci`: then one
-part runs at a time, what measures a time waits for the end of that command, which the file says
-that has its last line, and this line is added to its own. What needs a program that isn't here is
-left out, and said, with the command that installs it. The last line is `N passed, M failed`, and
-the status is 1 where something failed.
+waits; one that measures a time runs at the end, alone. The gate calls it beside `rt ci` and
+`bench/edits.py`: then one part runs at a time, what measures a time waits for their end, which the
+file says that has their last lines, and these are added to its own. What needs a program that isn't
+here is left out, and said, with the command that installs it. The last line is `N passed, M
+failed`, and the status is 1 where something failed.
 """
 
 import argparse
@@ -178,7 +178,7 @@ def main() -> int:
     options.add_argument(
         "--until",
         metavar="FILE",
-        help="what runs beside this ends when the file is there, whose line is added to the last one",
+        help="what runs beside this ends when the file is there, whose lines are added to the last",
     )
     options.add_argument("program", help="the built program, as crates/codenav/out/codenav")
     given = options.parse_args()
@@ -212,9 +212,9 @@ def main() -> int:
     for part in chosen:
         if why_some := missing_of(part.some_need, part):
             print(f"left out: some of {part.name}: {why_some}")
-    before = COUNTED.search(said_before)
-    passed = sum(result.passed for result in results) + (int(before[1]) if before else 0)
-    failed = sum(result.failed for result in results) + (int(before[2]) if before else 0)
+    results += [Result(int(one), int(other)) for one, other in COUNTED.findall(said_before)]
+    passed = sum(result.passed for result in results)
+    failed = sum(result.failed for result in results)
     print(f"{passed} passed, {failed} failed", flush=True)
     return int(failed > 0)
 

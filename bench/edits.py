@@ -1,10 +1,9 @@
 """Tries edits that the check must refuse, many in one check: see bench/edits.sh.
 
-An edit is a file of lines `file: PATH`, `old: TEXT` and `new: TEXT`, as in crates/NAME/must-fail. A
-batch has edits of different functions. It is applied to a copy of the crate, over what earlier
-checks kept in out/, and each function that an edit changed must be among those that aren't proved.
-An edit outside functions, of a constant or of a member that only proofs have, has a batch of its
-own, and something must not be proved.
+A batch has edits of different functions. It's applied to a copy of the crate, and the functions that
+it changes are checked with what they call (`rattle check --only`), over what the batches before it
+proved: each must be among those that aren't proved. An edit outside functions has a batch of its
+own, in which the function that it names isn't proved, or something isn't.
 """
 
 import argparse
@@ -16,225 +15,100 @@ import sys
 import tempfile
 import time
 from collections.abc import Iterator
-from dataclasses import dataclass, field
+from concurrent.futures import ThreadPoolExecutor
 from typing import Optional
 
-TOP = pathlib.Path(__file__).resolve().parent.parent
-FUNCTION = re.compile(r"\s*(?:pub(?:\([a-z]+\))?\s+)?(?:const\s+|unsafe\s+)*fn\s+(\w+)")
-VERDICT = re.compile(r"^fn (\S+): (.*)$", re.M)
+from edit_files import TOP, BadEdit, Edit, Place, Tried, applied, batches_of, edits_of, module_of
+from rooms import Libraries, Room, libraries, proved_again
+
 NOT_PROVED = re.compile(r"not proved|no proof")
 # With this alone the check hasn't tried the function's own goals: a function that it calls isn't
 # proved.
 WAITS = re.compile(r"(not proved; |no proof: )(it calls|it passes|a call of)")
-# a file, and the name of a function in it, or none outside functions
-Place = tuple[str, Optional[str]]
+# Of the edits that aren't named, each run of the gate tries one of so many shares.
+TURNS = 61
+REFUSED, NOT_REFUSED, BAD = "refused", "NOT REFUSED", "BAD EDIT"
+# an edit, what came of it, and why
+Outcome = tuple[Edit, str, str]
 
 
-class BadEdit(Exception):
-    """An edit that can't be applied, and why."""
-
-
-@dataclass
-class Edit:
-    path: pathlib.Path
-    crate: str
-    pairs: list[tuple[str, str, str]] = field(default_factory=list)  # (file, old text, new text)
-
-    def __str__(self) -> str:
-        return f"{self.crate}/{self.path.stem}"
-
-
-# an edit, and the functions that it changes
-Tried = tuple[Edit, set[Place]]
-
-
-def read_edit(path: pathlib.Path, crate: str) -> Edit:
-    edit, file, old = Edit(path, crate), "", ""
-    for line in path.read_text(encoding="utf-8").splitlines():
-        word, _, text = line.partition(": ")
-        if word == "file":
-            file = text.strip()
-        elif word == "old":
-            old = text
-        elif word in ("new", "new:") and file and old:
-            edit.pairs.append((file, old, text))
-            old = ""
-    if not edit.pairs:
-        raise BadEdit(f"{edit}: it has no 'file:', 'old:' and 'new:' lines")
-    return edit
-
-
-def edits_of(crate: str, with_must_fail: bool) -> list[Edit]:
-    folders = [TOP / "edits" / crate]
-    if with_must_fail:
-        folders.append(TOP / "crates" / crate / "must-fail")
-    return [read_edit(path, crate) for folder in folders for path in sorted(folder.glob("*.edit"))]
-
-
-def applied(edit: Edit, texts: dict[str, str]) -> tuple[dict[str, str], set[Place]]:
-    """The texts of a crate's files with an edit, and the functions that it changes: a set of (file,
-    name), where the name is none outside functions."""
-    texts = dict(texts)
-    functions: set[Place] = set()
-    for file, old, new in edit.pairs:
-        if file not in texts:
-            texts[file] = (TOP / "crates" / edit.crate / file).read_text(encoding="utf-8")
-        count = texts[file].count(old)
-        if count != 1:
-            raise BadEdit(f"{edit}: an 'old:' text is in {file} {count} times, and not once")
-        at = texts[file].index(old)
-        functions.add((file, function_at(texts[file], at)))
-        texts[file] = texts[file][:at] + new + texts[file][at + len(old) :]
-    return texts, functions
-
-
-def function_at(text: str, at: int) -> Optional[str]:
-    """The name of the function that a place of a text lies in, by the layout of `rt fmt`, or
-    none."""
-    lines = text[: text.find("\n", at)].split("\n")
-    found = FUNCTION.match(lines[-1])
-    if found:
-        return found[1]
-    within = len(lines[-1]) - len(lines[-1].lstrip())
-    for line in reversed(lines[:-1]):
-        indent = len(line) - len(line.lstrip())
-        if not line.strip() or indent >= within:
-            continue
-        found = FUNCTION.match(line)
-        if found:
-            return found[1]
-        # The brace below a contract, and the end of a head of several lines, are as deep as the
-        # `fn` above them.
-        within = indent + 1 if line.strip() == "{" or line.lstrip().startswith(")") else indent
-    return None
-
-
-def batches_of(edits: list[Edit]) -> Iterator[list[Tried]]:
-    """Lists of edits that can be made together, each with the functions that it changes."""
-    left = list(edits)
-    while left:
-        texts: dict[str, str] = {}
-        taken: set[Place] = set()
-        batch: list[Tried] = []
-        later, is_full = [], False
-        for edit in left:
-            _, functions = applied(edit, {})
-            is_alone = any(name is None for _, name in functions)
-            if functions & taken or (is_alone and batch) or is_full:
-                later.append(edit)
-                continue
-            try:
-                texts, _ = applied(edit, texts)
-            except BadEdit:
-                later.append(edit)
-                continue
-            taken |= functions
-            is_full = is_alone
-            batch.append((edit, functions))
-        left = later
-        yield batch
-
-
-def words_of(said: dict[str, str], crate: str, file: str, name: str) -> list[str]:
-    """What the check says of the functions of a name in a file. A method's name there is that of
-    its type's file, which may be another."""
-    parts = pathlib.PurePath(file).with_suffix("").parts[1:]
-    module = [] if parts in (("lib",), ("main",)) else [it for it in parts if it != "mod"]
-    here = re.compile("::".join([crate, *module]) + r"(?:::[A-Z]\w*)?::" + name + "$")
-    elsewhere = re.compile(crate + r"(?:::\w+)*::[A-Z]\w*::" + name + "$")
+def words_of(said: dict[str, str], crate: str, place: Place) -> list[str]:
+    """Answers what the check says of the functions of a place. A method's name there is that of its
+    type's file, which may be another."""
+    module = module_of(place.file)
+    here = re.compile("::".join([crate, *module]) + rf"(?:::[A-Z]\w*)?::{place.name}$")
+    elsewhere = re.compile(crate + rf"(?:::\w+)*::[A-Z]\w*::{place.name}$")
     found = [words for symbol, words in said.items() if here.match(symbol)]
     return found or [words for symbol, words in said.items() if elsewhere.match(symbol)]
 
 
-class Copy:
-    """A copy of the repository, with what earlier checks kept, in which edits are tried."""
-
-    def __init__(self, folder: str) -> None:
-        self.folder = pathlib.Path(folder)
-        for name in ("crates.txt", "HANDLES"):
-            shutil.copy(TOP / name, self.folder / name)
-        shutil.copytree(TOP / "crates", self.folder / "crates")
-
-    def check(
-        self, crate: str, texts: dict[str, str]
-    ) -> tuple[dict[str, str], subprocess.CompletedProcess[str]]:
-        """What a check of the crate with these texts says of each function, or nothing where it
-        didn't get there."""
-        folder = self.folder / "crates" / crate
-        own = {file: (folder / file).read_text(encoding="utf-8") for file in texts}
-        for file, text in texts.items():
-            (folder / file).write_text(text, encoding="utf-8")
-        ran = subprocess.run(
-            ["rt", "check", "--jobs", "2"],
-            cwd=folder,
-            stdin=subprocess.DEVNULL,
-            capture_output=True,
-            text=True,
-            errors="replace",
-        )
-        for file, text in own.items():
-            (folder / file).write_text(text, encoding="utf-8")
-        # The libraries below are proved in the same run.
-        return {
-            symbol: words
-            for symbol, words in VERDICT.findall(ran.stdout)
-            if symbol.startswith(f"{crate}::")
-        }, ran
+def verdict_of(edit: Edit, places: set[Place], said: dict[str, str]) -> tuple[Optional[bool], str]:
+    """Answers whether an edit was refused, or none where its own goals wait for the proof of a
+    function that it calls, and by what."""
+    if any(place.name is None for place in places):
+        wanted = f"::{edit.by}" if edit.by else ""
+        of = {name: words for name, words in said.items() if name.endswith(wanted)}
+        found = [f"{name}: {words}" for name, words in of.items() if NOT_PROVED.search(words)]
+        return bool(found), found[0] if found else ""
+    waiting = ""
+    for place in sorted(places, key=str):
+        words = [it for it in words_of(said, edit.crate, place) if NOT_PROVED.search(it)]
+        for it in words:
+            if not WAITS.match(it):
+                return True, it
+        waiting = waiting or "".join(words[:1])
+    return (None if waiting else False), waiting
 
 
-def verdict_of(edit: Edit, functions: set[Place], said: dict[str, str]) -> Optional[bool]:
-    """Whether an edit was refused, or none where its own goals wait for the proof of a function
-    that it calls."""
-    if any(name is None for _, name in functions):
-        return any(NOT_PROVED.search(words) for words in said.values())
-    is_open = False
-    for file, name in functions:
-        assert name is not None
-        words = [it for it in words_of(said, edit.crate, file, name) if NOT_PROVED.search(it)]
-        if any(not WAITS.match(it) for it in words):
-            return True
-        is_open = is_open or bool(words)
-    return None if is_open else False
+def why_of(words: str) -> str:
+    """Answers the words of a verdict that say what refused: goals, a text of a proof, a callee."""
+    words = re.sub(r"expected answers in \S+; ", "", words)
+    return re.sub(r"(no proof|not proved)[:;] ", "", words)[:160]
 
 
-def tried(copy: Copy, crate: str, batch: list[Tried]) -> Iterator[tuple[Edit, str]]:
-    """Tries a batch of edits with their functions, and where that stops before the prover or leaves
-    something open, parts of it: each edit and what came of it."""
+def tried(room: Room, batch: list[Tried]) -> Iterator[Outcome]:
+    """Tries a batch of edits, and where that stops before the prover or leaves something open,
+    parts of it: each edit and what came of it."""
     texts: dict[str, str] = {}
     for edit, _ in batch:
         texts, _ = applied(edit, texts)
-    said, ran = copy.check(crate, texts)
-    verdicts = [verdict_of(edit, functions, said) for edit, functions in batch]
+    every = [place for _, places in batch for place in sorted(places, key=str)]
+    asked = [place for place in every if place.name]
+    if batch[0][0].by and not asked:
+        asked = [Place(every[0].file, None, batch[0][0].by)]
+    said, ran = room.check(texts, asked)
     if len(batch) == 1 and not said:
-        first = next(
-            (it for it in ran.stdout.splitlines() if "error" in it), "it didn't reach the prover"
-        )
-        yield batch[0][0], f"BAD EDIT: {first[:160]}"
+        lines = [it for it in ran.splitlines() if "error" in it]
+        yield batch[0][0], BAD, (lines or ["it didn't reach the prover"])[0][:160]
         return
-    if len(batch) == 1:
-        yield batch[0][0], "NOT REFUSED" if verdicts[0] is False else "refused"
-        return
-    left = [it for it, verdict in zip(batch, verdicts) if not said or verdict is None]
-    for it, verdict in zip(batch, verdicts):
-        if it not in left:
-            yield it[0], "refused" if verdict else "NOT REFUSED"
+    verdicts = [verdict_of(edit, places, said) for edit, places in batch]
+    left = [it for it, (is_refused, _) in zip(batch, verdicts) if not said or is_refused is None]
+    left = left if len(batch) > 1 else []
+    for (edit, places), (is_refused, words) in zip(batch, verdicts):
+        if (edit, places) not in left:
+            yield edit, NOT_REFUSED if is_refused is False else REFUSED, why_of(words)
     middle = len(left) // 2 if len(left) == len(batch) else 0
     for part in filter(None, (left[:middle], left[middle:])):
-        yield from tried(copy, crate, part)
+        yield from tried(room, part)
 
 
-def try_crate(copy: Copy, crate: str, edits: list[Edit]) -> int:
+def try_crate(folder: pathlib.Path, stands_on: Libraries, edits: list[Edit], in_gate: bool) -> int:
     """Tries a crate's edits, prints what came of each, and answers how many weren't refused."""
-    start, count, failed = time.monotonic(), 0, 0
+    crate, start, count, failed = edits[0].crate, time.monotonic(), 0, 0
+    if not (in_gate and stands_on.are_left_by_ci(crate)):
+        said, is_proved = proved_again(crate)
+        if not is_proved:
+            print(f"{said}{crate}: it isn't proved as it stands", flush=True)
+            return len(edits)
+    room = Room(folder, crate, stands_on)
     for batch in batches_of(edits):
         count += 1
-        for edit, word in tried(copy, crate, batch):
-            print(f"{edit}: {word}", flush=True)
-            failed += word != "refused"
-    print(
-        f"{crate}: {len(edits)} edits in {count} batches, {time.monotonic() - start:.0f} s",
-        flush=True,
-    )
+        for edit, outcome, why in tried(room, batch):
+            print(f"{edit}: {outcome}{': ' if why else ''}{why}", flush=True)
+            failed += outcome != REFUSED
+    shutil.rmtree(room.folder)
+    took = time.monotonic() - start
+    print(f"{crate}: {len(edits)} edits in {count} batches, {took:.0f} s", flush=True)
     return failed
 
 
@@ -250,6 +124,55 @@ def unfit(edits: list[Edit]) -> int:
     return failed
 
 
+def share_of(edits: list[Edit], turn: Optional[int]) -> list[Edit]:
+    """Answers the named ones of these edits, and of the others the share of a turn, by default that
+    of the number of commits."""
+    if turn is None:
+        words = ["git", "rev-list", "--count", "HEAD"]
+        turn = int(subprocess.run(words, cwd=TOP, capture_output=True, check=True).stdout)
+    named, others = [it for it in edits if it.is_named], [it for it in edits if not it.is_named]
+    turn %= TURNS
+    # those of one crate or two, whose proofs a check shares
+    share = others[len(others) * turn // TURNS : len(others) * (turn + 1) // TURNS]
+    print(
+        f"edits: {len(named)} named; of the other {len(others)} {len(share)}, share {turn} of {TURNS}"
+    )
+    return [*named, *share]
+
+
+def chosen(names: list[str], listed: list[str], with_must_fail: bool) -> list[Edit]:
+    """Answers the edits of these crates, and these edits, by default of all crates."""
+    single = {it for it in names if "/" in it}
+    named = {it.partition("/")[0] for it in names} or {*listed}
+    found = [
+        edit
+        for crate in listed
+        if crate in named
+        for edit in edits_of(crate, with_must_fail or bool(single))
+    ]
+    return [it for it in found if not single or str(it) in single or it.crate in names]
+
+
+def try_all(stands_on: Libraries, edits: list[Edit], in_gate: bool, jobs: int) -> int:
+    """Tries edits, so many crates at once, the largest first, and answers how many weren't
+    refused."""
+    of_crate: dict[str, list[Edit]] = {}
+    for edit in edits:
+        of_crate.setdefault(edit.crate, []).append(edit)
+
+    def size(crate: str) -> int:
+        files = (TOP / "crates" / crate).glob("[sp]*/**/*.*t")
+        return sum(file.stat().st_size for file in files)
+
+    with tempfile.TemporaryDirectory(prefix="codenav-edits-") as folder:
+        with ThreadPoolExecutor(jobs) as pool:
+            running = [
+                pool.submit(try_crate, pathlib.Path(folder), stands_on, of_crate[crate], in_gate)
+                for crate in sorted(of_crate, key=size, reverse=True)
+            ]
+            return sum(it.result() for it in running)
+
+
 def main() -> int:
     parser = argparse.ArgumentParser(
         prog="bench/edits.sh", description="Tries the edits that the check must refuse, in batches."
@@ -259,6 +182,13 @@ def main() -> int:
         action="store_true",
         help="say which texts aren't there exactly once, and try nothing",
     )
+    parser.add_argument(
+        "--gate",
+        action="store_true",
+        help="try the named edits, and a share of the others, over what `rt ci` left",
+    )
+    parser.add_argument("--turn", type=int, help="the share of this number (default: by commits)")
+    parser.add_argument("--jobs", type=int, default=1, help="so many crates at once")
     parser.add_argument("--all", action="store_true", help="try the edits of must-fail/ too")
     parser.add_argument(
         "names",
@@ -267,30 +197,22 @@ def main() -> int:
         help="a crate, or CRATE/EDIT for one of its edits (default: every crate)",
     )
     words = parser.parse_args()
-    listed = re.findall(r"^(\w+).*:", (TOP / "crates.txt").read_text(encoding="utf-8"), re.M)
+    stands_on = libraries()
     folders = [it.name for it in (TOP / "edits").iterdir()]
-    single = {it for it in words.names if "/" in it}
-    named = {it.partition("/")[0] for it in words.names}
-    unknown = sorted({*named, *folders} - {*listed})
+    asked = {it.partition("/")[0] for it in words.names}
+    unknown = sorted({*asked, *folders} - {*stands_on.lines})
     if unknown:
         parser.error(f"crates.txt lists no {', '.join(unknown)}")
-    crates = [it for it in listed if it in named] if named else listed
-    edits = {crate: edits_of(crate, words.all or words.fits or bool(single)) for crate in crates}
-    if single:
-        edits = {
-            crate: [it for it in of_crate if str(it) in single or crate in words.names]
-            for crate, of_crate in edits.items()
-        }
-    failed = unfit([it for of_crate in edits.values() for it in of_crate])
-    count = sum(map(len, edits.values()))
+    edits = chosen(words.names, [*stands_on.lines], words.all or words.fits)
+    failed = unfit(edits)
     if words.fits or failed:
-        print(f"edits: {count - failed} of {count} fit")
-        return 1 if failed else 0
-    with tempfile.TemporaryDirectory(prefix="codenav-edits-") as folder:
-        copy = Copy(folder)
-        failed = sum(try_crate(copy, crate, edits[crate]) for crate in crates if edits[crate])
-    print(f"edits: {count - failed} of {count} refused")
-    return 1 if failed else 0
+        print(f"edits: {len(edits) - failed} of {len(edits)} fit")
+        return int(failed > 0)
+    if words.gate:
+        edits = share_of(edits, words.turn)
+    failed = try_all(stands_on, edits, words.gate, words.jobs)
+    print(f"{len(edits) - failed} passed, {failed} failed")
+    return int(failed > 0)
 
 
 if __name__ == "__main__":

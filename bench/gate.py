@@ -14,9 +14,10 @@ The whole is what the system counted for the command and all that it started. A 
 the processes of one crate, as it was seen last before each ended, looked at a few times a second;
 what no part has is the rest. The time by the clock is of a plan: each part takes one processor for
 as long as it cost, once the proofs of the crates below have ended; of those that can begin, the one
-with the longest way to the end does. Edits come behind the proof and the tests of their crate, one
-after the other or side by side. What the plan leaves out: `rt ci` waits for memory, and where
-RT_JOBS isn't set it gives a part that has nothing beside it several processors.
+with the longest way to the end does. Edits come behind the proof and the tests of their crate where
+`rt ci` tries them, and else, all of a crate as one job, behind all proofs and tests. What the plan
+leaves out: `rt ci` waits for memory, and where RT_JOBS isn't set it gives a part that has nothing
+beside it several processors.
 """
 
 import os
@@ -33,7 +34,8 @@ from typing import Optional
 PARTS = ("proof", "tests", "edits")
 # What these cost is the measure: hosts differ by two.
 MEASURES = ("positions", "tags")
-EDIT_FOLDER = "/rt-edit-"
+# those of `rt ci`, and of bench/edits.py
+EDIT_FOLDERS = re.compile("/rt-edit-|/codenav-edits-")
 TICK = os.sysconf("SC_CLK_TCK")
 COST = re.compile(r"^cost: (\w+) proof (\d+) tests (\d+) edits (\d+)$", re.M)
 ALONE = re.compile(r"^alone: (\w+) (\w+) (\d+)$", re.M)
@@ -52,7 +54,7 @@ def part_of(words: list[str], folder: str) -> Optional[Part]:
     of no crate."""
     if "--crate-name" in words:
         crate = words[words.index("--crate-name") + 1]
-        if EDIT_FOLDER in folder:
+        if EDIT_FOLDERS.search(folder):
             return crate, "edits"
         return crate, "tests" if "--test" in words else "proof"
     built = (
@@ -176,10 +178,12 @@ def jobs_of(crates: dict[str, list[int]]) -> Jobs:
         waits = [(name, "proof", 0) for name in below(crate, lines) if name in crates]
         for part, cost in zip(PARTS[:2], costs):
             jobs[crate, part, 0] = waits, cost
+    every = [*jobs]
+    for crate, costs in crates.items():
         edits = len(list((TOP / "crates" / crate / "must-fail").glob("*.edit")))
-        for number in range(edits):
-            own = [(crate, part, 0) for part in PARTS[:2]]
-            jobs[crate, "edits", number] = own, costs[2] / edits
+        own = [(crate, part, 0) for part in PARTS[:2]] if edits else every
+        for number in range(edits or 1):
+            jobs[crate, "edits", number] = own, costs[2] / (edits or 1)
     return jobs
 
 

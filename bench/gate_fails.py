@@ -1,4 +1,5 @@
-"""Shows that the gate fails where it should, for each part of bench/beside.py.
+"""Shows that the gate fails where it should, for each part of bench/beside.py, and for a wrong body
+that is proved.
 
 Breaks one thing that the part checks, and asks that this part fails; unbroken, each must pass.
 
@@ -6,8 +7,10 @@ usage: bench/gate_fails.py [--only CASE[,CASE..]] PROGRAM
        (PROGRAM is the built one, as crates/codenav/out/codenav; run by hand)
 
 What is broken is in a clone of the repository as it's committed, or in a program that is called
-before the built one. Last, the whole `.ci/run` is run in a clone with a tool broken, over a command
-`rt` that says that all is proved: its status and its last line must say that something failed.
+before the built one. An edit that changes nothing is tried beside one that is refused, and so are
+one that doesn't compile and one that the prover can't read. Last, the whole `.ci/run` is run in a
+clone over a command `rt` that says that all is proved, with a tool broken, and with an edit that
+changes nothing: its status and its last line must say that something failed.
 """
 
 import argparse
@@ -49,7 +52,23 @@ int main(int count, char **words) {
 }
 """
 PROVED = """#!/usr/bin/env bash
+[ "$1" = ci ] || exec REAL "$@"
 echo "1 passed, 0 failed"
+"""
+# edits of `positions`, which stands on no other crate, and what must come of each
+EDITS = {
+    "refused": "file: src/position.rt\nold:         self.line\nnew:         self.character\n",
+    "NOT REFUSED": "file: src/span.rt\nold:         self.end\nnew:         let end = self.end; end\n",
+    "BAD EDIT": "file: src/span.rt\nold:         self.start\nnew:         self.begin\n",
+}
+
+
+BESIDE = """import pathlib, sys, time
+over = pathlib.Path(sys.argv[2])
+while not over.exists():
+    time.sleep(1)
+counts = [line.replace(",", "").split() for line in over.read_text().splitlines()]
+print(sum(int(it[0]) for it in counts), "passed,", sum(int(it[2]) for it in counts), "failed")
 """
 
 
@@ -162,9 +181,37 @@ def ask(top: Path, part: str, program: str, may_pass: bool) -> bool:
     return is_well
 
 
+def ask_edits(folder: Path) -> bool:
+    """Whether bench/edits.py fails for an edit that changes nothing and for one that doesn't
+    compile, and says so of these alone."""
+    top = folder / "clone"
+    clone(top)
+    plant(top, *EDITS)
+    status, passed, failed, text = counts_of(["bench/edits.sh", "--gate", "--turn", "0"], top)
+    is_well = (status, passed, failed) == (1, 1, 2)
+    for number, said in enumerate(EDITS):
+        is_well = is_well and f"positions/planted_{number}: {said}" in text
+    plant(top, "refused")
+    ran = counts_of(["bench/edits.sh", "--gate", "--turn", "0"], top)
+    is_well = is_well and ran[:3] == (0, 1, 0)
+    print(f"edits: {'as it should be' if is_well else 'NOT AS IT SHOULD BE'}", flush=True)
+    if not is_well:
+        print(text, ran[3])
+    return is_well
+
+
+def plant(top: Path, *said: str) -> None:
+    """Leaves these edits alone in a clone, all of them named."""
+    shutil.rmtree(top / "edits")
+    to = top / "edits/positions/named"
+    to.mkdir(parents=True)
+    for number, it in enumerate(said):
+        (to / f"planted_{number}.edit").write_text(EDITS[it])
+
+
 def ask_gate(folder: Path, real: str) -> bool:
-    """Whether `.ci/run` fails where a tool is broken, though all is proved; and where the text of
-    an edit that must be refused isn't in its file."""
+    """Whether `.ci/run` fails, though `rt ci` passes, where a tool is broken, where an edit changes
+    nothing, and where the text of an edit that must be refused isn't in its file."""
     tools = next(case for case in CASES if case.name == "tools")
     top, program = broken(tools, folder, real)
     to = top / "crates/codenav/out"
@@ -172,20 +219,29 @@ def ask_gate(folder: Path, real: str) -> bool:
     shutil.copy(program, to / "codenav")
     stub = folder / "bin"
     stub.mkdir()
-    (stub / "rt").write_text(PROVED)
+    (stub / "rt").write_text(PROVED.replace("REAL", shutil.which("rt") or "rt"))
     (stub / "rt").chmod(0o755)
+    plant(top, "refused")
     status, passed, failed, text = counts_of(["bash", ".ci/run"], top, f"{stub}:")
-    is_red = status != 0 and passed > 0 and failed > 0
+    is_red = status != 0 and passed > 2 and failed > 0
     print(
         f"the gate with a tool broken: {passed} passed, {failed} failed, status {status}: {'as it should be' if is_red else 'NOT AS IT SHOULD BE'}",
         flush=True,
+    )
+    # nothing that is run beside fails here
+    (top / "bench/beside.py").write_text(BESIDE)
+    plant(top, "NOT REFUSED")
+    status, passed, failed, proved = counts_of(["bash", ".ci/run"], top, f"{stub}:")
+    is_red = is_red and (status, passed, failed) == (1, 1, 1)
+    print(
+        f"the gate with an edit that changes nothing: {passed} passed, {failed} failed", flush=True
     )
     edit = next(iter(sorted(top.glob("crates/*/must-fail/*.edit"))))
     edit.write_text(edit.read_text().replace("old: ", "old: nowhere ", 1))
     status, _, _, unfit = counts_of(["bash", ".ci/run"], top, f"{stub}:")
     print(f"the gate with an edit that doesn't fit: status {status}", flush=True)
     if not is_red or status == 0:
-        print(text, unfit)
+        print(text, proved, unfit)
     return is_red and status != 0
 
 
@@ -194,12 +250,13 @@ def main() -> int:
     said = (__doc__ or "").strip().split("\n")
     options = argparse.ArgumentParser(description=said[0])
     options.add_argument(
-        "--only", help="these cases, with commas between them; `gate` for the last"
+        "--only", help="these cases, with commas between them; `edits` and `gate` for the last"
     )
     options.add_argument("program", help="the built program")
     given = options.parse_args()
     real = os.path.abspath(given.program)
-    wanted = given.only.split(",") if given.only else [*(case.name for case in CASES), "gate"]
+    every = [*(case.name for case in CASES), "edits", "gate"]
+    wanted = given.only.split(",") if given.only else every
     wrong = 0
     for case in CASES:
         if case.name in wanted:
@@ -209,6 +266,9 @@ def main() -> int:
                 if case.file:
                     subprocess.run(["git", "checkout", "-q", case.file], cwd=top, check=True)
                 wrong += not ask(top, case.part, real, True)
+    if "edits" in wanted:
+        with tempfile.TemporaryDirectory(prefix="gate-") as folder:
+            wrong += not ask_edits(Path(folder))
     if "gate" in wanted:
         with tempfile.TemporaryDirectory(prefix="gate-") as folder:
             wrong += not ask_gate(Path(folder), real)
