@@ -1,21 +1,18 @@
 #!/usr/bin/env bash
-# Measures what a request costs the program beside what it costs the desk alone, in one run: the
-# processor time of each of so many `GET /projects` and definition requests over the demo's dump, by
-# `replay` from a file and by `serve` over loopback, beside that of the same query asked of a desk
-# in a loop, and beside the system's time for a bare connection; and the time that a client on
+# Measures what a request costs the program, in one run: the processor time of each of so many `GET
+# /projects` and definition requests over the demo's dump, by `replay` from a file and by `serve`
+# over loopback, beside the system's time for a bare connection; and the time that a client on
 # loopback sees, at the median. Then the most memory that `replay` holds for 10,000 and for
 # 1,000,000 requests; and that of an upload of some 30 MB, beside that of `check-lsif` of the same
 # dump.
-# usage: bench/requests.sh [REQUESTS [CONNECTIONS]]      (default 100000 and 10000)
-# It builds and proves the crate `bench` first, which takes some minutes where that isn't done yet.
+# usage: bench/requests.sh [PROGRAM [REQUESTS [CONNECTIONS]]]  (the built program, without it the one
+#        of this clone, which is built first where it isn't yet; default 100000 and 10000)
 set -eu
-requests=${1:-100000}
-connections=${2:-10000}
+requests=${2:-100000}
+connections=${3:-10000}
 . "$(dirname "${BASH_SOURCE[0]}")/shared.sh"
-"$top/codenav" --help >/dev/null
-program=$top/crates/codenav/out/codenav
-
-build_bench
+. "$top/bench/refusal.sh"
+find_program "${1-}"
 
 target_of() {
     case $1 in
@@ -38,15 +35,13 @@ cost_of() {
 }
 
 cp "$top/demo/base.lsif" "$folder/dump"
-echo "$requests" >"$folder/count"
-(cd "$folder" && "$built" requests) >"$folder/alone"
 
-# The nanoseconds of one request beyond what a desk alone takes for it, and the system for a bare connection.
+# The processor's time of one request, of so many that took so many nanoseconds.
 report() {
-    awk -v way="$1" -v kind="$2" -v count="$3" -v time="$4" -v bare="$5" '$1 == kind {
-        printf "%-7s %-11s %8.1f microseconds each, a desk alone %6.1f, the system for a bare connection %6.1f, beyond both %6.1f\n",
-            way, kind, time / count / 1000, $2 / 1000, bare / 1000, (time / count - $2 - bare) / 1000
-    }' "$folder/alone"
+    awk -v way="$1" -v kind="$2" -v count="$3" -v time="$4" -v bare="$5" 'BEGIN {
+        printf "%-7s %-11s %8.1f microseconds each", way, kind, time / count / 1000
+        print bare ? sprintf(", of which the system takes %.1f for a bare connection", bare / 1000) : ""
+    }'
 }
 
 for kind in projects definition; do
