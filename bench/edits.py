@@ -19,6 +19,7 @@ from concurrent.futures import ThreadPoolExecutor
 from typing import Optional
 
 from edit_files import TOP, BadEdit, Edit, Place, Tried, applied, batches_of, edits_of, module_of
+from kept_edits import KeptEdits
 from rooms import Libraries, Room, libraries, proved_again
 
 NOT_PROVED = re.compile(r"not proved|no proof")
@@ -93,9 +94,16 @@ def tried(room: Room, batch: list[Tried]) -> Iterator[Outcome]:
 
 
 def try_crate(folder: pathlib.Path, stands_on: Libraries, edits: list[Edit], in_gate: bool) -> int:
-    """Tries a crate's edits, prints what came of each, and answers how many weren't refused."""
+    """Tries a crate's edits, prints what came of each, and answers how many weren't refused. In the
+    gate, what an earlier run refused of the same files isn't tried again."""
     crate, start, count, failed = edits[0].crate, time.monotonic(), 0, 0
-    if not (in_gate and stands_on.are_left_by_ci(crate)):
+    kept = KeptEdits(crate, stands_on)
+    if in_gate:
+        known = [edit for edit in edits if kept.why(edit) is not None]
+        for edit in known:
+            print(f"{edit}: refused by an earlier run here: {kept.why(edit)}", flush=True)
+        edits = [edit for edit in edits if edit not in known]
+    if edits and not (in_gate and stands_on.are_left_by_ci(crate)):
         said, is_proved = proved_again(crate)
         if not is_proved:
             print(f"{said}{crate}: it isn't proved as it stands", flush=True)
@@ -105,6 +113,8 @@ def try_crate(folder: pathlib.Path, stands_on: Libraries, edits: list[Edit], in_
         count += 1
         for edit, outcome, why in tried(room, batch):
             print(f"{edit}: {outcome}{': ' if why else ''}{why}", flush=True)
+            if outcome == REFUSED and in_gate:
+                kept.keep(edit, why)
             failed += outcome != REFUSED
     shutil.rmtree(room.folder)
     took = time.monotonic() - start
