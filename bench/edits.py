@@ -61,8 +61,14 @@ def verdict_of(edit: Edit, places: set[Place], said: dict[str, str]) -> tuple[Op
     return (None if waiting else False), waiting
 
 
-def why_of(words: str) -> str:
-    """Answers the words of a verdict that say what refused: goals, a text of a proof, a callee."""
+def why_of(words: str, places: set[Place], ran: str) -> str:
+    """Answers what refused an edit, by the words of its verdict: goals, a text of a proof, or a
+    function that it calls."""
+    if words.endswith("not proved"):
+        names = "|".join(it.name for it in places if it.name)
+        within = rf"\b(?:{names})/\S+" if names else r"\S+"
+        found = re.search(rf"^(?:note: )?(?:\./)?(proofs/\S*{within}: error: .*)$", ran, re.M)
+        return found[1][:160] if found else words
     words = re.sub(r"expected answers in \S+; ", "", words)
     return re.sub(r"(no proof|not proved)[:;] ", "", words)[:160]
 
@@ -87,7 +93,8 @@ def tried(room: Room, batch: list[Tried]) -> Iterator[Outcome]:
     left = left if len(batch) > 1 else []
     for (edit, places), (is_refused, words) in zip(batch, verdicts):
         if (edit, places) not in left:
-            yield edit, NOT_REFUSED if is_refused is False else REFUSED, why_of(words)
+            outcome = NOT_REFUSED if is_refused is False else REFUSED
+            yield edit, outcome, why_of(words, places, ran)
     middle = len(left) // 2 if len(left) == len(batch) else 0
     for part in filter(None, (left[:middle], left[middle:])):
         yield from tried(room, part)
