@@ -110,12 +110,13 @@ def try_crate(folder: pathlib.Path, stands_on: Libraries, edits: list[Edit], in_
         for edit in known:
             print(f"{edit}: refused by an earlier run here: {kept.why(edit)}", flush=True)
         edits = [edit for edit in edits if edit not in known]
-    if edits and not (in_gate and stands_on.are_left_by_ci(crate)):
+    is_begun = not (in_gate and stands_on.are_left_by_ci(crate))
+    if edits and is_begun:
         said, is_proved = proved_again(crate)
         if not is_proved:
             print(f"{said}{crate}: it isn't proved as it stands", flush=True)
             return len(edits)
-    room = Room(folder, crate, stands_on)
+    room = Room(folder, crate, stands_on, is_begun)
     for batch in batches_of(edits):
         count += 1
         for edit, outcome, why in tried(room, batch):

@@ -78,16 +78,19 @@ def linked(one: str, other: str) -> None:
 
 
 class Room:
-    """A copy of a crate in which edits are tried, over what earlier checks kept."""
+    """A copy of a crate in which edits are tried, over what its own checks keep, which begin with
+    what `rt check` kept or with nothing."""
 
-    def __init__(self, folder: pathlib.Path, crate: str, stands_on: Libraries) -> None:
+    def __init__(
+        self, folder: pathlib.Path, crate: str, stands_on: Libraries, is_begun: bool
+    ) -> None:
         self.folder, self.crate = folder / crate, crate
         self.words = stands_on.words(crate)
         for part in ("src", "specs", "proofs"):
             if (TOP / "crates" / crate / part).is_dir():
                 shutil.copytree(TOP / "crates" / crate / part, self.folder / part)
         kept, self.kept = TOP / "crates" / crate / "out/incremental", self.folder / "kept"
-        if kept.is_dir():
+        if is_begun and kept.is_dir():
             shutil.copytree(kept, self.kept, copy_function=linked)
         else:
             self.kept.mkdir()
