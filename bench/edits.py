@@ -64,7 +64,7 @@ def verdict_of(edit: Edit, places: set[Place], said: dict[str, str]) -> tuple[Op
 def why_of(words: str, places: set[Place], ran: str) -> str:
     """Answers what refused an edit, by the words of its verdict: goals, a text of a proof, or a
     function that it calls."""
-    if words.endswith("not proved"):
+    if re.fullmatch(r"(?:.*: )?not proved", words):
         names = "|".join(it.name for it in places if it.name)
         within = rf"\b(?:{names})/\S+" if names else r"\S+"
         found = re.search(rf"^(?:note: )?(?:\./)?(proofs/\S*{within}: error: .*)$", ran, re.M)
