@@ -74,14 +74,31 @@ class Joints:
 
     def seconds(self, label: str, further: dict[int, list[int]]) -> None:
         """Joins what several edges of a label lead to where one may be."""
-        plan = self.plan
-        for source, targets in further.items() if label != HOVERS else ():
+        plan, is_next = self.plan, label == "next"
+        sources = self.from_the_ends(further) if is_next else list(further)
+        for source in sources if label != HOVERS else ():
             if plan.is_asked(source):
-                both = [plan.final[label][source], *targets]
-                is_next = label == "next"
+                both = [plan.final[label][source], *further[source]]
                 joint = self.joint(both) if is_next else self.result(RESULT_OF[label], both)
                 plan.set(label, source, joint)
         self.holders.clear()
+
+    def from_the_ends(self, further: dict[int, list[int]]) -> list[int]:
+        """The vertices with several `next` edges, each behind those that it leads to: what it means
+        is what these mean once they're joined."""
+        found: list[int] = []
+        known: set[int] = set()
+        waiting = [(own, False) for own in further]
+        while waiting:
+            own, is_left = waiting.pop()
+            if is_left:
+                found.append(own)
+            elif own not in known:
+                known.add(own)
+                waiting += [(own, True)] if own in further else []
+                to = [self.plan.final["next"][own], *further.get(own, ())]
+                waiting += [(other, False) for other in to if other != NONE]
+        return found
 
     def share(self, found: list[list[Bearer]]) -> None:
         """Gives the vertices of each symbol the results that one of them has."""

@@ -17,6 +17,8 @@ from tests.lsif_model import Model
 from tests.randomly import check_cases
 from tests.raw_dumps import RawDump
 
+PLACES = [{"line": line, "character": 4} for line in (0, 1, 2)]
+
 
 def prepared(elements: list[Element]) -> tuple[int, bytes, str]:
     """The status, the prepared dump, and what was said."""
@@ -32,8 +34,11 @@ def prepared(elements: list[Element]) -> tuple[int, bytes, str]:
 
 class RawDumps(unittest.TestCase):
     def check(self, chance: random.Random) -> None:
+        """A random dump answers as the raw one means it."""
+        self.compare(RawDump(chance).make())
+
+    def compare(self, elements: list[Element]) -> None:
         """A dump answers as the raw one means it."""
-        elements = RawDump(chance).make()
         status, body, said = prepared(elements)
         self.assertEqual(status, 0, f"{said}, of\n{body_of(elements).decode()}")
         for profile in ("1", "2"):
@@ -46,6 +51,32 @@ class RawDumps(unittest.TestCase):
             self.assertEqual(
                 found, model.answer(question), f"{question}, of\n{body_of(elements).decode()}"
             )
+
+    def test_two_ways_behind_one_of_two_ways(self) -> None:
+        """A range leads to two result sets, of which the second leads to the first and to one that
+        has the references."""
+        vertices: list[Element] = [
+            {"label": "metaData", "version": "0.6.0", "projectRoot": "file:///src"},
+            {"label": "document", "uri": "a.ts", "languageId": "x"},
+            *(
+                {"label": "range", **dict(zip(("start", "end"), PLACES[at : at + 2]))}
+                for at in (0, 1)
+            ),
+            *({"label": "resultSet"} for _ in range(3)),
+            {"label": "referenceResult"},
+        ]
+        edges: list[Element] = [
+            {"label": "contains", "outV": 1, "inVs": [2, 3]},
+            *(
+                {"label": "next", "outV": own, "inV": to}
+                for own, to in ((2, 4), (2, 5), (5, 4), (5, 6))
+            ),
+            {"label": "textDocument/references", "outV": 6, "inV": 7},
+            {"label": "item", "outV": 7, "inVs": [3], "property": "references", "shard": 1},
+        ]
+        elements = [{"type": "vertex", **one} for one in vertices]
+        elements += [{"type": "edge", **one} for one in edges]
+        self.compare([{"id": own, **one} for own, one in enumerate(elements)])
 
     def test_they_answer_as_they_mean(self) -> None:
         check_cases(self, 60, lambda draw: {"chance": draw.randoms()}, self.check)
