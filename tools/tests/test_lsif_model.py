@@ -58,10 +58,7 @@ class RawDumps(unittest.TestCase):
         vertices: list[Element] = [
             {"label": "metaData", "version": "0.6.0", "projectRoot": "file:///src"},
             {"label": "document", "uri": "a.ts", "languageId": "x"},
-            *(
-                {"label": "range", **dict(zip(("start", "end"), PLACES[at : at + 2]))}
-                for at in (0, 1)
-            ),
+            *({"label": "range", "start": PLACES[at], "end": PLACES[at + 1]} for at in (0, 1)),
             *({"label": "resultSet"} for _ in range(3)),
             {"label": "referenceResult"},
         ]
