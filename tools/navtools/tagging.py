@@ -72,14 +72,15 @@ def tagged(folder: str, path: str, is_cut: bool = False) -> tuple[int, Counter[s
     """Writes the tags file of a checkout; answers how many lines it has, and how many were left
     out, by the server's codes. One that's cut afterwards may be larger than what the server takes.
 
-    The list of the files stands beside it meanwhile.
+    The list of the files stands beside it meanwhile. They're named from `./` on, which no option
+    begins with; and no options of the checkout's count.
     """
     names = f"{path}.files"
     with open(names, "wb") as listed:
-        listed.writelines(name + b"\n" for name in files_of(folder))
+        listed.writelines(b"./" + name + b"\n" for name in files_of(folder))
     count, written, left_out = 0, 0, Counter[str]()
     with open(path, "wb") as out, subprocess.Popen(
-        ["ctags", "-f", "-", "-L", names, "--fields=+n", "--sort=yes"],
+        ["ctags", "--options=NONE", "-f", "-", "-L", names, "--fields=+n", "--sort=yes"],
         cwd=folder,
         stdin=subprocess.DEVNULL,
         stdout=subprocess.PIPE,
@@ -87,7 +88,7 @@ def tagged(folder: str, path: str, is_cut: bool = False) -> tuple[int, Counter[s
         env={**os.environ, "LC_ALL": "C"},
     ) as run:
         for line in run.stdout or ():
-            line = line.removesuffix(b"\n")
+            line = line.removesuffix(b"\n").replace(b"\t./", b"\t", 1)
             code = fault_of(line, *((0, 0) if is_cut else (count + 1, written)))
             if code is not None:
                 left_out[code] += 1

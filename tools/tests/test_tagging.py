@@ -1,0 +1,45 @@
+"""Tests of the tags file of a checkout: the names of its files are names, whatever they are."""
+
+import os
+import shutil
+import unittest
+
+from navtools.tagging import tagged
+from tests.repository import InRepository
+
+SOURCE = "int two(void) { return 2; }\n"
+
+
+@unittest.skipUnless(shutil.which("ctags"), "Debian's universal-ctags isn't there")
+class Tagging(InRepository):
+    def lines(self) -> list[tuple[str, str]]:
+        """The name and the file of each tag, as they stand in the file."""
+        path = os.path.join(self.home, "tags")
+        count, left_out = tagged(self.top, path)
+        with open(path, encoding="utf-8") as file:
+            rows = file.read().splitlines()
+        self.assertEqual((len(rows), dict(left_out)), (count, {}))
+        self.assertEqual(rows, sorted(rows))
+        return [(row.split("\t")[0], row.split("\t")[1]) for row in rows]
+
+    def test_names_of_files(self) -> None:
+        """With git and without it."""
+        names = ["a.c", "-neg.c", "-d/x.c", "d/-x.c", "#h.c", " b.c", "--options=F/x.c"]
+        for name in names:
+            self.write(name, SOURCE)
+        for name in "--version", "--output-format=json", "--help", "-":
+            self.write(name, "")
+        for is_git in True, False:
+            if is_git:
+                self.commit()
+            else:
+                shutil.rmtree(os.path.join(self.top, ".git"))
+            with self.subTest(is_git=is_git):
+                self.assertEqual(self.lines(), [("two", name) for name in sorted(names)])
+
+    def test_options_of_the_checkout(self) -> None:
+        """None are read."""
+        self.write(".ctags.d/own.ctags", "--exclude=*.c\n")
+        self.write("a.c", SOURCE)
+        self.commit()
+        self.assertEqual(self.lines(), [("two", "a.c")])
