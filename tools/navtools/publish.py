@@ -30,7 +30,7 @@ from navtools.outputs import whole_file
 from navtools.places import map_words, uri_of
 from navtools.progress import Heard, Stage, Watched
 from navtools.records import Prepared, new_record
-from navtools.revisions import indexed_at
+from navtools.checked_out import indexed_at
 from navtools.sets import split
 from navtools.sets.manifest import set_name, shown_name
 from navtools.sets.publish import Publish, Store, fetch_cuts, remove_set

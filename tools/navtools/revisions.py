@@ -12,8 +12,8 @@ import subprocess
 import tempfile
 import threading
 import time
-from contextlib import suppress
-from typing import Optional
+from contextlib import contextmanager, suppress
+from typing import Iterator, Optional
 
 from navtools.indexed import FRESH
 from navtools.texts import decoded
@@ -26,14 +26,18 @@ ENVIRONMENT = {"GIT_OPTIONAL_LOCKS": "0", "GIT_NO_LAZY_FETCH": "1", "LC_ALL": "C
 
 
 def git(
-    folder: str, *words: str, seconds: Optional[float] = SECONDS, **variables: str
+    folder: str,
+    *words: str,
+    seconds: Optional[float] = SECONDS,
+    body: bytes = b"",
+    **variables: str,
 ) -> Optional[bytes]:
-    """What a git command prints; None where it fails, or there is no git. Raises BadCall where it
-    doesn't end in time."""
+    """What a git command prints, which reads a body; None where it fails, or there is no git.
+    Raises BadCall where it doesn't end in time."""
     try:
         done = subprocess.run(
             ["git", "-C", folder, *words],
-            stdin=subprocess.DEVNULL,
+            input=body,
             capture_output=True,
             check=False,
             env={**os.environ, **ENVIRONMENT, **variables},
@@ -100,26 +104,16 @@ def commit_of(top: str, revision: str) -> str:
     return commit
 
 
-def indexed_at(folder: str, given: Optional[str]) -> tuple[str, str]:
-    """The commit that a folder's index is of, and a line to say where it can't be known or the
-    files differ from it. Raises BadCall.
-
-    It's the one that is given, else the one that is checked out, where no file that git has differs
-    from it.
-    """
-    top = top_of(folder)
-    if not top and given:
-        raise BadCall(f"{folder}: not in a checkout of git, so {given} can't be looked up")
-    commit = commit_of(top, given) if given else found_in(folder, "HEAD^{commit}")
-    words = ["diff", "--quiet", "--ignore-submodules", commit, "--"]
-    if not commit or git(top, *words, seconds=None) is not None:
-        return commit, ""
-    if given:
-        return (
-            commit,
-            f"{folder} has files that differ from {given}, of which the index is said to be",
-        )
-    return "", f"{folder} has changes that aren't committed, so the index is of no revision"
+@contextmanager
+def copied_index(top: str) -> Iterator[dict[str, str]]:
+    """The variables by which git has a copy of a work tree's index, of the same time, for its own;
+    nothing is in it where the work tree has none."""
+    index = line_of(git(top, "rev-parse", "--git-path", "index"))
+    with tempfile.TemporaryDirectory() as folder:
+        copy = os.path.join(folder, "index")
+        with suppress(OSError):
+            shutil.copy2(os.path.join(top, index), copy)
+        yield {"GIT_INDEX_FILE": copy}
 
 
 def no_revision(top: str, revision: str) -> str:
@@ -306,19 +300,7 @@ class Revision:
     def changes(self) -> bytes:
         """What git says of the files that changed since the revision, by a copy of its index to
         which new files are added."""
-        index = line_of(git(self.top, "rev-parse", "--git-path", "index"))
-        with tempfile.TemporaryDirectory() as folder:
-            copy = os.path.join(folder, "index")
-            try:
-                shutil.copyfile(os.path.join(self.top, index), copy)
-            except OSError:
-                return b""
-            git(self.top, "add", "--intent-to-add", ".", GIT_INDEX_FILE=copy)
-            words = [
-                "--no-ext-diff",
-                "--ignore-submodules",
-                "--find-renames",
-                "--name-status",
-                "-z",
-            ]
-            return git(self.top, "diff", *words, self.commit, "--", GIT_INDEX_FILE=copy) or b""
+        words = ["--no-ext-diff", "--ignore-submodules", "--find-renames", "--name-status", "-z"]
+        with copied_index(self.top) as variables:
+            git(self.top, "add", "--intent-to-add", ".", **variables)
+            return git(self.top, "diff", *words, self.commit, "--", **variables) or b""

@@ -19,7 +19,7 @@ from typing import IO, BinaryIO, Iterator, Optional, cast
 from navtools import rows
 from navtools.client import Answer, address, refusal_of, reply_in, request_again
 from navtools.lsif import NotADump, Source
-from navtools.revisions import indexed_at
+from navtools.checked_out import indexed_at
 from navtools.words import (
     BadCall,
     add_retry,
