@@ -41,7 +41,7 @@ def still_indexed_at(folder: str, commit: str, given: Optional[str]) -> tuple[st
         return commit, ""
     if given:
         return commit, DIFFERS.format(folder, given)
-    return "", OF_NONE.format(f"{folder} changed while it was indexed")
+    return "", OF_NONE.format(f"{folder} changed meanwhile")
 
 
 def is_changed(top: str, commit: str) -> bool:

@@ -30,7 +30,7 @@ from navtools.outputs import whole_file
 from navtools.places import map_words, uri_of
 from navtools.progress import Heard, Stage, Watched
 from navtools.records import Prepared, new_record
-from navtools.checked_out import indexed_at
+from navtools.checked_out import indexed_at, still_indexed_at
 from navtools.sets import split
 from navtools.sets.manifest import set_name, shown_name
 from navtools.sets.publish import Publish, Store, fetch_cuts, remove_set
@@ -218,6 +218,8 @@ def made(call: argparse.Namespace, work: str) -> tuple[list[Body], list[Row]]:
             bodies.append(Body(call.project, "tags", tags, None))
     elif not call.no_tags:
         left_out.append(Row("tags", None, "ctags isn't installed (Debian's universal-ctags)"))
+    if raw is not None:
+        look_again(call)
     if not bodies:
         raise BadCall(f"{call.folder}: no indexer is known for what is here, and there are no tags")
     if call.set and raw is None:
@@ -274,12 +276,28 @@ def is_recorded(call: argparse.Namespace, path: str) -> bool:
     dump = Prepared(path)
     call.where = dump.root or call.where
     if dump.is_recorded:
-        own = dump.record.revision if dump.record else ""
+        own, call.looks_again = dump.record.revision if dump.record else "", False
         if call.revision and own != call.commit:
             of = f"revision {own}" if own else "no revision"
             raise BadCall(f"the dump says itself that it's of {of}, and not of {call.revision}")
         call.commit = own
-    return call.set or dump.is_recorded or dump.add(new_record(call.commit, call.where))
+    if call.set or dump.is_recorded:
+        return True
+    call.recorded = dump if dump.add(new_record(call.commit, call.where)) else None
+    return call.recorded is not None
+
+
+def look_again(call: argparse.Namespace) -> None:
+    """Has the index be of no revision where the checkout changed while it was made, but where the
+    call or the dump names one; says so."""
+    if not call.looks_again:
+        return
+    call.commit, fault = still_indexed_at(call.folder, call.commit, call.revision)
+    if not fault:
+        return
+    print(f"{TOOL}: {fault}", file=sys.stderr)
+    if call.recorded is not None:
+        call.recorded.add(new_record(call.commit, call.where))
 
 
 def check_all(call: argparse.Namespace, bodies: list[Body]) -> None:
@@ -421,6 +439,7 @@ def published(call: argparse.Namespace) -> int:
     set_name(call.project) if call.set else project_of(call.project)
     call.where = uri_of(call.folder, [])
     call.commit, fault = indexed_at(call.folder, call.revision)
+    call.looks_again, call.recorded = not fault, None
     if fault:
         print(f"{TOOL}: {fault}", file=sys.stderr)
     if not call.dry_run:
@@ -443,13 +462,13 @@ def published(call: argparse.Namespace) -> int:
         if call.commit:
             print(f"the index is of revision {call.commit}, which it keeps")
     path = os.path.join(call.folder, FILE)
-    pinned = found_in_file(path).get("revision") if os.path.isfile(path) else None
-    if sent and pinned not in (None, call.commit):
-        print(f"{TOOL}: {path}: tools go by its revision {pinned} there", file=sys.stderr)
     if sent and settings:
         with whole_file(path) as file:
             file.write(settings.encode())
         print(f"written {path}")
+    pinned = found_in_file(path).get("revision") if os.path.isfile(path) else None
+    if sent and pinned not in (None, call.commit):
+        print(f"{TOOL}: {path}: tools go by its revision {pinned} there", file=sys.stderr)
     for line in table(left_out):
         print(line)
     return 0

@@ -85,7 +85,7 @@ class Prepared:
         with open(path, "rb") as dump:
             for line in dump:
                 self.take(line)
-        self.root = self.root or self.above or ""
+        self.root, self.size = self.root or self.above or "", os.path.getsize(path)
 
     def take(self, line: bytes) -> None:
         """Takes the next line. Only those that may speak of a record, by a text or an escape of its
@@ -108,15 +108,15 @@ class Prepared:
             self.record = record_in(element["result"].get("contents")) or self.record
 
     def add(self, record: Record) -> bool:
-        """Writes a record behind the dump's elements; says whether it's within the limits of the
-        server with it, and writes nothing where it isn't."""
+        """Writes a record behind the dump's elements, in the place of one that it wrote before; says
+        whether it's within the limits of the server with it, and writes nothing where it isn't."""
         ids = (name for number in count(1) if (name := f"{ADDRESS} {number}") not in self.taken)
         elements = list(elements_of(record, ids))
         text = b"" if self.is_ended else b"\n"
         text += b"".join(json.dumps(one).encode() + b"\n" for one in elements)
-        size = os.path.getsize(self.path) + len(text)
-        if outputs.excesses(self.elements + len(elements), size, 0):
+        if outputs.excesses(self.elements + len(elements), self.size + len(text), 0):
             return False
+        os.truncate(self.path, self.size)
         with open(self.path, "ab") as dump:
             dump.write(text)
         return True

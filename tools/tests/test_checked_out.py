@@ -117,7 +117,7 @@ class CheckedOut(InRepository):
                 self.renew(kept)
                 for step in steps:
                     step()
-                line = f"{self.top} changed while it was indexed, so the index is of no revision"
+                line = f"{self.top} changed meanwhile, so the index is of no revision"
                 found = still_indexed_at(self.top, self.head, None)
                 self.assertEqual(found, ("", line) if is_change else (self.head, ""))
                 head = self.git("rev-parse", "HEAD")
@@ -138,3 +138,4 @@ class CheckedOut(InRepository):
         """Makes the repository what it was."""
         shutil.rmtree(self.top, ignore_errors=True)
         shutil.copytree(kept, self.top, symlinks=True)
+        self.git("update-index", "-q", "--refresh")

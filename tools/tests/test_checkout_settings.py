@@ -72,7 +72,7 @@ class Written(OnServer, InRepository):
         call = ["--write-settings", self.url, "app", self.top]
         status, _, said = self.published(*call)
         self.assertEqual((status, said.endswith(fault)), (2, True), said)
-        self.assertEqual(quietly(ask.main, self.url, "app", "names", "x")[0], 1)
+        self.assertEqual(quietly(ask.main, self.url, "app", "names", "x")[0], 2)
         self.assertEqual(self.published("--overwrite", *call)[0], 0)
         with open(self.file, encoding="utf-8") as file:
             text = 'revision = "old"\n' + file.read()
@@ -81,6 +81,9 @@ class Written(OnServer, InRepository):
         self.assertEqual((status, said.count("tools go by its revision old there")), (0, 1))
         with open(self.file, encoding="utf-8") as file:
             self.assertEqual(file.read(), text)
+        self.write(FILE, 'revision = "old"\n' + more)
+        status, _, said = self.published("--overwrite", *call)
+        self.assertEqual((status, "its revision" in said), (0, False), said)
 
     def test_what_is_missing(self) -> None:
         place = [self.lib, "18", "12"]

@@ -19,6 +19,8 @@ from navtools import ask, outputs, publish
 from navtools.indexers import INDEXERS, is_scip
 from navtools.left_out import Row, rows_of, table
 from navtools.projects import listed
+from navtools.records import Prepared
+from navtools.sets.publish import Publish as Made, Store
 from tests.repository import git_in
 from tests.servers import TOP, OnServer
 from tests.test_set_service import asked_at
@@ -171,6 +173,52 @@ class Publish(OnCheckout):
         status, _, stages = self.published("--dump", dump, "--revision", "HEAD", *call)
         fault = f"publish: the dump says itself that it's of revision {commit}, and not of HEAD"
         self.assertEqual((status, stages.splitlines()[-1]), (2, fault))
+
+    def test_a_checkout_that_changes_meanwhile(self) -> None:
+        """Its index is of no revision, but where the call or the dump names one."""
+        commit, kept = self.committed(), os.path.join(self.home, "kept")
+        meanwhile = f"publish: {self.checkout} changed meanwhile, so the index is of no revision"
+        differs = f"publish: {self.checkout} has files that differ from HEAD, of which the index is said to be"
+        save = "echo >>src/lib.rs"
+        empty = "git -c user.name=t -c user.email=t@t commit -q --allow-empty -m y"
+        rows: list[tuple[list[str], str, str, str]] = [
+            (["--index", f"cat {RAW}"], "", commit, ""),
+            (["--index", f"{save}; cat {RAW}"], "", "", meanwhile),
+            (["--set", "--index", f"{save}; cat {RAW}"], "", "", meanwhile),
+            (["--set", "--index", f"{save}; cat {SCIP}"], "", "", meanwhile),
+            (["--index", f"{save}; cat {SCIP}"], "", "", meanwhile),
+            (["--index", f"{empty}; cat {RAW}"], "", "", meanwhile),
+            (["--index", f"cat {RAW}"], save, "", meanwhile),
+            (["--dump", RAW], save, "", meanwhile),
+            (["--revision", "HEAD", "--index", f"{save}; cat {RAW}"], "", commit, differs),
+            (["--revision", "HEAD", "--index", f"{empty}; cat {RAW}"], "", commit, ""),
+            (["--dump", os.path.join(self.home, "old.lsif")], save, commit, ""),
+        ]
+        ctags = shutil.which("ctags")
+        for words, with_tags, revision, said in rows:
+            with self.subTest(words, with_tags=with_tags):
+                git_in(self.checkout, "reset", "-q", "--hard", commit)
+                script(os.path.join(self.bin, "ctags"), with_tags, f'exec {ctags} "$@"')
+                shutil.rmtree(kept, ignore_errors=True)
+                call = ["--keep", kept, *words, "app", self.checkout]
+                status, printed, stages = self.published(*call)
+                self.assertEqual(status, 0, stages)
+                line = f"the index is of revision {revision}, which it keeps"
+                found = [one for one in printed if "of revision" in one]
+                self.assertEqual(found, [line] if revision else [])
+                found = [one for one in stages.splitlines() if self.checkout in one]
+                self.assertEqual(found, [said] if said else [])
+                self.assertEqual(self.kept_revision(kept, "--set" in words), revision)
+                if words == rows[0][0] and not with_tags:
+                    shutil.copy(os.path.join(kept, "dump.lsif"), self.home + "/old.lsif")
+
+    def kept_revision(self, kept: str, is_set: bool) -> str:
+        """The revision that the files in a folder keep."""
+        if is_set:
+            return Made(Store(""), os.path.join(kept, "set")).head.revision
+        record = Prepared(os.path.join(kept, "dump.lsif")).record
+        assert record is not None
+        return record.revision
 
     def test_the_revision_of_a_set(self) -> None:
         """A set keeps it, so that a question about a file that changed needs no option."""
