@@ -62,9 +62,9 @@ def is_changed(top: str, commit: str) -> bool:
             marked.append(name + b"\0")
         if mode == b"160000" and os.path.lexists(os.path.join(path, ".git")):
             submodules.append(path)
-    words = ["diff", "--quiet", "--ignore-submodules=dirty", commit, "--"]
+    call = ["diff", "--quiet", "--ignore-submodules=dirty", commit, "--"]
     with without_marks(top, b"".join(marked)) as variables:
-        if git(top, *words, seconds=None, **variables) is None:
+        if git(top, *call, seconds=None, variables=variables) is None:
             return True
     return any(is_changed(submodule, "HEAD") for submodule in submodules)
 
@@ -77,5 +77,6 @@ def without_marks(top: str, names: bytes) -> Iterator[dict[str, str]]:
         return
     with copied_index(top) as variables:
         for word in UNMARK:
-            git(top, "update-index", "-z", word, "--stdin", seconds=None, body=names, **variables)
+            call = ["update-index", "-z", word, "--stdin"]
+            git(top, *call, seconds=None, body=names, variables=variables)
         yield variables

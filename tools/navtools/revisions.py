@@ -13,7 +13,7 @@ import tempfile
 import threading
 import time
 from contextlib import contextmanager, suppress
-from typing import Iterator, Optional
+from typing import Iterator, Mapping, Optional
 
 from navtools.indexed import FRESH
 from navtools.texts import decoded
@@ -30,7 +30,7 @@ def git(
     *words: str,
     seconds: Optional[float] = SECONDS,
     body: bytes = b"",
-    **variables: str,
+    variables: Mapping[str, str] = ENVIRONMENT,
 ) -> Optional[bytes]:
     """What a git command prints, which reads a body; None where it fails, or there is no git.
     Raises BadCall where it doesn't end in time."""
@@ -302,5 +302,5 @@ class Revision:
         which new files are added."""
         words = ["--no-ext-diff", "--ignore-submodules", "--find-renames", "--name-status", "-z"]
         with copied_index(self.top) as variables:
-            git(self.top, "add", "--intent-to-add", ".", **variables)
-            return git(self.top, "diff", *words, self.commit, "--", **variables) or b""
+            git(self.top, "add", "--intent-to-add", ".", variables=variables)
+            return git(self.top, "diff", *words, self.commit, "--", variables=variables) or b""

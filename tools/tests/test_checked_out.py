@@ -2,6 +2,7 @@
 
 import os
 import shutil
+from functools import partial
 from typing import Callable
 
 from navtools.checked_out import indexed_at, still_indexed_at
@@ -105,11 +106,9 @@ class CheckedOut(InRepository):
         ]
         for how in skip, assume:
             for name in NAMES:
-                steps = [
-                    lambda how=how, name=name: self.mark(how, name),  # type: ignore[misc]
-                    lambda name=name: self.write(name, "int six(void);\n"),  # type: ignore[misc]
-                ]
-                rows.append((f"{how} {name}", True, steps))
+                marked = partial(self.mark, how, name)
+                written = partial(self.write, name, "int six(void);\n")
+                rows.append((f"{how} {name}", True, [marked, written]))
         kept = f"{self.top}.kept"
         os.rename(self.top, kept)
         for what, is_change, steps in rows:
