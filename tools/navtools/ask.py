@@ -20,8 +20,7 @@ from navtools.places import (
     units,
 )
 from navtools.questions import Questions, Reply, fetch_from
-from navtools.sets.ask import Asked as Index
-from navtools.tags import folders_of, places_of
+from navtools.tags import Names, folders_of
 from navtools.texts import counts_bytes
 from navtools.words import Help, add_server, first_place, parsed, status_of
 from navtools.settings import FILE, Settings, given_server, nearest, settings_by
@@ -42,7 +41,17 @@ def hover_text(contents: Any) -> str:
     return str(contents if isinstance(contents, str) else contents["value"])
 
 
-def tags_of(call: argparse.Namespace, settings: Settings) -> list[dict[str, Any]]:
+def questions_of(settings: Settings) -> Questions:
+    """What asks the project of settings. Raises BadCall."""
+    project = settings.project
+    sources = sources_of(list(settings.revisions), settings.indexed, project, settings.folder)
+    indexed = Indexed(sources, settings.maps, warn)
+    return Questions(project, fetch_from(settings.server, SECONDS), indexed)
+
+
+def tags_of(
+    call: argparse.Namespace, settings: Settings, questions: Questions
+) -> list[dict[str, Any]]:
     """The tags of the names that a call asks for. Raises NoReply."""
     parameters = {"name": call.name} if call.prefix is None else {"prefix": call.prefix}
     if call.all_projects:
@@ -53,7 +62,7 @@ def tags_of(call: argparse.Namespace, settings: Settings) -> list[dict[str, Any]
             return names_of_all(
                 servers, settings.project, parameters, lambda url: fetch_from(url, SECONDS)
             )
-    index = Index(settings.project, fetch_from(settings.server, SECONDS))
+    index = questions.index
     tags = index.names(parameters, call.all_projects)
     if not tags and not call.all_projects and not has_dump(index) and not has_tags(index):
         raise NoReply(
@@ -93,17 +102,14 @@ def answered(
 def reply_at(call: argparse.Namespace, settings: Settings) -> Reply:
     """What is found at the place that a call names; empty, with a line, where the place is new.
     Raises NoReply."""
-    project, maps = settings.project, settings.maps
-    sources = sources_of(list(settings.revisions), settings.indexed, project, settings.folder)
-    indexed = Indexed(sources, maps, warn)
-    questions = Questions(project, fetch_from(settings.server, SECONDS), indexed)
+    questions = questions_of(settings)
     character = character_at(call.file, call.line, call.column, call.utf16)
     if counts_bytes(call.file, call.line):
         warn(f"{call.file}:{call.line} isn't UTF-8: its columns count bytes")
     more = {"declaration": "no"} if call.what == "references" and call.no_declaration else {}
-    path = asked_path(call.file, maps)
+    path = asked_path(call.file, settings.maps)
     try:
-        folder, line = settings.tags.get(project, settings.folder), call.line - 1
+        folder, line = settings.tags.get(settings.project, settings.folder), call.line - 1
         if call.what == "definition" and call.by_name:
             reply = ByName(questions).reply(folder, path, line, character)
         else:
@@ -112,7 +118,7 @@ def reply_at(call: argparse.Namespace, settings: Settings) -> Reply:
         warn(str(fault))
         return Reply(None if call.what == "hover" else [], "")
     finally:
-        indexed.end()
+        questions.indexed.end()
     if reply.note:
         warn(reply.note)
     if reply.of:
@@ -122,17 +128,25 @@ def reply_at(call: argparse.Namespace, settings: Settings) -> Reply:
     return reply
 
 
+def name_lines(call: argparse.Namespace, settings: Settings) -> list[str]:
+    """What is printed of the names that a call asks for. Raises NoReply."""
+    questions, names = questions_of(settings), Names()
+    try:
+        tags = tags_of(call, settings, questions)
+        named = list(
+            names.places(questions, tags, lambda own: settings.tags.get(own, settings.folder))
+        )
+    finally:
+        questions.indexed.end()
+    if said := names.said():
+        warn(said)
+    return [f"{place_line(place, call.utf16)}: {tag['name']}" for tag, place in named]
+
+
 def found_lines(call: argparse.Namespace, settings: Settings) -> list[str]:
     """What is printed of the answer, a place of several projects once."""
     if call.what == "names":
-        tags = tags_of(call, settings)
-        named = list(places_of(tags, lambda project: settings.tags.get(project, settings.folder)))
-        if len(named) < len(tags):
-            warn(
-                f"{len(tags) - len(named)} of {len(tags)} tags aren't shown, for their files aren't here: "
-                "--tags PROJECT=FOLDER says where a project's tags file was made"
-            )
-        return [f"{place_line(place, call.utf16)}: {tag['name']}" for tag, place in named]
+        return name_lines(call, settings)
     found = reply_at(call, settings).found
     if call.what == "hover":
         return [] if found is None else [hover_text(found)]

@@ -15,7 +15,7 @@ from navtools.places import Place, units, uri_of
 from navtools.questions import Questions, Reply
 from navtools.sets.ask import Asked
 from navtools.tagged import is_part
-from navtools.tags import Tag, places_of
+from navtools.tags import Names, Tag
 
 NO_DUMP = "D01 "
 LETTERS = "zqjxyvkwuhgnolbmdfirteapcs"
@@ -115,7 +115,12 @@ class ByName:
             return real != own, os.path.dirname(real) != beside
 
         tags = self.questions.index.names({"name": name}, False)
-        return sorted((found_at(*one) for one in places_of(tags, lambda _: folder)), key=far)
+        names = Names()
+        places = names.places(self.questions, tags, lambda _: folder)
+        found = sorted((found_at(*one) for one in places), key=far)
+        if said := names.said():
+            self.questions.indexed.say(said)
+        return found
 
 
 def found_at(tag: Tag, place: Place) -> dict[str, Any]:

@@ -95,7 +95,7 @@ class Checkout:
     def of(self, path: str) -> Revision:
         """The revision of the work tree that a file is in. Raises BadCall where it's in none, or
         that has no such revision."""
-        folder = os.path.dirname(os.path.realpath(path))
+        folder = work_tree(path) or os.path.dirname(os.path.realpath(path))
         while not os.path.isdir(folder):
             folder = os.path.dirname(folder)
         from navtools.revisions import Revision, checked_top  # here, since few calls need git
@@ -136,15 +136,15 @@ class Checkout:
             revision.end()
 
 
-def is_in_checkout(path: str) -> bool:
-    """Whether a file is in a work tree of git."""
+def work_tree(path: str) -> str:
+    """The top of the work tree of git that a file is in; empty where it's in none."""
     folder = os.path.dirname(os.path.realpath(path))
     while not os.path.lexists(os.path.join(folder, ".git")):
         above = os.path.dirname(folder)
         if above == folder:
-            return False
+            return ""
         folder = above
-    return True
+    return folder
 
 
 def add_indexed(parser: argparse.ArgumentParser) -> None:
@@ -370,9 +370,13 @@ class Indexed:
     def file_map(self, project: str, uri: str) -> FileMap:
         """Where a document is today, and the map to it."""
         path = path_of(uri, self.maps)
-        source = path and self.source(project, path)
-        if not path or not source:
-            return FileMap(path, None, self.reason(project) if path else "")
+        return self.map_from(project, path) if path else FileMap(None, None)
+
+    def map_from(self, project: str, path: str) -> FileMap:
+        """Where a file of the index is today, and the map to it."""
+        source = self.source(project, path)
+        if not source:
+            return FileMap(path, None, self.reason(project))
         try:
             new, text = source.new_path(path), source.text(path)
         except BadCall as fault:

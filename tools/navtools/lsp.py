@@ -29,7 +29,7 @@ from navtools.jsonrpc import (
 from navtools.open_documents import OpenDocuments, document_name
 from navtools.places import Place, link_map, maps_of, path_of
 from navtools.settings import Settings, given_server, name_of
-from navtools.tags import folders_of, places_of
+from navtools.tags import Names, folders_of
 from navtools.texts import body_of, is_read_as, text_of
 from navtools.words import BadCall, add_server, parsed
 from navtools.workspace import Workspace
@@ -292,17 +292,17 @@ class Bridge:
         if not prefix or self.workspace is None:
             return []
         symbols: list[Message] = []
+        names = Names()
         try:
-            for settings, tags in self.workspace.names(prefix, self.open.paths()):
-                for tag, place in places_of(tags, settings.tags_folder):
-                    if len(symbols) == MOST_SYMBOLS:
-                        self.warn(
-                            f"of the names that begin with {prefix!r} {MOST_SYMBOLS} are shown"
-                        )
-                        return symbols
-                    symbols.append(symbol(tag, place, self.open.uri_of(place.name)))
+            for tag, place in self.workspace.names(prefix, self.open.paths(), names):
+                if len(symbols) == MOST_SYMBOLS:
+                    self.warn(f"of the names that begin with {prefix!r} {MOST_SYMBOLS} are shown")
+                    break
+                symbols.append(symbol(tag, place, self.open.uri_of(place.name)))
         except BadCall as fault:
             self.tell_refusal(str(fault))
+        if said := names.said():
+            self.warn(said)
         return symbols
 
 

@@ -6,7 +6,7 @@ from typing import Any, Callable, NamedTuple, Optional, cast
 
 from navtools.addresses import below
 from navtools.client import NoReply, address, found_in, request
-from navtools.indexed import Asked, Indexed, NotThere, is_in_checkout
+from navtools.indexed import Asked, Indexed, NotThere, work_tree
 from navtools.places import is_mapped, map_words, path_of, uri_of
 from navtools.sets.ask import Asked as Index
 from navtools.versions import Versions
@@ -174,7 +174,7 @@ class Questions:
         found: dict[str, None] = {}
         for project, uri in {(one["project"], one["uri"]): None for one in places}:
             path = None if project in (self.name, *found) else path_of(uri, self.indexed.maps)
-            if path and is_in_checkout(path) and not self.indexed.others(project, path):
+            if path and work_tree(path) and not self.indexed.others(project, path):
                 found[project] = None
         return list(found)
 

@@ -20,6 +20,8 @@ MOST_DIGITS = 9
 LONG = 1_000
 FILE = ("F", "file")
 """How ctags calls the kind of a tag that is of a whole file."""
+MADE_UP = re.compile("_*anon", re.IGNORECASE)
+"""How the names begin that ctags makes of what has none."""
 MOST_SCANNED = 20_000_000
 """Lines of a file, more of short ones than of long ones, that are gone through for patterns without
 `^` and names of several words, over all its tags."""
@@ -51,9 +53,11 @@ def patterns_of(written: str) -> list[Pattern]:
     return [*found, Pattern(f"{text}$", at_start, False)] if at_end else found
 
 
-def near_of(tag: dict[str, Any], number: Optional[str]) -> Optional[int]:
+def near_of(tag: dict[str, Any]) -> Optional[int]:
     """The line that a tag's field `line` or else the number of its address says, from 0."""
-    texts = [value for name, value in tag["fields"] if name == "line"] + [number or ""]
+    parts = ADDRESS.fullmatch(tag["address"])
+    number = parts["line"] or "" if parts else ""
+    texts = [value for name, value in tag["fields"] if name == "line"] + [number]
     known = (int(one) for one in texts if one.isdecimal() and len(one) <= MOST_DIGITS)
     return next((max(line - 1, 0) for line in known), None)
 
@@ -83,6 +87,22 @@ def nearest(numbers: Sequence[int], near: int) -> int:
     return numbers[at]
 
 
+def found_in(line: str, name: str) -> Iterator[int]:
+    """Where a text stands on a line."""
+    at = line.find(name)
+    while at >= 0:
+        yield at
+        at = line.find(name, at + 1)
+
+
+def is_whole(line: str, name: str, at: int) -> bool:
+    """Whether a name stands somewhere on a line with no character of an identifier on either
+    side."""
+    end = at + len(name)
+    beside = line[max(at - 1, 0) : at] + line[end : end + 1]
+    return line.startswith(name, at) and not any(map(is_part, beside))
+
+
 class Words:
     """The words of a line, and where each begins."""
 
@@ -97,24 +117,11 @@ class Words:
         it doesn't."""
         parts = [(self.starts.get(word, []), start) for start, word in words_in(name)]
         if not parts:
-            places: Iterable[int] = self.found(name)
+            places: Iterable[int] = found_in(self.line, name)
         else:
             starts, inside = min(parts, key=lambda part: len(part[0]))
             places = (start - inside for start in starts)
-        return next((at for at in places if at >= 0 and self.is_whole(name, at)), None)
-
-    def found(self, name: str) -> Iterator[int]:
-        """Where a text stands."""
-        at = self.line.find(name)
-        while at >= 0:
-            yield at
-            at = self.line.find(name, at + 1)
-
-    def is_whole(self, name: str, at: int) -> bool:
-        """Whether a name stands somewhere with no character of an identifier on either side."""
-        end = at + len(name)
-        beside = self.line[max(at - 1, 0) : at] + self.line[end : end + 1]
-        return self.line.startswith(name, at) and not any(map(is_part, beside))
+        return next((at for at in places if at >= 0 and is_whole(self.line, name, at)), None)
 
     def column(self, name: str) -> int:
         """Where a name stands on the line: the first time as a whole, else inside a word; 0 where
@@ -137,32 +144,29 @@ class Tagged:
         self.scanned = 0
 
     def line_of(self, tag: dict[str, Any]) -> Optional[int]:
-        """The line of a tag, from 0; None where nothing says it.
+        """The line that a tag's address finds, from 0; None where it finds none.
 
-        Of the lines that the pattern finds it's the nearest to the field `line`, or to the number
+        Of the lines that a pattern finds it's the nearest to the field `line`, or to the number
         before the pattern, and without either the first, or the last of a pattern that goes
-        backwards. Where it finds none, the file changed, and it's the nearest that has the name; so
-        too of a number alone, where the name is an identifier and isn't on that line.
+        backwards. A number alone finds no line that lacks the name.
         """
-        parts = ADDRESS.fullmatch(tag["address"])
-        near = near_of(tag, parts["line"] if parts else None)
+        parts, near = ADDRESS.fullmatch(tag["address"]), near_of(tag)
         if parts and parts["mark"]:
-            found = self.by_pattern(patterns_of(parts["pattern"]), near, parts["mark"] == "?")
-            is_it = found is not None
-        else:
-            found, is_it = near, near is not None and self.may_be(tag, near)
-        if is_it or near is None:
-            return found
+            return self.by_pattern(patterns_of(parts["pattern"]), near, parts["mark"] == "?")
+        return near if near is not None and self.may_be(tag, near) else None
+
+    def guess(self, tag: dict[str, Any]) -> Optional[int]:
+        """The line that has the name of a tag as a whole, the nearest to where the tag was or else
+        the first; None where none has it."""
         named = self.named(tag["name"])
-        if named:
-            return nearest(named, near)
-        return near if near < len(self.lines) or not self.lines else None
+        return nearest(named, near_of(tag) or 0) if named else None
 
     def may_be(self, tag: dict[str, Any], near: int) -> bool:
         """Whether a line may be that of a tag: it has the name, unless that's none that stands in
-        texts, as the name of a file."""
+        texts, as the name of a file or one that ctags makes."""
         name, line = tag["name"], self.lines[near] if near < len(self.lines) else None
-        if line is None or not name.isidentifier() or tag["kind"] in FILE:
+        is_text = name.isidentifier() and not MADE_UP.match(name) and tag["kind"] not in FILE
+        if line is None or not is_text:
             return line is not None
         if len(line) > LONG:
             having = self.having.get(name, [])
@@ -231,9 +235,14 @@ class Tagged:
         return dict(found)
 
     def named(self, name: str) -> list[int]:
-        """The lines that have a name, by the rarest of its words."""
+        """The lines that have a name as a whole, by the rarest of its words."""
         if name not in self.having:
             lines = [self.having.get(word, []) for _, word in words_in(name)]
             rare = self.scan(min(lines, key=len, default=[]))
-            self.having[name] = [number for number in rare if name in self.lines[number]]
+            self.having[name] = [
+                number
+                for number in rare
+                for line in [self.lines[number]]
+                if any(is_whole(line, name, at) for at in found_in(line, name))
+            ]
         return self.having[name]

@@ -57,8 +57,10 @@ class Versions:
 
     def read(self, name: str) -> Version:
         """What an index says now. Raises NoReply where it's the one that is asked."""
-        if name == self.name:
-            return self.own()
+        return self.own() if name == self.name else self.told(name)
+
+    def told(self, name: str) -> Version:
+        """What an index says now, of which it's known whether it's a set: by a request at most."""
         sets, own = self.index.sets, named(name)
         if sets.heads.get(own) is not None:
             return self.of_set(own) or Version()  # which the answer was checked by

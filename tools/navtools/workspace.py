@@ -11,8 +11,10 @@ from typing import Any, Callable, Iterator, Optional
 from navtools.by_name import ByName
 from navtools.client import NoReply
 from navtools.indexed import Indexed, Source, sources_of
+from navtools.places import Place
 from navtools.questions import Fetch, Questions, Reply, fetch_from
 from navtools.settings import FILE, Settings, folders_above, settings_in
+from navtools.tags import Names, Tag
 from navtools.words import BadCall
 
 SECONDS = 30
@@ -161,16 +163,14 @@ class Workspace:
         ]
         return list({one.folder: one for one in found if one is not None}.values())
 
-    def names(
-        self, prefix: str, paths: list[str]
-    ) -> Iterator[tuple[Settings, list[dict[str, Any]]]]:
+    def names(self, prefix: str, paths: list[str], names: Names) -> Iterator[tuple[Tag, Place]]:
         """The tags whose names begin with a text, of the projects of the editor's folder and of
-        files. Raises NoReply."""
+        files, with their places. Raises NoReply."""
         for settings in self.all_settings(paths):
             for project in settings.projects():
-                yield settings, self.questions(settings, project).index.names(
-                    {"prefix": prefix}, False
-                )
+                questions = self.questions(settings, project)
+                tags = questions.index.names({"prefix": prefix}, False)
+                yield from names.places(questions, tags, settings.tags_folder)
 
 
 def is_below(path: str, folder: str) -> bool:

@@ -22,6 +22,7 @@ from navtools.browsing.markdown import ELEMENTS, tree_of
 from navtools.browsing.server import Pages
 from navtools.client import Answer
 from navtools.settings import Settings
+from navtools.tags import AWAY, GUESSED, SAID
 from tests.repository import InRepository
 from tests.servers import replying
 
@@ -402,10 +403,11 @@ class Browse(Served, unittest.TestCase):
         self.assertEqual(
             (status, asked), (200, "http://127.0.0.1:1/names?prefix=r%26n&project=app")
         )
+        guessed, away = SAID[GUESSED].format(1, 4), SAID[AWAY].format(2, 4)
         self.assertEqual(
             answer,
             {
-                "said": "2 names",
+                "said": f"2 names; {guessed}; {away}",
                 "names": [
                     {"name": "run", "place": "src/a.rs:2", "href": "/files/src/a.rs#L2C4"},
                     {"name": "run", "place": "src/a.rs:2", "href": "/files/src/a.rs#L2C4"},
@@ -414,11 +416,8 @@ class Browse(Served, unittest.TestCase):
         )
 
         with mock.patch.object(answers, "MOST_NAMES", 2):
-            self.assertEqual(self.asked("/names?prefix=r", {"tags": tags})[1]["said"], "2 names")
-            self.assertEqual(
-                self.asked("/names?prefix=r", {"tags": [*tags, TAG]})[1]["said"],
-                "the first 2 names",
-            )
+            for tags, said in (([TAG] * 2, "2 names"), ([TAG] * 3, "the first 2 names")):
+                self.assertEqual(self.asked("/names?prefix=r", {"tags": tags})[1]["said"], said)
 
     def test_replies_that_are_none(self) -> None:
         place = {**PLACE, "uri": self.uri("src/a.rs")}

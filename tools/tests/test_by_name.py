@@ -6,6 +6,7 @@ import os
 import tempfile
 import unittest
 from contextlib import redirect_stderr, redirect_stdout
+from typing import Optional
 
 from navtools import ask, upload
 from navtools.browse import browser_of, words_parser
@@ -95,6 +96,35 @@ class OverTags(OnServer):
             with self.subTest(what, column=column):
                 self.assertEqual(self.asked("app", what, main, "2", column), found)
 
+    def test_files_that_changed(self) -> None:
+        """What isn't as it was is said, and what is gone isn't shown."""
+        main, area = (os.path.join(self.folder, name) for name in ("src/main.c", "lib/area.c"))
+        note = f"ask: {ALONE}: the definition is by name\n"
+        guessed, gone = "1 of 1 places are guessed: ", "1 of 1 tags aren't shown, for "
+        for text, places, said in (
+            ("\n" + FILES["lib/area.c"], ["lib/area.c:2:5"], ""),
+            ("\nlong area(int r);\n", ["lib/area.c:2:6"], guessed),
+            ("\nint areas;\n", [], f"{gone}neither "),
+            (None, [], f"{gone}their files aren't here: "),
+        ):
+            with self.subTest(text):
+                self.written(area, text)
+                for words in (("names", "area"), ("definition", main, "2", "27")):
+                    is_name = words[0] == "names"
+                    status, found, told = self.asked("app", *words)
+                    found = [one.removesuffix(":") for one in found if one != "area"]
+                    self.assertEqual((status, found), (0 if places else 1, places))
+                    told = told if is_name else told.removesuffix(note)
+                    self.assertEqual(told[:5] + told[5 : 5 + len(said)], said and f"ask: {said}")
+
+    def written(self, path: str, text: Optional[str]) -> None:
+        """Writes a file, or removes it."""
+        if text is None:
+            os.unlink(path)
+        else:
+            with open(path, "w", encoding="utf-8") as file:
+                file.write(text)
+
     def test_a_project_with_a_dump_is_asked_by_name_alone_where_that_is_wished(self) -> None:
         self.put("lsif", "app", DUMP)
         main = os.path.join(self.folder, "src/main.c")
@@ -126,7 +156,10 @@ class OverTags(OnServer):
         """What is said of the project is said once for each kind."""
         editor = Editor(self.url, "app")
         editor.call("initialize", {"rootUri": uri_of(self.folder, []), "capabilities": {}})
-        twice = [("src/help.c", 0, 11), ("lib/area.c", 1, 11)]
+        # a text that isn't saved counts
+        document = {"uri": self.uri("src/help.c"), "text": "\n\n" + FILES["src/help.c"]}
+        editor.notify("textDocument/didOpen", {"textDocument": document})
+        twice = [("src/help.c", 2, 11), ("lib/area.c", 1, 11)]
         rows: list[tuple[int, list[tuple[str, int, int]], list[str]]]
         note = f"codenav: {ALONE}: the definition is by name"
         rows = [(26, [("lib/area.c", 0, 4)], [note]), (36, twice, []), (47, [], [])]

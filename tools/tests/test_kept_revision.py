@@ -10,11 +10,12 @@ import unittest
 from contextlib import redirect_stderr, redirect_stdout
 from random import Random
 from typing import Any, Callable
+from unittest import mock
 
 from navtools import ask, prepare, publish, upload
 from navtools.client import NoReply
 from navtools.indexed import Indexed
-from navtools.questions import Questions, fetch_from
+from navtools.questions import Fetcher, Questions, fetch_from
 from navtools.records import Prepared, new_record
 from navtools.sets.publish import Publish, Store, remove_set
 from navtools.settings import Settings
@@ -47,7 +48,7 @@ def quietly(tool: Any, *words: str) -> tuple[int, str, str]:
     return status, said.getvalue(), warned.getvalue()
 
 
-class Kept(Served, OnServer, InRepository):
+class Crates(Served, OnServer, InRepository):
     """The demo crates, each in a checkout of its own and published from there, and then changed."""
 
     def setUp(self) -> None:
@@ -92,6 +93,10 @@ class Kept(Served, OnServer, InRepository):
         status, said, warned = quietly(ask.main, *words)
         lines = [os.path.abspath(line).replace(self.home, "HOME") for line in said.splitlines()]
         return status, lines, warned.replace(self.home, "HOME")
+
+
+class Kept(Crates):
+    """Tests of questions about the crates."""
 
     def test_what_is_known(self) -> None:
         """Of each way in which a crate came to the server, and became what it is now: whether the
@@ -242,6 +247,112 @@ class Kept(Served, OnServer, InRepository):
         self.assertEqual(quietly(publish.main, *call, self.top)[0], 0)
 
 
+CLASSES = "".join(
+    f"class {name}:\n    def run(self):\n        return {name.lower()}\n\n\n" for name in "ABC"
+)
+ADDED = "# new\n" * 5
+
+
+class Names(Crates):
+    """Tags of a file in a crate's checkout, which was published and changed then."""
+
+    def setUp(self) -> None:
+        super().setUp()
+        self.top = os.path.join(self.home, "crate")
+        self.write("m.py", CLASSES)
+        self.commits["crate"] = self.commit(self.top)
+        self.published("crate")
+        tags = os.path.join(self.home, "tags")
+        with open(tags, "w", encoding="utf-8") as file:
+            for line in 2, 7, 12:
+                file.write(f'run\tm.py\t/^    def run(self):$/;"\tm\tline:{line}\n')
+        self.assertEqual(quietly(upload_tags, self.url, "temperature", tags)[0], 0)
+
+    def names(self) -> tuple[list[str], str]:
+        """The places that `ask names` prints, and what it says."""
+        words = ["--tags", f"temperature={self.top}", self.url, "temperature", "names", "run"]
+        _, said, warned = quietly(ask.main, *words)
+        return [line.split("/")[-1].removesuffix(": run") for line in said.splitlines()], warned
+
+    def test_ask(self) -> None:
+        def renamed() -> None:
+            self.git("mv", "m.py", "n.py", top=self.top)
+
+        def forgotten() -> None:
+            shutil.rmtree(os.path.join(self.top, ".git"))
+
+        mapped = ["m.py:7:9", "m.py:12:9", "m.py:17:9"]
+        of = f"places changed since {self.commits['crate']}\n"
+        for text, then, places, said in (
+            (CLASSES, None, ["m.py:2:9", "m.py:7:9", "m.py:12:9"], ""),
+            (ADDED + CLASSES, None, mapped, ""),
+            (ADDED + CLASSES, renamed, [place.replace("m", "n") for place in mapped], ""),
+            (ADDED + CLASSES[:47], None, ["m.py:7:9"], f"ask: 2 of 3 {of}"),
+            ("", None, [], f"ask: 3 of 3 {of}"),
+            ("run()\n", forgotten, ["m.py:1:1"] * 3, "ask: 3 of 3 places are guessed: "),
+        ):
+            with self.subTest(text, then=then):
+                self.write("m.py", text)
+                if then:
+                    then()
+                found, told = self.names()
+                self.assertEqual((found, told[: len(said)], bool(told)), (places, said, bool(said)))
+                if then is renamed:
+                    self.git("mv", "n.py", "m.py", top=self.top)
+
+    def test_requests(self) -> None:
+        """One more than without a record."""
+        asked: list[str] = []
+        fetch = Fetcher.__call__
+
+        def counted(own: Fetcher, path: str, *words: Any) -> Any:
+            asked.append(path)
+            return fetch(own, path, *words)
+
+        with mock.patch.object(Fetcher, "__call__", counted):
+            self.names()
+        self.assertEqual(asked, ["/names", "/projects/temperature/hover"])
+
+    def test_an_editor(self) -> None:
+        """Also of a text that isn't saved."""
+        self.write("m.py", ADDED + CLASSES)
+        editor = Editor(self.url, "temperature")
+        self.addCleanup(editor.end, "shutdown", "exit")
+        editor.call("initialize", {"rootUri": f"file://{self.top}", "capabilities": {}})
+        for text, lines, said in (
+            (None, [6, 11, 16], ""),
+            (CLASSES, [1, 6, 11], ""),
+            (ADDED * 2 + CLASSES, [11, 16, 21], ""),
+            ("", [], f"codenav: 3 of 3 places changed since {self.commits['crate']}"),
+        ):
+            if text is not None:
+                document = {"uri": f"file://{self.top}/m.py", "text": text}
+                editor.notify("textDocument/didOpen", {"textDocument": document})
+            symbols, told = editor.call("workspace/symbol", {"query": "ru"})
+            found = [one["location"]["range"]["start"]["line"] for one in symbols]
+            self.assertEqual((found, [one for _, _, one in told]), (lines, [said] if said else []))
+
+    def test_a_page(self) -> None:
+        """Of today, and of the revision that was indexed."""
+        self.write("m.py", ADDED + CLASSES)
+        self.serve(Settings(self.url, "temperature", self.top))
+        self.addCleanup(self.stop)
+        commit = self.commits["crate"]
+        for question in "/names?prefix=ru", "/outline?path=m.py":
+            for revision, query, lines in (
+                ("", "", (7, 12, 17)),
+                (f"&revision={commit}", f"?revision={commit}", (2, 7, 12)),
+            ):
+                answer = json.loads(self.got(question + revision)[1])
+                hrefs = [row["href"] for row in answer["names"]]
+                self.assertEqual(hrefs, [f"/files/m.py{query}#L{line}C9" for line in lines])
+                self.assertEqual(answer["said"], "3 names")
+        self.write("m.py", ADDED + CLASSES[:47])
+        for question in "/names?prefix=ru", "/outline?path=m.py":
+            answer = json.loads(self.got(question)[1])
+            self.assertEqual(answer["said"], f"1 name; 2 of 3 places changed since {commit}")
+
+
 class Switched(OnServer, InRepository):
     """Revisions of the demo crate, of which one after the other is on the server, as a project or
     as a set: the n-th has n lines on top of a file."""
@@ -362,6 +473,11 @@ class Asker:
     def is_of_none(self) -> bool:
         """Whether it's known, and was said, that the index is of no revision."""
         return bool(self.questions.indexed.reason(NAME))
+
+
+def upload_tags(words: list[str]) -> int:
+    """Uploads tags."""
+    return upload.main("tags", words)
 
 
 def upload_dump(words: list[str]) -> int:

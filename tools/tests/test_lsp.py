@@ -15,6 +15,7 @@ from urllib.parse import parse_qsl, urlsplit
 from navtools.open_documents import OpenDocuments, document_name
 from navtools.places import uri_of
 from navtools.records import ADDRESS
+from navtools.tags import AWAY, GUESSED, SAID
 from tests.editor_addresses import NAME, SAME, SPELLINGS
 
 TOP = os.path.dirname(os.path.dirname(os.path.dirname(os.path.abspath(__file__))))
@@ -318,7 +319,7 @@ class Lsp(unittest.TestCase):
 
     def test_symbols(self) -> None:
         """Of a project of which the folder isn't there nothing is shown; where a file changed
-        since, its top is."""
+        since, the line that has the name is. Both are said."""
 
         def symbol(project: str, folder: str, line: int, character: int) -> dict[str, Any]:
             at = {"line": line, "character": character}
@@ -338,9 +339,13 @@ class Lsp(unittest.TestCase):
         with open(os.path.join(changed, "src", "main.rs"), "w", encoding="utf-8") as file:
             file.write("// main was here\n")
         editor = self.editor("--tags", f"lib={changed}", "--tags", "other=/no/other")
+        said = f"{SAID[GUESSED].format(1, 3)}; {SAID[AWAY].format(1, 3)}"
         self.assertEqual(
             editor.call("workspace/symbol", {"query": "ma"}),
-            ([symbol("app", self.folder, 0, 3), symbol("lib", changed, 0, 3)], []),
+            (
+                [symbol("app", self.folder, 0, 3), symbol("lib", changed, 0, 3)],
+                [("window/logMessage", 3, f"codenav: {said}")],
+            ),
         )
         asked = [
             ("/names", {"prefix": "ma", "project": project}) for project in ("app", "lib", "other")

@@ -11,10 +11,13 @@ import subprocess
 import tempfile
 import time
 import unittest
-from typing import Any, Iterator
+from typing import Any, Iterator, NoReturn
 
 from navtools import tags
+from navtools.client import NoReply
+from navtools.indexed import Folder, Indexed, Source
 from navtools.places import units
+from navtools.questions import Questions
 from tests.randomly import check_cases
 from tests.servers import TOP
 
@@ -38,6 +41,20 @@ def column_in(line: str, name: str) -> int:
     return units(line[: found.start()]) if found else 0
 
 
+def no_dump(path: str, parameters: dict[str, Any], member: str) -> NoReturn:
+    """The answer of a server that has tags alone."""
+    raise NoReply("D01 project has no dump")
+
+
+def found_in(
+    folder: str, asked: list[tags.Tag], sources: dict[str, Source]
+) -> tuple[list[tuple[tags.Tag, tags.Place]], str]:
+    """The places of tags of a project whose tags file was made in a folder, and what is said."""
+    names = tags.Names()
+    questions = Questions("app", no_dump, Indexed(sources, [], print))
+    return list(names.places(questions, asked, lambda _: folder)), names.said()
+
+
 class OverFiles(unittest.TestCase):
     """Tests over files of a folder of their own."""
 
@@ -52,8 +69,12 @@ class OverFiles(unittest.TestCase):
 
     def places(self, *asked: tags.Tag) -> list[tuple[int, int]]:
         """The lines and columns of tags, from 0."""
-        found = tags.places_of(list(asked), lambda _: self.folder)
-        return [(place.line, place.character) for _, place in found]
+        return self.found(*asked)[0]
+
+    def found(self, *asked: tags.Tag, **sources: Source) -> tuple[list[tuple[int, int]], str]:
+        """The same, and what is said."""
+        found, said = found_in(self.folder, list(asked), dict(sources))
+        return [(place.line, place.character) for _, place in found], said
 
 
 class Rows(OverFiles):
@@ -115,13 +136,36 @@ class Rows(OverFiles):
             with self.subTest(name, number=number):
                 self.assertEqual(self.places(tag(name, number, kind=kind)), [found])
 
+    def test_what_is_gone(self) -> None:
+        guessed = "1 of 1 places are guessed: "
+        gone = "1 of 1 tags aren't shown, for neither "
+        for text, name, address, line, found, said in (
+            ("int f;\n\nint g;\n", "g", "/^int g;$/", "2", [(2, 4)], ""),
+            ("int f;\n\nint g;\n", "h", "/^int h;$/", "2", [], gone),
+            ("int f;\n\nint g;\n", "h", "2", "", [], gone),
+            ("int f;\n\nint g;\n", "h", "9", "", [], gone),
+            ("int f;\n\nint g;\n", "h", "/^int h;$/", "", [], gone),
+            ("int f;\n\nint g;\n", "+", "/^+$/", "2", [], gone),
+            ("int hh;\nint h2;\n", "h", "/^int h;$/", "2", [], gone),
+            ("x.a.bc\n", "a.b", "/^a.b$/", "1", [], gone),
+            ("x.a.bc a.b\n", "a.b", "/^a.b$/", "7", [(0, 7)], guessed),
+            ("int f;\n\nh();\n", "h", "/^int h;$/", "1", [(2, 0)], guessed),
+            ("int f;\n\nh();\n", "h", "1", "", [(2, 0)], guessed),
+            ("", "h", "/^int h;$/", "1", [], gone),
+        ):
+            with self.subTest(text, name=name, address=address, line=line):
+                self.written(text)
+                places, told = self.found(tag(name, address, line))
+                self.assertEqual((places, told[: len(said)]), (found, said))
+                self.assertEqual(bool(told), bool(said))
+
     def test_columns(self) -> None:
         for text, name, column in (
             ("impl Iterator for Iter {", "Iter", 18),
             ("Iterator", "Iter", 0),
             ("my_Iter Iterator", "Iter", 3),
             ("xIter", "Iter", 1),
-            ("int x;", "Iter", 0),
+            ("int x;", "__anon1", 0),
             ("f_ = f2(f)", "f", 8),
             ("T my_operator +(T a), operator +(T b)", "operator +", 22),
             ("a += b + c", "+", 2),
@@ -147,17 +191,77 @@ class Rows(OverFiles):
         asked = [tag("b", "2"), tag("c", "/^c$/", file="b.c"), tag("a", "/^a$/"), tag("a", "/x/")]
         self.assertEqual(self.places(*asked), [(1, 0), (0, 0), (0, 0), (0, 0)])
         gone = [tag("b", "/^b$/", file="gone.c"), tag("b", "/^b$/", "7", file="gone.c")]
-        self.assertEqual(self.places(*gone), [(6, 0)])
-        self.assertEqual(list(tags.places_of(asked, lambda _: None)), [])
+        places, said = self.found(*gone, tag("a", "1"), tag("gone", "/^gone$/"))
+        self.assertEqual(places, [(0, 0)])
+        self.assertRegex(
+            said,
+            r"\A1 of 4 tags aren't shown, for neither [^;]*; 2 of 4 tags .* aren't here: [^;]*\Z",
+        )
+
+
+CLASSES = "".join(
+    f"class {name}:\n    def run(self):\n        return {name.lower()}\n\n\n" for name in "ABC"
+)
+RUN = "/^    def run(self):$/"
+
+
+class Mapped(OverFiles):
+    """Tags of texts that are known, in files that changed."""
+
+    def setUp(self) -> None:
+        super().setUp()
+        self.old = self.enterContext(tempfile.TemporaryDirectory())
+
+    def mapped(self, old: str, new: str, *asked: tags.Tag) -> tuple[list[tuple[int, int]], str]:
+        """The places of tags of an old text, and what is said."""
+        self.written(old, os.path.join(self.old, "a.c"))
+        self.written(new)
+        return self.found(*asked, app=Folder(self.old, self.folder))
+
+    def test_rows(self) -> None:
+        runs = [tag("run", RUN, line) for line in ("2", "7", "12")]
+        top, without = "# new\n" * 5, CLASSES.replace(CLASSES[47:94], "")
+        changed = f" places changed since {self.old}"
+        for old, new, asked, places, said in (
+            (CLASSES, CLASSES, runs, [1, 6, 11], ""),
+            (CLASSES, top + CLASSES, runs, [6, 11, 16], ""),
+            (CLASSES, top + CLASSES, [tag("run", "7;" + RUN)], [11], ""),
+            (CLASSES, top + CLASSES, [tag("run", "7")], [11], ""),
+            (CLASSES, top + CLASSES, [tag("A", "/^class A:$/")], [5], ""),
+            (CLASSES, top + CLASSES, [tag("run", RUN)], [6], ""),
+            (CLASSES, top + CLASSES, [tag("a.c", "1", kind="F")], [0], ""),
+            # of another text: the nearest line of today
+            (CLASSES, top + CLASSES, [tag("run", RUN, "8")], [6], ""),
+            (CLASSES, top + CLASSES, [tag("run", RUN, "99")], [16], ""),
+            (CLASSES, without, runs, [1, 6], f"1 of 3{changed}"),
+            (CLASSES, "\n", runs, [], f"3 of 3{changed}"),
+        ):
+            with self.subTest(new, asked=asked):
+                found, told = self.mapped(old, new, *asked)
+                self.assertEqual(([line for line, _ in found], told), (places, said))
+        os.unlink(os.path.join(self.folder, "a.c"))
+        self.assertEqual(
+            self.found(*runs, app=Folder(self.old, self.folder)), ([], f"3 of 3{changed}")
+        )
+
+    def test_columns(self) -> None:
+        old = "a\n\U0001f600 run(f)\nb\n"
+        for new, found in (
+            ("\n\na\n\U0001f600 run(f)\nb\n", [(3, 3)]),
+            ("a\n\U0001f600\U0001f600 x = run(f)\nb\n", [(1, 9)]),
+            ("a\nb\n", []),
+        ):
+            asked = tag("run", "/^\U0001f600 run(f)$/", "2")
+            self.assertEqual(self.mapped(old, new, asked)[0], found, new)
 
 
 class Many(OverFiles):
     COUNT = 20_000
 
     def seconds(self, *asked: tags.Tag) -> float:
-        """How long the places of tags take."""
-        start = time.monotonic()
-        self.assertEqual(len(self.places(*asked)), len(asked))
+        """How long the places of tags take; of `g` there are none."""
+        start, shown = time.monotonic(), [one for one in asked if one["name"] != "g"]
+        self.assertEqual(len(self.places(*asked)), len(shown))
         return time.monotonic() - start
 
     def test_many_tags_of_one_file(self) -> None:
@@ -288,6 +392,27 @@ class Random(OverFiles):
 
         check_cases(self, 300, self.drawn, check)
 
+    def test_texts_that_are_known_with_lines_put_before(self) -> None:
+        """A place that's shown is that of its line, as it was moved; others are counted."""
+        before = self.enterContext(tempfile.TemporaryDirectory())
+
+        def check(**case: Any) -> None:
+            lines, shift = [line.replace("\r", "") for line in case["lines"]], 1 + case["shift"]
+            case.update(lines=lines, has_end=True)
+            text = "\n".join(lines) + "\n"
+            self.written(text, os.path.join(before, "a.c"))
+            self.written("".join(f"% {n}\n" for n in range(shift)) + text)
+            asked = list(self.tags_of({**case, "kind": "pattern"}))
+            found, said = found_in(self.folder, asked, {"app": Folder(before, self.folder)})
+            for one, place in found:
+                line = int(one["fields"][0][1]) - 1
+                wanted = (line + shift, column_in(lines[line], case["name"]))
+                self.assertEqual((place.line, place.character), wanted)
+            count = f"{len(asked) - len(found)} of {len(asked)} places changed since {before}"
+            self.assertEqual(said, count if len(found) < len(asked) else "")
+
+        check_cases(self, 300, self.drawn, check)
+
     def test_any_text_by_one_pass_for_each_tag(self) -> None:
         """Of any text, each pattern as a regular expression of its own, line by line."""
 
@@ -344,7 +469,7 @@ def wrong_in(folder: str, *options: str) -> tuple[int, list[str]]:
     """How many tags ctags makes of a folder, and a line for each whose place is wrong: the line by
     the field `line`, the column by the text there."""
     asked, wrong = tags_in(folder, *options), []
-    places = [place for _, place in tags.places_of(asked, lambda _: folder)]
+    places = [place for _, place in found_in(folder, asked, {})[0]]
     texts: dict[str, list[str]] = {}
     for one, place in zip(asked, places):
         line = next(int(value) for name, value in one["fields"] if name == "line") - 1

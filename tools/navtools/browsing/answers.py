@@ -5,7 +5,7 @@ import os
 import threading
 from dataclasses import dataclass, field
 from itertools import islice
-from typing import Any
+from typing import Any, Iterator
 
 from navtools.ask import is_whole_file
 from navtools.browsing.finder import found as found_files
@@ -14,8 +14,8 @@ from navtools.browsing.markdown import tree_of
 from navtools.browsing.outline import Outlines
 from navtools.browsing.view import View, permalink
 from navtools.indexed import NotThere
-from navtools.places import units
-from navtools.tags import places_of
+from navtools.places import Place, units
+from navtools.tags import Names, Tag
 from navtools.settings import Settings
 
 Parameters = dict[str, str]
@@ -124,58 +124,81 @@ class Browser:
         prefix = parameters.get("prefix", "")
         if not prefix or "\0" in prefix:
             raise Refused(400, "bad parameter")
-        view = self.view(parameters)
+        view, names = self.view(parameters), Names()
         with view.lock:
-            found = [
-                tag
-                for project in self.settings.projects()
-                for tag in self.tags_of(view, project, prefix)
+            known = self.named(view, prefix, names)
+            rows = [
+                {
+                    "name": tag["name"],
+                    "place": f"{inside}:{place.line + 1}",
+                    "href": href(inside, place.line, place.character, view.revision),
+                }
+                for tag, place in islice(known, MOST_NAMES)
+                for inside in [str(self.folder.inside(place.name))]
             ]
-        known = (tag for tag in found if self.has(tag))
-        first = list(islice(known, MOST_NAMES))
-        rows = [
-            {
-                "name": tag["name"],
-                "place": f"{inside}:{place.line + 1}",
-                "href": href(inside, place.line, place.character),
-            }
-            for tag, place in places_of(first, self.settings.tags_folder)
-            for inside in [str(self.folder.inside(place.name))]
-        ]
-        more = next(known, None) is not None
-        many = f"the first {MOST_NAMES} names"
-        return {"names": rows, "said": many if more else number(len(rows), "name")}
+            more = next(known, None) is not None
+            notes = view.noted()
+        many = f"the first {MOST_NAMES} names" if more else number(len(rows), "name")
+        return {"names": rows, "said": said(many, notes, names.said(), "")}
 
-    def tags_of(self, view: View, project: str, prefix: str) -> list[dict[str, Any]]:
+    def named(self, view: View, prefix: str, names: Names) -> Iterator[tuple[Tag, Place]]:
+        """The tags whose names begin with a text, with their places in the folder."""
+        for project in self.settings.projects():
+            tags = self.tags_of(view, project, prefix)
+            files = {(tag["project"], tag["file"]): None for tag in tags}
+            shown = {file for file in files if self.has(*file)}
+            own = [tag for tag in tags if (tag["project"], tag["file"]) in shown]
+            questions = view.workspace.questions(self.settings, project)
+            for tag, place in names.places(questions, own, self.settings.tags_folder):
+                if self.folder.inside(place.name) is not None:
+                    yield tag, place
+
+    def tags_of(self, view: View, project: str, prefix: str) -> list[Tag]:
         """The tags of a project whose names begin with a text."""
         questions = view.workspace.questions(self.settings, project)
         return questions.index.names({"prefix": prefix}, False)
 
-    def has(self, tag: dict[str, Any]) -> bool:
-        """Whether the file of a tag is shown."""
-        folder = self.settings.tags_folder(tag["project"])
-        return folder is not None and self.folder.has(os.path.join(folder, tag["file"]))
+    def has(self, project: str, file: str) -> bool:
+        """Whether the file of a tag is in the folder that is shown, if it's there at all."""
+        folder = self.settings.tags_folder(project)
+        return folder is not None and self.folder.inside(os.path.join(folder, file)) is not None
 
     def outline(self, parameters: Parameters) -> dict[str, Any]:
         """The tags of a file, in the order of its lines."""
-        view = self.view({})
-        path = view.path(parameters.get("path", ""))
-        rows = []
+        view, name, names = self.view(parameters), parameters.get("path", ""), Names()
+        path = view.path(name)
         with view.lock:
-            text = view.text(path)
-            for project in self.settings.projects():
-                folder = self.settings.tags_folder(project)
-                inside = os.path.relpath(path, folder or path)
-                if folder is None or inside.startswith(os.pardir):
-                    continue
-                outlines = self.outlines.setdefault(
-                    project, Outlines(lambda prefix, own=project: self.tags_of(view, own, prefix))  # type: ignore[misc]
-                )
-                rows += rows_of(outlines.of(inside, text), folder, parameters.get("path", ""))
+            rows = [
+                {
+                    "name": tag["name"],
+                    "kind": tag["kind"],
+                    "line": place.line + 1,
+                    "href": href(name, place.line, place.character, view.revision),
+                }
+                for tag, place in self.outlined(view, path, names)
+            ]
+            notes = view.noted()
         return {
             "names": sorted(rows, key=lambda row: int(row["line"])),
-            "said": number(len(rows), "name"),
+            "said": said(number(len(rows), "name"), notes, names.said(), ""),
         }
+
+    def outlined(self, view: View, path: str, names: Names) -> Iterator[tuple[Tag, Place]]:
+        """The tags of a file, with their places."""
+        text = view.text(path)
+        for project in self.settings.projects():
+            folder = self.settings.tags_folder(project)
+            if folder is None:
+                continue
+            questions = view.workspace.questions(self.settings, project)
+            inside = os.path.relpath(names.old_path(questions, project, path), folder)
+            if inside.startswith(os.pardir):
+                continue
+            outlines = self.outlines.setdefault(
+                project, Outlines(lambda prefix, own=project: self.tags_of(view, own, prefix))  # type: ignore[misc]
+            )
+            tags = outlines.of(inside, text)
+            yield from names.places(questions, tags, self.settings.tags_folder)
 
     def files(self, parameters: Parameters) -> dict[str, Any]:
         """The files whose names have the letters of a text."""
@@ -216,19 +239,6 @@ def part_end(place: dict[str, Any], length: int) -> int:
     """Where a place ends on its first line."""
     end = place["end"]
     return min(int(end["character"]), length) if end["line"] == place["start"]["line"] else length
-
-
-def rows_of(tags: list[dict[str, Any]], folder: str, name: str) -> list[dict[str, Any]]:
-    """Tags as an outline lists them."""
-    return [
-        {
-            "name": tag["name"],
-            "kind": tag["kind"],
-            "line": place.line + 1,
-            "href": href(name, place.line, place.character),
-        }
-        for tag, place in places_of(tags, lambda _: folder)
-    ]
 
 
 def number(count: int, what: str) -> str:

@@ -88,9 +88,12 @@ class View:
 
     def ask(self, what: str, path: str, line: int, character: int) -> tuple[Reply, str]:
         """What is found at a place, and what is said of it besides. Raises NotThere and BadCall."""
-        reply = self.workspace.ask(what, path, line, character)
+        return self.workspace.ask(what, path, line, character), self.noted()
+
+    def noted(self) -> str:
+        """What was said since that was asked for last."""
         notes, self.notes[:] = "; ".join(self.notes), []
-        return reply, notes
+        return notes
 
 
 def unknown_words(text_map: TextMap) -> Iterator[tuple[int, list[int]]]:

@@ -21,7 +21,8 @@ class TextMap:
     None where it isn't there or might be another."""
 
     def __init__(self, old: str, new: str) -> None:
-        self.old, self.new = Side(old), Side(new)
+        self.old = Side(old)
+        self.new = self.old if new == old else Side(new)
         self.is_same = self.old.lines == self.new.lines
         if not self.is_same:
             self.match()

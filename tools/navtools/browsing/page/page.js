@@ -163,8 +163,9 @@ function outline() {
   const found = fetched("/outline", { path: code.dataset.path });
   found.catch(() => {});
   const rows = async (text) => {
-    const names = (await found).names.filter((row) => row.name.toLowerCase().includes(text.toLowerCase()));
-    return { names, said: names.length ? "" : "no tags of this file" };
+    const { names: all, said } = await found;
+    const names = all.filter((row) => row.name.toLowerCase().includes(text.toLowerCase()));
+    return { names, said: text && !names.length ? "no tags of this file" : said };
   };
   openFinder("Outline of the file", rows, go);
 }
