@@ -22,7 +22,7 @@ from http.client import HTTPConnection, HTTPException, HTTPResponse, HTTPSConnec
 from typing import IO, Any, Callable, Iterator, NamedTuple, Optional
 from urllib.parse import SplitResult, unquote, urlencode, urlsplit
 
-from navtools.words import BadCall
+from navtools.words import BadCall, server_of
 
 WAITS = (0.2, 0.4, 0.8, 1.6, 3.2)
 AGAIN = (429, 502, 503, 504)
@@ -101,10 +101,15 @@ def named_by_call(server: str) -> str:
 
 def own_variable(name: str, parts: SplitResult) -> Optional[str]:
     """The login that a variable of the environment has for a server, or None."""
-    value = os.environ.get(name, "").strip()
-    named, own = urlsplit(os.environ.get("CODENAV_URL", "")), place_of(parts)
+    value, url = os.environ.get(name, "").strip(), os.environ.get("CODENAV_URL", "")
+    if not value:
+        return None
+    try:
+        named, own = urlsplit(url and server_of(url)), place_of(parts)
+    except BadCall as fault:
+        raise BadCall(f"CODENAV_URL: {fault}") from None
     is_alone = bool(named.hostname) or own in BY_FILES - BY_CALL
-    if not value or is_alone and place_of(named) != own:
+    if is_alone and place_of(named) != own:
         return None
     if not re.fullmatch(r"[ -~]+", value):
         raise BadCall(f"{name} has other characters than those of ASCII")
@@ -139,10 +144,11 @@ def proxy_of(parts: SplitResult) -> Optional[SplitResult]:
     proxy = getproxies().get(parts.scheme)
     if not proxy or proxy_bypass(parts.netloc.rpartition("@")[2]):
         return None
-    found = urlsplit(proxy if "://" in proxy else f"http://{proxy}")
-    if found.scheme != "http" or not found.hostname:
-        raise BadCall(f"{parts.scheme}_proxy isn't the address of a proxy, as http://proxy:3128")
-    return found
+    with suppress(BadCall):
+        found = urlsplit(server_of(proxy if "://" in proxy else f"http://{proxy}"))
+        if found.scheme == "http":
+            return found
+    raise BadCall(f"{parts.scheme}_proxy isn't the address of a proxy, as http://proxy:3128")
 
 
 def connection_to(parts: SplitResult, seconds: float) -> tuple[HTTPConnection, dict[str, str], str]:

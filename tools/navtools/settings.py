@@ -7,6 +7,7 @@ from typing import Any, Iterator, NamedTuple, Optional
 from navtools.addresses import folder_address
 from navtools.client import named_by_call, named_by_file
 from navtools.places import Maps, link_map
+from navtools.texts import body_of
 from navtools.sets.manifest import set_name
 from navtools.words import BadCall, project_of, server_of
 
@@ -24,6 +25,8 @@ KEYS = {
 }
 CALLED = {dict: "table", list: "list", str: "text"}
 """How the kinds of values are called."""
+MOST_BYTES, MOST_DOTS = 65_536, 200
+"""Of a file, and in one of its lines: long keys with dots take the reader minutes."""
 
 
 def name_of(text: str) -> str:
@@ -65,24 +68,35 @@ def found_in_file(path: str) -> dict[str, Any]:
     import tomllib  # here, since few calls of `ask` need it
 
     try:
-        with open(path, "rb") as file:
-            found = tomllib.load(file)
-    except (tomllib.TOMLDecodeError, UnicodeDecodeError) as fault:
+        text = body_of(path, MOST_BYTES).decode("utf-8-sig")
+        if any(line.count(".") > MOST_DOTS for line in text.split("\n")):
+            raise BadCall(f"{path}: a line with over {MOST_DOTS} dots")
+        found = tomllib.loads(text)
+    except RecursionError:
+        raise BadCall(f"{path}: nested too deeply") from None
+    except ValueError as fault:
         raise BadCall(f"{path}: {fault}") from None
-    except OSError as fault:
-        raise BadCall(f"{path}: {fault.strerror}") from None
     for key, value in found.items():
         if key not in KEYS:
             raise BadCall(f"{path}: no key {key!r}: there are {', '.join(KEYS)}")
         if type(value) is not KEYS[key]:
             raise BadCall(f"{path}: {key} isn't a {CALLED[KEYS[key]]}")
-    if not all(type(server) is str for server in found.get("servers", [])):
-        raise BadCall(f"{path}: the values of servers are texts")
-    named_by_file([found.get("server", ""), *found.get("servers", [])])
-    for key in ("map", "tags", "revisions"):
-        if not all(type(value) is str and value for value in found.get(key, {}).values()):
-            raise BadCall(f"{path}: the values of {key} are texts, and not empty")
+        if not all(type(text) is str and text and "\0" not in text for text in texts_in(value)):
+            raise BadCall(f"{path}: the values of {key} are texts, not empty and without the character U+0000")
+    for key in ("server", "servers"):
+        try:
+            named_by_file([server_of(text.strip()) for text in texts_in(found.get(key, []))])
+        except BadCall as fault:
+            raise BadCall(f"{path}: {key}: {fault}") from None
     return found
+
+
+def texts_in(value: Any) -> list[Any]:
+    """What has to be a text in a value: itself, what a list has, or the keys and values of a
+    table."""
+    if isinstance(value, dict):
+        return [*value, *value.values()]
+    return value if isinstance(value, list) else [value]
 
 
 def settings_in(path: str) -> Settings:

@@ -2,12 +2,16 @@
 UTF-16. A line that is neither is read as Latin-1, so its columns count bytes."""
 
 import codecs
+import os
+import stat
 from contextlib import suppress
 
 from navtools.words import BadCall
 
 MARK = "\ufeff"
 MARKS = {codecs.BOM_UTF16_LE: "utf-16-le", codecs.BOM_UTF16_BE: "utf-16-be"}
+MOST_BYTES = 50_000_000
+"""Of a text that is read: about as much as VS Code sends of one to its extensions."""
 OTHERS = ("utf-8", "latin-1", "cp1252", "iso8859-15")
 """How editors read a file that isn't UTF-8: all of it in one way."""
 
@@ -54,13 +58,24 @@ def counts_bytes(path: str, line: int) -> bool:
     return body[:2] not in MARKS and not all(map(is_utf_8, body.split(b"\n")[line - 1 : line]))
 
 
-def body_of(path: str) -> bytes:
-    """The bytes of a file. Raises BadCall where it can't be read."""
+def body_of(path: str, most: int = MOST_BYTES) -> bytes:
+    """The bytes of a file. Raises BadCall where it can't be read, is none with a text, as a device
+    or a pipe, or has more bytes than that."""
     try:
-        with open(path, "rb") as file:
+        with open(path, "rb", opener=at_once) as file:
+            found = os.fstat(file.fileno())
+            if not stat.S_ISREG(found.st_mode):
+                raise BadCall(f"{path}: not a regular file")
+            if found.st_size > most:
+                raise BadCall(f"{path}: more than {most} bytes")
             return file.read()
     except (OSError, ValueError) as fault:
         raise BadCall(f"{path}: {getattr(fault, 'strerror', fault)}") from None
+
+
+def at_once(path: str, flags: int) -> int:
+    """Opens a file, and doesn't wait for who writes into a pipe."""
+    return os.open(path, flags | os.O_NONBLOCK | os.O_NOCTTY)
 
 
 def text_of(path: str) -> str:

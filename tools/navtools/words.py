@@ -34,13 +34,21 @@ def server_of(url: str) -> str:
     try:
         parts = urlsplit(url)
         is_server = (
-            parts.scheme in ("http", "https") and parts.hostname is not None and parts.port != 0
+            parts.scheme in ("http", "https")
+            and all(0 < len(label) < 64 for label in labels_of(parts.hostname or ""))
+            and parts.port != 0
         )
     except ValueError:
         is_server = False
     if not is_server or parts.query or parts.fragment or not re.fullmatch(r"[!-~]+", url):
         raise BadCall(f"not the address of a server, as http://127.0.0.1:8080: {url!r}")
     return url.rstrip("/")
+
+
+def labels_of(host: str) -> list[str]:
+    """The parts of a name of the Domain Name System, where a dot may end it; none is empty or
+    longer than 63 characters (RFC 1035)."""
+    return host.removesuffix(".").split(".")
 
 
 def project_of(text: str) -> str:

@@ -287,6 +287,10 @@ class Logins(unittest.TestCase):
                     "CODENAV_TOKEN has other characters than those of ASCII",
                 ),
                 ({"NETRC": netrc.name}, netrc.name),
+                (
+                    {"CODENAV_TOKEN": "t", "CODENAV_URL": "http://[::1"},
+                    "CODENAV_URL: not the address of a server",
+                ),
             ]
             for variables, said in rows:
                 with self.subTest(said), environment(**variables), self.assertRaises(
@@ -314,8 +318,9 @@ class Ways(unittest.TestCase):
             self.assertNotEqual(request("http://codenav.invalid/").fault, "Connection refused")
         with Peer(sends(FOUND)) as peer, environment(http_proxy="http://127.0.0.1:1"):
             self.assertEqual(request(f"http://localhost:{peer.port}/").status, 200)
-        with environment(http_proxy="socks5://h:1"):
-            self.assertRaises(BadCall, request, "http://codenav.invalid/")
+        for proxy in "socks5://h:1", "http://[::1", "http://h:x", "http://a..b":
+            with environment(http_proxy=proxy):
+                self.assertRaises(BadCall, request, "http://codenav.invalid/")
         with Peer(status("407 Proxy Authentication Required")) as peer, environment(
             https_proxy=f"127.0.0.1:{peer.port}"
         ):

@@ -5,7 +5,7 @@ import tempfile
 import unittest
 
 from navtools.columns import UTF_8, UTF_16, UTF_32, Columns
-from navtools.texts import counts_bytes, decoded, is_read_as, lines_of, text_of
+from navtools.texts import MOST_BYTES, counts_bytes, decoded, is_read_as, lines_of, text_of
 from navtools.words import BadCall
 
 TEXT = "caf\u00e9 = \U0001F600;\r\nx\n"
@@ -84,6 +84,19 @@ class Texts(unittest.TestCase):
             self.assertEqual([counts_bytes(path, line) for line in (1, 2, 3)], [False, True, False])
             with open(path, "wb") as file:
                 file.write(b"\xe9\0")
-            for other, fault in ((path, "not a text"), (f"{path}\0", "embedded null byte")):
-                with self.assertRaisesRegex(BadCall, f": {fault}$"):
+            pipe = os.path.join(folder, "pipe")
+            os.mkfifo(pipe)
+            for other, fault in (
+                (path, "not a text"),
+                (f"{path}\0", "embedded null byte"),
+                (folder, "Is a directory"),
+                (pipe, "not a regular file"),
+                ("/dev/null", "not a regular file"),
+                (f"{path}/no", "Not a directory"),
+            ):
+                with self.subTest(other), self.assertRaisesRegex(BadCall, f"^{other}: {fault}$"):
                     text_of(other)
+            with open(path, "wb") as file:
+                file.truncate(MOST_BYTES + 1)
+            with self.assertRaisesRegex(BadCall, f"^{path}: more than 50000000 bytes$"):
+                text_of(path)

@@ -34,6 +34,7 @@ lib = "/lib"
 [revisions]
 lib = "HEAD~1"
 """
+TEXTS = "are texts, not empty and without the character U+0000"
 Place = tuple[str, str, int]
 
 
@@ -69,6 +70,9 @@ class SettingsFile(unittest.TestCase):
             ),
         )
 
+    def test_a_byte_order_mark(self) -> None:
+        self.assertEqual(self.read("\ufeff" + GOOD), self.read(GOOD))
+
     def test_what_is_refused(self) -> None:
         named = 'server = "http://h:1"\nproject = "app"\n'
         for text, fault in (
@@ -76,12 +80,26 @@ class SettingsFile(unittest.TestCase):
             ('server = "http://h:1"', "it names neither a project nor a set"),
             (named + 'set = "app"', "it names both a project and a set"),
             ('project = "app"', "no server, and CODENAV_URL has none"),
-            ('server = "x"\nproject = "app"', "not the address of a server"),
+            ('server = "x"\nproject = "app"', "server: not the address of a server"),
+            ('server = "http://[::1"\nproject = "app"', "server: not the address of a server"),
+            ('server = "http://a..b"\nproject = "app"', "server: not the address of a server"),
+            (named + 'servers = ["http://[::1"]', "servers: not the address of a server"),
+            (named + "servers = [1]", "the values of servers are texts"),
+            ("a = " + "[" * 60_000, "nested too deeply"),
+            ("a = " + "1" * 5_000, "Exceeds the limit"),
+            ("a." * 201 + "b = 1", "a line with over 200 dots"),
+            ("#" * 100_000, "more than 65536 bytes"),
+            (named + 'revision = "a\\u0000"', f"the values of revision {TEXTS}"),
+            (named + 'revision = ""', f"the values of revision {TEXTS}"),
+            (named + 'indexed = "a\\u0000"', f"the values of indexed {TEXTS}"),
+            (named + 'map = { "file:///x" = "a\\u0000" }', f"the values of map {TEXTS}"),
+            (named + 'tags = { app = "a\\u0000" }', f"the values of tags {TEXTS}"),
+            (named + 'revisions = { app = "a\\u0000" }', f"the values of revisions {TEXTS}"),
             ('server = "http://h:1"\nproject = "No"', "a project is 1 to 64 characters"),
             (named + "maps = {}", "no key 'maps': there are server, project, set, map"),
             (named + "map = 1", "map isn't a table"),
             (named + "revision = 1", "revision isn't a text"),
-            (named + "tags = { lib = 1 }", "the values of tags are texts, and not empty"),
+            (named + "tags = { lib = 1 }", f"the values of tags {TEXTS}"),
             (named + 'tags = { No = "x" }', "a project is 1 to 64 characters"),
         ):
             with self.subTest(text), self.assertRaises(BadCall) as caught:
