@@ -95,6 +95,8 @@ class Checkout:
     def of(self, path: str) -> Revision:
         """The revision of the work tree that a file is in. Raises BadCall where it's in none, or
         that has no such revision."""
+        if "\0" in self.label:
+            raise BadCall(f"no revision {self.label!r}")
         folder = work_tree(path) or os.path.dirname(os.path.realpath(path))
         while not os.path.isdir(folder):
             folder = os.path.dirname(folder)

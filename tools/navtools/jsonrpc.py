@@ -11,6 +11,7 @@ PARSE_ERROR = -32700
 INVALID_REQUEST = -32600
 METHOD_NOT_FOUND = -32601
 INVALID_PARAMS = -32602
+INTERNAL_ERROR = -32603
 NOT_INITIALIZED = -32002
 CANCELLED = -32800
 
@@ -95,12 +96,19 @@ class Inbox:
         threading.Thread(target=self.fill, daemon=True).start()
 
     def fill(self) -> None:
-        """Reads up to the end of the input or the notification `exit`."""
+        """Reads up to the end of the input, or to what can't be read, or the notification `exit`."""
+        try:
+            self.read()
+        finally:
+            self.messages.put(None)
+
+    def read(self) -> None:
+        """Reads the messages."""
         while True:
             try:
                 body = read_body(self.source)
                 if body is None:
-                    return self.messages.put(None)
+                    return None
                 self.log("<-", body)
                 message = message_of(body)
             except Fault as fault:

@@ -15,6 +15,7 @@ from typing import Any, BinaryIO, Callable, Optional
 from navtools.by_name import add_by_name
 from navtools.indexed import NotThere, add_indexed, sources_of
 from navtools.jsonrpc import (
+    INTERNAL_ERROR,
     INVALID_PARAMS,
     INVALID_REQUEST,
     METHOD_NOT_FOUND,
@@ -36,7 +37,7 @@ from navtools.workspace import Workspace
 
 MOST = 2147483647
 MOST_SYMBOLS = 256
-WARNING, INFO = 2, 3
+ERROR, WARNING, INFO = 1, 2, 3
 SYMBOLS = {
     "n": 3,
     "namespace": 3,
@@ -121,17 +122,27 @@ class Bridge:
         """Takes a request, a notification or a response. Notifications that aren't known, and bad
         ones, have no effect."""
         method, params = message.get("method"), message.get("params")
-        if "method" in message and "id" in message:
-            try:
+        try:
+            if "method" in message and "id" in message:
                 self.send({"id": message["id"], "result": self.answer(str(method), params)})
-            except Fault as fault:
-                fault.own = message["id"]
-                self.refuse(fault)
-        elif method in NOTIFICATIONS:
-            try:
+            elif method in NOTIFICATIONS:
                 NOTIFICATIONS[method](self, params)
-            except Fault:
-                pass
+        except Fault as fault:
+            self.refuse_own(message, fault)
+        except UnicodeEncodeError:
+            self.refuse_own(message, Fault(INVALID_PARAMS, "half a surrogate pair"))
+        except BrokenPipeError:
+            raise
+        except Exception as fault:  # whatever it is, the editor needs the other answers
+            text = f"{type(fault).__name__}: {' '.join(str(fault).split())}"
+            self.tell("window/logMessage", ERROR, f"{method}: {text}")
+            self.refuse_own(message, Fault(INTERNAL_ERROR, text))
+
+    def refuse_own(self, message: Message, fault: Fault) -> None:
+        """Answers a request by an error; a notification has no answer."""
+        if "id" in message:
+            fault.own = message["id"]
+            self.refuse(fault)
 
     def answer(self, method: str, params: Any) -> Any:
         """The result of a request; raises Fault."""
@@ -146,10 +157,7 @@ class Bridge:
             return None
         if method not in QUERIES:
             raise Fault(METHOD_NOT_FOUND, f"no method {method}")
-        try:
-            return QUERIES[method](self, params)
-        except UnicodeEncodeError:
-            raise Fault(INVALID_PARAMS, "half a surrogate pair") from None
+        return QUERIES[method](self, params)
 
     def initialize(self, params: Any) -> Message:
         """Says what the bridge can do."""
@@ -347,11 +355,19 @@ def serve(bridge: Bridge, inbox: Inbox) -> int:
 
 
 def logger(path: Optional[str]) -> Callable[[str, bytes], None]:
-    """What writes the traffic to a file, one message a line, or nowhere."""
+    """What writes the traffic to a file, one message a line, or nowhere. That the file can't be
+    written any more is said once, on the standard error."""
     file = open(os.devnull if path is None else path, "wb", buffering=0)
+    faults: list[OSError] = []
 
     def log(way: str, body: bytes) -> None:
-        file.write(b"%s %s\n" % (way.encode(), body.replace(b"\r", b" ").replace(b"\n", b" ")))
+        line = b"%s %s\n" % (way.encode(), body.replace(b"\r", b" ").replace(b"\n", b" "))
+        try:
+            file.write(line)
+        except OSError as fault:
+            if not faults:
+                print(f"lsp: {path}: {fault.strerror}", file=sys.stderr)
+            faults[:] = [fault]
 
     return log
 

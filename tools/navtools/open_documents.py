@@ -32,7 +32,8 @@ class OpenDocuments:
         """Keeps the text of a document."""
         name = document_name(uri)
         self.own[name] = Open(uri, text)
-        self.real[os.path.realpath(name)] = name
+        if os.path.isabs(name):
+            self.real[os.path.realpath(name)] = name
 
     def remove(self, uri: str) -> None:
         """Forgets a document."""
@@ -44,7 +45,8 @@ class OpenDocuments:
         """An open document, by its name or by another path of its file."""
         found = self.own.get(name)
         if found is None and os.path.isabs(name) and self.real:
-            found = self.own.get(self.real.get(os.path.realpath(name), ""))
+            real = self.real.get(os.path.realpath(name))
+            found = self.own[real] if real is not None else None
         return found
 
     def paths(self) -> list[str]:

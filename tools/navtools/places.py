@@ -98,12 +98,13 @@ def path_of(uri: str, maps: Maps) -> Optional[str]:
     """The whole path of a document's file; None where its address is no file's, or a path can't be
     that."""
     uri = spelled(uri)
+    if "%00" in uri:
+        return None
     for root, folder in maps:
         inside = below(root, uri)
         if inside is not None:
             return os.path.normpath(os.path.join(folder, plain(inside)))
-    is_path = uri.startswith("file:///") and "%00" not in uri
-    return plain(uri[7:]) if is_path else None
+    return plain(uri[7:]) if uri.startswith("file:///") else None
 
 
 def plain(part: str) -> str:

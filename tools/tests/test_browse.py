@@ -14,16 +14,17 @@ from unittest import mock
 from urllib.parse import urlencode
 
 from navtools import browse, questions
-from navtools.browsing import answers, folder
+from navtools.browsing import answers, folder, pages
 from navtools.browsing.answers import Browser
 from navtools.browsing.finder import found as found_files
-from navtools.browsing.folder import Folder
+from navtools.browsing.folder import Folder, Refused
 from navtools.browsing.markdown import ELEMENTS, tree_of
 from navtools.browsing.server import Pages
 from navtools.client import Answer
 from navtools.settings import Settings
 from navtools.tags import AWAY, GUESSED, SAID
-from tests.repository import InRepository
+from navtools.words import BadCall
+from tests.repository import InRepository, git_in
 from tests.servers import replying
 
 CROSS = {"Sec-Fetch-Site": "cross-site"}
@@ -220,6 +221,33 @@ class Browse(Served, unittest.TestCase):
             self.refused(f"/files/{path}", 403, fault)
         with mock.patch.object(folder, "MOST_BYTES", 10):
             self.refused("/files/src/a.rs", 403, "a file of 47 bytes, and 10 are shown at most")
+
+    def test_revisions_that_are_not_there(self) -> None:
+        git_in(self.top, "init", "-q")
+        self.refused("/files/src/a.rs?revision=%00", 404, "no revision &#x27;\\x00&#x27;")
+        for path in "/ask?what=hover&", "/address?":
+            place = "path=src/a.rs&line=0&character=0&revision=%00"
+            status, body, _ = self.got(path + place)
+            self.assertEqual(status, 404)
+            self.assertTrue(json.loads(body)["fault"].startswith("no revision '\\x00'"), body)
+
+    def test_unexpected_faults(self) -> None:
+        """They're one whole answer; behind the beginning of a page nothing more comes."""
+        planted = mock.Mock(side_effect=KeyError("a\nb"))
+        with mock.patch.object(Browser, "view", planted):
+            self.refused("/files/src/a.rs", 500, "KeyError: &#x27;a\\nb&#x27;")
+            status, body, _ = self.got("/outline?path=src/a.rs")
+        self.assertEqual((status, json.loads(body)), (500, {"fault": "KeyError: 'a\\nb'"}))
+        for fault in (KeyError("x"), BadCall("x"), Refused(404, "x"), OSError(5, "x")):
+            with mock.patch.object(pages, "file_data", mock.Mock(side_effect=fault)):
+                with mock.patch.object(Pages, "handle_error"):
+                    status, body, _ = self.got("/files/src/a.rs")
+            self.assertEqual((status, body.count("HTTP/1."), body.count("<html")), (200, 0, 1))
+
+    def test_a_folder_of_texts_that_is_gone(self) -> None:
+        """Of the settings of a folder below: the page is whole."""
+        self.write("src/.codenav.toml", 'server = "http://h:1"\nproject = "b"\nindexed = "no"\n')
+        self.assertTrue(self.got("/files/src/a.rs")[1].endswith("</html>\n"))
 
     def test_hosts_and_origins(self) -> None:
         own = f"127.0.0.1:{self.port}"

@@ -1,6 +1,7 @@
 """Tests of the language server bridge, over pipes, against a small server on this machine that
 gives stored replies."""
 
+import io
 import json
 import os
 import subprocess
@@ -10,8 +11,11 @@ import time
 import unittest
 from http.server import BaseHTTPRequestHandler, ThreadingHTTPServer
 from typing import Any, ClassVar, Optional
+from unittest import mock
 from urllib.parse import parse_qsl, urlsplit
 
+from navtools import lsp
+from navtools.jsonrpc import Inbox, read_body, write_message
 from navtools.open_documents import OpenDocuments, document_name
 from navtools.places import uri_of
 from navtools.records import ADDRESS
@@ -436,6 +440,10 @@ class Lsp(unittest.TestCase):
         def message(**members: Any) -> bytes:
             return json.dumps({"jsonrpc": "2.0", **members}).encode()
 
+        def opened(uri: str) -> bytes:
+            document = {"textDocument": {"uri": uri, "text": "other"}}
+            return message(method="textDocument/didOpen", params=document)
+
         def definition(params: Any) -> bytes:
             return message(id=9, method="textDocument/definition", params=params)
 
@@ -465,6 +473,7 @@ class Lsp(unittest.TestCase):
             (definition({**at, "position": {"line": 0, "character": 2147483648}}), 9, -32602),
             (definition({**at, "position": {"line": 0, "character": True}}), 9, -32602),
             (definition({**at, "textDocument": {"uri": "file:///\ud800"}}), 9, -32602),
+            (message(id=9, method="workspace/symbol", params={"query": "\ud800"}), 9, -32602),
             (message(id=9, method="textDocument/references", params=at), 9, -32602),
             (message(id=9, method="workspace/symbol", params={}), 9, -32602),
         ):
@@ -484,11 +493,20 @@ class Lsp(unittest.TestCase):
             message(id=4, result=None),
             message(method="textDocument/didOpen"),
             message(method="textDocument/didChange", params={"contentChanges": [7]}),
+            opened("file:///x/\ud800.c"),
+            opened("file:///x/%00.c"),
+            opened(f"{self.uri}%00"),
+            opened(""),
             message(method="$/cancelRequest", params=7),
             message(method="$/cancelRequest", params={"id": 1}),
             message(method="unknown"),
         ):
             editor.send(body)
+        self.answer({"places": [{**PLACE, "project": "app", "uri": self.uri}]})
+        found = [{"uri": self.uri, "range": PLACE}]
+        self.assertEqual(editor.call("textDocument/definition", self.at), (found, []))
+        other = {**self.at, "textDocument": {"uri": f"{self.uri}%00"}}
+        self.assertEqual(editor.call("textDocument/definition", other)[0], found)
         body = message(id="end", method="shutdown")
         editor.write(
             b"Content-Type: application/vscode-jsonrpc; charset=utf-8\r\ncontent-length:%d \r\n\r\n%s"
@@ -584,6 +602,40 @@ class Lsp(unittest.TestCase):
         )
         self.assertEqual(len(Replies.asked), 2)
         editor.end("shutdown", "exit")
+
+    def test_an_unexpected_fault(self) -> None:
+        """It ends neither the bridge nor the answers that come after it."""
+        shutdown = {"id": 2, "method": "shutdown"}
+        for own, method, params in (
+            ({"id": 1}, "textDocument/hover", self.at),
+            ({}, "textDocument/didOpen", {"textDocument": {"uri": self.uri, "text": TEXT}}),
+        ):
+            messages: list[dict[str, Any]] = [{**own, "method": method, "params": params}]
+            if own:
+                messages.insert(0, {"id": 0, "method": "initialize", "params": {}})
+            written = io.BytesIO()
+            for message in [*messages, shutdown, {"method": "exit"}]:
+                write_message(written, json.dumps({"jsonrpc": "2.0", **message}).encode())
+            out, planted = io.BytesIO(), mock.Mock(side_effect=KeyError("a\nb"))
+            written.seek(0)
+            with mock.patch.dict(lsp.QUERIES, {method: planted}), mock.patch.dict(
+                lsp.NOTIFICATIONS, {method: planted} if not own else {}
+            ):
+                log = lsp.logger(None)
+                lsp.serve(lsp.Bridge(None, out, log), Inbox(written, log))
+            out.seek(0)
+            found = [json.loads(body) for body in iter(lambda: read_body(out), None)]
+            text = f"codenav: {method}: KeyError: 'a\\nb'"
+            said = [one["params"] for one in found if "method" in one]
+            self.assertEqual(said, [{"type": 1, "message": text}])
+            answers = {one["id"]: one.get("error", {}).get("code") for one in found if "id" in one}
+            self.assertEqual(answers, {0: None, 1: -32603, 2: None} if own else {2: -32002})
+
+    def test_a_log_that_is_full(self) -> None:
+        editor = Editor("--log", "/dev/full", self.url, "app")
+        editor.call("initialize", {"rootUri": uri_of(self.folder, []), "capabilities": {}})
+        said = b"lsp: /dev/full: No space left on device\n"
+        self.assertEqual(editor.end("shutdown", "exit"), (0, said))
 
     def test_the_log(self) -> None:
         log = os.path.join(self.folder, "log")

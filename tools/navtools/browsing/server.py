@@ -53,10 +53,22 @@ def entries(browser: Browser, parameters: Parameters) -> dict[str, Any]:
 QUESTIONS["/list"] = entries
 
 
+def refusal_of(fault: Exception) -> Refused:
+    """How a request is refused that ended by a fault."""
+    if isinstance(fault, Refused):
+        return fault
+    if isinstance(fault, BadCall):
+        return Refused(502, f"the index: {fault}")
+    if isinstance(fault, OSError):
+        return Refused(500, fault.strerror or "a fault")
+    return Refused(500, f"{type(fault).__name__}: {' '.join(str(fault).split())}")
+
+
 class Handler(BaseHTTPRequestHandler):
     """Serves one connection."""
 
     timeout = SECONDS
+    is_begun = False
     browser: Browser
     hosts: tuple[str, ...]
 
@@ -65,6 +77,7 @@ class Handler(BaseHTTPRequestHandler):
         page where a page was asked for."""
         path, _, query = self.path.partition("?")
         is_page = path == "/" or path.startswith("/files/")
+        self.is_begun = False
         try:
             self.refuse_others(path)
             parameters = dict(parse_qsl(query))
@@ -72,14 +85,12 @@ class Handler(BaseHTTPRequestHandler):
                 self.answer_page(path, parameters)
             else:
                 self.answer(200, *self.body(path, parameters))
-        except Refused as fault:
-            self.refuse(fault, is_page)
-        except BadCall as fault:
-            self.refuse(Refused(502, f"the index: {fault}"), is_page)
-        except OSError as fault:
-            if isinstance(fault, (BrokenPipeError, ConnectionError)):
+        except ConnectionError:
+            raise
+        except Exception as fault:
+            if self.is_begun:
                 raise
-            self.refuse(Refused(500, fault.strerror or "a fault"), is_page)
+            self.refuse(refusal_of(fault), is_page)
 
     do_HEAD = do_GET
 
@@ -137,6 +148,7 @@ class Handler(BaseHTTPRequestHandler):
 
     def head(self, status: int, kind: str, length: int = -1) -> None:
         """Sends the head of an answer, of which the length is known or not."""
+        self.is_begun = True
         self.send_response(status)
         fields = {**HEADERS, "Content-Type": kind}
         if length >= 0:

@@ -79,12 +79,14 @@ class View:
         """The map from the indexed text of a file to the one that is shown, where that's known and
         not the same, and how the indexed text is called."""
         settings = self.workspace.settings(path) or self.settings
-        project = self.workspace.projects(settings, path)[0]
-        questions = self.workspace.questions(settings, project)
-        with suppress(NoReply):
-            questions.learn(path, again=True)
-        _, (_, found, _, label) = questions.indexed.map_of(project, path)
-        return (None, "") if found is None or found.is_same else (found, label)
+        with suppress(BadCall):
+            project = self.workspace.projects(settings, path)[0]
+            questions = self.workspace.questions(settings, project)
+            with suppress(NoReply):
+                questions.learn(path, again=True)
+            _, (_, found, _, label) = questions.indexed.map_of(project, path)
+            return (None, "") if found is None or found.is_same else (found, label)
+        return None, ""
 
     def ask(self, what: str, path: str, line: int, character: int) -> tuple[Reply, str]:
         """What is found at a place, and what is said of it besides. Raises NotThere and BadCall."""
