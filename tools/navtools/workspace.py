@@ -6,7 +6,8 @@ each of its project, and needs no command line.
 """
 
 import os
-from typing import Any, Callable, Iterator, Optional
+import stat
+from typing import Any, Callable, Iterator, Optional, Union
 
 from navtools.by_name import ByName
 from navtools.client import NoReply
@@ -18,6 +19,8 @@ from navtools.tags import Names, Tag
 from navtools.words import BadCall
 
 SECONDS = 30
+Mark = Optional[tuple[int, int, int]]
+"""What changes with a file."""
 UNKNOWN = ("D01 ", "D02 ")
 """How faults begin of a project that has no dump, or not the document."""
 
@@ -40,7 +43,8 @@ class Workspace:
     ) -> None:
         self.root, self.given, self.say, self.today = root, given, say, today
         self.is_by_name = is_by_name
-        self.read: dict[str, Optional[Settings]] = {}
+        self.read: dict[str, tuple[Mark, Union[Settings, BadCall, None]]] = {}
+        self.said: set[str] = set()
         self.asking: dict[tuple[str, str], Questions] = {}
         self.naming: dict[tuple[str, str], ByName] = {}
         self.mapping: dict[str, Indexed] = {}
@@ -48,27 +52,53 @@ class Workspace:
 
     def settings(self, path: str) -> Optional[Settings]:
         """What is known of a file: by the nearest `.codenav.toml` above it, unless it's the
-        editor's folder's own and the command line says it."""
+        editor's folder's own and the command line says it. Of a bad one that is nearer it's said,
+        once."""
+        found, faults = self.found_above(path)
+        for fault in map(str, faults if found else []):
+            if fault not in self.said:
+                self.said.add(fault)
+                self.say(fault)
+        return found
+
+    def found_above(self, path: str) -> tuple[Optional[Settings], list[BadCall]]:
+        """What is known of a file, and what is wrong with the settings that are nearer."""
+        faults = []
         for folder in folders_above(os.path.dirname(path)):
             if self.given and folder in folders_above(self.root) and is_below(path, self.root):
                 break
             found = self.read_in(folder)
+            if isinstance(found, Settings):
+                return found, faults
             if found is not None:
-                return found
-        return self.given
+                faults.append(found)
+        return self.given, faults
 
-    def read_in(self, folder: str) -> Optional[Settings]:
-        """The settings of a folder that has a file of such, which is read once; a bad one is
-        said."""
-        if folder not in self.read:
-            path = os.path.join(folder, FILE)
-            self.read[folder] = None
-            if os.path.isfile(path):
-                try:
-                    self.read[folder] = settings_in(path)
-                except BadCall as fault:
-                    self.say(str(fault))
-        return self.read[folder]
+    def read_in(self, folder: str) -> Union[Settings, BadCall, None]:
+        """The settings of a folder that has a file of such, or what is wrong with them. They're
+        read again where the file changed, and what was asked by them is forgotten then."""
+        path = os.path.join(folder, FILE)
+        mark = mark_of(path)
+        known, found = self.read.get(folder, (None, None))
+        if mark != known:
+            if isinstance(found, Settings):
+                self.forget(folder)
+            try:
+                found = settings_in(path) if mark else None
+            except BadCall as fault:
+                found = fault
+            self.read[folder] = mark, found
+        return found
+
+    def forget(self, folder: str) -> None:
+        """Forgets what was asked by the settings of a folder."""
+        if folder in self.mapping:
+            self.mapping.pop(folder).end()
+        for key in [key for key in self.asking if key[0] == folder]:
+            del self.asking[key]
+        for key in [key for key in self.naming if key[0] == folder]:
+            del self.naming[key]
+        self.holders.clear()
 
     def questions(self, settings: Settings, project: str) -> Questions:
         """What asks a project of the settings' server."""
@@ -117,6 +147,9 @@ class Workspace:
         BadCall where nothing answers."""
         settings = self.settings(path) if os.path.isabs(path) else self.given
         if settings is None:
+            faults = self.found_above(path)[1] if os.path.isabs(path) else []
+            if faults:
+                raise faults[0]
             raise BadCall(
                 f"neither a {FILE} above {path} nor the command line says of which project it is"
             )
@@ -171,6 +204,16 @@ class Workspace:
                 questions = self.questions(settings, project)
                 tags = questions.index.names({"prefix": prefix}, False)
                 yield from names.places(questions, tags, settings.tags_folder)
+
+
+def mark_of(path: str) -> Mark:
+    """When a regular file was written or changed, and its size; None where there is none."""
+    try:
+        found = os.stat(path)
+    except (OSError, ValueError):
+        return None
+    is_file = stat.S_ISREG(found.st_mode)
+    return (found.st_mtime_ns, found.st_ctime_ns, found.st_size) if is_file else None
 
 
 def is_below(path: str, folder: str) -> bool:

@@ -247,7 +247,8 @@ class Browse(Served, unittest.TestCase):
     def test_a_folder_of_texts_that_is_gone(self) -> None:
         """Of the settings of a folder below: the page is whole."""
         self.write("src/.codenav.toml", 'server = "http://h:1"\nproject = "b"\nindexed = "no"\n')
-        self.assertTrue(self.got("/files/src/a.rs")[1].endswith("</html>\n"))
+        body = self.got("/files/src/a.rs")[1]
+        self.assertEqual((body.count("<html"), body[-8:]), (1, "</html>\n"))
 
     def test_hosts_and_origins(self) -> None:
         own = f"127.0.0.1:{self.port}"

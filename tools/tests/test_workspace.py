@@ -133,6 +133,39 @@ class SettingsFile(unittest.TestCase):
             self.assertEqual(len(said), path.startswith("bad"))
 
 
+    def test_settings_that_change(self) -> None:
+        """They count at the next question: mended, changed, broken and removed."""
+        said: list[str] = []
+        workspace = Workspace(self.folder, None, said.append, text_of)
+        path, own = os.path.join(self.folder, "deep", "a.rs"), os.path.join(self.folder, FILE)
+        good = 'server = "http://127.0.0.1:1"\nproject = "%s"\n'
+        unknown = f"neither a {FILE} above {path} nor the command line says"
+        refused = "Connection refused"
+        for number, (folder, text, fault) in enumerate(
+            (
+                ("", "", unknown),
+                ("", "x = ", f"{own}: Invalid value"),
+                ("", good % "one", f"one: http://127.0.0.1:1: {refused}"),
+                ("", good % "two", f"two: http://127.0.0.1:1: {refused}"),
+                ("deep", "x = ", f"two: http://127.0.0.1:1: {refused}"),
+                ("deep", good % "deep", f"deep: http://127.0.0.1:1: {refused}"),
+                ("deep", "", f"two: http://127.0.0.1:1: {refused}"),
+                ("", "y = ", f"{own}: Invalid value"),
+                ("", "", unknown),
+            )
+        ):
+            with self.subTest(number):
+                if text:
+                    os.utime(self.write(text, folder), ns=(number, number))
+                elif os.path.exists(os.path.join(self.folder, folder, FILE)):
+                    os.remove(os.path.join(self.folder, folder, FILE))
+                with self.assertRaises(BadCall) as caught:
+                    workspace.ask("definition", path, 0, 0)
+                self.assertTrue(str(caught.exception).startswith(fault), caught.exception)
+        deep = os.path.join(self.folder, "deep", FILE)
+        self.assertEqual([line.split(": ")[0] for line in said], [deep])
+
+
 class OnCheckouts(OnServer, InRepository):
     """The demo crates are two checkouts, each of a project of its own, with a `.codenav.toml`."""
 
