@@ -22,7 +22,7 @@ LETTERS = "zqjxyvkwuhgnolbmdfirteapcs"
 BEGINNINGS = f"{LETTERS}_{LETTERS.upper()}"
 """With what names begin, what is rarer first: little is answered then."""
 SECONDS = 60.0
-"""For so long it stands that a project has no tags."""
+"""For so long it stands that a project has no tags, but where a definition is found by them."""
 
 
 def add_by_name(parser: argparse.ArgumentParser) -> None:
@@ -77,13 +77,17 @@ class ByName:
     ) -> Reply:
         """The answer in the place of a fault, where the project has tags alone; else raises the
         fault."""
-        name = self.questions.name
-        if not str(fault).startswith(NO_DUMP) or not os.path.isabs(path) or not self.has_tags():
+        name, found = self.questions.name, []
+        if not str(fault).startswith(NO_DUMP) or not os.path.isabs(path):
+            raise fault
+        if what == "definition":
+            found = self.definitions(folder, path, line, character)
+            self.is_tagged = self.is_tagged or bool(found)
+        if not self.has_tags():
             raise fault
         if what != "definition":
             note = f"{name} has tags alone: no {what}"
             return Reply(None if what == "hover" else [], "", "", note)
-        found = self.definitions(folder, path, line, character)
         return Reply(found, "", "", f"{name} has tags alone: the definition is by name")
 
     def has_tags(self) -> bool:

@@ -205,9 +205,9 @@ class Bridge:
         """Writes a line to the editor's log."""
         self.tell("window/logMessage", INFO, text)
 
-    def compare(self, name: str, of: str) -> None:
-        """Says that the text in the editor isn't that of the file, or, where that's known, that it
-        isn't the indexed one: once, up to when it's that again."""
+    def compare(self, name: str, of: str, shown: str = "the indexed file") -> None:
+        """Says that the text in the editor isn't that of the file, and which one has the positions,
+        or, where that's known, that it isn't the indexed one: once, up to when it's that again."""
         document, is_edited = self.open.find(name), bool(of)
         if document is not None and not of:
             try:
@@ -219,7 +219,7 @@ class Bridge:
             self.warn(
                 f"{uri} changed since: answers are of {of}"
                 if of
-                else f"{uri} isn't as in its file: positions are those of the indexed file"
+                else f"{uri} isn't as in its file: positions are those of {shown}"
             )
         (self.edited.add if is_edited else self.edited.discard)(name)
 
@@ -238,10 +238,9 @@ class Bridge:
             self.warn(str(fault))
             return None
         except BadCall as fault:
-            self.compare(name, "")
             self.tell_refusal(str(fault))
             return None
-        self.compare(name, reply.of)
+        self.compare(name, reply.of, "the files on disk" if reply.note else "the indexed file")
         if reply.note not in self.noted:
             self.noted.add(reply.note)
             self.tell("window/showMessage", INFO, reply.note)

@@ -14,7 +14,10 @@ from navtools.browsing.answers import Browser
 from navtools.browsing.folder import Folder
 from navtools.by_name import name_at
 from navtools.places import uri_of
+from navtools.client import NoReply
 from navtools.settings import FILE, Settings
+from navtools.texts import text_of
+from navtools.workspace import Workspace
 from tests.servers import TOP, OnServer
 from tests.test_lsp import Editor
 
@@ -172,7 +175,28 @@ class OverTags(OnServer):
             starts = [(one["uri"], *one["range"]["start"].values()) for one in found]
             self.assertEqual(starts, [(self.uri(name), *place) for name, *place in places])
             self.assertEqual([text for _, _, text in told], said)
+        document = {"uri": self.uri("src/main.c"), "text": "area();\n"}
+        editor.notify("textDocument/didOpen", {"textDocument": document})
+        at = {"textDocument": document, "position": {"line": 0, "character": 0}}
+        found, told = editor.call("textDocument/definition", at)
+        note = f"{document['uri']} isn't as in its file: positions are those of the files on disk"
+        self.assertEqual((len(found), [text for _, _, text in told]), (1, [f"codenav: {note}"]))
         self.assertEqual(editor.end("shutdown", "exit")[0], 0)
+
+    def test_tags_that_come_later(self) -> None:
+        """They're found at the next question for a definition, and then what's said is said."""
+        workspace = Workspace(
+            self.folder, Settings(self.url, "late", self.folder), lambda _: None, text_of
+        )
+        path = os.path.join(self.folder, "src/main.c")
+        for what in "definition", "references":
+            with self.assertRaisesRegex(NoReply, "^late: D01 project has no dump"):
+                workspace.ask(what, path, 1, 26)
+        self.put("tags", "late", os.path.join(self.folder, "tags"))
+        [found] = workspace.ask("definition", path, 1, 26).found
+        self.assertEqual(found["path"], os.path.join(self.folder, "lib/area.c"))
+        note = workspace.ask("references", path, 1, 26).note
+        self.assertEqual(note, "late has tags alone: no references")
 
     def test_where_it_is_wished(self) -> None:
         """An editor and the page are answered by name of a project that has a dump, whoever says

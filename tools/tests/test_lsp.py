@@ -584,6 +584,24 @@ class Lsp(unittest.TestCase):
         self.assertEqual((result, len(said), Replies.asked[-1][1]["uri"]), (None, 1, "untitled:1"))
         editor.end("shutdown", "exit")
 
+    def test_bad_settings(self) -> None:
+        """They're one message, up to when they're mended."""
+        path = os.path.join(self.folder, ".codenav.toml")
+        editor = Editor()
+        editor.call("initialize", {"rootUri": uri_of(self.folder, []), "capabilities": {}})
+        self.answer({"contents": None})
+        bad = f"codenav: {path}: server: not the address of a server, as http://127.0.0.1:8080: "
+        for server, told in (
+            ("http://[::1", [("window/showMessage", 2, f"{bad}'http://[::1'")]),
+            ("http://[::1", []),
+            (self.url, NOT_MAPPED),
+        ):
+            with open(path, "w", encoding="utf-8") as file:
+                file.write(f'server = "{server}"\nproject = "app"\n')
+            editor.notify("textDocument/didOpen", {"textDocument": {"uri": self.uri, "text": TEXT}})
+            self.assertEqual(editor.call("textDocument/hover", self.at), (None, told))
+        self.assertEqual(editor.end("shutdown", "exit"), (0, b""))
+
     def test_requests_that_are_cancelled(self) -> None:
         self.answer({"contents": None})
         log = os.path.join(self.folder, "log")
