@@ -63,7 +63,7 @@ class Workspace:
 
     def found_above(self, path: str) -> tuple[Optional[Settings], list[BadCall]]:
         """What is known of a file, and what is wrong with the settings that are nearer."""
-        faults = []
+        faults: list[BadCall] = []
         for folder in folders_above(os.path.dirname(path)):
             if self.given and folder in folders_above(self.root) and is_below(path, self.root):
                 break
