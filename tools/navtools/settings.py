@@ -82,7 +82,9 @@ def found_in_file(path: str) -> dict[str, Any]:
         if type(value) is not KEYS[key]:
             raise BadCall(f"{path}: {key} isn't a {CALLED[KEYS[key]]}")
         if not all(type(text) is str and text and "\0" not in text for text in texts_in(value)):
-            raise BadCall(f"{path}: the values of {key} are texts, not empty and without the character U+0000")
+            raise BadCall(
+                f"{path}: the values of {key} are texts, not empty and without the character U+0000"
+            )
     for key in ("server", "servers"):
         try:
             named_by_file([server_of(text.strip()) for text in texts_in(found.get(key, []))])

@@ -132,7 +132,6 @@ class SettingsFile(unittest.TestCase):
             self.assertEqual(found and found.project, project, path)
             self.assertEqual(len(said), path.startswith("bad"))
 
-
     def test_settings_that_change(self) -> None:
         """They count at the next question: mended, changed, broken and removed."""
         said: list[str] = []
