@@ -107,11 +107,11 @@ class Joints:
             groups = Groups()
             order: dict[int, tuple[bool, int]] = {}
             for number, bearers in enumerate(found):
-                for is_import, line, own in bearers:
+                for is_import, place, own in bearers:
                     holder = self.holder(label, own)
                     holder = own if holder == NONE else holder
                     groups.join(~number, holder)
-                    order[holder] = min(order.get(holder, (True, line)), (is_import, line))
+                    order[holder] = min(order.get(holder, (True, place)), (is_import, place))
             members: dict[int, list[int]] = {}
             for own in sorted(order, key=order.__getitem__):
                 members.setdefault(groups.of(own), []).append(own)
@@ -119,9 +119,10 @@ class Joints:
                 self.share_results(label, those)
             self.holders.clear()
         for bearers in found:
-            lines = sorted(bearer.line for bearer in bearers)
-            if len(lines) > 1:
-                plan.notes.mend("one symbol by its moniker in several places, joined", lines[1])
+            places = sorted(bearer.place for bearer in bearers)
+            if len(places) > 1:
+                line = plan.survey.edges["moniker"].lines[places[1]]
+                plan.notes.mend("one symbol by its moniker in several places, joined", line)
 
     def share_results(self, label: str, those: list[int]) -> None:
         """Gives the results that some vertices have to all of them; a hover to those that have

@@ -201,7 +201,7 @@ class Plan:
         numbers = self.survey.numbers
         kept = (n for n in range(self.count) if self.kinds[n] == RANGE and self.state[n] == KEPT)
         for ranges in by_home(kept, self.home).values():
-            ranges.sort(key=numbers.lines.__getitem__)
+            ranges.sort(key=numbers.places.__getitem__)
             outcome = sorted_out(ranges, lambda own: (numbers.starts[own], numbers.ends[own]))
             for own in outcome.crossing:
                 self.notes.mend("range that overlaps a smaller one, dropped", numbers.lines[own])

@@ -17,14 +17,16 @@ SEVERAL, OUTSIDE = -2, -3
 """What stands for the project of what is in several, and in none."""
 
 Bearers = dict[int, dict[int, int]]
-"""The vertices that have a moniker of a group, with the lines of the edges."""
+"""The vertices that have a moniker of a group, with the places of the edges among those of their
+label."""
 
 
 class Bearer(NamedTuple):
-    """A vertex with a moniker. In order, what exports comes first, and then the lines of edges."""
+    """A vertex with a moniker. In order, what exports comes first, and then the places of
+    edges."""
 
     is_import: bool
-    line: int
+    place: int
     own: int
 
 
@@ -75,9 +77,9 @@ def symbols(plan: Plan) -> Iterator[list[Bearer]]:
         found.setdefault(joined.of(group), []).append(group)
     for groups in found.values():
         yield [
-            Bearer(group not in exporting, line, own)
+            Bearer(group not in exporting, place, own)
             for group in groups
-            for own, line in bearers[group].items()
+            for own, place in bearers[group].items()
         ]
 
 
@@ -93,10 +95,10 @@ def attached_monikers(plan: Plan) -> Groups:
 def bearers_of(plan: Plan, attached: Groups) -> Bearers:
     """The vertices that have a moniker, by its group."""
     found: Bearers = {}
-    for source, target, line in plan.survey.edges["moniker"].all():
+    for place, (source, target, _) in enumerate(plan.survey.edges["moniker"].all()):
         if plan.is_asked(source) and plan.state[target] == KEPT:
             if plan.fits("moniker", source, target):
-                found.setdefault(attached.of(target), {}).setdefault(source, line)
+                found.setdefault(attached.of(target), {}).setdefault(source, place)
     return found
 
 

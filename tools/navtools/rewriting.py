@@ -111,7 +111,7 @@ class Rewriting:
             )
             self.vertex(head)
             for row in rows():
-                if row.element["type"] == "vertex" and row.line != head.line:
+                if row.element["type"] == "vertex" and row.element["label"] != "metaData":
                     self.vertex(row)
             for row in rows():
                 if row.element["type"] == "edge":

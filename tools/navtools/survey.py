@@ -86,30 +86,34 @@ class Pairs:
 
 
 class Numbers:
-    """The numbers of ids, and of each number what its vertex is. Arrays grow by blocks, and have
-    room for at least each number."""
+    """The numbers of ids, and of each number what its vertex is: its line, and its place among the
+    elements, since several may be on a line. Arrays grow by blocks, and have room for at least each
+    number."""
 
     def __init__(self) -> None:
         self.of: dict[Id, int] = {}
         self.kinds = bytearray()
-        self.lines = array("i")
+        self.lines, self.places = array("i"), array("i")
         self.starts, self.ends = array("q"), array("q")
         self.unseen: dict[int, int] = {}
 
     def named(self, own: Id, line: int) -> int:
         """The number of an id that an edge names on a line."""
         number = self.of.get(own)
-        return self.fresh(own, line) if number is None else number
+        if number is None:
+            number = self.fresh(own)
+            self.unseen[number] = line
+        return number
 
-    def fresh(self, own: Id, line: int) -> int:
-        """A number for an id that has none, of a vertex that isn't seen yet."""
+    def fresh(self, own: Id) -> int:
+        """A number for an id that has none."""
         number = self.of[own] = len(self.of)
         if number == len(self.kinds):
             self.kinds.extend(bytes(BLOCK))
             self.lines.extend([0] * BLOCK)
+            self.places.extend([0] * BLOCK)
             self.starts.extend([0] * BLOCK)
             self.ends.extend([0] * BLOCK)
-        self.unseen[number] = line
         return number
 
     def ids(self) -> list[Id]:
@@ -174,15 +178,18 @@ class Survey:
         elif not own or len(own) > MOST_ID_BYTES / 4 and len(own.encode()) > MOST_ID_BYTES:
             self.are_ids_sound = False
         numbers = self.numbers
-        number = numbers.named(own, line)
-        if numbers.kinds[number]:
+        number = numbers.of.get(own)
+        if number is None:
+            number = numbers.fresh(own)
+        elif numbers.kinds[number]:
             first = numbers.lines[number]
             raise self.refusal(line, f"the id {text(own)} again, which is that of line {first}")
-        named = numbers.unseen.pop(number)
-        if named != line:
-            self.disorder = self.disorder or named
+        else:
+            self.disorder = self.disorder or numbers.unseen[number]
+            del numbers.unseen[number]
         kind = KINDS.get(label, OTHER)
         numbers.kinds[number], numbers.lines[number] = kind, line
+        numbers.places[number] = self.elements
         if kind == METADATA:
             self.first(row)
         elif label == "$event":
@@ -259,7 +266,7 @@ class Survey:
             self.mend(row, DOCUMENT, number, size)
         documents: dict[str, int] = {}
         lines = self.numbers.lines
-        for number in sorted(self.uris, key=lines.__getitem__):
+        for number in sorted(self.uris, key=self.numbers.places.__getitem__):
             first = documents.setdefault(self.uris[number], number)
             if first != number:
                 del self.uris[number]
@@ -325,7 +332,7 @@ class Survey:
             raise NotADump(f"{self.name}: no metaData, which a dump begins with")
         if self.numbers.unseen:
             ids = self.numbers.ids()
-            number, line = min(self.numbers.unseen.items(), key=lambda pair: pair[1])
+            number, line = next(iter(self.numbers.unseen.items()))
             own = ids[number]
             other: Id = str(own) if isinstance(own, int) else int(own) if own.isdecimal() else ""
             hint = f"; {text(other)} is another id" if other in self.numbers.of else ""

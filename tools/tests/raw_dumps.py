@@ -1,6 +1,7 @@
 """Random raw dumps in the shapes that indexers write: of versions 0.2 to 0.6, with several projects,
 documents and symbols, of which each has a name of few."""
 
+import json
 import random
 from dataclasses import dataclass, field
 from typing import Any, Optional
@@ -21,6 +22,17 @@ ROLES = {
     ),
     "definition": (None, None, "definitions"),
 }
+
+
+def arrays(elements: list[Element]) -> dict[str, bytes]:
+    """A dump as one JSON array, in different layouts."""
+    texts = [json.dumps(element) for element in elements]
+    several = [", ".join(texts[at : at + 3]) for at in range(0, len(texts), 3)]
+    return {
+        "on one line": f"[{','.join(texts)}]".encode(),
+        "several a line": "[{}]\n".format(",\n".join(several)).encode(),
+        "indented": json.dumps(elements, indent=1).encode(),
+    }
 
 
 @dataclass

@@ -1,10 +1,11 @@
 """Random raw dumps: `prepare-lsif` writes of each one that the server accepts in both profiles, and
-that answers each question as the raw dump means it."""
+that answers each question as the raw dump means it; and the same of an array in any layout."""
 
 import io
 import json
 import os
 import random
+import re
 import tempfile
 import unittest
 from contextlib import redirect_stderr
@@ -15,20 +16,24 @@ from tests.accepted import fault
 from tests.dump_walks import LABELS, Element, Walk, answered, body_of, questions
 from tests.lsif_model import Model
 from tests.randomly import check_cases
-from tests.raw_dumps import RawDump
+from tests.raw_dumps import RawDump, arrays
+from tests.test_prepared import dumps
+
+LAYOUT = re.compile(r"line \d+|prepare-lsif: read: .*\n|/tmp/.*/in")
+"""What is said of a dump's layout."""
 
 PLACES = [{"line": line, "character": 4} for line in (0, 1, 2)]
 
 
-def prepared(elements: list[Element]) -> tuple[int, bytes, str]:
+def prepared(body: bytes) -> tuple[int, bytes, str]:
     """The status, the prepared dump, and what was said."""
     with tempfile.TemporaryDirectory() as folder:
         source, out = os.path.join(folder, "in"), os.path.join(folder, "out")
         with open(source, "wb") as file:
-            file.write(body_of(elements))
+            file.write(body)
         with redirect_stderr(io.StringIO()) as said:
             status = prepare.main([source, out])
-        with open(out, "rb") as file:
+        with open(out if os.path.exists(out) else os.devnull, "rb") as file:
             return status, file.read(), said.getvalue()
 
 
@@ -39,7 +44,7 @@ class RawDumps(unittest.TestCase):
 
     def compare(self, elements: list[Element]) -> None:
         """A dump answers as the raw one means it."""
-        status, body, said = prepared(elements)
+        status, body, said = prepared(body_of(elements))
         self.assertEqual(status, 0, f"{said}, of\n{body_of(elements).decode()}")
         for profile in ("1", "2"):
             self.assertIsNone(fault(body, profile), said)
@@ -51,6 +56,23 @@ class RawDumps(unittest.TestCase):
             self.assertEqual(
                 found, model.answer(question), f"{question}, of\n{body_of(elements).decode()}"
             )
+        self.check_arrays(elements)
+
+    def check_arrays(self, elements: list[Element]) -> None:
+        """What is written of arrays, and said of them, is what is of lines."""
+        status, body, said = prepared(body_of(elements))
+        for layout, array in arrays(elements).items():
+            found = prepared(array)
+            self.assertEqual((status, LAYOUT.sub("", said)), (found[0], LAYOUT.sub("", found[2])))
+            lines, others = (
+                [json.loads(line) for line in b.splitlines()] for b in (body, found[1])
+            )
+            self.assertEqual(lines, others, layout)
+
+    def test_samples_as_arrays(self) -> None:
+        for name, elements in dumps().items():
+            with self.subTest(name):
+                self.check_arrays(elements)
 
     def test_two_ways_behind_one_of_two_ways(self) -> None:
         """A range leads to two result sets, of which the second leads to the first and to one that
