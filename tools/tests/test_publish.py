@@ -516,6 +516,9 @@ class Parts(unittest.TestCase):
             (b'\n{"id":1', False),
             (b"\n[\n{", False),
             (b"\n{\x12\x05", True),
+            (b"\x12{\x0a\x05", True),
+            (b"\x1a[\x0a\x05", True),
+            (b'\r\n{"id":1', False),
             (b"", False),
         ):
             with tempfile.NamedTemporaryFile() as file:
