@@ -6,7 +6,6 @@ held at a time, so a dump of any size is read in little memory.
 import codecs
 import json
 import os
-import re
 import shutil
 import tempfile
 import zlib
@@ -14,6 +13,9 @@ from contextlib import contextmanager
 from dataclasses import dataclass, field
 from errno import EISDIR
 from typing import Any, BinaryIO, Callable, Iterator, NamedTuple, Optional, Union, cast
+
+from navtools.json_values import DECODER, MOST_LEVELS, Reader, levels, text_of
+from navtools.notes import Notes
 
 Id = Union[int, str]
 Span = tuple[int, int, int, int]
@@ -25,7 +27,6 @@ ZSTD_PIECE = 1 << 10
 MOST_ELEMENT_BYTES = 1 << 26
 MOST_GROWTH = 100
 SMALL_BYTES = 1 << 26
-MOST_LEVELS = 127
 GZIP, ZSTD = b"\x1f\x8b", b"\x28\xb5\x2f\xfd"
 MARKS = (
     (codecs.BOM_UTF8, "utf-8"),
@@ -34,7 +35,6 @@ MARKS = (
 )
 SPACE = " \t\r\n"
 NOT_JSON = "not JSON"
-SURROGATE = re.compile(r"\\u[dD][89a-fA-F]")
 
 
 class NotADump(Exception):
@@ -42,30 +42,12 @@ class NotADump(Exception):
 
 
 class Row(NamedTuple):
-    """An element with the line that it begins on, from 1, and its text: None where that can't stand
-    as a line of its own."""
+    """An element with the line that it begins on, from 1, and its text as the server reads it: None
+    where that can't stand as a line of its own."""
 
     line: int
     text: Optional[bytes]
     element: Element
-
-
-def refuse_constant(text: str) -> None:
-    """Refuses NaN, Infinity and -Infinity, which aren't JSON."""
-    raise ValueError(text)
-
-
-def finite(text: str) -> float:
-    """A number with a fraction or an exponent; one beyond all that a double holds isn't read by the
-    server either."""
-    number = float(text)
-    if number in (float("inf"), float("-inf")):
-        raise ValueError(text)
-    return number
-
-
-DECODER = json.JSONDecoder(parse_constant=refuse_constant, parse_float=finite)
-scan: Callable[[str, int], tuple[Any, int]] = getattr(DECODER, "scan_once")
 
 
 def is_id(value: Any) -> bool:
@@ -98,30 +80,14 @@ def targets_of(edge: Element) -> list[Any]:
     return [edge.get("inV")]
 
 
-def levels(value: Any) -> int:
-    """How deep arrays and objects are nested in a value."""
-    depth, row = 0, [value]
-    while row:
-        depth += 1
-        inner = [
-            part
-            for one in row
-            for part in (one.values() if isinstance(one, dict) else one)
-            if isinstance(part, (dict, list))
-        ]
-        row = inner
-    return depth
-
-
-def text_of(element: Element) -> bytes:
-    """The text of an element, compact; a half of a surrogate pair, which UTF-8 can't have, is
-    written as U+FFFD."""
-    text = json.dumps(element, ensure_ascii=False, separators=(",", ":"))
-    try:
-        return text.encode("utf-8")
-    except UnicodeEncodeError:
-        halves = text.encode("utf-16-le", "surrogatepass")
-        return halves.decode("utf-16-le", "replace").encode("utf-8")
+def check_id(element: Element, place: str) -> None:
+    """Raises NotADump where an element has no id."""
+    if "id" not in element:
+        raise NotADump(f"{place}: no element with an id")
+    if not is_id(element["id"]):
+        own = json.dumps(element["id"])
+        own = own if len(own) <= 80 else f"{own[:77]}..."
+        raise NotADump(f"{place}: the id {own}, which is neither a whole number nor a text")
 
 
 def checked(value: Any, text: str, place: str) -> Element:
@@ -131,8 +97,8 @@ def checked(value: Any, text: str, place: str) -> Element:
     kind = value.get("type")
     if (kind != "vertex" and kind != "edge") or type(value.get("label")) is not str:
         raise NotADump(f"{place}: no element with a type and a label")
-    if kind == "vertex" and not is_id(value.get("id")):
-        raise NotADump(f"{place}: no element with an id")
+    if kind == "vertex":
+        check_id(value, place)
     if text.count("{") + text.count("[") > MOST_LEVELS and levels(value) > MOST_LEVELS:
         raise NotADump(f"{place}: nested in more than {MOST_LEVELS} levels")
     return value
@@ -148,8 +114,8 @@ def element_of(line: bytes, place: str) -> Element:
         raise NotADump(f"{place}: not JSON") from None
     if isinstance(value, list):
         raise NotADump(f"{place}: a JSON array; a dump has one element a line")
-    if not isinstance(value, dict) or not is_id(value.get("id")):
-        raise NotADump(f"{place}: no element with an id")
+    if isinstance(value, dict):
+        check_id(value, place)
     return checked(value, text, place)
 
 
@@ -227,8 +193,7 @@ class Shape:
     """What was found of how a dump is written, for the report."""
 
     notes: list[str] = field(default_factory=list)
-    empty_lines: int = 0
-    first_empty: int = 0
+    mended: Notes = field(default_factory=Notes)
 
 
 class Source:
@@ -236,7 +201,7 @@ class Source:
 
     def __init__(self, file: BinaryIO, name: str) -> None:
         self.file, self.name = file, name
-        self.shape = Shape()
+        self.shape, self.reader = Shape(), Reader()
         self.size = os.fstat(file.fileno()).st_size
         self.watch: Callable[[int], None] = lambda read: None
 
@@ -309,7 +274,7 @@ class Source:
 
     def lines(self, chunks: Chunks) -> Iterator[Row]:
         """The elements of a dump that has one a line."""
-        number, rest, name = 0, b"", self.name
+        number, rest, scan = 0, b"", self.reader.scan
         for chunk in chunks:
             if len(rest) > MOST_ELEMENT_BYTES:
                 raise self.too_long(number + 1)
@@ -323,11 +288,10 @@ class Source:
                 except (ValueError, RecursionError, StopIteration):
                     if self.is_empty(line, number):
                         continue
-                    raise NotADump(f"{name}, line {number}: {reason(line)}") from None
+                    raise NotADump(f"{self.name}, line {number}: {reason(line)}") from None
                 if end != len(text):
-                    raise NotADump(f"{name}, line {number}: not JSON: more than one value")
-                element = checked(value, text, f"{name}, line {number}")
-                yield Row(number, line, element)
+                    raise NotADump(f"{self.name}, line {number}: not JSON: more than one value")
+                yield self.row(number, line, text, value)
         if rest and not self.is_empty(rest, number + 1):
             yield from self.last(rest, number + 1)
 
@@ -337,20 +301,30 @@ class Source:
             raise self.too_long(number)
         try:
             text = line.decode("utf-8").strip(SPACE)
-            value = DECODER.decode(text)
+            value = self.reader.decoder.decode(text)
         except (ValueError, RecursionError):
             why = reason(line)
             if why == NOT_JSON:
                 why += ", and its end is missing: is the dump cut off?"
             raise NotADump(f"{self.name}, line {number}: {why}") from None
-        yield Row(number, line, checked(value, text, f"{self.name}, line {number}"))
+        yield self.row(number, line, text, value)
+
+    def row(self, number: int, line: Optional[bytes], text: str, value: Any) -> Row:
+        """The element of a text on a line, which is written anew where the server reads it
+        otherwise."""
+        element = checked(value, text, f"{self.name}, line {number}")
+        if self.reader.wholes or "-0" in text or "\\u" in text:
+            for what in self.reader.unlike(text, element):
+                self.shape.mended.mend(what, number)
+                if line is not None:
+                    line = text_of(element) + (b"\r" if line.endswith(b"\r") else b"")
+        return Row(number, line, element)
 
     def is_empty(self, line: bytes, number: int) -> bool:
         """Whether a line is empty, which is noted."""
         if line.strip(b" \t\r\n"):
             return False
-        self.shape.empty_lines += 1
-        self.shape.first_empty = self.shape.first_empty or number
+        self.shape.mended.mend("empty line", number)
         return True
 
     def members(self, chunks: Chunks) -> Iterator[Row]:
@@ -372,8 +346,9 @@ class Source:
                     ended, at = mark == "]", at + 1
                     wanted = "{]" if mark == "[" else "{"
                     continue
+                self.reader.wholes = 0
                 try:
-                    value, end = scan(text, at)
+                    value, end = self.reader.scan(text, at)
                 except json.JSONDecodeError as fault:
                     if fault.pos < len(text) - 16 and not fault.msg.startswith("Unterminated"):
                         raise NotADump(f"{self.name}, line {number}: not JSON") from None
@@ -384,7 +359,7 @@ class Source:
                     break
                 own = text[at:end]
                 plain = None if "\n" in own or "\r" in own else own.encode("utf-8")
-                yield Row(number, plain, checked(value, own, f"{self.name}, line {number}"))
+                yield self.row(number, plain, own, value)
                 number += own.count("\n")
                 at, wanted = end, ",]"
             if ended and text[at:].strip(SPACE):

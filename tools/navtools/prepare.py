@@ -143,10 +143,10 @@ def report(plan: Plan, profile: str) -> list[str]:
 
 
 def shape_lines(source: Source) -> list[str]:
-    """How the dump was written, where that's not line by line in UTF-8."""
+    """How the dump was written, where that's not line by line in UTF-8, and what of it the server
+    reads otherwise."""
     shape = source.shape
-    empty = [f"mended: empty line: {shape.empty_lines}, the first at line {shape.first_empty}"]
-    return [f"read: {note}" for note in shape.notes] + (empty if shape.empty_lines else [])
+    return [f"read: {note}" for note in shape.notes] + shape.mended.lines()
 
 
 def prepare(source: Source, call: argparse.Namespace) -> int:

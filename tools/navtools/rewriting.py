@@ -8,8 +8,8 @@ ends the call.
 
 from typing import Any, BinaryIO, Callable, Iterator, Optional
 
+from navtools.json_values import text_of
 from navtools.lsif import (
-    SURROGATE,
     Element,
     Id,
     NotADump,
@@ -17,7 +17,6 @@ from navtools.lsif import (
     is_id,
     shard_of,
     targets_of,
-    text_of,
 )
 from navtools.mending import (
     AS_SET,
@@ -145,6 +144,8 @@ class Rewriting:
             raise self.changed(row)
         if self.survey.encoding != "utf-16" and element["label"] == "range":
             element = {**element, **self.converted(number)}
+        elif self.plan.final["packageInformation"][number] in self.survey.halved:
+            element = self.survey.mender.halved(element, row.line)
         if self.renumbers:
             element = {**element, "id": self.ids[number]}
         self.state[number] = WRITTEN_AS_SET if state == AS_SET else WRITTEN
@@ -168,8 +169,6 @@ class Rewriting:
         text = row.text
         if element is not row.element or text is None:
             text = text_of(element) + (b"\r" if text is not None and text.endswith(b"\r") else b"")
-        elif b"\\u" in text and SURROGATE.search(text.decode("utf-8")):
-            text = text_of(element)
         if len(text) > MOST_LINE_BYTES and len(element.get("inVs") or ()) > 1:
             self.parted(row, element, len(text))
         else:
@@ -308,7 +307,11 @@ class Rewriting:
         ):
             self.again(
                 row,
-                {"inVs": [self.ids[number[own]] for own in element["inVs"]]}
+                {
+                    "inVs": [self.ids[number[own]] for own in element["inVs"]],
+                    "document": None,
+                    "shard": self.ids[place],
+                }
                 if self.renumbers
                 else {},
             )

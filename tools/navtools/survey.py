@@ -13,7 +13,8 @@ from typing import Any, Iterator, Optional
 
 from navtools.addresses import folder_address
 from navtools.columns import ENCODINGS
-from navtools.lsif import Element, Id, NotADump, Row, is_id, shard_of, span_of, targets_of, text_of
+from navtools.json_values import is_whole, text_of
+from navtools.lsif import Element, Id, NotADump, Row, is_id, shard_of, span_of, targets_of
 from navtools.notes import Notes
 from navtools.vertices import Mender, inline, is_path, without_text
 
@@ -139,6 +140,7 @@ class Survey:
     uris: dict[int, str] = field(default_factory=dict)
     names: dict[int, bytes] = field(default_factory=dict)
     packages: dict[int, bytes] = field(default_factory=dict)
+    halved: set[int] = field(default_factory=set)
     edges: dict[str, Pairs] = field(
         default_factory=lambda: {label: Pairs() for label in ("contains", *SINGLE, *MANY, "other")}
     )
@@ -173,9 +175,7 @@ class Survey:
         own, line = element["id"], row.line
         if type(own) is int:
             self.greatest = max(self.greatest, own)
-            if not 0 <= own <= MOST_ID:
-                self.are_ids_sound = False
-        elif not own or len(own) > MOST_ID_BYTES / 4 and len(own.encode()) > MOST_ID_BYTES:
+        if not is_sound(own):
             self.are_ids_sound = False
         numbers = self.numbers
         number = numbers.of.get(own)
@@ -237,9 +237,10 @@ class Survey:
         elif kind == MONIKER:
             self.moniker(row.element, number)
         elif kind == PACKAGE:
-            self.packages[number] = digest(
-                *(str(element.get(part, "")) for part in ("manager", "name", "version"))
-            )
+            parts = [str(element.get(part, "")) for part in ("manager", "name", "version")]
+            self.packages[number] = digest(*parts)
+            if not is_whole("".join(parts)):
+                self.halved.add(number)
         elif element is not row.element and DEFINITION <= kind <= REFERENCE:
             self.inline(row, kind, number)
 
@@ -256,7 +257,7 @@ class Survey:
         the metaData."""
         for member in ("workspaceRoot", "projectRoot"):
             root = self.roots.get(member)
-            if not self.mender.root and isinstance(root, str):
+            if not self.mender.root and isinstance(root, str) and is_whole(root):
                 self.mender.root = folder_address(root)
 
     def merge_documents(self) -> None:
@@ -349,11 +350,7 @@ def is_sound(own: Any) -> bool:
     """Whether the server takes an id."""
     if type(own) is int:
         return 0 <= own <= MOST_ID
-    return (
-        isinstance(own, str)
-        and 0 < len(own)
-        and len(own.encode("utf-8", "replace")) <= MOST_ID_BYTES
-    )
+    return isinstance(own, str) and is_whole(own) and 0 < len(own.encode()) <= MOST_ID_BYTES
 
 
 def text(own: Any) -> str:

@@ -5,6 +5,7 @@ from dataclasses import dataclass
 from typing import Any, Callable, Optional
 
 from navtools.addresses import address_of, folder_address, is_address, spelled
+from navtools.json_values import is_whole
 from navtools.lsif import Element, span_of
 from navtools.notes import Notes
 
@@ -50,7 +51,7 @@ class Mender:
             self.notes.leave_out("document without an address", f"line {line}")
             return None
         whole = absolute(uri, self.root)
-        own = spelled(whole or "")
+        own = spelled(whole) if whole is not None and is_whole(whole) else ""
         if not is_address(own):
             why = (
                 "has no scheme, and no root is known (--root)" if whole is None else "can't be read"
@@ -64,12 +65,7 @@ class Mender:
 
     def range(self, vertex: Element, line: int, size: int) -> Optional[Element]:
         """A range has whole numbers as its ends, of which the second isn't before the first."""
-        span, kept = span_of(vertex), vertex
-        if span is None:
-            kept = whole_numbers(vertex)
-            span = span_of(kept)
-            if span is not None:
-                self.notes.mend("number with a fraction of 0, as `1.0`", line)
+        span = span_of(vertex)
         if (
             span is None
             or not all(0 <= number <= MOST_NUMBER for number in span)
@@ -77,7 +73,7 @@ class Mender:
         ):
             self.notes.leave_out("range whose ends are none", f"line {line}")
             return None
-        return self.without_text(kept, "tag", line, size)
+        return self.without_text(vertex, "tag", line, size)
 
     def without_text(self, vertex: Element, member: str, line: int, size: int) -> Element:
         """A vertex without a member that has no effect, where the line is too long for the server,
@@ -101,7 +97,16 @@ class Mender:
                 f"moniker that is unique in its {vertex['unique']} alone, as local", line
             )
             return {**vertex, "kind": "local"}
+        if not is_whole(vertex["scheme"] + vertex["identifier"]):
+            return self.halved(vertex, line)
         return vertex
+
+    def halved(self, moniker: Element, line: int) -> Element:
+        """A moniker whose key has half of a character: written, it could be another's."""
+        if moniker.get("kind", "local") == "local":
+            return moniker
+        self.notes.mend("moniker with half of a character, as local", line)
+        return {**moniker, "kind": "local"}
 
     def package(self, vertex: Element, line: int, size: int) -> Element:
         """A package has texts as its manager and its name, and as its version, where it has one."""
@@ -185,19 +190,6 @@ def is_path(uri: Any) -> bool:
 def without_text(document: Element) -> Element:
     """A document without its text, of which it's known that it was there."""
     return {name: "" if name == "contents" else value for name, value in document.items()}
-
-
-def whole_numbers(vertex: Element) -> Element:
-    """A range whose numbers are whole where they were written with a fraction of 0."""
-    changed = dict(vertex)
-    for end in ("start", "end"):
-        position = vertex.get(end)
-        if isinstance(position, dict):
-            changed[end] = {
-                name: int(value) if type(value) is float and value.is_integer() else value
-                for name, value in position.items()
-            }
-    return changed
 
 
 def contents_of(contents: Any) -> Any:

@@ -36,6 +36,11 @@ KNOWN = {
 }
 
 
+def whole(text: str) -> Any:
+    """A number without a fraction: -0 isn't whole, as `serde_json` reads it."""
+    return -0.0 if text == "-0" else int(text)
+
+
 def is_id(value: Any) -> bool:
     """Whether a value is an id."""
     if type(value) is int:
@@ -134,7 +139,7 @@ class Checker:
         if len(text) > MOST_LINE:
             return "L01"
         try:
-            element = json.loads(text.decode("utf-8"))
+            element = json.loads(text.decode("utf-8"), parse_int=whole)
             json.dumps(element, ensure_ascii=False, allow_nan=False).encode("utf-8")
         except (ValueError, RecursionError):
             return "L02"

@@ -4,13 +4,15 @@ documents and symbols, of which each has a name of few."""
 import json
 import random
 from dataclasses import dataclass, field
-from typing import Any, Optional
+from typing import Any, Callable, Optional
 
 from tests.dump_walks import LABELS, Element
 
 ROOT = "file:///src"
 KINDS = ("import", "export", "import", "export", "local", None, "implementation")
 UNIQUE = ("workspace", "workspace", "group", "scheme", "global", "project", "document", None)
+NAMING = ("id", "outV", "inV", "inVs", "shard", "document", "result", "definitions", "references")
+"""The members in which ids are."""
 ROLES = {
     "references": (
         "definitions",
@@ -22,6 +24,26 @@ ROLES = {
     ),
     "definition": (None, None, "definitions"),
 }
+
+
+def renamed(elements: list[Element], chance: random.Random) -> list[Element]:
+    """A dump with other ids: numbers that are written with a fraction of 0 here and there, or that
+    no id may be, and texts that differ in what UTF-8 can't have."""
+    form: Callable[[int], Any] = chance.choice(
+        [
+            lambda own: chance.choice((own, float(own))),
+            lambda own: chance.choice((-own, float(-own))),
+            lambda own: f"{chr(0xD7FF + own)}" if own < 2048 else own,
+            lambda own: "x" * 200 + str(own),
+        ]
+    )
+
+    def again(name: str, value: Any) -> Any:
+        if isinstance(value, list) and name in NAMING:
+            return [form(own) for own in value]
+        return form(value) if name in NAMING and type(value) is int else value
+
+    return [{name: again(name, value) for name, value in one.items()} for one in elements]
 
 
 def arrays(elements: list[Element]) -> dict[str, bytes]:

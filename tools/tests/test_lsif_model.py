@@ -1,5 +1,6 @@
 """Random raw dumps: `prepare-lsif` writes of each one that the server accepts in both profiles, and
-that answers each question as the raw dump means it; and the same of an array in any layout."""
+that answers each question as the raw dump means it, whatever its ids are; and the same of an array in
+any layout."""
 
 import io
 import json
@@ -16,7 +17,7 @@ from tests.accepted import fault
 from tests.dump_walks import LABELS, Element, Walk, answered, body_of, questions
 from tests.lsif_model import Model
 from tests.randomly import check_cases
-from tests.raw_dumps import RawDump, arrays
+from tests.raw_dumps import RawDump, arrays, renamed
 from tests.test_prepared import dumps
 
 LAYOUT = re.compile(r"line \d+|prepare-lsif: read: .*\n|/tmp/.*/in")
@@ -40,10 +41,14 @@ def prepared(body: bytes) -> tuple[int, bytes, str]:
 class RawDumps(unittest.TestCase):
     def check(self, chance: random.Random) -> None:
         """A random dump answers as the raw one means it."""
-        self.compare(RawDump(chance).make())
+        elements = RawDump(chance).make()
+        others = renamed(elements, chance)
+        self.compare(elements)
+        self.compare(others)
+        self.check_arrays(chance.choice((elements, others)))
 
     def compare(self, elements: list[Element]) -> None:
-        """A dump answers as the raw one means it."""
+        """What is written of a dump is accepted, and answers as the raw one means it."""
         status, body, said = prepared(body_of(elements))
         self.assertEqual(status, 0, f"{said}, of\n{body_of(elements).decode()}")
         for profile in ("1", "2"):
@@ -56,7 +61,6 @@ class RawDumps(unittest.TestCase):
             self.assertEqual(
                 found, model.answer(question), f"{question}, of\n{body_of(elements).decode()}"
             )
-        self.check_arrays(elements)
 
     def check_arrays(self, elements: list[Element]) -> None:
         """What is written of arrays, and said of them, is what is of lines."""

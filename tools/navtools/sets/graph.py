@@ -15,7 +15,8 @@ from functools import partial
 from typing import Any, BinaryIO, Callable, Iterable, Iterator, Optional, Sequence
 
 from navtools.addresses import is_address
-from navtools.lsif import MOST_ELEMENT_BYTES, SPACE, Id, NotADump, is_id, scan
+from navtools.json_values import scan
+from navtools.lsif import MOST_ELEMENT_BYTES, SPACE, Id, NotADump, is_id
 from navtools.sets.stored import Numbers
 from navtools.vertices import VERSION
 
