@@ -5,6 +5,7 @@ import gzip
 import io
 import json
 import os
+import subprocess
 import tempfile
 import unittest
 from contextlib import redirect_stderr, redirect_stdout
@@ -118,6 +119,14 @@ class Input(unittest.TestCase):
             ),
             ("no element", b"{}\n", "IN, line 1: no element with a type and a label"),
             ("no id", b'{"type":"vertex","label":"x"}\n', "IN, line 1: no element with an id"),
+            *(
+                (
+                    f"an id {own}",
+                    b'{"id":%s,"type":"vertex","label":"x"}\n' % own.encode(),
+                    f"IN, line 1: the id {own}, which is neither a whole number nor a text",
+                )
+                for own in ("true", "1.5", "null", "[1]", "1e+300")
+            ),
             (
                 "two values",
                 lines[0] + lines[1] + b"\n",
@@ -259,6 +268,32 @@ class Input(unittest.TestCase):
             status, out, said = self.called(scip_to_lsif, body)
             self.assertEqual((status, out, said.count("\n")), (2, None, 1), said)
             self.assertTrue(said.startswith("scip-to-lsif: IN: "), said)
+
+    def test_outputs_that_are_refused(self) -> None:
+        """A fault names the output as it was given, and what was there before stays."""
+        with tempfile.TemporaryDirectory() as folder:
+            missing, old = (os.path.join(folder, name) for name in ("no/out", "old"))
+            with open(old, "wb") as file:
+                file.write(b"before")
+            for output, shown, text in (
+                ("/dev/full", "/dev/full", "No space left on device"),
+                (missing, missing, "No such file or directory"),
+                (folder, folder, "Is a directory"),
+            ):
+                with redirect_stderr(io.StringIO()) as said:
+                    self.assertEqual(prepare.main([BASE, output]), 2)
+                self.assertEqual(said.getvalue(), f"prepare-lsif: {shown}: {text}\n")
+            with redirect_stderr(io.StringIO()):
+                self.assertEqual(prepare.main([os.devnull, old]), 2)
+            with open(old, "rb") as file:
+                self.assertEqual(file.read(), b"before")
+        with open("/dev/full", "wb") as full:
+            tool = os.path.join(TOP, "tools", "prepare-lsif")
+            done = subprocess.run([tool, BASE, "-"], stdout=full, stderr=subprocess.PIPE, text=True)
+        self.assertEqual(
+            (done.returncode, done.stderr),
+            (2, "prepare-lsif: standard output: No space left on device\n"),
+        )
 
     def test_cycles_of_results(self) -> None:
         """A cycle of `referenceResults` is no fault: the server follows it once."""
@@ -404,6 +439,71 @@ class Input(unittest.TestCase):
                 status, out, said = self.called(prepare, body, *more)
                 self.assertEqual(status, 0, said)
                 self.assertIn(b'"start":{"line":0,"character":2}', out or b"")
+
+    def test_numbers(self) -> None:
+        """A number is one id, in whatever form it's written; what is no id gets a new one."""
+        lines = (
+            '{"id":1,"type":"vertex","label":"metaData","version":"0.6.0"}',
+            '{"id":3.0,"type":"vertex","label":"document","uri":"file:///a-0,-0"}',
+            '{"id":5,"type":"vertex","label":"range","start":{"line":-0,"character":0.0},"end":{"line":0,"character":1}}',
+            '{"id":OWN,"type":"vertex","label":"definitionResult"}',
+            '{"id":6.0,"type":"edge","label":"contains","outV":3.0,"inVs":[5]}',
+            '{"id":7,"type":"edge","label":"item","outV":OTHER,"inVs":[5.0],"shard":3}',
+            '{"id":8,"type":"edge","label":"textDocument/definition","outV":5,"inV":OWN}',
+        )
+        for own, other, wanted in (
+            ("-0", "0", 0),
+            ("-0.0", "-0", 0),
+            ("4.0", "4", 4),
+            ("0.4E+1", "4e0", 4),
+            ('"4"', '"4"', "4"),
+            ("-4.0", "-4", None),
+            ("1e18", "1000000000000000000", None),
+        ):
+            with self.subTest(own):
+                body = "".join(line + "\r\n" for line in lines)
+                body = body.replace("OWN", own).replace("OTHER", other)
+                status, out, said = self.called(prepare, body.encode())
+                self.assertEqual((status, fault(out or b"", "1")), (0, None), said)
+                self.assertEqual((out or b"").count(b"\r\n"), len(lines))
+                rows = [json.loads(row) for row in (out or b"").splitlines()]
+                result = rows[3]["id"]
+                self.assertEqual((rows[5]["outV"], rows[6]["inV"]), (result, result))
+                self.assertIn(wanted, (None, result))
+                self.assertIn("number with a fraction of 0, as `1.0`: ", said)
+                self.assertIn("number -0, as 0: ", said)
+
+    def test_halves_of_characters(self) -> None:
+        """What UTF-8 can't have is said, and makes no two monikers one."""
+        for one, other, local, said_too in (
+            ({"identifier": "m\ud800"}, {"identifier": "m\ud801"}, 2, True),
+            ({"scheme": "m\ud800"}, {"scheme": "m\ud801"}, 2, True),
+            ({"identifier": "m\ud800"}, {"identifier": "m\ufffd"}, 1, True),
+            ({"identifier": "m\ud83d\ude00"}, {"identifier": "m\ufffd"}, 0, False),
+            ({"name": "m\ud800"}, {"name": "m\ud801"}, 2, True),
+            ({"version": "m\ud800"}, {"version": "m\ufffd"}, 1, True),
+            ({"x": "m\ud800"}, {"x": "m\ud801"}, 0, True),
+        ):
+            with self.subTest(one=one, other=other):
+                rows = [META]
+                for at, members in ((10, one), (20, other)):
+                    rows += [
+                        vertex(at, "resultSet"),
+                        vertex(at + 1, "moniker", scheme="s", identifier="i", kind="export"),
+                        vertex(at + 2, "packageInformation", manager="n", name="p"),
+                        edge(at + 3, "moniker", at, at + 1),
+                        edge(at + 4, "packageInformation", at + 1, at + 2),
+                    ]
+                    rows[-4 if "identifier" in members or "scheme" in members else -3].update(
+                        members
+                    )
+                status, out, said = self.called(prepare, dumped(*rows))
+                self.assertEqual((status, fault(out or b"", "1")), (0, None), said)
+                found = [json.loads(row) for row in (out or b"").splitlines()]
+                kinds = [row["kind"] for row in found if "kind" in row]
+                self.assertEqual(kinds.count("local"), local, said)
+                self.assertEqual("half of a character, as U+FFFD: " in said, said_too)
+                self.assertEqual("moniker with half of a character, as local: " in said, local > 0)
 
     def test_addresses(self) -> None:
         for uri, wanted in (
