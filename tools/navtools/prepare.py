@@ -182,7 +182,7 @@ def parser_of_words() -> argparse.ArgumentParser:
         description=__doc__,
         formatter_class=argparse.RawDescriptionHelpFormatter,
         epilog="status: 0; 1 where something was left out for a flaw, or what was written is over a limit of the server; "
-        "2 where the input can't be prepared, and then nothing is written",
+        "2 where the input can't be prepared, and then OUT stays as it was",
     )
     for option, text in (
         (

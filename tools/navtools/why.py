@@ -19,6 +19,7 @@ from navtools.explain import Dump, ends, targets
 from navtools.places import KEPT, Maps, character_at, maps_of, place_line, place_of, uri_of
 from navtools.lsif import Element, Id, NotADump, Span, is_id, opened, plain
 from navtools.sets.manifest import part_file
+from navtools.vertices import contents_of
 from navtools.words import BadCall
 
 Found = dict[str, Any]
@@ -199,9 +200,24 @@ class Graph:
             bound,
             monikers,
             self.not_taken(chain, ("next", request.edge, "moniker"))
+            + (self.no_contents(results) if request is REQUESTS["hover"] else [])
             + self.not_taken(results, ("item",))
             + self.not_taken(named, ("attach", "packageInformation")),
         )
+
+    def no_contents(self, results: Iterable[Id]) -> list[str]:
+        """What is said of hover results without contents that the server takes."""
+        return [
+            f"hoverResult at line {self.dump.first[own]}, which the server doesn't take: it has no contents of a form that is read (L07 bad vertex member)"
+            for own in results
+            if self.hover(own) is None
+        ]
+
+    def hover(self, own: Id) -> Any:
+        """The contents of a hover result, or None where the server doesn't take them."""
+        result = self.vertex(own).get("result")
+        found = result.get("contents") if isinstance(result, dict) else None
+        return found if contents_of(found) == found else None
 
     def covering(self, document: int, position: tuple[int, int]) -> list[Id]:
         """The ranges of a document that cover a position, the innermost first."""
@@ -293,7 +309,8 @@ def contents(graph: Graph, trail: Optional[Trail], request: Request) -> Optional
     """The text of the hover contents of this dump that a request is answered with."""
     if trail is None or trail.bound is None or request is not REQUESTS["hover"]:
         return None
-    return hover_text(graph.vertex(graph.dump.at(trail.bound)["inV"])["result"]["contents"])
+    found = graph.hover(graph.dump.at(trail.bound)["inV"])
+    return None if found is None else hover_text(found)
 
 
 def reason(trail: Trail, request: Request) -> str:
@@ -350,9 +367,11 @@ def outcome(graph: Graph, trail: Optional[Trail], request: Request) -> list[str]
             f"answer: the contents of the {request.result}",
             *(f"  {line}" for line in text.splitlines()),
         ]
+    if trail.bound is not None and request is REQUESTS["hover"]:
+        return ["answer: empty, for the server takes no contents of its hover result"]
     count = len(places(graph, trail, request))
     lines = [f"answer: {count} place{'' if count == 1 else 's'} of this dump"]
-    if trail.bound is not None and count == 0 and request is not REQUESTS["hover"]:
+    if trail.bound is not None and count == 0:
         is_taken = not any(line.startswith("item ") for line in trail.refused)
         which = request.result if is_taken else f"{request.result} that the server takes"
         lines[0] += f", for no `item` edge of its {which} leads to a range that a document contains"

@@ -2,6 +2,7 @@
 slowly: what the tests hold the tools' output to."""
 
 import json
+import re
 from typing import Any, Callable, Optional
 
 from navtools.urls import href
@@ -10,6 +11,7 @@ Element = dict[str, Any]
 
 MOST_ID, MOST_NUMBER, MOST_LINE, MOST_LEVELS = 9007199254740991, 2147483647, 1_048_576, 127
 MOST_ELEMENTS = 100_000
+HALF = re.compile("[\ud800-\udfff]")
 ROLES = ("definitions", "references", "referenceResults")
 TEXT_LABELS = {"resultSet", "definitionResult", "referenceResult", "project", "metaData"}
 RESULTS = {
@@ -45,7 +47,9 @@ def is_id(value: Any) -> bool:
     """Whether a value is an id."""
     if type(value) is int:
         return 0 <= value <= MOST_ID
-    return isinstance(value, str) and 0 < len(value.encode("utf-8", "surrogatepass")) <= 128
+    if not isinstance(value, str) or HALF.search(value):
+        return False
+    return 0 < len(value.encode("utf-8")) <= 128
 
 
 def is_text(value: Any) -> bool:

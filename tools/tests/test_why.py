@@ -479,15 +479,32 @@ class Why(unittest.TestCase):
                     self.said(dump, file.name, "1", column, *words), "(line 2), 0:2", message
                 )
 
+    def test_hovers_that_the_server_refuses(self) -> None:
+        for members in (
+            {},
+            {"result": None},
+            {"result": {}},
+            *({"result": {"contents": one}} for one in (None, 5, {}, ["x", None], {"kind": "x"})),
+        ):
+            with self.subTest(members):
+                wrong = [
+                    *BASE,
+                    vertex(12, "hoverResult", **members),
+                    edge(13, "textDocument/hover", 3, 12),
+                ]
+                status, out, said = self.said(wrong, "a.ts", "1", "5", "--request", "hover")
+                self.assertEqual((status, said), (0, ""))
+                self.assertEqual(
+                    out.splitlines()[-2:],
+                    [
+                        "  hoverResult at line 12, which the server doesn't take: it has no contents of a form that is read (L07 bad vertex member)",
+                        "answer: empty, for the server takes no contents of its hover result",
+                    ],
+                )
+
     def test_what_is_refused(self) -> None:
-        wrong = [*BASE, vertex(12, "hoverResult"), edge(13, "textDocument/hover", 3, 12)]
         for dump, words, message in (
             (["{}"], ["a.ts", "1", "1"], "DUMP, line 1: no element with a type and a label"),
-            (
-                wrong,
-                ["a.ts", "1", "5", "--request", "hover"],
-                "DUMP: not a dump that `codenav check-lsif` accepts",
-            ),
             (BASE, ["a.ts", "0", "5"], "lines and columns count from 1, not 0"),
             (
                 BASE,
