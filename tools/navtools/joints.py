@@ -12,14 +12,7 @@ from typing import Iterator
 
 from navtools.mending import AS_SET, DROPPED, KEPT, MOVED, NewEdge, Plan
 from navtools.names import Bearer, Groups, symbols
-from navtools.survey import (
-    HOVER,
-    NONE,
-    RANGE,
-    REFERENCE,
-    RESULT_OF,
-    RESULT_SET,
-)
+from navtools.survey import HOVER, NONE, RANGE, REFERENCE, RESULT_OF, RESULT_SET
 
 LISTED = ("textDocument/definition", "textDocument/declaration", "textDocument/implementation")
 REFERENCES, HOVERS = "textDocument/references", "textDocument/hover"
@@ -95,8 +88,8 @@ class Joints:
                 found.append(own)
             elif own not in known:
                 known.add(own)
-                waiting += [(own, True)] if own in further else []
                 to = [self.plan.final["next"][own], *further.get(own, ())]
+                waiting += [(own, True)] if own in further else []
                 waiting += [(other, False) for other in to if other != NONE]
         return found
 

@@ -177,8 +177,8 @@ class OverTags(OnServer):
             self.assertEqual([text for _, _, text in told], said)
         document = {"uri": self.uri("src/main.c"), "text": "area();\n"}
         editor.notify("textDocument/didOpen", {"textDocument": document})
-        at = {"textDocument": document, "position": {"line": 0, "character": 0}}
-        found, told = editor.call("textDocument/definition", at)
+        area = {"textDocument": document, "position": {"line": 0, "character": 0}}
+        found, told = editor.call("textDocument/definition", area)
         note = f"{document['uri']} isn't as in its file: positions are those of the files on disk"
         self.assertEqual((len(found), [text for _, _, text in told]), (1, [f"codenav: {note}"]))
         self.assertEqual(editor.end("shutdown", "exit")[0], 0)

@@ -339,11 +339,11 @@ class Names(Crates):
         self.addCleanup(self.stop)
         commit = self.commits["crate"]
         for question in "/names?prefix=ru", "/outline?path=m.py":
-            for revision, query, lines in (
+            for asked, query, lines in (
                 ("", "", (7, 12, 17)),
                 (f"&revision={commit}", f"?revision={commit}", (2, 7, 12)),
             ):
-                answer = json.loads(self.got(question + revision)[1])
+                answer = json.loads(self.got(question + asked)[1])
                 hrefs = [row["href"] for row in answer["names"]]
                 self.assertEqual(hrefs, [f"/files/m.py{query}#L{line}C9" for line in lines])
                 self.assertEqual(answer["said"], "3 names")

@@ -14,11 +14,11 @@ MOST_LINES = 300
 LAYERS = {
     "ground": ("", "words outputs notes progress addresses urls records"),
     "program": ("ground", "serving"),
-    "texts": ("ground", "texts places columns revisions indexed tagged moved.*"),
+    "texts": ("ground", "texts places columns revisions checked_out indexed tagged moved.*"),
     "client": ("ground", "client projects remove upload"),
     "dumps": (
         "ground texts",
-        "lsif survey vertices edges mending names overlaps joints unreached positions rewriting prepare rows"
+        "json_values lsif survey vertices edges mending names overlaps joints unreached positions rewriting prepare rows"
         " scip scip_* symbols explain sentences why sets.graph sets.scip_graph sets.stored",
     ),
     "index": ("ground dumps", "indexers tagging"),
@@ -47,7 +47,7 @@ sets.split -> indexers
 surfaces.rebalance -> questions
 surfaces.rebalance -> sets.known
 upload -> lsif
-upload -> revisions
+upload -> checked_out
 upload -> rows
 why -> ask
 why -> sets.manifest

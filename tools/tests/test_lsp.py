@@ -162,7 +162,8 @@ class Lsp(unittest.TestCase):
         with open(self.path, "w", encoding="utf-8") as file:
             file.write(TEXT)
         self.uri = uri_of(self.path, [])
-        self.at = {"textDocument": {"uri": self.uri}, "position": {"line": 0, "character": 3}}
+        place = {"line": 0, "character": 3}
+        self.at: dict[str, Any] = {"textDocument": {"uri": self.uri}, "position": place}
         Replies.gate, Replies.asked = None, []
 
     def editor(self, *words: str, url: str = "") -> Editor:
@@ -624,10 +625,12 @@ class Lsp(unittest.TestCase):
     def test_an_unexpected_fault(self) -> None:
         """It ends neither the bridge nor the answers that come after it."""
         shutdown = {"id": 2, "method": "shutdown"}
-        for own, method, params in (
+        opened = {"textDocument": {"uri": self.uri, "text": TEXT}}
+        rows: list[tuple[dict[str, Any], str, dict[str, Any]]] = [
             ({"id": 1}, "textDocument/hover", self.at),
-            ({}, "textDocument/didOpen", {"textDocument": {"uri": self.uri, "text": TEXT}}),
-        ):
+            ({}, "textDocument/didOpen", opened),
+        ]
+        for own, method, params in rows:
             messages: list[dict[str, Any]] = [{**own, "method": method, "params": params}]
             if own:
                 messages.insert(0, {"id": 0, "method": "initialize", "params": {}})

@@ -16,7 +16,7 @@ from typing import Any, Iterator, NoReturn
 from navtools import tags
 from navtools.client import NoReply
 from navtools.indexed import Folder, Indexed, Source
-from navtools.places import units
+from navtools.places import Place, units
 from navtools.questions import Questions
 from tests.randomly import check_cases
 from tests.servers import TOP
@@ -48,7 +48,7 @@ def no_dump(path: str, parameters: dict[str, Any], member: str) -> NoReturn:
 
 def found_in(
     folder: str, asked: list[tags.Tag], sources: dict[str, Source]
-) -> tuple[list[tuple[tags.Tag, tags.Place]], str]:
+) -> tuple[list[tuple[tags.Tag, Place]], str]:
     """The places of tags of a project whose tags file was made in a folder, and what is said."""
     names = tags.Names()
     questions = Questions("app", no_dump, Indexed(sources, [], print))

@@ -480,12 +480,9 @@ class Why(unittest.TestCase):
                 )
 
     def test_hovers_that_the_server_refuses(self) -> None:
-        for members in (
-            {},
-            {"result": None},
-            {"result": {}},
-            *({"result": {"contents": one}} for one in (None, 5, {}, ["x", None], {"kind": "x"})),
-        ):
+        contents: list[Any] = [None, 5, {}, ["x", None], {"kind": "x"}]
+        rows: list[dict[str, Any]] = [{}, {"result": None}, {"result": {}}]
+        for members in [*rows, *({"result": {"contents": one}} for one in contents)]:
             with self.subTest(members):
                 wrong = [
                     *BASE,
