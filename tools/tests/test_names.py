@@ -8,12 +8,13 @@ import os
 import re
 import shutil
 import subprocess
+import sys
 import tempfile
-import time
 import unittest
 from typing import Any, Iterator, NoReturn
+from unittest import mock
 
-from navtools import tags
+from navtools import tagged, tags
 from navtools.client import NoReply
 from navtools.indexed import Folder, Indexed, Source
 from navtools.places import Place, units
@@ -256,42 +257,46 @@ class Mapped(OverFiles):
 
 
 class Many(OverFiles):
-    COUNT = 20_000
+    def steps(self, text: str, asked: list[tags.Tag]) -> int:
+        """How many calls of functions finding the places of tags takes; of `g` there are none."""
+        count = 0
 
-    def seconds(self, *asked: tags.Tag) -> float:
-        """How long the places of tags take; of `g` there are none."""
-        start, shown = time.monotonic(), [one for one in asked if one["name"] != "g"]
-        self.assertEqual(len(self.places(*asked)), len(shown))
-        return time.monotonic() - start
+        def counted(*_: object) -> None:
+            nonlocal count
+            count += 1
+
+        self.written(text)
+        shown = [one for one in asked if one["name"] != "g"]
+        sys.setprofile(counted)
+        try:
+            found = self.places(*asked)
+        finally:
+            sys.setprofile(None)
+        self.assertEqual(len(found), len(shown))
+        return count
+
+    def rows(self, count: int) -> Iterator[tuple[str, list[tags.Tag]]]:
+        """Texts with as many tags: of equal lines, of lines that begin alike, of patterns that find
+        nothing any more, and of names on one line."""
+        numbers, equal, long = range(1, count + 1), "int f;\n" * count, "f" * 70
+        yield equal, [tag("f", "/^int f;$/", str(n)) for n in numbers]
+        yield "//\n" * 50 + equal, [tag("f", "/^int f;$/", str(n)) for n in numbers]
+        alike = "".join(f"int {long}{n};\n" for n in numbers)
+        yield alike, [tag(long, f"/^int {long}/", "1")] * count
+        yield equal, [tag("f", f"/^g{n}/", str(n)) for n in numbers]
+        yield equal, [tag("f", f"/g{n}/", str(n)) for n in numbers]
+        yield "int f.f;\n" * count, [tag("f.f", f"/^g{n}/", str(n)) for n in numbers]
+        yield equal, [tag("g", str(n)) for n in numbers]
+        names = [f"\u00e9name{n}" for n in numbers]
+        yield " ".join(names), [tag(name, "1") for name in names]
+        yield "f." * count, [tag(f"f.{n}", "1") for n in numbers]
 
     def test_many_tags_of_one_file(self) -> None:
-        """Of equal lines, of lines that begin alike, of patterns that find nothing any more, and of
-        names on one line."""
-        numbers = range(1, self.COUNT + 1)
-        long = "f" * 70
-        for text, asked in (
-            ("int f;\n" * self.COUNT, [tag("f", "/^int f;$/", str(n)) for n in numbers]),
-            (
-                "//\n" * 500 + "int f;\n" * self.COUNT,
-                [tag("f", "/^int f;$/", str(n)) for n in numbers],
-            ),
-            (
-                "".join(f"int {long}{n};\n" for n in numbers),
-                [tag(long, f"/^int {long}/", "1")] * self.COUNT,
-            ),
-            ("int f;\n" * self.COUNT, [tag("f", f"/^g{n}/", str(n)) for n in numbers]),
-            ("int f;\n" * self.COUNT, [tag("f", f"/g{n}/", str(n)) for n in numbers]),
-            ("int f.f;\n" * self.COUNT, [tag("f.f", f"/^g{n}/", str(n)) for n in numbers]),
-            ("int f;\n" * self.COUNT, [tag("g", str(n)) for n in numbers]),
-            (
-                " ".join(f"\u00e9name{n}" for n in numbers),
-                [tag(f"\u00e9name{n}", "1") for n in numbers],
-            ),
-            ("f." * self.COUNT, [tag(f"f.{n}", "1") for n in numbers]),
-        ):
-            with self.subTest(text[:20], address=asked[0]["address"]):
-                self.written(text)
-                self.assertLess(self.seconds(*asked), 20)
+        """Twice as many take some twice as many steps."""
+        with mock.patch.object(tagged, "MOST_SCANNED", 10_000):
+            for row, twice in zip(self.rows(1_000), self.rows(2_000)):
+                with self.subTest(row[0][:20], address=row[1][0]["address"]):
+                    self.assertLess(self.steps(*twice), 2.5 * self.steps(*row) + 100_000)
 
 
 def pattern_of(line: str, limit: int, mark: str, has_end: bool) -> str:
