@@ -48,7 +48,8 @@ def has_tags(index: Asked) -> bool:
     """Whether a project has tags whose names begin with a letter or `_`: the server can be asked
     for no others but by listing all projects."""
     try:
-        return any(index.names({"prefix": beginning}, False) for beginning in BEGINNINGS)
+        own = {"project": index.name}
+        return any(index.sets.fetch("/names", {**own, "prefix": one}, "tags") for one in BEGINNINGS)
     except NoReply:
         return False
 

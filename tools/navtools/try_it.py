@@ -13,6 +13,7 @@ import tempfile
 from dataclasses import dataclass
 from typing import Optional
 
+from navtools.by_name import BEGINNINGS
 from navtools.serving import Failed, built_program, ended, free_port, started
 
 TOP = os.path.dirname(os.path.dirname(os.path.dirname(os.path.abspath(__file__))))
@@ -73,8 +74,8 @@ def steps(url: str, dump: str) -> list[Step]:
         Step(["tools/ask", "--tags", FOLDER, *project, "names", "is_warm"], TAG),
         Step(["tools/list", url], "temperature: dump and tags"),
         Step(["tools/remove", *project], "temperature: removed"),
-        # where there's no such project it asks for a set of that name, and once more
-        Step([*ask, *DEFINITION], f"ask: {NO_DUMP}", 2, requests=3),
+        # where there's no such project it asks for a set of that name and for tags too
+        Step([*ask, *DEFINITION], f"ask: {NO_DUMP}", 2, requests=6 + len(BEGINNINGS)),
         Step(upload, accepted),
         asked(DEFINITION, at_definition),
     ]

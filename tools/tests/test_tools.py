@@ -313,6 +313,7 @@ class Places(unittest.TestCase):
         )
 
 
+AWAY = "ask: 1 of 1 tags aren't shown, for their files aren't here: --tags PROJECT=FOLDER says where a project's tags file was made\n"
 NOT_MAPPED = "ask: app: no revision is kept with its index; its places aren't mapped\n"
 
 
@@ -410,20 +411,23 @@ class Ask(unittest.TestCase):
                 "f\n\nd\n",
             ),
             (["hover", *at], f"/projects/app/hover?{uri}", {"contents": None}, 1, ""),
-            (["names", "f"], "/names?name=f&project=app", {"tags": [tag]}, 0, "no/file:3:1: f\n"),
+            (["names", "f"], "/names?name=f&project=app", {"tags": [tag]}, 1, ""),
             (["names", "--prefix", "a b"], "/names?prefix=a+b&project=app", {"tags": []}, 1, ""),
             (
                 ["names", "--all-projects", "f"],
                 "/names?name=f",
                 {"tags": [{**tag, "project": "lib"}]},
-                0,
-                "/lib/no/file:3:1: f\n",
+                1,
+                "",
             ),
         ):
             with self.subTest(words):
+                warned = NOT_MAPPED
+                if "names" in words:
+                    warned = AWAY if reply["tags"] else ""
                 self.assertEqual(
                     self.asked(["--tags", "lib=/lib", *self.AT, *words], reply),
-                    (status, self.AT[0] + path, said, "" if "names" in words else NOT_MAPPED),
+                    (status, self.AT[0] + path, said, warned),
                 )
 
     def test_a_place_that_is_the_whole_file(self) -> None:
