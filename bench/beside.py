@@ -29,7 +29,7 @@ from typing import Optional
 TOP = Path(__file__).resolve().parent.parent
 # the longest that a part may take, also on a slow machine: on four quiet processors all take ten
 # minutes at most
-SECONDS = 1500
+SECONDS = 2400
 COUNTED = re.compile(r"(\d+) passed, (\d+) failed")
 RAN = re.compile(r"^Ran (\d+) tests? in ", re.M)
 NOT_PASSED = re.compile(r"(?:failures|errors|unexpected successes)=(\d+)")
