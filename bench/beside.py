@@ -33,6 +33,7 @@ SECONDS = 2400
 COUNTED = re.compile(r"(\d+) passed, (\d+) failed")
 RAN = re.compile(r"^Ran (\d+) tests? in ", re.M)
 NOT_PASSED = re.compile(r"(?:failures|errors|unexpected successes)=(\d+)")
+MEMCHR = "/usr/share/cargo/registry/memchr-2.5.0/Cargo.toml"
 LUA_MODULE = "/usr/share/nginx/modules-available/mod-http-lua.conf"
 SKIPPED = re.compile(r"skipped=(\d+)")
 
@@ -43,13 +44,14 @@ class Part:
 
     name: str
     words: tuple[str, ...]
+    # programs, or files by their whole paths
     needs: tuple[str, ...] = ()
     packages: str = ""
     folder: str = "."
     waits: bool = False
     runs_alone: bool = False
     mounts: bool = False
-    # what some of its checks need: programs, or files by their whole paths
+    # what some of its checks need
     some_need: tuple[str, ...] = ()
 
 
@@ -82,7 +84,7 @@ def parts(program: str) -> list[Part]:
         Part(
             "chromium",
             ("tools/tests/chromium", program),
-            ("chromium", "chromedriver", "ctags", "rust-analyzer"),
+            ("chromium", "chromedriver", "ctags", "rust-analyzer", MEMCHR),
             "chromium chromium-driver universal-ctags rust-web-analyzer librust-memchr-dev librust-syn-dev",
             runs_alone=True,
         ),
