@@ -28,8 +28,8 @@ from typing import Any, Iterator
 TOP = os.path.dirname(os.path.dirname(os.path.abspath(__file__)))
 sys.path.insert(0, os.path.join(TOP, "tools"))
 
-from navtools.places import uri_of
-from navtools.serving import serving
+from codenav.program import serving
+from codenav.texts.places import uri_of
 from tests.repository import git_in
 from tests.test_explain import META, edge, span, vertex
 from tests.test_lsp import Editor

@@ -21,7 +21,7 @@ from collections import Counter
 import servers  # noqa: F401  (the path of the tools)
 from watched import at, dump, tags
 
-from navtools.service import digests
+from codenav.service import digests
 
 PROJECTS, FUNCTIONS, TAGS, QUERIES = 4, 600, 400, 40
 KINDS = "definition", "references", "hover"

@@ -18,6 +18,7 @@ TOP = os.path.dirname(os.path.dirname(os.path.abspath(__file__)))
 sys.path.insert(0, os.path.join(TOP, "tools"))
 
 from bench_calls import spent
+
 from tests.hostile_dumps import SHAPES, Element
 
 LENIENT = ("alone makes", "referenceResults")

@@ -16,9 +16,10 @@ sys.path.insert(
 from importlib.machinery import SourceFileLoader
 from importlib.util import module_from_spec, spec_from_loader
 
-from navtools import client, upload
-from navtools.places import lines_of
-from navtools.serving import serving
+from codenav.client import upload
+from codenav.faults import NoReply
+from codenav.program import serving
+from codenav.texts.places import lines_of
 
 TOP = os.path.dirname(os.path.dirname(os.path.abspath(__file__)))
 LOADER = SourceFileLoader("scip_and_lsif", os.path.join(TOP, "tools", "tests", "scip_and_lsif"))
@@ -54,7 +55,7 @@ def main() -> int:
                     for position in COMPARE.identifiers(lines_of(path)):
                         try:
                             places = COMPARE.definition(url, project, path, position)
-                        except client.NoReply:  # a file that isn't of the crate as it was indexed
+                        except NoReply:  # a file that isn't of the crate as it was indexed
                             break
                         whole = all(place[3] for place in places)
                         counts[

@@ -14,7 +14,7 @@ import sys
 TOP = os.path.dirname(os.path.dirname(os.path.abspath(__file__)))
 sys.path.insert(0, os.path.join(TOP, "tools"))
 
-from navtools.scip_pb2 import Index, Relationship, SymbolRole
+from codenav.dumps.scip.scip_pb2 import Index, Relationship, SymbolRole
 
 DEFINITION = SymbolRole.Value("Definition")
 FORWARD_DEFINITION = SymbolRole.Value("ForwardDefinition")

@@ -24,13 +24,13 @@ sys.path.insert(0, os.path.join(TOP, "tools"))
 
 from sets import KINDS, points_of
 
-from navtools.questions import Fetch, fetch_from
-from navtools.serving import Failed, serving
-from navtools.sets import split
-from navtools.sets.ask import Asked
-from navtools.sets.publish import Publish, Store
-from navtools.surfaces.homes import home_of
-from navtools.surfaces.spread import Made, Spread, made_surface
+from codenav.asking.index import Asked
+from codenav.asking.questions import Fetch, fetch_from
+from codenav.program import Failed, serving
+from codenav.sets.publish.publish import Publish, Store
+from codenav.sets.publish.spread import Made, Spread, made_surface
+from codenav.sets.ring import home_of
+from codenav.sets.split import split
 
 NUMBERS = 3, 5, 10, 30, 100
 PLACEMENTS = 100

@@ -90,7 +90,7 @@ def copies(index: Any, copy: int) -> Iterator[bytes]:
 
 def write_indexes(source: str, out: BinaryIO, size: int) -> int:
     """Writes copies of an index up to so many bytes; answers how many occurrences there are."""
-    from navtools.scip_pb2 import Index
+    from codenav.dumps.scip.scip_pb2 import Index
 
     index = Index()
     with open(source, "rb") as file:

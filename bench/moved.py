@@ -1,4 +1,4 @@
-"""Measures the map between an old text and a new one (tools/navtools/moved), each part by itself:
+"""Measures the map between an old text and a new one (tools/codenav/texts/moved), each part by itself:
 
   made [SEEDS]     made edits with known truth: 26 kinds over files of Debian's packages; words that
                    lead to a wrong place, in a million
@@ -29,9 +29,9 @@ from typing import Callable, Iterator
 TOP = os.path.dirname(os.path.dirname(os.path.abspath(__file__)))
 sys.path.insert(0, os.path.join(TOP, "tools"))
 
-from navtools.moved.sides import lines_of_text
-from navtools.moved.text_map import TextMap
-from navtools.moved.tokens import tokens_of
+from codenav.texts.moved.sides import lines_of_text
+from codenav.texts.moved.text_map import TextMap
+from codenav.texts.moved.tokens import tokens_of
 from tests.made_edits import EDITS, edited
 
 REGISTRY = "/usr/share/cargo/registry"

@@ -12,10 +12,10 @@ from urllib.parse import parse_qsl, urlencode
 
 from servers import ask, least_times, nginx
 
-from navtools import publish
-from navtools.questions import fetch_from
-from navtools.serving import Failed, ended, free_port, started
-from navtools.sets.ask import Asked as Index
+from codenav.asking.index import Asked as Index
+from codenav.asking.questions import fetch_from
+from codenav.program import Failed, ended, free_port, started
+from codenav.publishing import publish
 from tests.fronts import NOBODY, USER, Front, fronted, lacking
 
 PROJECTS = [f"project_{number}" for number in range(30)]

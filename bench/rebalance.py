@@ -25,12 +25,12 @@ from urllib.parse import parse_qsl
 
 from proxy import Asked, as_set, by_port, publish_all, put_all, queries
 
-from navtools import publish
-from navtools.client import NoReply
-from navtools.questions import fetch_from
-from navtools.serving import Failed, ended, free_port, started
-from navtools.sets.ask import Asked as Index
-from navtools.surfaces.homes import home_of
+from codenav.asking.index import Asked as Index
+from codenav.asking.questions import fetch_from
+from codenav.faults import NoReply
+from codenav.program import Failed, ended, free_port, started
+from codenav.publishing import publish
+from codenav.sets.ring import home_of
 from tests.fronts import KINDS, NOBODY, Front, adding, fronted, host_of, lacking
 
 SERVERS = 3

@@ -23,7 +23,7 @@ from typing import Iterator
 
 from load import Place, Seen, load
 
-from navtools.serving import free_port
+from codenav.program import free_port
 from tests.fronts import KINDS, fronted, lacking
 
 PAUSE = 0.2

@@ -14,10 +14,11 @@ from contextlib import contextmanager, redirect_stdout
 from typing import Callable, Iterator
 from urllib.parse import urlencode
 
-from proxy import PROJECTS as NAMES, dump
+from proxy import PROJECTS as NAMES
+from proxy import dump
 from servers import TOP, ask, least_times, nginx, resident_bytes
 
-from navtools.serving import Failed, ended, free_port, started
+from codenav.program import Failed, ended, free_port, started
 
 PROJECTS = 8
 TAGGED = {"memory": 1, "file": 8}

@@ -30,11 +30,11 @@ from typing import Any, Iterator
 TOP = os.path.dirname(os.path.dirname(os.path.abspath(__file__)))
 sys.path.insert(0, os.path.join(TOP, "tools"))
 
-from navtools import client
-from navtools.client import found_in, request
-from navtools.sets.ask import Asked
-from navtools.sets.manifest import MANIFEST, Head, read_documents, read_head
-from navtools.serving import ended, free_port, started
+from codenav.asking.index import Asked
+from codenav.client import http as client
+from codenav.client.http import found_in, request
+from codenav.program import ended, free_port, started
+from codenav.sets.manifest import MANIFEST, Head, read_documents, read_head
 
 TICKS = os.sysconf("SC_CLK_TCK")
 KINDS = {"definition": "places", "references": "places", "hover": "contents"}

@@ -23,7 +23,7 @@ from contextlib import ExitStack
 
 from load import AT, Client, Place, Seen, equals, hover_dump, prepared, read
 
-from navtools.serving import serving
+from codenav.program import serving
 from tests.fronts import KINDS, USER, authorization, fronted, host_of, lacking
 
 MOST = 0.5

@@ -25,8 +25,8 @@ from pathlib import Path
 
 from load import AT, Client, Place, Seen, hover_dump
 
-from navtools.service.folder import serving_of
-from navtools.serving import free_port, serving
+from codenav.program import free_port, serving
+from codenav.service.folder import serving_of
 from tests.fronts import Front, fronted, lacking
 
 TOP = Path(__file__).resolve().parent.parent

@@ -35,12 +35,12 @@ sys.path.insert(0, os.path.join(TOP, "tools"))
 from joined_dumps import Place, make_text, write_renamed
 from sets import children_seconds, processor_seconds, stage
 
-from navtools.questions import fetch_from
-from navtools.serving import Failed, ended, free_port, started
-from navtools.sets import split
-from navtools.sets.ask import Asked
-from navtools.sets.publish import Publish, Store
-from navtools.surfaces.spread import Made, made_surface
+from codenav.asking.index import Asked
+from codenav.asking.questions import fetch_from
+from codenav.program import Failed, ended, free_port, started
+from codenav.sets.publish.publish import Publish, Store
+from codenav.sets.publish.spread import Made, made_surface
+from codenav.sets.split import split
 
 ASKED = 400
 SECONDS = 300

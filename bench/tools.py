@@ -13,8 +13,8 @@ from typing import Callable
 TOP = pathlib.Path(__file__).resolve().parent.parent
 sys.path.insert(0, str(TOP / "tools"))
 
-from navtools.client import address, found_in, request
-from navtools.serving import Failed, serving
+from codenav.client.http import address, found_in, request
+from codenav.program import Failed, serving
 
 CALLS = 40
 ROOT = "file:///src/tr/crate"

@@ -21,9 +21,9 @@ from contextlib import ExitStack
 from load import Place, Seen, load
 from watched import dump
 
-from navtools.client import request
-from navtools.service.folder import database_at
-from navtools.serving import free_port
+from codenav.client.http import request
+from codenav.program import free_port
+from codenav.service.folder import database_at
 from tests.fronts import fronted, lacking
 
 FUNCTIONS = 3001

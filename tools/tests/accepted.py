@@ -5,7 +5,7 @@ import json
 import re
 from typing import Any, Callable, Optional
 
-from navtools.urls import href
+from codenav.urls import href
 
 Element = dict[str, Any]
 

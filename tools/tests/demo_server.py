@@ -7,8 +7,8 @@ import tempfile
 from contextlib import contextmanager
 from typing import Iterator
 
-from navtools.serving import Failed, built_program, serving
-from navtools.try_it import TAGS, TOP, run
+from codenav.cli.try_it import TAGS, run
+from codenav.program import TOP, Failed, built_program, serving
 
 REQUESTS = 1000
 PROJECTS = {"temperature": "demo/crate.raw.lsif", "kettle": "demo/user.raw.lsif"}

@@ -16,8 +16,8 @@ from http.client import HTTPSConnection
 from typing import Iterator, Optional
 from urllib.parse import urlsplit
 
-from navtools.client import Answer, request
-from navtools.serving import Failed, ended, free_port
+from codenav.client.http import Answer, request
+from codenav.program import Failed, ended, free_port
 from tests.servers import TOP
 
 KINDS = {"lua": "nginx with Lua", "haproxy": "nginx and HAProxy"}

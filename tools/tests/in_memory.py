@@ -5,11 +5,11 @@ import functools
 import json
 from typing import Any, Mapping, NamedTuple, Optional, Sequence
 
-from navtools.client import NoReply
-from navtools.sets.known import Fetch
-from navtools.sets.manifest import Tag, tag_of
-from navtools.sets.publish import Store
-from navtools.surfaces.homes import Ring
+from codenav.asking.known import Fetch
+from codenav.faults import NoReply
+from codenav.sets.manifest import Tag, tag_of
+from codenav.sets.publish.publish import Store
+from codenav.sets.ring import Ring
 from tests.dump_walks import Question, Walk, answered
 
 FRONT = "front"

@@ -10,9 +10,9 @@ import re
 from contextlib import contextmanager
 from typing import Iterator, NamedTuple
 
-from navtools.places import uri_of
-from navtools.serving import Failed, serving
-from navtools.sets.publish import Store
+from codenav.program import Failed, serving
+from codenav.sets.publish.publish import Store
+from codenav.texts.places import uri_of
 from tests.debian_crates import ANALYZER, copied
 from tests.demo_server import succeed
 

@@ -11,7 +11,7 @@ from itertools import count
 from random import Random
 from typing import Callable, Optional
 
-from navtools.places import units
+from codenav.texts.places import units
 
 Item = tuple[int, str]
 Line = list[Item]

@@ -13,7 +13,7 @@ import sqlite3
 from typing import Any, Optional
 from urllib.parse import parse_qsl
 
-from navtools.urls import href
+from codenav.urls import href
 from tests import accepted
 from tests.dump_walks import LABELS, Question, Walk, answered
 from tests.tag_lines import Tag, read_tags

@@ -2,7 +2,7 @@
 
 from typing import Any
 
-from navtools.scip_pb2 import Index
+from codenav.dumps.scip.scip_pb2 import Index
 
 SYMBOLS = [
     *(f"scip-x npm app 1.0.0 {name}#" for name in "ab"),

@@ -7,7 +7,7 @@ import subprocess
 import tempfile
 import unittest
 
-from navtools.settings import FILE
+from codenav.settings.found import FILE
 from tests.servers import TOP
 
 IDENTITY = ["-c", "user.name=t", "-c", "user.email=t@t.example", "-c", "commit.gpgsign=false"]

@@ -8,7 +8,7 @@ is as if it weren't in the index.
 from dataclasses import dataclass, field
 from typing import Any, Iterator, Optional
 
-from navtools.symbols import markdown, name_of
+from codenav.dumps.scip.symbols import markdown, name_of
 
 Position = tuple[int, int]
 Span = tuple[Position, Position]

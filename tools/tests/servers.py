@@ -8,9 +8,9 @@ import unittest
 from typing import Callable, Optional
 from urllib.parse import urlencode
 
-from navtools.client import Answer
-from navtools.records import ADDRESS
-from navtools.serving import ended, free_port, started
+from codenav.client.http import Answer
+from codenav.program import ended, free_port, started
+from codenav.records import ADDRESS
 
 TOP = os.path.dirname(os.path.dirname(os.path.dirname(os.path.abspath(__file__))))
 SECONDS = 10

@@ -10,11 +10,13 @@ from contextlib import redirect_stderr
 from typing import Any, Iterator, NamedTuple, Optional
 from unittest import mock
 
-from navtools.sets import graph, publish, split
-from navtools.sets.crossing import Shared
-from navtools.sets.manifest import MANIFEST, PART, PARTS, read_head
-from navtools.sets.publish import Publish, remove_set
-from navtools.surfaces.spread import Spread, keep_surface, made_surface
+from codenav.dumps.tables import graph
+from codenav.sets.manifest import MANIFEST, PART, PARTS, read_head
+from codenav.sets.publish import publish
+from codenav.sets.publish.publish import Publish, remove_set
+from codenav.sets.publish.spread import Spread, keep_surface, made_surface
+from codenav.sets.split import split
+from codenav.sets.split.crossing import Shared
 from tests.dump_walks import OF_PROFILE, Maker, Question, Walk, answered, body_of, questions
 from tests.in_memory import FRONT, Kept, Killed, Moment, Servers, tags_of, walk_of
 from tests.test_sets import flat_of

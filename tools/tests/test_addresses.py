@@ -13,18 +13,17 @@ import unittest
 from typing import Any, Optional
 from urllib.parse import quote
 
-from navtools.addresses import spelled
-from navtools.client import NoReply
-from navtools.indexed import sources_of
-from navtools.places import map_words, maps_of, path_of, uri_of
-from navtools.questions import fetch_from
-from navtools.sets import split
-from navtools.sets.ask import Asked
-from navtools.sets.publish import Publish, Store
-from navtools.settings import settings_of
-from navtools.upload import fresh_key
-from navtools.urls import href
-from navtools.words import BadCall
+from codenav.addresses import spelled
+from codenav.asking.index import Asked
+from codenav.asking.questions import fetch_from
+from codenav.client.upload import fresh_key
+from codenav.faults import BadCall, NoReply
+from codenav.sets.publish.publish import Publish, Store
+from codenav.sets.split import split
+from codenav.settings.found import settings_of
+from codenav.texts.indexed import sources_of
+from codenav.texts.places import map_words, maps_of, path_of, uri_of
+from codenav.urls import href
 from tests.dump_walks import body_of
 from tests.randomly import check_cases
 from tests.servers import OnServer

@@ -9,9 +9,9 @@ import unittest
 from typing import Any, NamedTuple, Optional, Sequence
 from unittest import mock
 
-from navtools.client import NoReply
-from navtools.sets.ask import Asked, Found
-from navtools.surfaces.names import names_of_all
+from codenav.asking.all_servers import names_of_all
+from codenav.asking.index import Asked, Found
+from codenav.faults import NoReply
 from tests.in_memory import FRONT, Kept, Reader, Servers
 from tests.randomly import check_cases
 from tests.switched_sets import CODE, NAMES, Act, History, Scene, SpreadScene
@@ -121,7 +121,7 @@ def names_by(
     def listed(url: str) -> Any:
         return reader.fetch_from(url)("/projects", {}, "projects")
 
-    with mock.patch("navtools.surfaces.names.listed", listed):
+    with mock.patch("codenav.asking.all_servers.listed", listed):
         return names_of_all(servers, name, parameters, reader.fetch_from)
 
 

@@ -7,7 +7,10 @@ import subprocess
 import tempfile
 from contextlib import redirect_stderr, redirect_stdout
 
-from navtools import ask, places, prepare, upload
+from codenav.cli import ask
+from codenav.client import upload
+from codenav.dumps.prepare import prepare
+from codenav.texts import places
 from tests.servers import TOP, OnServer
 
 CRATE = os.path.join(TOP, "demo", "crate")

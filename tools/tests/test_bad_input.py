@@ -9,9 +9,14 @@ import unittest
 from contextlib import redirect_stderr, redirect_stdout
 from typing import Callable, Optional
 
-from navtools import ask, explain, prepare, projects, publish, remove, scip_to_lsif, upload, why
-from navtools.sets import split
-from navtools.surfaces import surface
+from codenav.cli import ask
+from codenav.client import projects, remove, upload
+from codenav.dumps.check import explain, why
+from codenav.dumps.prepare import prepare
+from codenav.dumps.scip import to_lsif as scip_to_lsif
+from codenav.publishing import publish
+from codenav.sets.split import split
+from codenav.sets.surface import surface
 from tests.servers import TOP
 from tests.test_client import FOUND, Peer, environment, head_of, sends, status
 

@@ -9,7 +9,9 @@ from contextlib import redirect_stderr, redirect_stdout
 from typing import Callable, NamedTuple
 from unittest import mock
 
-from navtools import ask, prepare, upload
+from codenav.cli import ask
+from codenav.client import upload
+from codenav.dumps.prepare import prepare
 from tests.repository import InRepository, git_in
 from tests.servers import TOP, OnServer
 

@@ -13,17 +13,19 @@ from typing import Any, Optional
 from unittest import mock
 from urllib.parse import urlencode
 
-from navtools import browse, questions
-from navtools.browsing import answers, folder, pages
-from navtools.browsing.answers import Browser
-from navtools.browsing.finder import found as found_files
-from navtools.browsing.folder import Folder, Refused
-from navtools.browsing.markdown import ELEMENTS, tree_of
-from navtools.browsing.server import Pages
-from navtools.client import Answer
-from navtools.settings import Settings
-from navtools.tags import AWAY, GUESSED, SAID
-from navtools.words import BadCall
+from codenav.asking import questions
+from codenav.asking.tags import AWAY, GUESSED, SAID
+from codenav.browse import answers
+from codenav.browse import command as browse
+from codenav.browse import folder, pages
+from codenav.browse.answers import Browser
+from codenav.browse.finder import found as found_files
+from codenav.browse.folder import Folder, Refused
+from codenav.browse.markdown import ELEMENTS, tree_of
+from codenav.browse.server import Pages
+from codenav.client.http import Answer
+from codenav.faults import BadCall
+from codenav.settings.found import Settings
 from tests.repository import InRepository, git_in
 from tests.servers import replying
 

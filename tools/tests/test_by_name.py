@@ -8,16 +8,17 @@ import unittest
 from contextlib import redirect_stderr, redirect_stdout
 from typing import Optional
 
-from navtools import ask, upload
-from navtools.browse import browser_of, words_parser
-from navtools.browsing.answers import Browser
-from navtools.browsing.folder import Folder
-from navtools.by_name import name_at
-from navtools.places import uri_of
-from navtools.client import NoReply
-from navtools.settings import FILE, Settings
-from navtools.texts import text_of
-from navtools.workspace import Workspace
+from codenav.asking.by_name import name_at
+from codenav.asking.workspace import Workspace
+from codenav.browse.answers import Browser
+from codenav.browse.command import browser_of, words_parser
+from codenav.browse.folder import Folder
+from codenav.cli import ask
+from codenav.client import upload
+from codenav.faults import NoReply
+from codenav.settings.found import FILE, Settings
+from codenav.texts.decoded import text_of
+from codenav.texts.places import uri_of
 from tests.servers import TOP, OnServer
 from tests.test_lsp import Editor
 

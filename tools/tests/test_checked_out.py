@@ -5,7 +5,7 @@ import shutil
 from functools import partial
 from typing import Callable
 
-from navtools.checked_out import indexed_at, still_indexed_at
+from codenav.texts.checked_out import indexed_at, still_indexed_at
 from tests.repository import InRepository
 
 NAMES = ("a.c", 'a "b\\\n.c', "-x/b.c")

@@ -5,14 +5,18 @@ names."""
 import os
 import shutil
 import threading
-import tomllib
 import unittest
 from http.server import BaseHTTPRequestHandler, ThreadingHTTPServer
 from typing import Any, Optional
 from unittest import mock
 
-from navtools import ask, browse, client, publish
-from navtools.settings import FILE
+import tomllib
+
+from codenav.browse import command as browse
+from codenav.cli import ask
+from codenav.client import http as client
+from codenav.publishing import publish
+from codenav.settings.found import FILE
 from tests.repository import InRepository
 from tests.servers import TOP, OnServer
 from tests.test_kept_revision import RAW, ROOT, quietly

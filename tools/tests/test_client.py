@@ -16,8 +16,8 @@ from contextlib import contextmanager
 from typing import Callable, Iterator, Optional
 from unittest import mock
 
-from navtools.client import NoReply, found_in, refusal_of, request, request_again
-from navtools.words import BadCall
+from codenav.client.http import found_in, refusal_of, request, request_again
+from codenav.faults import BadCall, NoReply
 
 Act = Callable[[socket.socket], object]
 FOUND = b'HTTP/1.1 200 OK\r\nContent-Length: 12\r\n\r\n{"places":1}'

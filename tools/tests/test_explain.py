@@ -10,7 +10,7 @@ from contextlib import redirect_stderr, redirect_stdout
 from typing import Any, NamedTuple, Union
 from unittest import mock
 
-from navtools import explain, sentences
+from codenav.dumps.check import explain, sentences
 
 TOP = os.path.dirname(os.path.dirname(os.path.dirname(os.path.abspath(__file__))))
 CODES = {f"L{number:02}" for number in range(1, 21)} | {"E01", "E02"}

@@ -15,8 +15,8 @@ import unittest
 from contextlib import ExitStack
 from typing import ClassVar, Optional
 
-from navtools.client import request
-from navtools.serving import ended, serving, started
+from codenav.client.http import request
+from codenav.program import ended, serving, started
 from tests.fronts import NOBODY, UNLIMITED, USER, Front, fronted, host_of, lacking
 from tests.servers import TOP, Relay, program
 from tests.test_uploads import DUMP

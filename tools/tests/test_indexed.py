@@ -6,12 +6,11 @@ import time
 from typing import Any, Optional
 from unittest import mock
 
-import navtools.indexed
-from navtools import revisions
-from navtools.indexed import Asked, Indexed, NotThere, sources_of
-from navtools.places import uri_of
-from navtools.revisions import Revision, top_of
-from navtools.words import BadCall
+from codenav.faults import BadCall
+from codenav.texts import git as revisions
+from codenav.texts.git import Revision, top_of
+from codenav.texts.indexed import Asked, Indexed, NotThere, sources_of
+from codenav.texts.places import uri_of
 from tests.repository import InRepository
 
 TEXT = "fn one() {}\nfn two() {\n    one();\n}\n"
@@ -303,7 +302,7 @@ class Mapped(InRepository):
         self.git("clone", "-q", "--depth", "1", f"file://{self.top}", shallow)
         path = os.path.join(shallow, "src", "a.rs")
         indexed = self.indexed(self.revision)
-        with mock.patch.object(navtools.indexed, "FRESH", 0.0):
+        with mock.patch("codenav.texts.indexed.FRESH", 0.0):
             self.assertEqual(self.asked(indexed, path, 4, 4)[1:4], (4, 4, ""))
             self.git("fetch", "-q", "--depth", "1", "origin", self.revision, top=shallow)
             self.assertEqual(self.asked(indexed, path, 4, 4)[1:4], (2, 4, self.revision))

@@ -12,7 +12,11 @@ from contextlib import redirect_stderr, redirect_stdout
 from typing import Any, Optional
 from unittest import mock
 
-from navtools import addresses, lsif, prepare, rewriting, scip_to_lsif, vertices, why
+from codenav import addresses
+from codenav.dumps.check import why
+from codenav.dumps.lsif import reading as lsif
+from codenav.dumps.prepare import prepare, rewriting, vertices
+from codenav.dumps.scip import to_lsif as scip_to_lsif
 from tests.accepted import fault
 from tests.packages import needs
 

@@ -12,13 +12,16 @@ from random import Random
 from typing import Any, Callable
 from unittest import mock
 
-from navtools import ask, prepare, publish, upload
-from navtools.client import NoReply
-from navtools.indexed import Indexed
-from navtools.questions import Fetcher, Questions, fetch_from
-from navtools.records import Prepared, new_record
-from navtools.sets.publish import Publish, Store, remove_set
-from navtools.settings import Settings
+from codenav.asking.questions import Fetcher, Questions, fetch_from
+from codenav.cli import ask
+from codenav.client import upload
+from codenav.dumps.prepare import prepare
+from codenav.faults import NoReply
+from codenav.publishing import publish
+from codenav.records import Prepared, new_record
+from codenav.sets.publish.publish import Publish, Store, remove_set
+from codenav.settings.found import Settings
+from codenav.texts.indexed import Indexed
 from tests.repository import InRepository, git_in
 from tests.servers import TOP, OnServer
 from tests.test_browse import Served

@@ -8,90 +8,127 @@ from pathlib import Path
 
 from tests.servers import TOP
 
-FOLDER = Path(TOP, "tools", "navtools")
+FOLDER = Path(TOP, "tools", "codenav")
 MOST_LINES = 300
-# each layer: the ones that it may import, and its modules; `cli` may import all
+# each layer, which is the package of its name or for `ground` the modules of none, and the layers
+# that it may import; `cli` may import all
 LAYERS = {
-    "ground": ("", "words outputs notes progress addresses urls records"),
-    "program": ("ground", "serving"),
-    "texts": ("ground", "texts places columns revisions checked_out indexed tagged moved.*"),
-    "client": ("ground", "client projects remove upload"),
-    "dumps": (
-        "ground texts",
-        "json_values lsif survey vertices edges mending names overlaps joints unreached positions rewriting prepare rows"
-        " scip scip_* symbols explain sentences why sets.graph sets.scip_graph sets.stored",
-    ),
-    "index": ("ground dumps", "indexers tagging"),
-    "sets": (
-        "ground texts client dumps",
-        "sets.split sets.flat sets.keys sets.crossing sets.cuts sets.write sets.cut_tags"
-        " sets.manifest sets.publish surfaces.*",
-    ),
-    "settings": ("ground texts client sets", "settings checkout_settings"),
-    "asking": (
-        "ground texts client sets settings",
-        "questions workspace by_name versions tags sets.ask sets.known surfaces.names",
-    ),
-    "publishing": ("ground texts client program dumps index sets settings", "publish left_out"),
-    "lsp": ("ground texts settings asking", "lsp open_documents jsonrpc"),
-    "browse": ("ground texts settings asking", "browse browsing.*"),
-    "service": ("ground client program", "service.*"),
-    "cli": ("", "__main__ ask try_it"),
+    "ground": "",
+    "texts": "ground",
+    "client": "ground",
+    "dumps": "ground texts",
+    "index": "ground dumps",
+    "sets": "ground texts client dumps",
+    "settings": "ground texts client sets",
+    "asking": "ground texts client sets settings",
+    "publishing": "ground texts client dumps index sets settings",
+    "lsp": "ground texts settings asking",
+    "browse": "ground texts settings asking",
+    "service": "ground client",
+    "cli": "",
 }
 IMPORTS = """
-browsing.answers -> ask
-browsing.view -> client
-publish -> __main__
-sets.cut_tags -> tagging
-sets.split -> indexers
-surfaces.rebalance -> questions
-surfaces.rebalance -> sets.known
-upload -> lsif
-upload -> checked_out
-upload -> rows
-why -> ask
-why -> sets.manifest
+browse.answers -> cli.ask
+browse.command -> cli.options
+client.projects -> cli.ends
+client.projects -> cli.options
+client.remove -> cli.ends
+client.remove -> cli.options
+client.upload -> cli.ends
+client.upload -> cli.options
+client.upload -> dumps.lsif.reading
+client.upload -> dumps.tables.rows
+client.upload -> texts.checked_out
+dumps.check.why -> cli.ask
+dumps.check.why -> sets.manifest
+lsp.bridge -> cli.options
+publishing.publish -> cli.ends
+publishing.publish -> cli.main
+publishing.publish -> cli.options
+service.backup -> cli.ends
+service.restore -> cli.ends
+service.supervise -> cli.ends
+service.turn -> cli.ends
+sets.publish.publish -> cli.ends
+sets.publish.rebalance -> asking.known
+sets.publish.rebalance -> asking.questions
+sets.split.split -> cli.ends
+sets.split.split -> index.indexers
+sets.split.tags -> index.tags_file
+sets.surface.surface -> cli.ends
+settings.checkout -> cli.options
 """
 LONG = """
-client
-explain
-indexed
-lsif
-lsp
-publish
-revisions
-rewriting
-sets.flat
-sets.graph
+client.http
+dumps.check.explain
+dumps.check.why
+dumps.lsif.reading
+dumps.prepare.rewriting
+dumps.prepare.survey
+dumps.tables.graph
+lsp.bridge
+publishing.publish
 sets.manifest
-sets.publish
-sets.split
-sets.write
-survey
-why
+sets.publish.publish
+sets.split.flat
+sets.split.part
+sets.split.split
+texts.git
+texts.indexed
 """
 USES = """
-by_name: argparse
-indexed: argparse
-outputs: print
+asking.by_name: argparse
+browse.command: argparse
+browse.command: print
+client.projects: argparse
+client.projects: print
+client.remove: argparse
+client.remove: print
+client.upload: argparse
+client.upload: print
+dumps.check.explain: argparse
+dumps.check.explain: print
+dumps.check.why: argparse
+dumps.check.why: print
+dumps.prepare.prepare: argparse
+dumps.prepare.prepare: print
+dumps.scip.conversion: argparse
+dumps.scip.conversion: print
+dumps.scip.to_lsif: argparse
+dumps.scip.to_lsif: print
+dumps.tables.graph: print
+dumps.tables.of_scip: argparse
+lsp.bridge: argparse
+lsp.bridge: print
+program: print
 progress: print
-scip_conversion: argparse
-scip_conversion: print
+publishing.publish: argparse
+publishing.publish: print
+publishing.publish: sys.argv
+service.backup: argparse
+service.backup: print
+service.restore: argparse
+service.restore: print
 service.server: print
-serving: print
-sets.graph: print
-sets.scip_graph: argparse
-surfaces.rebalance: argparse
-surfaces.rebalance: print
-words: argparse
-words: print
-words: sys.argv
+service.supervise: argparse
+service.supervise: print
+service.turn: argparse
+service.turn: print
+sets.publish.publish: argparse
+sets.publish.publish: print
+sets.publish.rebalance: argparse
+sets.publish.rebalance: print
+sets.split.split: argparse
+sets.split.split: print
+sets.surface.surface: argparse
+sets.surface.surface: print
+texts.indexed: argparse
 """
 
 
 def modules() -> dict[str, Path]:
     """The modules that have code, by their names."""
-    paths = (path for path in FOLDER.rglob("*.py") if path.name != "__init__.py")
+    paths = (path for path in FOLDER.rglob("*.py") if not path.name.startswith("__"))
     return {".".join(path.relative_to(FOLDER).with_suffix("").parts): path for path in paths}
 
 
@@ -104,21 +141,17 @@ def tree_of(name: str) -> ast.Module:
 
 
 def layer_of(name: str) -> str:
-    """The layer of a module, which has one: that of its own name before that of a pattern."""
-    for pattern in name, f"{name.rpartition('.')[0]}.*", f"{name.partition('_')[0]}_*":
-        found = [layer for layer, (_, own) in LAYERS.items() if pattern in own.split()]
-        if found:
-            (layer,) = found
-            return layer
-    raise AssertionError(f"{name} has no layer in LAYERS")
+    """The layer of a module."""
+    package, dot, _ = name.partition(".")
+    return package if dot else "ground"
 
 
 def imported(name: str) -> set[str]:
     """The modules of the tools that a module imports."""
     found = set()
     for node in ast.walk(tree_of(name)):
-        if isinstance(node, ast.ImportFrom) and (node.module or "").startswith("navtools"):
-            base = (node.module or "").removeprefix("navtools").removeprefix(".")
+        if isinstance(node, ast.ImportFrom) and (node.module or "").startswith("codenav"):
+            base = (node.module or "").removeprefix("codenav").removeprefix(".")
             for part in node.names:
                 found |= {base, f"{base}.{part.name}".removeprefix(".")} & MODULES.keys()
     return found
@@ -127,7 +160,7 @@ def imported(name: str) -> set[str]:
 def may_import(name: str, other: str) -> bool:
     """Whether the layers let a module import another."""
     own, its = layer_of(name), layer_of(other)
-    return own in (its, "cli") or its in LAYERS[own][0].split()
+    return own in (its, "cli") or its in LAYERS[own].split()
 
 
 def used(name: str) -> set[str]:
@@ -148,13 +181,6 @@ def used(name: str) -> set[str]:
     return found
 
 
-def has_main(name: str) -> bool:
-    """Whether a module is called by a command line."""
-    return any(
-        isinstance(own, ast.FunctionDef) and own.name == "main" for own in tree_of(name).body
-    )
-
-
 class Layers(unittest.TestCase):
     def compare(self, found: list[str], listed: str) -> None:
         """Has what breaks a rule be what's listed."""
@@ -173,24 +199,17 @@ class Layers(unittest.TestCase):
     def test_circles(self) -> None:
         """No layer may import one that may import it, by whatever way."""
         for start in LAYERS:
-            seen, todo = set[str](), LAYERS[start][0].split()
+            seen, todo = set[str](), LAYERS[start].split()
             while todo:
                 layer = todo.pop()
                 self.assertNotEqual(layer, start)
-                todo += [own for own in LAYERS[layer][0].split() if own not in seen]
+                todo += [own for own in LAYERS[layer].split() if own not in seen]
                 seen.add(layer)
 
-    def test_modules(self) -> None:
-        """Each name of the table is there."""
-        names = [own for _, listed in LAYERS.values() for own in listed.split()]
-        for own in names:
-            start = own.removesuffix("*")
-            known = own in MODULES or own != start and any(n.startswith(start) for n in MODULES)
-            self.assertTrue(known, own)
-
     def test_command_lines(self) -> None:
-        """Words are read, lines printed and the process ended in modules with a `main` alone."""
-        found = [f"{name}: {use}" for name in MODULES if not has_main(name) for use in used(name)]
+        """Words are read, lines printed and the process ended in `cli` alone."""
+        own = [name for name in MODULES if layer_of(name) != "cli"]
+        found = [f"{name}: {use}" for name in own for use in used(name)]
         self.compare(found, USES)
 
     def test_lengths(self) -> None:

@@ -6,13 +6,14 @@ import os
 import shutil
 import subprocess
 import sys
-import tomllib
 import unittest
 from pathlib import Path
 
+import tomllib
+
 from tests.servers import TOP
 
-CHECKED = ["tools/navtools", "tools/wheel", "tools/tests", "bench", "packaging/stage", "quick"]
+CHECKED = ["tools/codenav", "tools/wheel", "tools/tests", "bench", "packaging/stage", "quick"]
 BLACK = "23."
 
 
@@ -69,7 +70,7 @@ class Lint(unittest.TestCase):
             for module in own["module"]
         }
         files = [path for name in CHECKED for path in python_files(Path(TOP, name))]
-        own = {"navtools", "tests", *(path.stem for path in files)}
+        own = {"codenav", "tests", *(path.stem for path in files)}
         for path in files:
             for module in imported(path):
                 root = module.partition(".")[0]

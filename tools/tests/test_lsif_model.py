@@ -11,8 +11,7 @@ import tempfile
 import unittest
 from contextlib import redirect_stderr
 
-
-from navtools import prepare
+from codenav.dumps.prepare import prepare
 from tests.accepted import fault
 from tests.dump_walks import LABELS, Element, Walk, answered, body_of, questions
 from tests.lsif_model import Model

@@ -14,12 +14,12 @@ from typing import Any, ClassVar, Optional
 from unittest import mock
 from urllib.parse import parse_qsl, urlsplit
 
-from navtools import lsp
-from navtools.jsonrpc import Inbox, read_body, write_message
-from navtools.open_documents import OpenDocuments, document_name
-from navtools.places import uri_of
-from navtools.records import ADDRESS
-from navtools.tags import AWAY, GUESSED, SAID
+from codenav.asking.tags import AWAY, GUESSED, SAID
+from codenav.lsp import bridge as lsp
+from codenav.lsp.jsonrpc import Inbox, read_body, write_message
+from codenav.lsp.open_documents import OpenDocuments, document_name
+from codenav.records import ADDRESS
+from codenav.texts.places import uri_of
 from tests.editor_addresses import NAME, SAME, SPELLINGS
 
 TOP = os.path.dirname(os.path.dirname(os.path.dirname(os.path.abspath(__file__))))

@@ -6,10 +6,10 @@ import unittest
 from collections import Counter
 from typing import Optional
 
-from navtools.moved.matching import ShortestEdit, patience, rising, sliding
-from navtools.moved.text_map import Position, TextMap
-from navtools.moved.tokens import token_at, tokens_of
-from navtools.places import units
+from codenav.texts.moved.matching import ShortestEdit, patience, rising, sliding
+from codenav.texts.moved.text_map import Position, TextMap
+from codenav.texts.moved.tokens import token_at, tokens_of
+from codenav.texts.places import units
 from tests.made_edits import EDITS, edited
 
 SAMPLES = os.path.join(os.path.dirname(os.path.abspath(__file__)), "moved")

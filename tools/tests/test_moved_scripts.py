@@ -5,8 +5,8 @@ import unittest
 from itertools import count
 from typing import Any, Optional
 
-from navtools.moved.text_map import Position, TextMap
-from navtools.places import units
+from codenav.texts.moved.text_map import Position, TextMap
+from codenav.texts.places import units
 from tests.randomly import check_cases
 
 LINE_ENDS = ("\n", "\r\n")

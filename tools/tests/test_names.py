@@ -14,11 +14,12 @@ import unittest
 from typing import Any, Iterator, NoReturn
 from unittest import mock
 
-from navtools import tagged, tags
-from navtools.client import NoReply
-from navtools.indexed import Folder, Indexed, Source
-from navtools.places import Place, units
-from navtools.questions import Questions
+from codenav.asking import tags
+from codenav.asking.questions import Questions
+from codenav.faults import NoReply
+from codenav.texts import tagged
+from codenav.texts.indexed import Folder, Indexed, Source
+from codenav.texts.places import Place, units
 from tests.randomly import check_cases
 from tests.servers import TOP
 

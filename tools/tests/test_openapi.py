@@ -8,7 +8,7 @@ import unittest
 from typing import Any, Iterator, NamedTuple
 from urllib.parse import parse_qsl
 
-from navtools.words import KEY, PROJECT
+from codenav.names import KEY, PROJECT
 
 TOP = os.path.dirname(os.path.dirname(os.path.dirname(os.path.abspath(__file__))))
 TYPES = {

@@ -12,7 +12,7 @@ import unittest
 import venv
 from contextlib import redirect_stderr, redirect_stdout
 
-from navtools.__main__ import TOOLS, main
+from codenav.cli.main import TOOLS, main
 from tests.servers import TOP, OnServer
 
 
@@ -48,7 +48,7 @@ class OneCommand(unittest.TestCase):
                 (said.getvalue() != "", warned.getvalue().count("\n")), (status == 0, status // 2)
             )
         done = subprocess.run(
-            [sys.executable, "-m", "navtools", "explain-fault", "/no/file"],
+            [sys.executable, "-m", "codenav", "explain-fault", "/no/file"],
             cwd=os.path.join(TOP, "tools"),
             stdin=subprocess.DEVNULL,
             capture_output=True,
@@ -67,7 +67,7 @@ class Installed(OnServer):
         self.folder = os.path.realpath(self.enterContext(tempfile.TemporaryDirectory()))
         self.home = os.path.join(self.folder, "home")
         source = os.path.join(self.folder, "source")
-        for name in ("navtools", "wheel"):
+        for name in ("codenav", "wheel"):
             shutil.copytree(
                 os.path.join(TOP, "tools", name),
                 os.path.join(source, "tools", name),
@@ -103,8 +103,8 @@ class Installed(OnServer):
     def test_the_way_from_a_dump_to_an_answer(self) -> None:
         """The tools run from there; each file of the package is there, and pip takes them all away
         again."""
-        (copy,) = glob.glob(os.path.join(self.home, "lib", "*", "site-packages", "navtools"))
-        self.assertEqual(files_of(copy), files_of(os.path.join(TOP, "tools", "navtools")))
+        (copy,) = glob.glob(os.path.join(self.home, "lib", "*", "site-packages", "codenav"))
+        self.assertEqual(files_of(copy), files_of(os.path.join(TOP, "tools", "codenav")))
         crate, raw = (os.path.join(TOP, "demo", name) for name in ("crate", "crate.raw.lsif"))
         place = [os.path.join(crate, "src", "lib.rs"), "18", "12"]
         for words, status, said in (

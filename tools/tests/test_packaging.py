@@ -11,9 +11,9 @@ import time
 import unittest
 from configparser import RawConfigParser
 
-from navtools.__main__ import TOOLS
-from navtools.client import request
-from navtools.serving import free_port
+from codenav.cli.main import TOOLS
+from codenav.client.http import request
+from codenav.program import free_port
 from tests.servers import NOT_BUILT, TOP, built_program
 
 PACKAGING = os.path.join(TOP, "packaging")

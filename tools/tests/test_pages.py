@@ -17,7 +17,7 @@ import unittest
 from dataclasses import dataclass, field
 from typing import Iterator
 
-from navtools.serving import free_port
+from codenav.program import free_port
 from tests.servers import NOT_BUILT, TOP, built_program
 
 PAGES = sorted(glob.glob("*.md", root_dir=TOP)) + sorted(glob.glob("docs/*.md", root_dir=TOP))

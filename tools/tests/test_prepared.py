@@ -12,7 +12,7 @@ import unittest
 from contextlib import redirect_stderr, suppress
 from typing import Any, Optional
 
-from navtools import prepare
+from codenav.dumps.prepare import prepare
 from tests.accepted import fault
 from tests.servers import TOP, built_program
 

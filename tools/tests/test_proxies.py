@@ -11,8 +11,11 @@ import time
 import unittest
 from contextlib import redirect_stderr
 
-from navtools import ask, prepare, projects, publish, remove, upload
-from navtools.serving import ended, free_port
+from codenav.cli import ask
+from codenav.client import projects, remove, upload
+from codenav.dumps.prepare import prepare
+from codenav.program import ended, free_port
+from codenav.publishing import publish
 from tests.servers import SECONDS, TOP, OnServer
 from tests.test_bad_input import CRATE, RAW, Main, called
 from tests.test_client import environment

@@ -15,12 +15,15 @@ from contextlib import redirect_stderr, redirect_stdout
 from typing import Optional
 from unittest import mock
 
-from navtools import ask, outputs, publish
-from navtools.indexers import INDEXERS, is_scip
-from navtools.left_out import Row, rows_of, table
-from navtools.projects import listed
-from navtools.records import Prepared
-from navtools.sets.publish import Publish as Made, Store
+from codenav import limits
+from codenav.cli import ask
+from codenav.client.projects import listed
+from codenav.index.indexers import INDEXERS, is_scip
+from codenav.publishing import publish
+from codenav.publishing.left_out import Row, rows_of, table
+from codenav.records import Prepared
+from codenav.sets.publish.publish import Publish as Made
+from codenav.sets.publish.publish import Store
 from tests.repository import git_in
 from tests.servers import TOP, OnServer
 from tests.test_set_service import asked_at
@@ -54,7 +57,7 @@ class OnCheckout(OnServer):
         tools = os.path.join(TOP, "tools")
         script(
             os.path.join(self.bin, "codenav-tools"),
-            f'PYTHONPATH={tools} exec {sys.executable} -B -m navtools "$@"',
+            f'PYTHONPATH={tools} exec {sys.executable} -B -m codenav "$@"',
         )
         self.enterContext(
             mock.patch.dict(
@@ -158,7 +161,7 @@ class Publish(OnCheckout):
         count = int(said[0].split()[5])
         self.assertEqual((status, said[0].split()[1:5]), (0, ["app:", "a", "dump", "of"]))
         for most, is_set in ((count, False), (count - 1, True)):
-            with mock.patch.object(outputs, "MOST_ELEMENTS", most):
+            with mock.patch.object(limits, "MOST_ELEMENTS", most):
                 status, said, _ = self.published("--dump", RAW, *call)
             self.assertEqual((status, "a set" in said[0]), (0, is_set), most)
             self.assertIn(f"the index is of revision {commit}, which it keeps", said)
@@ -443,7 +446,7 @@ class Publish(OnCheckout):
         kept = os.path.join(self.home, "kept")
         cases: list[tuple[list[str], int]] = [(["--set", "--keep", kept], 100_000), ([], 100)]
         for words, most in cases:
-            with mock.patch.object(outputs, "MOST_ELEMENTS", most):
+            with mock.patch.object(limits, "MOST_ELEMENTS", most):
                 status, printed, stages = self.published(
                     *words, "--no-tags", "--dump", SCIP, "app", self.checkout
                 )

@@ -14,15 +14,15 @@ from threading import Thread
 from typing import Any, Callable, Iterator
 from unittest import mock
 
-from navtools import publish
-from navtools.client import NoReply
-from navtools.serving import ended, free_port
-from navtools.sets.manifest import MANIFEST, PartEntry
-from navtools.sets.publish import Store, claimed
-from navtools.surfaces import rebalance
-from navtools.surfaces.homes import home_of
-from navtools.surfaces.places import Place
-from navtools.surfaces.spread import Made, keep_surface
+from codenav.faults import NoReply
+from codenav.program import ended, free_port
+from codenav.publishing import publish
+from codenav.sets.manifest import MANIFEST, PartEntry
+from codenav.sets.publish import rebalance
+from codenav.sets.publish.places import Place
+from codenav.sets.publish.publish import Store, claimed
+from codenav.sets.publish.spread import Made, keep_surface
+from codenav.sets.ring import home_of
 from tests.fronts import adding, host_of
 from tests.servers import TOP
 from tests.test_set_service import answer_of, asked_at
@@ -283,7 +283,7 @@ class Lost(Moved):
                 if at == 0:
                     ended(self.running[3])
                 with changing(at, lambda: ended(self.running[3])):
-                    with mock.patch("navtools.client.WAITS", (0.1,)):
+                    with mock.patch("codenav.client.http.WAITS", (0.1,)):
                         status, said, faults = self.rebalance(self.servers)
                 self.assertEqual((status, said, len(faults)), (2, [], 1))
                 self.assertRegex(faults[0], f"^{self.servers[3]}: Connection refused")

@@ -10,10 +10,12 @@ from contextlib import redirect_stderr, redirect_stdout
 from typing import Any
 from unittest import mock
 
-from navtools import outputs, prepare, why
-from navtools.records import ADDRESS, Prepared, Record, new_record, record_in
-from navtools.sets import split
-from navtools.surfaces import surface
+from codenav import limits
+from codenav.dumps.check import why
+from codenav.dumps.prepare import prepare
+from codenav.records import ADDRESS, Prepared, Record, new_record, record_in
+from codenav.sets.split import split
+from codenav.sets.surface import surface
 from tests.dump_walks import Question, Walk, answered
 from tests.test_publish import RAW
 
@@ -96,7 +98,7 @@ class Records(unittest.TestCase):
             ("MOST_ELEMENTS", count + ADDED - 1, False),
             ("MOST_BODY_BYTES", size + 100, False),
         ):
-            with mock.patch.object(outputs, name, most):
+            with mock.patch.object(limits, name, most):
                 self.assertEqual(Prepared(self.path).add(RECORD), fits)
             self.assertEqual(os.path.getsize(self.path) > size, fits)
             os.truncate(self.path, size)

@@ -17,9 +17,12 @@ needs("google.protobuf", "python3-protobuf")
 
 from google.protobuf import json_format
 
-from navtools import ask, prepare, scip_to_lsif, upload
-from navtools.scip_pb2 import Index
-from navtools.serving import serving
+from codenav.cli import ask
+from codenav.client import upload
+from codenav.dumps.prepare import prepare
+from codenav.dumps.scip import to_lsif as scip_to_lsif
+from codenav.dumps.scip.scip_pb2 import Index
+from codenav.program import serving
 from tests.accepted import fault
 from tests.servers import program
 

@@ -12,9 +12,9 @@ from contextlib import ExitStack
 from typing import Callable
 from unittest import mock
 
-from navtools.serving import serving
-from navtools.sets.publish import Store
-from navtools.surfaces.homes import home_of
+from codenav.program import serving
+from codenav.sets.publish.publish import Store
+from codenav.sets.ring import home_of
 from tests import fronts
 from tests.fronts import NOBODY, Front, fronted, host_of, lacking
 from tests.servers import TOP, program

@@ -14,9 +14,12 @@ from tests.packages import needs
 
 needs("google.protobuf", "python3-protobuf")
 
-from navtools import outputs, prepare, scip_to_lsif, why
-from navtools.explain import Dump
-from navtools.scip_pb2 import Index
+from codenav import limits
+from codenav.dumps.check import why
+from codenav.dumps.check.explain import Dump
+from codenav.dumps.prepare import prepare
+from codenav.dumps.scip import to_lsif as scip_to_lsif
+from codenav.dumps.scip.scip_pb2 import Index
 from tests.test_why import ANSWERS, TOP, found
 
 APP, LIB = "scip-x npm app 1.0.0 ", "scip-x npm lib . "
@@ -537,7 +540,7 @@ class Scip(unittest.TestCase):
             ("MOST_BODY_BYTES", 99, "bytes, the server takes 99 (H04)"),
             ("MOST_LINE_BYTES", 98, "bytes in the longest line, the server takes 98 (L01)"),
         ):
-            with mock.patch.object(outputs, name, most):
+            with mock.patch.object(limits, name, most):
                 status, body, text = self.converted(SAMPLE)
             self.assertEqual(
                 (status, body is None, text.count("over the limits: "), f"{said}: leave" in text),

@@ -13,8 +13,8 @@ from tests.packages import needs
 
 needs("google.protobuf", "python3-protobuf")
 
-from navtools import scip_to_lsif
-from navtools.scip_pb2 import Index
+from codenav.dumps.scip import to_lsif as scip_to_lsif
+from codenav.dumps.scip.scip_pb2 import Index
 from tests.accepted import fault
 from tests.dump_walks import LABELS, Question, Walk, answered
 from tests.random_scip import LINES, indexes

@@ -12,10 +12,10 @@ import time
 import unittest
 from typing import Callable
 
-from navtools.client import address, request
-from navtools.serving import free_port
-from navtools.service.folder import Serving, database_at, side_of, serving_of
-from navtools.service.standing import state_of
+from codenav.client.http import address, request
+from codenav.program import free_port
+from codenav.service.folder import Serving, database_at, serving_of, side_of
+from codenav.service.standing import state_of
 from tests.fronts import Front, fronted, lacking
 from tests.servers import TOP, program
 from tests.test_fronts import HOVER

@@ -6,7 +6,7 @@ import subprocess
 import sys
 import unittest
 
-from navtools.sets.publish import Store
+from codenav.sets.publish.publish import Store
 from tests.servers import TOP
 from tests.test_set_service import CRATE, LIB, MAP, NAME, OnFile, Revisions
 
@@ -36,7 +36,7 @@ class BadInput(OnFile):
         )
 
     def called(self, tool: str, *words: str) -> tuple[int, str, str]:
-        """The status of a call, and what it prints on both outputs."""
+        """The status of a call, and what it prints on both limits."""
         with self.launched(tool, *words) as call:
             said, warned = call.communicate(timeout=SECONDS)
         return call.returncode, said, warned

@@ -13,8 +13,8 @@ from contextlib import redirect_stderr, redirect_stdout
 from typing import Any, Callable
 from unittest import mock
 
-from navtools import client
-from navtools.sets import publish
+from codenav.client import http as client
+from codenav.sets.publish import publish
 from tests.servers import NOT_BUILT, OnServer, built_program
 from tests.test_set_service import NAME, Revisions, revision, split_into
 

@@ -10,17 +10,20 @@ from contextlib import redirect_stderr, redirect_stdout
 from typing import Any, Callable
 from unittest import mock
 
-from navtools import ask, client, prepare
-from navtools.client import NoReply, found_in, request
-from navtools.places import uri_of
-from navtools.sets import publish, split
-from navtools.sets.ask import Asked
-from navtools.sets.manifest import NotAManifest
-from navtools.sets.publish import Late, Publish, Store
-from navtools.words import BadCall
+from codenav.asking.index import Asked
+from codenav.cli import ask
+from codenav.client import http as client
+from codenav.client.http import found_in, request
+from codenav.dumps.prepare import prepare
+from codenav.faults import BadCall, NoReply
+from codenav.sets.manifest import NotAManifest
+from codenav.sets.publish import publish
+from codenav.sets.publish.publish import Late, Publish, Store
+from codenav.sets.split import split
+from codenav.texts.places import uri_of
 from tests.dump_walks import OF_PROFILE, Question, Walk, answered, questions
-from tests.test_lsp import Editor
 from tests.servers import TOP, OnServer
+from tests.test_lsp import Editor
 
 NAME = "code"
 MOST_STEPS = 40

@@ -14,12 +14,14 @@ from typing import Any, Iterator, Optional
 from unittest import mock
 from urllib.parse import quote
 
-from navtools import prepare
-from navtools.sets import crossing, graph, keys
-from navtools.sets import flat as flat_tables
-from navtools.sets.crossing import Cut, Shared
-from navtools.sets.flat import Flat, flattened
-from navtools.sets.write import Lines, Part
+from codenav.dumps.prepare import prepare
+from codenav.dumps.tables import graph
+from codenav.sets.split import crossing
+from codenav.sets.split import flat as flat_tables
+from codenav.sets.split import keys
+from codenav.sets.split.crossing import Cut, Shared
+from codenav.sets.split.flat import Flat, flattened
+from codenav.sets.split.part import Lines, Part
 from tests.dump_walks import OF_PROFILE, Maker, Question, Walk, answered, body_of, questions
 from tests.servers import TOP, program
 

@@ -8,8 +8,9 @@ from contextlib import redirect_stderr
 from typing import Any
 from unittest import mock
 
-from navtools import why
-from navtools.sets import flat, manifest, split
+from codenav.dumps.check import why
+from codenav.sets import manifest
+from codenav.sets.split import flat, split
 from tests.dump_walks import body_of
 from tests.hostile_dumps import SHAPES
 

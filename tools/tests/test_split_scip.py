@@ -20,19 +20,21 @@ needs("google.protobuf", "python3-protobuf")
 
 from google.protobuf import json_format
 
-from navtools import scip_to_lsif
-from navtools.scip_pb2 import Index
-from navtools.sets import graph, scip_graph, split, stored
-from navtools.sets.crossing import Cut, Shared
-from navtools.sets.flat import Flat, flattened
+from codenav.dumps.scip import to_lsif as scip_to_lsif
+from codenav.dumps.scip.scip_pb2 import Index
+from codenav.dumps.tables import disk_arrays as stored
+from codenav.dumps.tables import graph
+from codenav.dumps.tables import of_scip as scip_graph
+from codenav.sets.split import split
+from codenav.sets.split.crossing import Cut, Shared
+from codenav.sets.split.flat import Flat, flattened
 from tests.dump_walks import answered
 from tests.random_scip import indexes
 from tests.randomly import check_cases
 from tests.scip_model import Model
 from tests.servers import TOP
 from tests.test_samples import SAMPLES, groups
-from tests.test_scip import APP, DEFINITION, document, information, metadata
-from tests.test_scip import occurrence
+from tests.test_scip import APP, DEFINITION, document, information, metadata, occurrence
 from tests.test_scip_answers import is_said, questions
 from tests.test_sets import bodies_of, flat_of, walks
 

@@ -13,16 +13,18 @@ from contextlib import redirect_stderr, redirect_stdout
 from typing import Any, Callable, Optional
 from unittest import mock
 
-from navtools import ask, prepare, publish
-from navtools.client import NoReply
-from navtools.places import uri_of
-from navtools.serving import ended, free_port, started
-from navtools.sets import split
-from navtools.sets.manifest import PartEntry
-from navtools.sets.publish import Claim, Late, Publish, Store, claimed, remove_set
-from navtools.surfaces.homes import home_of, shard_of
-from navtools.surfaces.spread import Spread, made_surface
-from navtools.settings import FILE
+from codenav.cli import ask
+from codenav.dumps.prepare import prepare
+from codenav.faults import NoReply
+from codenav.program import ended, free_port, started
+from codenav.publishing import publish
+from codenav.sets.manifest import PartEntry
+from codenav.sets.publish.publish import Claim, Late, Publish, Store, claimed, remove_set
+from codenav.sets.publish.spread import Spread, made_surface
+from codenav.sets.ring import home_of, shard_of
+from codenav.sets.split import split
+from codenav.settings.found import FILE
+from codenav.texts.places import uri_of
 from tests.dump_walks import OF_PROFILE, Walk, answered, questions
 from tests.fronts import LONGEST, NOBODY, fronted, host_of, lacking
 from tests.servers import REQUESTS, TOP, program
@@ -234,7 +236,7 @@ class Published(TwoSets):
     def test_a_surface_in_parts(self) -> None:
         """A surface over the limits is published in parts, which lead to the same answers, and goes
         when one in one part comes."""
-        with mock.patch("navtools.outputs.MOST_ELEMENTS", 100):
+        with mock.patch("codenav.limits.MOST_ELEMENTS", 100):
             with mock.patch.object(split, "MOST_ELEMENTS", 100), redirect_stderr(io.StringIO()):
                 self.assertEqual(self.make_surface(self.folders[0]), 2)
         self.spread(self.folders[0]).run()

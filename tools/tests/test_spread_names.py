@@ -6,13 +6,13 @@ import tempfile
 import unittest
 from contextlib import redirect_stderr, redirect_stdout
 
-from navtools import ask
-from navtools.questions import fetch_from
-from navtools.serving import free_port, serving
-from navtools.sets.publish import Publish, Store
-from navtools.surfaces.homes import home_of
-from navtools.surfaces.names import names_of_all
-from navtools.settings import FILE
+from codenav.asking.all_servers import names_of_all
+from codenav.asking.questions import fetch_from
+from codenav.cli import ask
+from codenav.program import free_port, serving
+from codenav.sets.publish.publish import Publish, Store
+from codenav.sets.ring import home_of
+from codenav.settings.found import FILE
 from tests.servers import program
 from tests.test_set_service import asked_at, revision, split_into
 from tests.test_spread import OnServers, crate

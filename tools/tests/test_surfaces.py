@@ -11,9 +11,9 @@ from contextlib import redirect_stderr
 from typing import Any, Callable, Iterator
 from unittest import mock
 
-from navtools import prepare
-from navtools.sets.graph import Graph
-from navtools.surfaces import found, surface
+from codenav.dumps.prepare import prepare
+from codenav.dumps.tables.graph import Graph
+from codenav.sets.surface import found, surface
 from tests.accepted import fault
 from tests.dump_walks import OF_PROFILE, Maker, Question, Walk, answered, body_of, questions
 from tests.servers import TOP
@@ -303,7 +303,7 @@ class Called(unittest.TestCase):
     def test_over_the_limits(self) -> None:
         """A surface over the limits is written, and that is said with status 1."""
         body = body_of(Maker(random.Random(1), "1", ["file:///a"], 4).make())
-        with mock.patch("navtools.outputs.MOST_ELEMENTS", 3):
+        with mock.patch("codenav.limits.MOST_ELEMENTS", 3):
             status, said = self.call(body)
         self.assertEqual(status, 1)
         self.assertRegex(said, "over the limits: [0-9]+ elements, .*; split-lsif splits it")

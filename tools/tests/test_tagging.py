@@ -4,7 +4,7 @@ import os
 import shutil
 import unittest
 
-from navtools.tagging import tagged
+from codenav.index.tags_file import tagged
 from tests.repository import InRepository
 
 SOURCE = "int two(void) { return 2; }\n"

@@ -4,9 +4,9 @@ import os
 import tempfile
 import unittest
 
-from navtools.columns import UTF_8, UTF_16, UTF_32, Columns
-from navtools.texts import MOST_BYTES, counts_bytes, decoded, is_read_as, lines_of, text_of
-from navtools.words import BadCall
+from codenav.faults import BadCall
+from codenav.texts.columns import UTF_8, UTF_16, UTF_32, Columns
+from codenav.texts.decoded import MOST_BYTES, counts_bytes, decoded, is_read_as, lines_of, text_of
 
 TEXT = "caf\u00e9 = \U0001F600;\r\nx\n"
 READ: list[tuple[bytes, str]] = [

@@ -11,8 +11,14 @@ from typing import Any
 from unittest import mock
 from urllib.parse import quote
 
-from navtools import ask, client, places, prepare, questions, rows, upload
-from navtools.client import Answer
+from codenav.asking import questions
+from codenav.cli import ask
+from codenav.client import http as client
+from codenav.client import upload
+from codenav.client.http import Answer
+from codenav.dumps.prepare import prepare
+from codenav.dumps.tables import rows
+from codenav.texts import places
 from tests.servers import replying
 
 TOP = os.path.dirname(os.path.dirname(os.path.dirname(os.path.abspath(__file__))))

@@ -13,9 +13,9 @@ from contextlib import redirect_stderr, redirect_stdout
 from typing import Callable
 from unittest import mock
 
-from navtools import projects, remove, upload
-from navtools.client import address, found_in, request
-from navtools.serving import serving
+from codenav.client import projects, remove, upload
+from codenav.client.http import address, found_in, request
+from codenav.program import serving
 from tests.repository import git_in
 from tests.servers import NOT_BUILT, TOP, OnServer, Relay, built_program
 from tests.test_explain import DOCUMENT, META, edge, vertex

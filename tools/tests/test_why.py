@@ -10,8 +10,9 @@ import unittest
 from contextlib import redirect_stderr, redirect_stdout, suppress
 from typing import Any, NamedTuple, Optional
 
-from navtools import edges, prepare, why
-from navtools.explain import Dump
+from codenav.dumps.check import why
+from codenav.dumps.check.explain import Dump
+from codenav.dumps.prepare import edges, prepare
 from tests.accepted import Checker, is_id, key
 from tests.test_explain import BASE, META, edge, span, vertex
 from tests.test_prepared import dumps, lose, redirect, relabel, single, twist

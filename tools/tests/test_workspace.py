@@ -11,12 +11,13 @@ import unittest
 from contextlib import redirect_stderr, redirect_stdout
 from typing import Any
 
-from navtools import prepare, upload
-from navtools.places import units, uri_of
-from navtools.words import BadCall
-from navtools.settings import FILE, Settings, settings_in
-from navtools.texts import text_of
-from navtools.workspace import Workspace
+from codenav.asking.workspace import Workspace
+from codenav.client import upload
+from codenav.dumps.prepare import prepare
+from codenav.faults import BadCall
+from codenav.settings.found import FILE, Settings, settings_in
+from codenav.texts.decoded import text_of
+from codenav.texts.places import units, uri_of
 from tests.repository import InRepository, checkouts
 from tests.servers import TOP, OnServer
 from tests.test_lsp import Editor

@@ -9,7 +9,7 @@ from typing import Any, Callable, Iterator
 from urllib.error import HTTPError
 from urllib.request import ProxyHandler, Request, build_opener
 
-from navtools.serving import Failed, ended, free_port
+from codenav.program import Failed, ended, free_port
 
 OPTIONS = [
     "--headless=new",

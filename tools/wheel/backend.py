@@ -11,7 +11,7 @@ import zipfile
 from base64 import urlsafe_b64encode
 from typing import Any, Iterator, Optional
 
-FOLDER, PACKAGE = "tools", "navtools"
+FOLDER, PACKAGE = "tools", "codenav"
 WHEEL = """Wheel-Version: 1.0
 Generator: codenav-tools
 Root-Is-Purelib: true

@@ -1,0 +1,1 @@
+"""A question at a place, or for a name, of today's files."""

@@ -1,0 +1,1 @@
+"""A server of the program over HTTP."""

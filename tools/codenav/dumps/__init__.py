@@ -1,0 +1,1 @@
+"""Dumps of indexers: what they say, and what of it the server takes."""

@@ -1,0 +1,1 @@
+"""What is wrong with a dump, and why an answer of it is what it is."""

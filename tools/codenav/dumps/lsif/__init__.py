@@ -1,0 +1,1 @@
+"""LSIF as indexers write it."""

@@ -1,0 +1,1 @@
+"""A dump that the server accepts of an indexer's."""

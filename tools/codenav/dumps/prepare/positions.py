@@ -1,0 +1,62 @@
+"""Positions of a dump that counts bytes or code points, as UTF-16 code units, by the files that
+were indexed."""
+
+import os
+from typing import Optional
+from urllib.parse import unquote_to_bytes
+
+from codenav.addresses import below, folder_address
+from codenav.dumps.overlaps import by_home
+from codenav.dumps.prepare.plan import DROPPED, KEPT, Plan
+from codenav.dumps.prepare.survey import RANGE
+from codenav.faults import BadCall, NotADump
+from codenav.texts.columns import COUNTED, ENCODINGS, Columns
+from codenav.texts.decoded import body_of
+
+
+def convert(plan: Plan, source: Optional[str]) -> None:
+    """Converts the places of all ranges; raises NotADump where the files aren't known."""
+    survey = plan.survey
+    encoding = ENCODINGS[survey.encoding]
+    if source is None:
+        raise NotADump(
+            f"{survey.name}: its positions count {COUNTED[encoding]} ({survey.encoding}): give --source, the folder that was indexed"
+        )
+    kept = (n for n in range(plan.count) if plan.kinds[n] == RANGE and plan.state[n] == KEPT)
+    read = unread = 0
+    for home, ranges in by_home(kept, plan.home).items():
+        path = path_of(plan, survey.uris[home], source)
+        try:
+            columns = Columns(encoding, body_of(path))
+        except BadCall:
+            plan.notes.leave_out("document whose file can't be read", path)
+            unread += 1
+            for own in (home, *ranges):
+                plan.state[own] = DROPPED
+            continue
+        read += 1
+        for own in ranges:
+            convert_range(plan, own, columns)
+    if unread and not read:
+        raise NotADump(f"{survey.name}: none of {unread} documents can be read below {source}")
+
+
+def path_of(plan: Plan, uri: str, source: str) -> str:
+    """The file of a document, below the folder that the root is mapped to."""
+    inside = below(folder_address(plan.survey.mender.root), uri)
+    if inside is None:
+        inside = uri.removeprefix("file://")
+    return os.path.join(source, os.fsdecode(unquote_to_bytes(inside)))
+
+
+def convert_range(plan: Plan, own: int, columns: Columns) -> None:
+    """Converts the place of a range, which is left out where the text has no such place."""
+    for places in (plan.survey.numbers.starts, plan.survey.numbers.ends):
+        line = places[own] >> 31
+        units = columns.units(line, places[own] & 0x7FFFFFFF)
+        if units is None:
+            line = plan.survey.numbers.lines[own]
+            plan.notes.leave_out("range beyond the end of its line, or of the text", f"line {line}")
+            plan.state[own] = DROPPED
+            return
+        places[own] = line << 31 | units

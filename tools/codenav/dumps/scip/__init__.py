@@ -1,0 +1,1 @@
+"""SCIP indexes, and dumps of them."""

@@ -1,0 +1,1 @@
+"""A whole dump as tables of numbers."""

@@ -1,0 +1,1 @@
+"""A checkout's dump and its tags."""

@@ -1,0 +1,101 @@
+"""The tags file of a checkout, by ctags, without the lines that the server would refuse."""
+
+import os
+import re
+import shutil
+import subprocess
+from collections import Counter
+from typing import Iterator, Optional
+
+from codenav.faults import BadCall
+
+MOST_LINES = 100_000
+MOST_LINE_BYTES = 65_536
+MOST_BODY_BYTES = 33_554_432
+CONTROLS = re.compile(rb"[\x00-\x08\x0b-\x1f\x7f]")
+LEFT_OUT = {
+    "T01": "longer than 65536 bytes",
+    "T02": "not UTF-8",
+    "T03": "with a control character",
+    "T04": "without a name, a file and an address",
+    "T11": "over the 100000 lines that the server takes",
+    "H04": "over the 33554432 bytes that the server takes",
+}
+
+
+def files_of(folder: str) -> Iterator[bytes]:
+    """The files of a checkout, from its top on: those that git knows, and without git all whose
+    folders' names don't begin with a dot."""
+    listed = None
+    if shutil.which("git"):
+        listed = subprocess.run(
+            ["git", "ls-files", "-z"], cwd=folder, stdin=subprocess.DEVNULL, capture_output=True
+        )
+    if listed is not None and listed.returncode == 0:
+        names: Iterator[bytes] = iter(filter(None, listed.stdout.split(b"\0")))
+    else:
+        names = walked(os.fsencode(folder))
+    for name in names:
+        path = os.path.join(os.fsencode(folder), name)
+        if b"\n" not in name and os.path.isfile(path) and not os.path.islink(path):
+            yield name
+
+
+def walked(folder: bytes) -> Iterator[bytes]:
+    """The files below a folder, from it on, in order."""
+    for at, folders, files in os.walk(folder):
+        folders[:] = sorted(name for name in folders if not name.startswith(b"."))
+        for name in sorted(files):
+            yield os.path.relpath(os.path.join(at, name), folder)
+
+
+def fault_of(line: bytes, number: int, written: int) -> Optional[str]:
+    """The code for which the server refuses a line that would be written as this number after so
+    many bytes; None where there is none."""
+    if len(line) > MOST_LINE_BYTES:
+        return "T01"
+    try:
+        line.decode()
+    except UnicodeDecodeError:
+        return "T02"
+    if CONTROLS.search(line):
+        return "T03"
+    parts = line.split(b"\t", 2)
+    if len(parts) < 3 or not parts[0] or not parts[1]:
+        return "T04"
+    if number > MOST_LINES:
+        return "T11"
+    return "H04" if written + len(line) + 1 > MOST_BODY_BYTES else None
+
+
+def tagged(folder: str, path: str, is_cut: bool = False) -> tuple[int, Counter[str]]:
+    """Writes the tags file of a checkout; answers how many lines it has, and how many were left
+    out, by the server's codes. One that's cut afterwards may be larger than what the server takes.
+
+    The list of the files stands beside it meanwhile. They're named from `./` on, which no option
+    begins with; and no options of the checkout's count.
+    """
+    names = f"{path}.files"
+    with open(names, "wb") as listed:
+        listed.writelines(b"./" + name + b"\n" for name in files_of(folder))
+    count, written, left_out = 0, 0, Counter[str]()
+    with open(path, "wb") as out, subprocess.Popen(
+        ["ctags", "--options=NONE", "-f", "-", "-L", names, "--fields=+n", "--sort=yes"],
+        cwd=folder,
+        stdin=subprocess.DEVNULL,
+        stdout=subprocess.PIPE,
+        stderr=subprocess.DEVNULL,
+        env={**os.environ, "LC_ALL": "C"},
+    ) as run:
+        for line in run.stdout or ():
+            line = line.removesuffix(b"\n").replace(b"\t./", b"\t", 1)
+            code = fault_of(line, *((0, 0) if is_cut else (count + 1, written)))
+            if code is not None:
+                left_out[code] += 1
+                continue
+            written += out.write(line + b"\n")
+            count += 1
+    os.unlink(names)
+    if run.returncode != 0:
+        raise BadCall(f"ctags ended with status {run.returncode} in {folder}")
+    return count, left_out

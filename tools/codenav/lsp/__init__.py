@@ -1,0 +1,1 @@
+"""An editor's server by the Language Server Protocol."""

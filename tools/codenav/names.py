@@ -1,0 +1,47 @@
+"""The address of a server, and the names of projects and keys."""
+
+import re
+from urllib.parse import urlsplit
+
+from codenav.faults import BadCall
+
+PROJECT = re.compile(r"[a-z0-9_-]{1,64}")
+
+
+KEY = re.compile(r"[A-Za-z0-9_-]{1,64}")
+
+
+def server_of(url: str) -> str:
+    """The address of a server, without a slash at its end."""
+    try:
+        parts = urlsplit(url)
+        is_server = (
+            parts.scheme in ("http", "https")
+            and all(0 < len(label) < 64 for label in labels_of(parts.hostname or ""))
+            and parts.port != 0
+        )
+    except ValueError:
+        is_server = False
+    if not is_server or parts.query or parts.fragment or not re.fullmatch(r"[!-~]+", url):
+        raise BadCall(f"not the address of a server, as http://127.0.0.1:8080: {url!r}")
+    return url.rstrip("/")
+
+
+def labels_of(host: str) -> list[str]:
+    """The parts of a name of the Domain Name System, where a dot may end it; none is empty or
+    longer than 63 characters (RFC 1035)."""
+    return host.removesuffix(".").split(".")
+
+
+def project_of(text: str) -> str:
+    """The text, where it's the name of a project."""
+    if not PROJECT.fullmatch(text):
+        raise BadCall(f"a project is 1 to 64 characters of a-z 0-9 _ -, not {text!r}")
+    return text
+
+
+def key_of(text: str) -> str:
+    """The text, where it's a key."""
+    if not KEY.fullmatch(text):
+        raise BadCall(f"a key is 1 to 64 characters of A-Z a-z 0-9 _ -, not {text!r}")
+    return text

@@ -1,0 +1,111 @@
+"""The folder of a service: two sides for a database, of which one is in use, and what's known of
+the server that has it.
+
+FOLDER/side names the side in use, `a` or `b`; FOLDER/a/index.db is the database there, with its log
+index.db-wal. FOLDER/server says which process serves it. Who copies the database, or puts another
+in its place, holds FOLDER/lock meanwhile, and so does who starts a server.
+"""
+
+import fcntl
+import json
+import os
+from contextlib import contextmanager
+from dataclasses import asdict, dataclass
+from typing import Iterator, Optional
+
+from codenav.faults import BadCall
+from codenav.files import whole_file
+
+SIDES = ("a", "b")
+DATABASE = "index.db"
+LOG = "-wal"
+
+
+@dataclass(frozen=True)
+class Serving:
+    """The process that keeps the service, its server, how often turns were taken, and what became
+    of the last one."""
+
+    supervisor: int
+    server: int
+    side: str
+    turns: int = 0
+    last: str = ""
+
+
+def other(side: str) -> str:
+    return SIDES[1 - SIDES.index(side)]
+
+
+def side_of(folder: str) -> str:
+    """The side in use, the first where none was ever named."""
+    try:
+        with open(os.path.join(folder, "side"), encoding="utf-8") as file:
+            side = file.read().strip()
+    except FileNotFoundError:
+        return SIDES[0]
+    if side not in SIDES:
+        raise BadCall(f"{folder}/side: not a side: {side[:20]!r}")
+    return side
+
+
+def database_at(folder: str, side: str) -> str:
+    return os.path.join(folder, side, DATABASE)
+
+
+def use(folder: str, side: str) -> None:
+    """Names the side in use, for good also where the power is cut then."""
+    with whole_file(os.path.join(folder, "side")) as out:
+        out.write(f"{side}\n".encode())
+        out.flush()
+        os.fsync(out.fileno())
+    synced(folder)
+
+
+def synced(path: str) -> None:
+    """Has the system write a file, or the names in a folder, to the disk."""
+    handle = os.open(path, os.O_RDONLY)
+    try:
+        os.fsync(handle)
+    finally:
+        os.close(handle)
+
+
+def note(folder: str, serving: Serving) -> None:
+    """Says who serves."""
+    with whole_file(os.path.join(folder, "server")) as out:
+        out.write(json.dumps(asdict(serving)).encode() + b"\n")
+
+
+def serving_of(folder: str) -> Optional[Serving]:
+    """Who serves, where its processes are there."""
+    try:
+        with open(os.path.join(folder, "server"), encoding="utf-8") as file:
+            found = Serving(**json.load(file))
+    except (FileNotFoundError, ValueError, TypeError):
+        return None
+    return found if is_of(found.supervisor, folder) else None
+
+
+def is_of(process: int, folder: str) -> bool:
+    """Whether a process is there, and its command line names the folder."""
+    try:
+        with open(f"/proc/{process}/cmdline", "rb") as file:
+            words = file.read().split(b"\0")
+    except OSError:
+        return False
+    wanted = os.path.realpath(folder)
+    paths = (os.path.join(f"/proc/{process}/cwd", os.fsdecode(word)) for word in words if word)
+    return any(os.path.realpath(path) == wanted for path in paths)
+
+
+@contextmanager
+def locked(folder: str) -> Iterator[None]:
+    """Keeps others from starting, copying or replacing the database; the system lets go where the
+    process is killed."""
+    handle = os.open(os.path.join(folder, "lock"), os.O_RDWR | os.O_CREAT | os.O_CLOEXEC, 0o600)
+    try:
+        fcntl.flock(handle, fcntl.LOCK_EX)
+        yield
+    finally:
+        os.close(handle)

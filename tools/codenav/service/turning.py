@@ -1,0 +1,138 @@
+"""A turn: a new server over a copy of the database takes the place of the one that runs. Reads go
+on meanwhile, and writes wait.
+
+At each moment there's one side whose database is the service's: the copy's is named when all of it
+is on the disk, its server listens, and no write came since it was made. Where the process is killed
+before, the old side is served again, and where it's killed then, the new one.
+"""
+
+import os
+import shutil
+import time
+from dataclasses import dataclass
+from typing import Callable, Optional
+
+from codenav.faults import BadCall
+from codenav.service.folder import database_at, other, use
+from codenav.service.front import NoFront, State, told
+from codenav.service.server import Call, Server
+from codenav.service.standing import copied, emptied, settled
+
+HOLD = 10
+PAUSE = 0.05
+LONGEST_WRITE = 150
+
+
+class NotTurned(Exception):
+    """A turn that wasn't taken; the text says why. The server that ran goes on."""
+
+
+@dataclass
+class Turn:
+    """What a turn is made of."""
+
+    folder: str
+    front: str
+    call: Call
+    side: str
+    server: Server
+    is_stopping: Callable[[], bool]
+
+    def held(self, is_first: bool = False) -> State:
+        """Holds writes for some seconds more. Raises NotTurned where they weren't held without a
+        gap."""
+        try:
+            state = told(self.front, f"/hold?seconds={HOLD}")
+        except NoFront as fault:
+            raise NotTurned(str(fault)) from None
+        if state is None or not is_first and not state.was_held:
+            raise NotTurned("writes weren't held all the time")
+        if self.is_stopping():
+            raise NotTurned("the service is being stopped")
+        return state
+
+    def wait(self, is_done: Callable[[], bool], seconds: Optional[float], what: str) -> None:
+        """Waits for something, and holds writes meanwhile."""
+        begin = time.monotonic()
+        renewed = begin
+        while not is_done():
+            now = time.monotonic()
+            if seconds is not None and now - begin > seconds:
+                raise NotTurned(f"{what} within {seconds:.0f} seconds")
+            if now - renewed > HOLD / 5:
+                self.held()
+                renewed = now
+            time.sleep(PAUSE)
+
+    def no_write(self) -> bool:
+        return self.held().writes == 0
+
+    def copy(self) -> float:
+        """Copies the database to the other side."""
+        target = os.path.join(self.folder, other(self.side))
+        emptied(target)
+        database = database_at(self.folder, self.side)
+        try:
+            stood = copied(database, target, self.server.process.pid)
+        except BadCall as fault:
+            raise NotTurned(str(fault)) from None
+        settled(target)
+        return stood
+
+    def started(self) -> Server:
+        """A server over the copy, which listens."""
+        side = other(self.side)
+        port = self.call.ports[side == "b"]
+        server = Server(self.call, database_at(self.folder, side), port)
+        try:
+            self.wait(lambda: server.listens() or not server.is_there(), None, "")
+            if not server.listens():
+                raise NotTurned(f"the new server ended: {server.last_words()}")
+        except NotTurned:
+            server.end()
+            raise
+        return server
+
+    def switch(self, server: Server) -> None:
+        """Goes to the new server, where writes were held until now. A front that doesn't answer is
+        told the side later."""
+        self.held()
+        use(self.folder, other(self.side))
+        try:
+            is_refused = told(self.front, f"/turn?side={other(self.side)}") is None
+        except NoFront:
+            is_refused = False
+        if is_refused:
+            use(self.folder, self.side)
+            raise NotTurned("writes weren't held until the end")
+
+    def taken(self) -> tuple[Server, str]:
+        """The new server, and what is to be said of the turn. Raises NotTurned, and lets writes go
+        on, where it can't be taken."""
+        begin = time.monotonic()
+        try:
+            self.held(is_first=True)
+            self.wait(self.no_write, LONGEST_WRITE, "a write doesn't end")
+            stood = self.copy()
+            self.held()
+            server = self.started()
+            try:
+                self.switch(server)
+            except NotTurned:
+                server.end()
+                raise
+        except NotTurned:
+            self.given_up()
+            raise
+        waited = time.monotonic() - begin
+        self.server.end()
+        shutil.rmtree(os.path.join(self.folder, self.side), ignore_errors=True)
+        return server, f"reads waited {stood:.3f} s, writes {waited:.3f} s"
+
+    def given_up(self) -> None:
+        """Lets writes go on, and removes the copy."""
+        shutil.rmtree(os.path.join(self.folder, other(self.side)), ignore_errors=True)
+        try:
+            told(self.front, "/release")
+        except NoFront:
+            return

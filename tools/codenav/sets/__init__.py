@@ -1,0 +1,1 @@
+"""Many projects that are asked as one."""

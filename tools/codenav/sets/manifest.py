@@ -1,0 +1,340 @@
+"""The manifest of a set: which part has each document, and what is said of the set, written as a
+tags file of the project `NAME-parts`.
+
+Its names begin with a control character, so that no search for names finds them by chance:
+
+- U+0002 and `set`: the set, with the format, the revision, the folder of its documents, the tool
+  that made it and a mark of its own;
+- U+0002 and `part`: a part, with its elements and the address of its first document;
+- U+0002 and `surface`: a part of the set's surface, which is on other servers, as a part is said;
+- U+0002 and `package`: where the set is one of several servers', a package that it imports or
+  exports something of;
+- U+0002 and `list`: where the documents are too many for one tags file, a project with some of
+  them, with the address of the first;
+- U+0001 and an address: a document, with the part that has it and a digest of its text.
+
+The file of each tag is the project that it names.
+"""
+
+import hashlib
+import os
+import re
+from bisect import bisect_right
+from typing import Any, Iterable, Iterator, NamedTuple, Optional, Sequence
+from urllib.parse import quote
+
+from codenav.addresses import serialized
+from codenav.faults import BadCall
+from codenav.texts.places import KEPT, Maps, uri_of
+
+MANIFEST = "manifest.tags"
+FORMAT = "1"
+TOOL = "codenav-split-lsif-1"
+SORTED = "!_TAG_FILE_SORTED\t1\t/0=unsorted, 1=sorted/\n"
+DOCUMENT, ABOUT = "\x01", "\x02"
+PACKAGE = f"{ABOUT}package"
+MOST_LINES = 99_000
+DIGITS = 16
+LIST_LINES = 20_000
+NAME = re.compile(r"[a-z0-9_-]{1,47}")
+PART = re.compile(r"(?P<set>[a-z0-9_-]{1,47})-[0-9a-f]{16}")
+PARTS = "-parts"
+CLAIM = "-claim"
+SURFACE = "-surface"
+BRANCH = "--"
+Tag = dict[str, Any]
+
+
+class NotAManifest(BadCall):
+    """What stands where a manifest should is none; the text is the one line to print."""
+
+
+class PartEntry(NamedTuple):
+    """A part: its project, how many elements it has, and the address of its first document."""
+
+    project: str
+    elements: int
+    first: str
+
+
+class DocumentEntry(NamedTuple):
+    """A document: its address, the project of its part, and a digest of its text, empty where that
+    wasn't read."""
+
+    uri: str
+    project: str
+    text: str = ""
+
+
+class ListEntry(NamedTuple):
+    """A project with documents of a manifest, and the address of the first."""
+
+    project: str
+    first: str
+
+
+class Head(NamedTuple):
+    """What a manifest says of its set but for the documents; parts and lists in the order of their
+    documents."""
+
+    name: str
+    revision: str = ""
+    folder: str = ""
+    documents: int = 0
+    tool: str = TOOL
+    mark: str = ""
+    profile: str = "1"
+    parts: tuple[PartEntry, ...] = ()
+    lists: tuple[ListEntry, ...] = ()
+    surface: tuple[PartEntry, ...] = ()
+    packages: tuple[str, ...] = ()
+
+    def projects(self) -> list[str]:
+        """The projects of the set but for its manifest."""
+        return [part.project for part in self.parts] + [one.project for one in self.lists]
+
+    def surface_projects(self) -> list[str]:
+        """The projects of the surface, which are on other servers."""
+        return [part.project for part in self.surface]
+
+    def is_spread(self) -> bool:
+        """Whether the set is on one of several servers, with its surface on the others."""
+        return bool(self.surface or self.packages)
+
+    def part_of(self, uri: str) -> str:
+        """The part that has a document, if any has: parts have documents that follow each other in
+        the order of their addresses."""
+        ordered = [part.first.encode() for part in self.parts]
+        return self.parts[max(bisect_right(ordered, uri.encode()) - 1, 0)].project
+
+    def holders(self) -> list[str]:
+        """The projects whose tags have the documents."""
+        return [one.project for one in self.lists] or [self.name + PARTS]
+
+    def with_mark(self, mark: str) -> "Head":
+        """The same with a mark."""
+        return self._replace(mark=mark)
+
+
+def part_name(name: str, body: bytes, profile: str = "1", tags: bytes = b"") -> str:
+    """The project of a part of a set with this dump, which is read in a profile, and these tags."""
+    digest = hashlib.sha256(b"" if profile == "1" else f"profile {profile}\n".encode())
+    digest.update(body + tags)
+    return f"{name}-{digest.hexdigest()[:DIGITS]}"
+
+
+def set_name(text: str) -> str:
+    """The name that a set has on the server: `NAME@BRANCH`, another revision beside the set NAME,
+    is `NAME--BRANCH` there. Raises BadCall."""
+    name = text.replace("@", BRANCH)
+    if text.count("@") > 1 or NAME.fullmatch(name) is None:
+        raise BadCall(f"a set is 1 to 47 characters of a-z 0-9 _ -, or NAME@BRANCH, not {text!r}")
+    return name
+
+
+def shown_name(name: str) -> str:
+    """The name of a set as its users write it."""
+    base, between, branch = name.partition(BRANCH)
+    return f"{base}@{branch}" if base and between and branch else name
+
+
+def base_name(name: str) -> str:
+    """The set that a set is another revision of, or its own name."""
+    return shown_name(name).partition("@")[0]
+
+
+def escaped(text: str) -> str:
+    """A text as it's written in a tags file (tags(5))."""
+    return re.sub(r"[\x00-\x1f\x7f\\]", lambda found: f"\\x{ord(found[0]):02x}", text)
+
+
+def unescaped(text: str) -> str:
+    """The text that is written so."""
+    return re.sub(r"\\x([0-9a-f]{2})", lambda found: chr(int(found[1], 16)), text)
+
+
+def line_of(name: str, project: str, fields: Iterable[tuple[str, str]]) -> str:
+    """A line of a tags file; fields without a value are left out."""
+    more = "".join(f"\t{key}:{escaped(value)}" for key, value in fields if value)
+    return f'{escaped(name)}\t{project}\t1;"{more}\n'
+
+
+def head_lines(head: Head) -> list[str]:
+    """The lines on a set, its parts and its lists."""
+    about = [
+        ("format", FORMAT),
+        ("revision", head.revision),
+        ("folder", head.folder),
+        ("documents", str(head.documents)),
+        ("tool", head.tool),
+        ("mark", head.mark),
+        ("profile", head.profile),
+    ]
+    lines = [line_of(f"{ABOUT}set", head.name, about)]
+    for kind, parts in ("part", head.parts), ("surface", head.surface):
+        for part in parts:
+            fields = [("elements", str(part.elements)), ("first", part.first)]
+            lines.append(line_of(f"{ABOUT}{kind}", part.project, fields))
+    lines += [line_of(PACKAGE, head.name, [("package", package)]) for package in head.packages]
+    lines += [line_of(f"{ABOUT}list", one.project, [("first", one.first)]) for one in head.lists]
+    return lines
+
+
+def document_lines(documents: Iterable[DocumentEntry]) -> list[str]:
+    """The lines on documents."""
+    return [line_of(f"{DOCUMENT}{one.uri}", one.project, [("text", one.text)]) for one in documents]
+
+
+def tags_text(lines: Iterable[str]) -> bytes:
+    """A tags file of lines."""
+    encoded = sorted(line.encode("utf-8", "surrogatepass") for line in lines)
+    return SORTED.encode() + b"".join(encoded)
+
+
+def needs_lists(documents: int, parts: int) -> bool:
+    """Whether documents and parts are too many for one tags file."""
+    return documents + parts > MOST_LINES
+
+
+def listed(documents: Sequence[DocumentEntry]) -> Iterator[tuple[str, bytes]]:
+    """The tags files of lists of documents, each with the address of its first."""
+    for at in range(0, len(documents), LIST_LINES):
+        some = documents[at : at + LIST_LINES]
+        yield some[0].uri, tags_text(document_lines(some))
+
+
+def fields_of(tag: Tag) -> dict[str, str]:
+    """The fields of a tag."""
+    return {key: value for key, value in tag["fields"]}
+
+
+def mark_in(tags: Iterable[Tag]) -> Optional[str]:
+    """The mark that tags of a manifest say, or None where there is no manifest."""
+    marks = [fields_of(tag).get("mark", "") for tag in tags if tag["name"] == f"{ABOUT}set"]
+    return marks[0] if marks else None
+
+
+def is_package(tag: Tag) -> bool:
+    """Whether a tag says a package of a set."""
+    return bool(tag["name"] == PACKAGE)
+
+
+def package_of(tag: Tag) -> str:
+    """The package that a tag says; empty where keys have none."""
+    return fields_of(tag).get("package", "")
+
+
+def part_entries(tags: Iterable[Tag], kind: str) -> list[PartEntry]:
+    """The parts of a kind, `part` or `surface`, that tags say; raises KeyError and ValueError."""
+    return [
+        PartEntry(tag["file"], int(fields_of(tag)["elements"]), fields_of(tag).get("first", ""))
+        for tag in tags
+        if tag["name"] == f"{ABOUT}{kind}"
+    ]
+
+
+def head_of(tags: Iterable[Tag], project: str) -> Optional[Head]:
+    """The head that tags of a project `NAME-parts` say, or None where there is no tag; raises
+    NotAManifest."""
+    name = project.removesuffix(PARTS)
+    found = list(tags)
+    if not found:
+        return None
+    try:
+        about = [tag for tag in found if tag["name"] == f"{ABOUT}set"]
+        fields = fields_of(about[0])
+        parts, surface = (
+            tuple(sorted(part_entries(found, kind), key=lambda part: part.first.encode()))
+            for kind in ("part", "surface")
+        )
+        lists = [
+            ListEntry(tag["file"], fields_of(tag)["first"])
+            for tag in found
+            if tag["name"] == f"{ABOUT}list"
+        ]
+        head = Head(
+            name,
+            fields.get("revision", ""),
+            fields.get("folder", ""),
+            int(fields["documents"]),
+            fields.get("tool", ""),
+            fields.get("mark", ""),
+            fields.get("profile", "1"),
+            parts,
+            tuple(sorted(lists, key=lambda one: one.first.encode())),
+            surface,
+            tuple(sorted(map(package_of, filter(is_package, found)))),
+        )
+    except (KeyError, IndexError, TypeError, ValueError):
+        raise NotAManifest(
+            f"{project} isn't the manifest of a set: somebody else wrote it"
+        ) from None
+    own = {match["set"] for match in map(PART.fullmatch, head.projects()) if match is not None}
+    if len(about) != 1 or fields["format"] != FORMAT or about[0]["file"] != name or own - {name}:
+        raise NotAManifest(f"{project} is a manifest of another set, or of another format")
+    if len(set(head.projects())) < len(head.projects()) or not own and head.projects():
+        raise NotAManifest(f"{project} is a manifest of another set, or of another format")
+    return head
+
+
+def tag_of(line: str) -> Tag:
+    """The tag of a line that was written here; raises ValueError."""
+    name, project, *rest = line.rstrip("\n").split("\t")
+    pairs = [text.partition(":") for text in rest[1:]]
+    return {
+        "name": unescaped(name),
+        "file": project,
+        "fields": [(key, unescaped(value)) for key, _, value in pairs],
+    }
+
+
+def tags_in(path: str) -> list[Tag]:
+    """The tags of a file that was written here; raises NotAManifest."""
+    try:
+        with open(path, encoding="utf-8", newline="\n") as file:
+            return [tag_of(line) for line in file if not line.startswith("!_TAG_")]
+    except ValueError:
+        raise NotAManifest(f"{path} isn't the manifest of a set") from None
+
+
+def read_head(path: str) -> Head:
+    """The head that a manifest's file has; raises NotAManifest."""
+    about = [tag for tag in tags_in(path) if tag["name"][:1] == ABOUT]
+    names = [tag["file"] for tag in about if tag["name"] == f"{ABOUT}set"]
+    head = head_of(about, f"{names[0] if names else ''}{PARTS}")
+    if head is None:
+        raise NotAManifest(f"{path} isn't the manifest of a set")
+    return head
+
+
+def with_head(path: str, head: Head) -> bytes:
+    """What a manifest's file has, with another head."""
+    with open(path, "rb") as file:
+        lines = [line.decode() for line in file if not line.startswith((b"!_TAG_", rb"\x02"))]
+    return tags_text([*head_lines(head), *lines])
+
+
+def read_documents(path: str, head: Head) -> list[DocumentEntry]:
+    """The documents that a manifest's file has, or the files of its lists beside it; raises
+    NotAManifest."""
+    folder = os.path.dirname(path)
+    paths = [os.path.join(folder, f"{one.project}.tags") for one in head.lists] or [path]
+    return [
+        DocumentEntry(tag["name"][1:], tag["file"], fields_of(tag).get("text", ""))
+        for own in paths
+        for tag in tags_in(own)
+        if tag["name"][:1] == DOCUMENT
+    ]
+
+
+def part_file(folder: str, file: str, maps: Maps) -> str:
+    """The dump of the part that has the document of a file, or the one document whose address is
+    `file` or ends with it; raises BadCall."""
+    path = os.path.join(folder, MANIFEST)
+    documents = read_documents(path, read_head(path))
+    uri, end = serialized(uri_of(file, maps)), "/" + quote(os.path.normpath(file), safe=KEPT)
+    own = [one for one in documents if one.uri == uri]
+    near = [one for one in documents if one.uri == file or one.uri.endswith(end)]
+    if len(own or near) != 1:
+        raise BadCall(f"{file} is {len(near)} of the {len(documents)} documents of {folder}")
+    return os.path.join(folder, f"{(own or near)[0].project}.lsif")

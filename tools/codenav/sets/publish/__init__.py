@@ -1,0 +1,1 @@
+"""A set on its servers."""

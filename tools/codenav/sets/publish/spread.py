@@ -1,0 +1,211 @@
+"""Publishes a set at its home, with its surface on the other servers.
+
+The manifest at the home names the parts of the surface too, so that the one put of the manifest
+switches all servers. Before it the new parts of the surface stand beside the old ones, and who asks
+is shown those that the manifest names. After it the old ones are removed. A publish that ends
+before leaves the old revision answering everywhere, and the next one removes what it left.
+"""
+
+import os
+import re
+import secrets
+from contextlib import contextmanager
+from dataclasses import dataclass, field
+from typing import BinaryIO, Iterator, NamedTuple, Optional, cast
+
+from codenav.faults import BadCall, NoReply
+from codenav.files import whole_file
+from codenav.limits import excesses
+from codenav.sets.manifest import (
+    CLAIM,
+    MANIFEST,
+    PACKAGE,
+    PARTS,
+    SURFACE,
+    Head,
+    PartEntry,
+    package_of,
+    part_name,
+    read_head,
+    set_name,
+    with_head,
+)
+from codenav.sets.publish.publish import Claim, Publish, Store, content_of
+from codenav.sets.split import split
+from codenav.sets.surface.surface import write_surface
+
+MOST_NAME = 39
+DIGITS = "-[0-9a-f]{16}"
+
+
+def surface_name(name: str) -> str:
+    """The set that the surface of a set is; raises BadCall where the name is too long for it, or is
+    that of a surface."""
+    if name.endswith(SURFACE):
+        raise BadCall(
+            f"on several servers a set's name doesn't end with {SURFACE}, as {name!r} does"
+        )
+    if len(name) > MOST_NAME:
+        raise BadCall(
+            f"on several servers a set's name has at most {MOST_NAME} characters, not {name!r}"
+        )
+    return set_name(name + SURFACE)
+
+
+class Made(NamedTuple):
+    """A surface that was made: its parts, and the packages that the dump is joined by."""
+
+    parts: tuple[PartEntry, ...]
+    packages: tuple[str, ...]
+
+
+def made_surface(dump: str, name: str, profile: str, folder: str) -> Made:
+    """Writes the surface of a prepared dump into a folder, in parts where it's over the limits, and
+    removes what's left there of another one."""
+    os.makedirs(folder, exist_ok=True)
+    whole = os.path.join(folder, "whole.lsif")
+    with open(dump, "rb") as source:
+        _, surface = write_surface(cast(BinaryIO, source), dump, profile, whole)
+    parts: tuple[PartEntry, ...] = ()
+    if surface.bearers and excesses(surface.lines.count, surface.bytes, surface.longest):
+        parts = split_surface(whole, name, profile, folder)
+    elif surface.bearers:
+        project = part_name(surface_name(name), content_of(whole), profile)
+        os.replace(whole, surface_file(folder, project))
+        parts = (PartEntry(project, surface.lines.count, ""),)
+    named = {surface_file(folder, part.project) for part in parts}
+    for file in os.listdir(folder):
+        path = os.path.join(folder, file)
+        if file.endswith(".lsif") and path not in named:
+            os.unlink(path)
+    return Made(parts, surface.joined_packages())
+
+
+def surface_file(folder: str, project: str) -> str:
+    """The file of a part of a surface in its folder."""
+    return os.path.join(folder, f"{project}.lsif")
+
+
+def keep_surface(folder: str, surface: Made) -> None:
+    """Writes into the manifest of a set's folder what its surface is."""
+    path = os.path.join(folder, MANIFEST)
+    head = read_head(path)._replace(surface=surface.parts, packages=surface.packages)
+    body = with_head(path, head)
+    with whole_file(path) as out:
+        out.write(body)
+
+
+def split_surface(whole: str, name: str, profile: str, folder: str) -> tuple[PartEntry, ...]:
+    """Splits a surface that is over the limits; answers the parts."""
+    words = ["--name", surface_name(name), "--profile", profile, whole, folder]
+    if split.main(words) != 0:
+        raise BadCall("the surface of the dump can't be split")
+    return read_head(os.path.join(folder, MANIFEST)).parts
+
+
+@dataclass
+class Spread(Publish):
+    """A publish to several servers: `store` is the home, `others` are the other servers, `front`
+    what all ask, where there's one.
+
+    With `only_joined` the surface goes to servers alone that have a set with a package in common;
+    `lacking` are the sets elsewhere with one, whose surfaces the home hasn't, since they were
+    published before this set was there.
+    """
+
+    others: list[Store] = field(default_factory=list)
+    surface: str = ""
+    front: Optional[Store] = None
+    only_joined: bool = False
+    done: list[str] = field(default_factory=list)
+    lacking: list[str] = field(default_factory=list)
+
+    def put_parts(self, claim: Claim, there: dict[str, set[str]]) -> None:
+        """Puts the parts at the home, and those of the surface on the other servers."""
+        self.refuse_another_home(claim)
+        with self.told(self.store):
+            super().put_parts(claim, there)
+        for store in self.others:
+            with self.told(store):
+                self.put_surface(claim, store)
+
+    def refuse_another_home(self, claim: Claim) -> None:
+        """Refuses to go on where the front sends the set to another server than the one that has
+        the claim."""
+        if self.front is None:
+            return
+        record = Claim(self.front, claim.name).record()
+        if record.get("mark") != claim.mark:
+            raise BadCall(
+                f"{self.front.server} sends {claim.name} to another server than {self.store.server}: "
+                "--servers has to name those of the front's configuration, spelled as there"
+            )
+
+    def joined_sets(self, store: Store) -> set[str]:
+        """The other sets at a server that have a package in common with this one."""
+        tags = store.found("/names", {"name": PACKAGE}, "tags")
+        own = set(self.head.packages)
+        found = {tag["project"].removesuffix(PARTS) for tag in tags if package_of(tag) in own}
+        return found - {self.head.name}
+
+    def wanted(self, store: Store) -> list[str]:
+        """The projects of the surface that a server is to have."""
+        is_wanted = not self.only_joined or self.joined_sets(store)
+        return self.head.surface_projects() if is_wanted else []
+
+    def note_lacking(self) -> None:
+        """Notes the sets elsewhere whose surfaces the home should have and hasn't."""
+        there = self.store.projects()
+        for store in self.others if self.only_joined else []:
+            for name in sorted(self.joined_sets(store)):
+                head = store.head(name)
+                if head is not None and not set(head.surface_projects()) <= there.keys():
+                    self.lacking.append(name)
+
+    def put_surface(self, claim: Claim, store: Store) -> None:
+        """Puts the parts of the surface that a server is to have and hasn't."""
+        there, wanted = store.projects(), self.wanted(store)
+        for part in self.head.surface:
+            if part.project in wanted and part.project not in there:
+                claim.renew()
+                files = {"lsif": surface_file(self.surface, part.project)}
+                body = self.bodies_of(part.project, files)["lsif"]
+                store.put(part.project, "lsif", body, secrets.token_hex(16), self.head.profile)
+
+    def remove_old(self, claim: Claim, old: Optional[Head]) -> None:
+        """Removes the old parts at the home, and those of the surface that aren't wanted on each
+        server."""
+        self.done.clear()
+        with self.told(self.store):
+            super().remove_old(claim, old)
+            self.remove_others(claim, self.store, SURFACE + DIGITS, [])
+        # where the front was asked it's sure that the set itself is nowhere else any more
+        ends = f"({SURFACE})?{DIGITS}|{PARTS}|{CLAIM}" if self.front else SURFACE + DIGITS
+        for store in self.others:
+            with self.told(store):
+                self.remove_others(claim, store, ends, self.wanted(store))
+        self.note_lacking()
+
+    def remove_others(self, claim: Claim, store: Store, ends: str, wanted: list[str]) -> None:
+        """Removes the projects of the set with these ends from a server, but for some."""
+        form = re.compile(f"{re.escape(self.head.name)}({ends})")
+        for project in sorted(store.projects()):
+            if form.fullmatch(project) and project not in wanted:
+                claim.renew()
+                store.remove(project)
+
+    @contextmanager
+    def told(self, store: Store) -> Iterator[None]:
+        """Notes that a server is done; a fault of one says which are, and that the next publish
+        goes on from there."""
+        try:
+            yield
+        except NoReply as fault:
+            done = ", ".join(self.done) or "none"
+            state = "switched" if self.is_switched else "as it was"
+            where = "" if str(fault).startswith(store.server) else f"{store.server}: "
+            raise NoReply(
+                f"{where}{fault}; servers done: {done}; the set is {state}, publish again"
+            ) from None
+        if store.server not in self.done:
+            self.done.append(store.server)

@@ -1,0 +1,1 @@
+"""A set of a dump that is too large for one project."""

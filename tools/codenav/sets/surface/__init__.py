@@ -1,0 +1,1 @@
+"""What other servers need of a set."""

@@ -1,0 +1,230 @@
+"""Writes the surface of a prepared dump: what other projects can find of it, as a dump of its own.
+
+On a server that hasn't the project its surface stands in its place for all that are joined to it:
+they find the same places and hovers in it as in the whole. Its documents have the addresses of the
+project's, and those ranges alone that are places of what others find. No range in them has results
+or monikers, so a question that is asked there is answered by nothing. A surface over the server's
+limits is split as a dump is.
+"""
+
+import argparse
+import gc
+import os
+import sys
+from array import array
+from itertools import groupby
+from typing import BinaryIO, Iterator, Optional, cast
+
+from codenav.cli.ends import status_of
+from codenav.client.upload import body_of
+from codenav.dumps.tables.graph import (
+    ASKED,
+    EDGES,
+    HOVER,
+    NONE,
+    REFERENCES,
+    RESULTS,
+    Graph,
+    read_graph,
+)
+from codenav.faults import BadCall, NotADump
+from codenav.files import whole_file
+from codenav.limits import excesses
+from codenav.sets.split.part import ROLE_NAMES, Lines, as_text
+from codenav.sets.surface.found import Bearer, bearers, led_to
+
+TOOL = "surface-lsif"
+PROGRESS_BYTES = 5_000_000
+
+
+class Surface:
+    """The surface of a dump, which is written element by element."""
+
+    def __init__(self, graph: Graph, dump: BinaryIO, out: BinaryIO) -> None:
+        self.graph, self.dump, self.out = graph, dump, out
+        self.lines = Lines(graph, dump)
+        self.bytes, self.longest = 0, 0
+        self.bearers = list(bearers(graph))
+        shown = {result for bearer in self.bearers for _, result in bearer.results}
+        self.results = led_to(graph, shown)
+        self.items = sorted({item for item in graph.items if item >> 33 in self.results})
+        self.ranges = array("i", [0]) * len(graph.start)
+        self.own_results: dict[int, int] = {}
+        self.monikers: dict[int, int] = {}
+        self.packages: dict[tuple[str, str, str], int] = {}
+
+    def joined_packages(self) -> tuple[str, ...]:
+        """The packages that the dump imports or exports something of, an empty text where a key has
+        none."""
+        graph = self.graph
+        numbers = {
+            number
+            for number, (_, _, kind) in zip(graph.package_of, graph.monikers)
+            if kind != "local"
+        }
+        texts = {"" if own == NONE else " ".join(graph.packages[own]) for own in numbers}
+        return tuple(sorted(texts))
+
+    def write(self) -> None:
+        """Writes the surface."""
+        self.lines.vertex("metaData", ',"version":"0.6.0","positionEncoding":"utf-16"')
+        self.project = self.lines.vertex("project", ',"kind":"surface"')
+        self.write_documents()
+        self.write_results()
+        self.write_leads()
+        self.write_monikers()
+        for bearer in self.bearers:
+            self.write_bearer(bearer)
+            self.flush()
+        self.flush()
+
+    def flush(self) -> None:
+        """Hands the lines on to the file."""
+        body = "".join(line + "\n" for line in self.lines.lines).encode("utf-8", "surrogatepass")
+        self.longest = max(self.longest, max(map(len, body.split(b"\n"))))
+        self.bytes += len(body)
+        self.out.write(body)
+        self.lines.lines.clear()
+
+    def write_documents(self) -> None:
+        """The documents that have a place, each with these ranges."""
+        home = self.graph.home
+        mask = (1 << 32) - 1
+        places = sorted({item & mask for item in self.items}, key=lambda own: (home[own], own))
+        for document, group in groupby(places, key=home.__getitem__):
+            if document == NONE:
+                raise NotADump("a range is contained in no document (E01)")
+            own = self.lines.vertex("document", f',"uri":{as_text(self.graph.uris[document])}')
+            ranges = list(group)
+            first = self.lines.ranges(ranges)
+            self.lines.edges("contains", own, range(first, first + len(ranges)))
+            for number, place in enumerate(ranges, first):
+                self.ranges[place] = number
+            self.flush()
+
+    def write_results(self) -> None:
+        """The results, with their places."""
+        for result in sorted(self.results):
+            request = self.graph.request_of[result]
+            if request == HOVER:
+                self.own_results[result] = self.lines.hover(result)
+            else:
+                self.own_results[result] = self.lines.vertex(RESULTS[request])
+            self.flush()
+        mask = (1 << 32) - 1
+        for slot, group in groupby(self.items, key=lambda item: item >> 32):
+            result, role = divmod(slot, 2)
+            more = f',"shard":{self.project}'
+            if self.graph.request_of[result] == REFERENCES:
+                more = f',"property":"{ROLE_NAMES[role]}"{more}'
+            ends = [self.ranges[item & mask] for item in group]
+            self.lines.edges("item", self.own_results[result], ends, more)
+            self.flush()
+
+    def write_leads(self) -> None:
+        """Which results have the places of others too."""
+        more = f',"property":"referenceResults","shard":{self.project}'
+        for result in sorted(self.results & self.graph.leads.keys()):
+            ends = [self.own_results[other] for other in dict.fromkeys(self.graph.leads[result])]
+            self.lines.edges("item", self.own_results[result], ends, more)
+            self.flush()
+
+    def write_monikers(self) -> None:
+        """The monikers of what others find, and those that are joined to them."""
+        todo = list(dict.fromkeys(own for bearer in self.bearers for own in bearer.monikers))
+        found = dict.fromkeys(todo)
+        for own in todo:
+            others = [other for other in self.attached(own) if other not in found]
+            found.update(dict.fromkeys(others))
+            todo += others
+        for own in sorted(found):
+            self.write_moniker(own)
+        for own in sorted(found):
+            for other in self.attached(own):
+                if own < other:
+                    self.lines.edge("attach", self.monikers[own], self.monikers[other])
+            self.flush()
+
+    def attached(self, own: int) -> Iterator[int]:
+        """The monikers that are joined to one, each once."""
+        return iter(dict.fromkeys(self.graph.attached.get(own, ())))
+
+    def write_moniker(self, own: int) -> None:
+        """A moniker with its package."""
+        scheme, identifier, kind = self.graph.monikers[own]
+        members = f',"scheme":{as_text(scheme)},"identifier":{as_text(identifier)}'
+        self.monikers[own] = self.lines.vertex("moniker", f',"kind":"{kind}"{members}')
+        package = self.graph.package_of[own]
+        if package != NONE:
+            target = self.package(self.graph.packages[package])
+            self.lines.edge("packageInformation", self.monikers[own], target)
+
+    def package(self, package: tuple[str, str, str]) -> int:
+        """What is said of a package, which is written once."""
+        if package not in self.packages:
+            self.packages[package] = self.lines.package(package)
+        return self.packages[package]
+
+    def write_bearer(self, bearer: Bearer) -> None:
+        """A result set, on no range's chain, that others find in a vertex's place."""
+        own = self.lines.vertex("resultSet")
+        for request, result in bearer.results:
+            self.lines.edge(EDGES[request], own, self.own_results[result])
+        for moniker in bearer.monikers:
+            self.lines.edge("moniker", own, self.monikers[moniker])
+
+
+def write_surface(source: BinaryIO, name: str, profile: str, target: str) -> tuple[int, Surface]:
+    """Writes the surface of a dump into a file; answers how many elements the dump has, and the
+    surface. Raises NotADump."""
+    is_long = os.fstat(source.fileno()).st_size > PROGRESS_BYTES and sys.stderr.isatty()
+    source.seek(0)
+    graph = read_graph(source, name, profile, is_long, TOOL)
+    with whole_file(target) as out:
+        surface = Surface(graph, source, out)
+        surface.write()
+    return graph.elements, surface
+
+
+def made(call: argparse.Namespace) -> int:
+    """Writes the surface that the command line names; answers the status."""
+    name = "standard input" if call.input == "-" else call.input
+    try:
+        with body_of(call.input) as source:
+            elements, surface = write_surface(
+                cast(BinaryIO, source), name, call.profile, call.output
+            )
+    except NotADump as fault:
+        raise BadCall(str(fault)) from None
+    lines = surface.lines
+    print(f"{TOOL}: elements {elements} -> {lines.count}", file=sys.stderr)
+    over = excesses(lines.count, surface.bytes, surface.longest)
+    for line in over:
+        print(f"{TOOL}: {line}; split-lsif splits it", file=sys.stderr)
+    return 1 if over else 0
+
+
+def words_parser() -> argparse.ArgumentParser:
+    """What the command line may be."""
+    parser = argparse.ArgumentParser(
+        prog=TOOL,
+        description=__doc__,
+        formatter_class=argparse.RawDescriptionHelpFormatter,
+        epilog="status: 0; 1 where what was written is over a limit of the server; 2 where nothing was written",
+    )
+    parser.add_argument(
+        "--profile", choices=list(ASKED), default="1", help="how the dump is read, 1 without it"
+    )
+    parser.add_argument(
+        "input", metavar="IN", help="the prepared dump, or - for the standard input"
+    )
+    parser.add_argument("output", metavar="OUT", help="the surface, or - for the standard output")
+    return parser
+
+
+def main(words: Optional[list[str]] = None) -> int:
+    """Reads the command line; answers 0, 1 where the surface is over the limits, and 2 where
+    nothing was written."""
+    call = words_parser().parse_args(words)
+    gc.disable()
+    return status_of(TOOL, lambda: made(call))

@@ -1,0 +1,1 @@
+"""What is asked, and by what, of a file of settings."""

@@ -1,0 +1,1 @@
+"""A file's text, and where its places are today."""

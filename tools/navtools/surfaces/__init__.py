@@ -1,1 +1,0 @@
-"""What other servers have of a project or a set: its surface."""
