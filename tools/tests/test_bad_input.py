@@ -10,7 +10,8 @@ from contextlib import redirect_stderr, redirect_stdout
 from typing import Callable, Optional
 
 from codenav.cli import ask
-from codenav.client import projects, remove, upload
+from codenav.cli.projects import LIST, REMOVE
+from codenav.client import upload
 from codenav.dumps.check import explain, why
 from codenav.dumps.prepare import prepare
 from codenav.dumps.scip import to_lsif as scip_to_lsif
@@ -183,8 +184,8 @@ class Servers(unittest.TestCase):
             cases: list[tuple[str, Main, list[str]]] = [
                 ("ask", ask.main, ["app", "names", "f"]),
                 ("ask", ask.main, ["app", "definition", file, "18", "12"]),
-                ("list", projects.main, []),
-                ("remove", remove.main, ["app"]),
+                ("list", LIST.main, []),
+                ("remove", REMOVE.main, ["app"]),
                 ("upload-lsif", lambda words: upload.main("lsif", words), ["app", RAW]),
                 ("upload-tags", lambda words: upload.main("tags", words), ["app", RAW]),
             ]
@@ -193,7 +194,9 @@ class Servers(unittest.TestCase):
                     server = f"http://127.0.0.1:{peer.port}"
                     found = called(main, server, *words)
                 self.assertEqual((found[0], found[1], found[2].count("\n")), (2, "", 1), found)
-                self.assertRegex(found[2], f"^{tool}: {server}: .*{said.rstrip(' ').rstrip('$')}")
+                self.assertRegex(
+                    found[2], f"^(?:codenav )?{tool}: {server}: .*{said.rstrip(' ').rstrip('$')}"
+                )
 
     def test_a_proxy_before_publish(self) -> None:
         """What it refuses of an upload is its line too, behind those of the stages."""

@@ -30,10 +30,6 @@ LAYERS = {
 IMPORTS = """
 browse.answers -> cli.ask
 browse.command -> cli.options
-client.projects -> cli.ends
-client.projects -> cli.options
-client.remove -> cli.ends
-client.remove -> cli.options
 client.upload -> cli.ends
 client.upload -> cli.options
 client.upload -> dumps.lsif.reading
@@ -80,10 +76,6 @@ USES = """
 asking.by_name: argparse
 browse.command: argparse
 browse.command: print
-client.projects: argparse
-client.projects: print
-client.remove: argparse
-client.remove: print
 client.upload: argparse
 client.upload: print
 dumps.check.explain: argparse

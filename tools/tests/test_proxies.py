@@ -12,7 +12,8 @@ import unittest
 from contextlib import redirect_stderr
 
 from codenav.cli import ask
-from codenav.client import projects, remove, upload
+from codenav.cli.projects import LIST, REMOVE
+from codenav.client import upload
 from codenav.dumps.prepare import prepare
 from codenav.program import ended, free_port
 from codenav.publishing import publish
@@ -134,8 +135,8 @@ class Proxies(OnServer):
             ),
             ("ask", ask.main, ["app", "definition", *place], 0),
             ("ask", ask.main, ["--tags", f"app={CRATE}", "app", "names", "is_warm"], 0),
-            ("list", projects.main, [], 0),
-            ("remove", remove.main, ["none"], 1),
+            ("list", LIST.main, [], 0),
+            ("remove", REMOVE.main, ["none"], 1),
         ]
 
     def each(self, server: str, refusals: dict[str, str], **variables: str) -> None:
@@ -178,7 +179,7 @@ class Proxies(OnServer):
                 found = called(publish.main, *words, server, "app", CRATE)
                 self.assertEqual((found[0], found[1][:14]), (0, "uploaded app: "), found)
             with self.subTest("a certificate", proxy=name), environment():
-                said = called(projects.main, login)
+                said = called(LIST.main, login)
                 text = "its certificate isn't trusted: self-signed certificate\n"
                 self.assertEqual(said, (2, "", f"list: {login}: {text}"))
 

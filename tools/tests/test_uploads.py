@@ -13,7 +13,8 @@ from contextlib import redirect_stderr, redirect_stdout
 from typing import Callable
 from unittest import mock
 
-from codenav.client import projects, remove, upload
+from codenav.cli.projects import LIST, REMOVE
+from codenav.client import upload
 from codenav.client.http import address, found_in, request
 from codenav.program import serving
 from tests.repository import git_in
@@ -62,7 +63,7 @@ class Uploads(OnServer):
         that it succeeds."""
         url = url or self.url
         if call == "-":
-            self.assertEqual(called(remove.main, *words, url, "app"), (0, "app: removed\n", ""))
+            self.assertEqual(called(REMOVE.main, *words, url, "app"), (0, "app: removed\n", ""))
             return
         part = "tags" if call.endswith("tags") else "lsif"
         status, said, _ = called(MAINS[part], *words, url, "app", self.files[call])
@@ -194,8 +195,8 @@ class Uploads(OnServer):
         self.make("Atags")
         for name in "zb":
             self.assertEqual(called(MAINS["lsif"], self.url, name, self.files["A"])[0], 0)
-        self.assertEqual(called(projects.main, self.url), (0, "app: tags\nb: dump\nz: dump\n", ""))
-        status, said, _ = called(projects.main, "--json", self.url)
+        self.assertEqual(called(LIST.main, self.url), (0, "app: tags\nb: dump\nz: dump\n", ""))
+        status, said, _ = called(LIST.main, "--json", self.url)
         self.assertEqual(
             (status, json.loads(said)["projects"][:2]),
             (
@@ -214,18 +215,18 @@ class Uploads(OnServer):
             (["app"], (1, "app: has neither a dump nor tags\n", "")),
             (["--json", "app"], (1, '{"removed":false}\n', "")),
         ):
-            self.assertEqual(called(remove.main, self.url, *words), wanted)
+            self.assertEqual(called(REMOVE.main, self.url, *words), wanted)
         self.make("A")
         self.assertEqual(
-            called(remove.main, "--json", self.url, "app"), (0, '{"removed":true}\n', "")
+            called(REMOVE.main, "--json", self.url, "app"), (0, '{"removed":true}\n', "")
         )
 
     def test_the_address_of_the_environment(self) -> None:
         with mock.patch.dict(os.environ, {"CODENAV_URL": self.url}):
             self.assertEqual(called(MAINS["lsif"], "--key", "k", "app", self.files["A"])[0], 0)
-            self.assertEqual(called(projects.main)[:2], (0, "app: dump\n"))
-            self.assertEqual(called(remove.main, "--retry", "app")[0], 0)
-            self.assertEqual(called(remove.main, "http://127.0.0.1:1", "app")[0], 2)
+            self.assertEqual(called(LIST.main)[:2], (0, "app: dump\n"))
+            self.assertEqual(called(REMOVE.main, "--retry", "app")[0], 0)
+            self.assertEqual(called(REMOVE.main, "http://127.0.0.1:1", "app")[0], 2)
 
 
 if __name__ == "__main__":

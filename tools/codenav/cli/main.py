@@ -10,12 +10,13 @@ from codenav.faults import BadCall
 
 
 class Tool(NamedTuple):
-    """A tool: its module, whose `main` is called, with what stands before the words, and what it
-    does."""
+    """A tool: its module, what it does, and the name of its `Command` there; without one the
+    module's `main` is called, with what stands before the words."""
 
     module: str
     text: str
     first: tuple[str, ...] = ()
+    command: str = ""
 
 
 PACKAGES = {"google": "python3-protobuf"}
@@ -32,8 +33,8 @@ TOOLS = {
     "publish-set": Tool("sets.publish.publish", "put a split dump on a server"),
     "upload-lsif": Tool("client.upload", "upload a dump", ("lsif",)),
     "upload-tags": Tool("client.upload", "upload a tags file", ("tags",)),
-    "remove": Tool("client.remove", "remove a project"),
-    "list": Tool("client.projects", "list the projects of a server"),
+    "remove": Tool("cli.projects", "remove a project", command="REMOVE"),
+    "list": Tool("cli.projects", "list the projects of a server", command="LIST"),
     "ask": Tool("cli.ask", "ask what is at a place, or for a name"),
     "lsp": Tool("lsp.bridge", "serve an editor by the Language Server Protocol"),
     "browse": Tool("browse.command", "show a folder's files as web pages with answers"),
@@ -58,13 +59,15 @@ def main_of(name: str) -> Callable[[list[str]], int]:
     """What a tool is called by. Raises BadCall where it needs a package that isn't installed."""
     tool = TOOLS[name]
     try:
-        call = importlib.import_module(f"codenav.{tool.module}").main
+        module = importlib.import_module(f"codenav.{tool.module}")
     except ModuleNotFoundError as fault:
         package = PACKAGES.get((fault.name or "").partition(".")[0])
         if package is None:
             raise
         raise BadCall(f"it needs Debian's {package}, which isn't installed") from None
-    return lambda words: int(call(*tool.first, words))
+    if tool.command:
+        return lambda words: int(getattr(module, tool.command).main(words))
+    return lambda words: int(module.main(*tool.first, words))
 
 
 def main(words: Optional[list[str]] = None) -> int:

@@ -73,11 +73,15 @@ def first_place(parser: argparse.ArgumentParser, words: list[str]) -> int:
     return min(index, len(words))
 
 
-def parsed(parser: argparse.ArgumentParser, words: Optional[list[str]]) -> argparse.Namespace:
-    """What a command line says. The server's address is that of CODENAV_URL where a project's name,
-    or nothing, stands in its place."""
-    words = sys.argv[1:] if words is None else words
+def with_server(parser: argparse.ArgumentParser, words: list[str]) -> list[str]:
+    """The words of a call whose first word is the address of a server: that of CODENAV_URL where a
+    project's name, or nothing, stands in its place."""
     url, at = os.environ.get("CODENAV_URL"), first_place(parser, words)
     if url and (at == len(words) or PROJECT.fullmatch(words[at])):
-        words = [*words[:at], url, *words[at:]]
-    return parser.parse_args(words)
+        return [*words[:at], url, *words[at:]]
+    return words
+
+
+def parsed(parser: argparse.ArgumentParser, words: Optional[list[str]]) -> argparse.Namespace:
+    """What a command line says, of which the first word is the address of a server."""
+    return parser.parse_args(with_server(parser, sys.argv[1:] if words is None else words))

@@ -1,14 +1,10 @@
-"""Lists the projects of a server, and what each has: a dump, tags, or both."""
+"""The projects of a server: which there are, and removing one."""
 
-import argparse
-import json
-from typing import Any, Optional
+from typing import Any
 
-from codenav.cli.ends import status_of
-from codenav.cli.options import add_server, parsed
-from codenav.client.http import address, found_in, request
+from codenav.client.http import address, found_in, request, request_again
+from codenav.client.upload import fresh_key
 from codenav.faults import NoReply
-from codenav.names import server_of
 
 
 def listed(server: str) -> list[dict[str, Any]]:
@@ -22,26 +18,7 @@ def listed(server: str) -> list[dict[str, Any]]:
     return found
 
 
-def line_of(project: dict[str, Any]) -> str:
-    """What is printed of a project."""
-    parts = [part for part in ("dump", "tags") if project.get(part)]
-    return f"{project['name']}: {' and '.join(parts)}"
-
-
-def made(call: argparse.Namespace) -> int:
-    """Prints the list."""
-    projects = listed(server_of(call.url))
-    if call.json:
-        print(json.dumps({"projects": projects}, separators=(",", ":")))
-    for project in () if call.json else projects:
-        print(line_of(project))
-    return 0
-
-
-def main(words: Optional[list[str]] = None) -> int:
-    """Answers 0, and 2 at a fault."""
-    parser = argparse.ArgumentParser(prog="list", description=__doc__)
-    parser.add_argument("--json", action="store_true", help="print the list as the server has it")
-    add_server(parser)
-    call = parsed(parser, words)
-    return status_of("list", lambda: made(call))
+def removed(server: str, project: str, retry: bool = False) -> bool:
+    """Removes a project; answers whether there was a dump or tags."""
+    url = address(server, f"/projects/{project}", {"key": fresh_key("remove")})
+    return found_in(request_again(url, "DELETE", retry=retry), "removed") is True
