@@ -20,7 +20,12 @@ from typing import Iterator
 from codenav.program import free_port
 from tests.servers import NOT_BUILT, TOP, built_program
 
-PAGES = sorted(glob.glob("*.md", root_dir=TOP)) + sorted(glob.glob("docs/*.md", root_dir=TOP))
+PAGES = [
+    page
+    for folder in ("*.md", "docs/*.md", "docs/inside/*.md")
+    for page in sorted(glob.glob(folder, root_dir=TOP))
+]
+MOST_WORDS = 40_000
 LONGEST_LINE = 100
 MOST_LINES = 120
 LINK = re.compile(r"\]\(([^)\s]*)\)")
