@@ -30,7 +30,7 @@ FENCE = re.compile(r"^ *```", re.MULTILINE)
 
 FILE = re.compile(
     r"[\w.+-]+(?:/[\w.+-]+)*\.(?:rt|antt|py|sh|md|json|toml|lsif|scip|tags|http|replies|png|svg|lua|edit|rs|txt|yml)"
-    r"|(?:tools|bench|docs|demo|crates|edits|packaging)/[\w./-]*"
+    r"|(?:tools|bench|checks|docs|demo|crates|edits|packaging)/[\w./-]*"
 )
 # Files of other programs, of the toolchain, or that a reader makes.
 ELSEWHERE = {

@@ -1,6 +1,16 @@
-"""Runs the program over a file system that fills up, and over paths that are no database: see
-bench/full_disk.sh."""
+"""Shows what `codenav serve` does over a disk that fills up, and over paths that are no database.
 
+The disk is a file system of 8 MB in memory (tmpfs), and one in a file (ext4 on a loop device) where
+that can be had. Uploads go on until one is refused; then what was accepted before must answer, or
+be refused by S01, and be there after a kill, after an end and at last; when there is room again,
+since another file was removed, the refused upload must be accepted. Removals on the full disk, and
+uploads after these, are shown too. Then what `serve` does where the path is no file, no database,
+one that may not be written, or one that another program has: it must end by one line on the
+standard error and status 2, or serve. Each request and each start has a time limit, so nothing may
+hang. The script alone sees the file systems. As root it tries the loop device and another user too.
+"""
+
+import argparse
 import os
 import pathlib
 import shutil
@@ -32,6 +42,8 @@ from watched import (
 )
 
 SIZE = 8 * 1024 * 1024
+# says in the environment that the process has file systems of its own
+OWN_MOUNTS = "CODENAV_OWN_MOUNTS"
 # What is given back first has to hold what the file lacks of its log, up to some 4 MB: before the
 # log can be copied into the file, nothing is accepted.
 FILLERS = [2_500_000, 1_000_000, 1_000_000]
@@ -564,13 +576,27 @@ def row(*cells: object) -> None:
 
 
 def main() -> int:
+    """Starts itself again where its file systems are seen by nobody else, and tries the program."""
+    options = argparse.ArgumentParser(
+        description=__doc__, formatter_class=argparse.RawDescriptionHelpFormatter
+    )
+    options.add_argument("program", help="the built one, as crates/codenav/out/codenav")
+    program = os.path.realpath(options.parse_args().program)
+    if os.environ.get(OWN_MOUNTS) == "yes":
+        return tried(program)
+    as_root = [] if os.getuid() == 0 else ["--map-root-user"]
+    words = ["unshare", "--mount", *as_root, sys.executable, "-B", __file__, program]
+    os.execvpe(words[0], words, {**os.environ, OWN_MOUNTS: "yes"})
+
+
+def tried(program: str) -> int:
     """Prints the tables; answers 0 where nothing was lost and nothing hung."""
     faults: list[str] = []
     uploads = cases = 0
     with tempfile.TemporaryDirectory() as name:
         folder = pathlib.Path(name)
         folder.chmod(0o755)
-        program = shutil.copy(sys.argv[1], folder / "codenav")
+        program = str(shutil.copy(program, folder / "codenav"))
         os.chmod(program, 0o755)
         for kind in "tmpfs", "ext4":
             print(
@@ -579,7 +605,7 @@ def main() -> int:
             )
             try:
                 with mounted(kind, folder) as disk:
-                    uploads += fills_up(str(program), disk, row)
+                    uploads += fills_up(program, disk, row)
             except Missing as fault:
                 row(f"no {kind} here", fault)
             except (Wrong, OSError, sqlite3.Error) as fault:
@@ -589,7 +615,7 @@ def main() -> int:
             place = folder / f"case_{number}"
             place.mkdir()
             try:
-                text, status = act(Case(str(program), place))
+                text, status = act(Case(program, place))
                 row(what, text, status)
                 cases += 1
                 if wanted not in (None, text) or status != (0 if text.startswith("serves") else 2):

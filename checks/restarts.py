@@ -1,8 +1,6 @@
 """Requests that are lost while the server is restarted behind a front: clients that never send
 again, each answer compared, and the server ended 20 times.
 
-usage: bench/restarts.py [--front lua|haproxy|none] [--ends KILL,TERM|requests] [--count N] PROGRAM
-
 24 clients: 16 read a definition, 2 a hover of 300,000 bytes, 4 put, read and remove projects of
 their own, and 2 the same with dumps of 400,000 bytes. The server is ended by signals in turn, or by
 itself after 300 requests, and is started again 0.2 seconds later. `none` asks the server itself.

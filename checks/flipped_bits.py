@@ -1,8 +1,6 @@
 """What becomes of one bit that's flipped in a database between two runs: by the digest that
 `supervise` keeps, and without it.
 
-usage: bench/flipped_bits.py [--count N] [--seed N] PROGRAM
-
 A file of some 2 MB is made by uploads. A copy of it with one bit flipped at random is compared with
 its digest, then opened by the program, and asked 40 queries. Without the digest it's refused at the
 start, or answers S01 to some, or all as before, or some of them wrongly. Status 1 where the digest
@@ -18,17 +16,12 @@ import sys
 import tempfile
 from collections import Counter
 
-import servers  # noqa: F401  (the path of the tools)
-from watched import at, dump, tags
+from watched import at, dump, request, tags
 
 from codenav.service import digests
 
 PROJECTS, FUNCTIONS, TAGS, QUERIES = 4, 600, 400, 40
 KINDS = "definition", "references", "hover"
-
-
-def request(method: str, path: str, body: bytes = b"") -> bytes:
-    return f"{method} {path} HTTP/1.1\r\nContent-Length: {len(body)}\r\n\r\n".encode() + body
 
 
 def replies(program: str, database: str, stream: str) -> list[bytes]:

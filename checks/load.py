@@ -1,18 +1,14 @@
-"""Clients that ask a front all the time and compare every answer; none of them sends again. What
-bench/restarts.py and bench/soak.py share."""
+"""Clients that ask a front all the time and compare every answer; none of them sends again."""
 
 import asyncio
 import collections
 import json
-import pathlib
 import ssl
-import sys
 import time
 from dataclasses import dataclass, field
 from typing import Callable, Optional
 
-TOP = pathlib.Path(__file__).resolve().parent.parent
-sys.path.insert(0, str(TOP / "tools"))
+from watched import TOP
 
 from tests.fronts import USER, authorization
 

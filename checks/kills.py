@@ -1,6 +1,20 @@
-"""Kills a server at random moments, starts it again over the same file, and compares with a run
-without kills: see bench/kills.sh."""
+"""Shows that a killed server loses nothing and does nothing twice.
 
+`codenav serve` over a file takes uploads, removals and queries and is killed (`kill -9`) at so many
+random moments, most of them within a request; then it's started again over the same file, now and
+then to be killed before it listens. After each start each command that was answered must be in
+effect, with its kept reply byte for byte, and the one that got no answer is there whole or not at
+all. Those without an answer are sent again under their keys, and now and then, late, some that had
+one. At the end the file's answers must equal those of a run without kills, over memory, of the same
+commands, each once, in the order in which they took effect, and SQLite must find the file sound.
+
+The dumps have 26 to 10,878 elements, the tags files up to 3,000 tags. A kill ends the program and
+not the system: what a cut of the power leaves isn't shown. A third of the moments are any, a third
+about when the reply is due, a third when the log was just written. Times differ, so a seed doesn't
+repeat a run.
+"""
+
+import argparse
 import json
 import os
 import pathlib
@@ -508,11 +522,18 @@ def told(run: Run, size: int, equal: int) -> None:
 
 def main() -> int:
     """Answers 0 where nothing was lost and nothing done twice."""
-    program, count, seed = sys.argv[1], int(sys.argv[2]), int(sys.argv[3])
+    options = argparse.ArgumentParser(
+        description=__doc__, formatter_class=argparse.RawDescriptionHelpFormatter
+    )
+    options.add_argument("program", help="the built one, as crates/codenav/out/codenav")
+    options.add_argument("count", nargs="?", type=int, default=200, help="how many kills; 200")
+    options.add_argument("seed", nargs="?", type=int, help="a random one, which is printed")
+    given = options.parse_args()
+    seed = random.randrange(1 << 30) if given.seed is None else given.seed
     print(f"kills: seed {seed}", flush=True)
     folder = pathlib.Path(tempfile.mkdtemp())
     try:
-        kills(program, folder, count, seed)
+        kills(os.path.realpath(given.program), folder, given.count, seed)
     except (Wrong, OSError, sqlite3.Error) as fault:
         print(f"kills: {fault}; the file is kept in {folder}", file=sys.stderr)
         return 1

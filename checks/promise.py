@@ -1,14 +1,13 @@
 """Which definitions the promise of `replay` rests on, file by file, with their lines: what
 docs/DEFINITIONS.md says in its last part, which a test of the tools compares with this.
 
-usage: bench/promise.py [NAME..]   (default Replays; names of crates/codenav/specs/Replay.antt)
-
 A definition rests on each that its text names, in its file or by a `use` of it. Not counted are
 blank lines and comments, the types of the program itself (`specs.declared`), the libraries of the
 toolchain, and what stands in `specs/Steps`, whose definitions are listed below the table where one
 is named.
 """
 
+import argparse
 import re
 import sys
 from dataclasses import dataclass, field
@@ -136,10 +135,14 @@ def table(names: list[str]) -> list[str]:
 
 def main() -> int:
     """Prints the table, the sum, and what is named of `specs/Steps`."""
-    names = sys.argv[1:] or ["Replays"]
-    if any(name not in specs(REPLAY).lines for name in names):
-        print((__doc__ or "").strip())
-        return 2
+    options = argparse.ArgumentParser(
+        description=__doc__, formatter_class=argparse.RawDescriptionHelpFormatter
+    )
+    each = "a name of crates/codenav/specs/Replay.antt; Replays without it"
+    options.add_argument("names", nargs="*", metavar="NAME", help=each)
+    names = options.parse_args().names or ["Replays"]
+    if unknown := [name for name in names if name not in specs(REPLAY).lines]:
+        options.error(f"no definition {unknown[0]}")
     reached, steps = closure(names)
     print("\n".join(table(names)))
     print(f"{sum(counts(reached).values()):,} lines of {len(counts(reached))} files")

@@ -1,17 +1,29 @@
-"""What bench/kills.py and bench/full_disk.py share: a server whose every step has a time limit, and
-uploads that say which they are."""
+"""What the checks share: a server whose every step has a time limit, and uploads that say which they
+are."""
 
 import json
 import select
 import socket
 import subprocess
+import sys
 from dataclasses import dataclass
+from pathlib import Path
 from typing import Optional
 from urllib.parse import urlencode
+
+TOP = Path(__file__).resolve().parent.parent
+sys.path.insert(0, str(TOP / "tools"))
+
+from codenav.program import free_port
 
 SECONDS = 60
 FIRST_LINES = "!_TAG_FILE_FORMAT\t2\t//\n!_TAG_FILE_SORTED\t1\t//\n"
 APART = 8
+
+
+def tool(word: str, *words: str) -> list[str]:
+    """The words of a call of a tool."""
+    return [sys.executable, "-B", str(TOP / "tools" / word), *words]
 
 
 class Wrong(Exception):
@@ -38,14 +50,6 @@ class NotStarted(Exception):
 # ---- servers
 
 
-def free_port() -> int:
-    """A port of this machine that nobody listens on now."""
-    with socket.socket() as one:
-        one.bind(("127.0.0.1", 0))
-        port: int = one.getsockname()[1]
-    return port
-
-
 @dataclass
 class Server:
     process: "subprocess.Popen[bytes]"
@@ -62,18 +66,24 @@ class Server:
             _, error = self.process.communicate(timeout=seconds)
             raise NotStarted(error.decode(errors="replace"), self.process.returncode)
 
+    def connect(self, room: int = 0, seconds: float = SECONDS) -> socket.socket:
+        """A connection, each step of which has a time limit, and whose client has so much room for
+        what it hasn't read yet."""
+        peer = socket.socket()
+        if room:
+            peer.setsockopt(socket.SOL_SOCKET, socket.SO_RCVBUF, room)
+        peer.settimeout(seconds)
+        peer.connect(("127.0.0.1", self.port))
+        return peer
+
     def ask(self, method: str, path: str, body: bytes = b"") -> bytes:
         """The reply to a request, as it's written."""
-        text = (
-            f"{method} {path} HTTP/1.1\r\nHost: localhost\r\nContent-Length: {len(body)}\r\n\r\n".encode()
-            + body
-        )
         connected, sent, reply = False, False, b""
         try:
-            with socket.create_connection(("127.0.0.1", self.port), SECONDS) as peer:
+            with self.connect() as peer:
                 connected = True
                 try:
-                    peer.sendall(text)
+                    peer.sendall(request(method, path, body))
                     sent = True
                 except (BrokenPipeError, ConnectionResetError):
                     pass
@@ -87,6 +97,15 @@ class Server:
             raise NoReply(connected, sent)
         return reply
 
+    def end(self, seconds: float = SECONDS) -> tuple[str, str, int]:
+        """What else it prints, and its status, where it ends within so many seconds."""
+        try:
+            output, error = self.process.communicate(timeout=seconds)
+        except subprocess.TimeoutExpired:
+            self.kill()
+            raise Wrong(f"serve goes on after {seconds:.1f} seconds") from None
+        return output.decode(), error.decode(), self.process.returncode
+
     def kill(self) -> None:
         """Ends it by SIGKILL, where it still runs."""
         self.process.kill()
@@ -94,18 +113,19 @@ class Server:
 
 
 def launched(
-    program: str, database: str, before: tuple[str, ...] = (), requests: int = 1_000_000
+    program: str,
+    database: str,
+    before: tuple[str, ...] = (),
+    requests: int = 1_000_000,
+    env: Optional[dict[str, str]] = None,
 ) -> Server:
     """A server over a database, of so many requests, which may not listen yet; it's started by the
     words before it."""
     port = free_port()
     words = [*before, program, "serve", database, "--port", str(port), "--requests", str(requests)]
-    return Server(
-        subprocess.Popen(
-            words, stdin=subprocess.DEVNULL, stdout=subprocess.PIPE, stderr=subprocess.PIPE
-        ),
-        port,
-    )
+    pipe = subprocess.PIPE
+    process = subprocess.Popen(words, stdin=subprocess.DEVNULL, stdout=pipe, stderr=pipe, env=env)
+    return Server(process, port)
 
 
 def started(
@@ -114,9 +134,10 @@ def started(
     before: tuple[str, ...] = (),
     requests: int = 1_000_000,
     seconds: float = SECONDS,
+    env: Optional[dict[str, str]] = None,
 ) -> Server:
     """A server over a database that listens."""
-    server = launched(program, database, before, requests)
+    server = launched(program, database, before, requests, env)
     server.listens(seconds)
     return server
 
@@ -124,14 +145,16 @@ def started(
 def ended(server: Server) -> None:
     """Ends a server by SIGTERM, and waits for its end."""
     server.process.terminate()
-    try:
-        server.process.communicate(timeout=SECONDS)
-    except subprocess.TimeoutExpired:
-        server.kill()
-        raise Wrong(f"serve goes on {SECONDS} seconds after SIGTERM") from None
+    server.end()
 
 
-# ---- replies
+# ---- requests and replies
+
+
+def request(method: str, path: str, body: bytes = b"") -> bytes:
+    """A request, as it's written."""
+    head = f"{method} {path} HTTP/1.1\r\nHost: localhost\r\nContent-Length: {len(body)}\r\n\r\n"
+    return head.encode() + body
 
 
 def is_whole(reply: bytes) -> bool:

@@ -1,4 +1,3 @@
-#!/usr/bin/env python3
 """Migrates files that Debian's `sqlite3` made tables of format 1 of, and compares the answers.
 
 The program makes a file of format 2. Each case makes tables of format 1 of a copy, as a file made
@@ -15,7 +14,8 @@ import subprocess
 import sys
 import tempfile
 
-TOP = pathlib.Path(__file__).resolve().parent.parent
+from watched import TOP, Wrong, request, tool
+
 OLD = "DROP TABLE more; DROP TABLE part_profile; UPDATE format SET version = 1;"
 START = "CREATE INDEX range_by_start ON range_row (slot, uri, first, last DESC);"
 KEY = "CREATE INDEX bearer_by_key ON bearer (keytext, kind);"
@@ -44,24 +44,10 @@ CASES = {
 }
 
 
-class Wrong(Exception):
-    """The program did something else than it should."""
-
-
-def put(path: str, file: pathlib.Path) -> bytes:
-    """A request that uploads a file."""
-    body = file.read_bytes()
-    return (
-        b"PUT %s HTTP/1.1\r\nHost: localhost\r\nContent-Length: %d\r\n\r\n"
-        % (path.encode(), len(body))
-        + body
-    )
-
-
 def prepared(dump: str, folder: pathlib.Path) -> pathlib.Path:
     """The dump as the server accepts it."""
     out = folder / "prepared.lsif"
-    run([str(TOP / "tools/prepare-lsif"), str(TOP / dump), str(out)])
+    run(tool("prepare-lsif", str(TOP / dump), str(out)))
     return out
 
 
@@ -134,16 +120,21 @@ def make(program: str, made: pathlib.Path) -> bytes:
     paths = ["/projects", "/names?name=a", "/names?prefix=b", "/projects/user/profile"]
     for project in ("user", "crate"):
         dump = prepared(f"demo/{project}.raw.lsif", made.parent)
-        replies = replay(program, made, put(f"/projects/{project}/lsif?key=k", dump))
+        replies = replay(
+            program, made, request("PUT", f"/projects/{project}/lsif?key=k", dump.read_bytes())
+        )
         if b"accepted" not in replies:
             raise Wrong(f"{project}: {replies.decode()}")
         paths += queries_of(project, dump)
-    replay(program, made, put("/projects/tagged/tags?key=k", TOP / "demo/base.tags"))
-    return b"".join(b"GET %s HTTP/1.1\r\nHost: localhost\r\n\r\n" % path.encode() for path in paths)
+    tags = (TOP / "demo/base.tags").read_bytes()
+    replay(program, made, request("PUT", "/projects/tagged/tags?key=k", tags))
+    return b"".join(request("GET", path) for path in paths)
 
 
 def main() -> int:
-    parser = argparse.ArgumentParser(description=__doc__.splitlines()[0])
+    parser = argparse.ArgumentParser(
+        description=__doc__, formatter_class=argparse.RawDescriptionHelpFormatter
+    )
     parser.add_argument("program", help="the built program, as crates/codenav/out/codenav")
     program = str(pathlib.Path(parser.parse_args().program).resolve())
     with tempfile.TemporaryDirectory() as room:

@@ -1,7 +1,5 @@
-"""How late requests are while a service takes turns: 24 clients as in bench/restarts.py, over a
+"""How late requests are while a service takes turns: 24 clients as in checks/restarts.py, over a
 database of some size.
-
-usage: bench/turns.py [--projects N] [--turns N] PROGRAM
 
 The database has dumps of 3,001 functions, 37,000 elements each. Every answer is compared. Status 1
 where one was wrong, or a read waited for over half a second more than the longest did before the
@@ -19,9 +17,9 @@ import time
 from contextlib import ExitStack
 
 from load import Place, Seen, load
-from watched import dump
+from watched import dump, request, tool
 
-from codenav.client.http import request
+from codenav.client import http
 from codenav.program import free_port
 from codenav.service.folder import database_at
 from tests.fronts import fronted, lacking
@@ -32,10 +30,6 @@ BEFORE = 5
 READS = "definition", "long hover", "hover", "gone"
 
 
-def tool(name: str) -> list[str]:
-    return [sys.executable, "-B", os.path.join(os.path.dirname(__file__), "..", "tools", name)]
-
-
 def filled(program: str, folder: str, projects: int) -> int:
     """Makes the database, and answers its size."""
     os.makedirs(f"{folder}/a")
@@ -43,8 +37,7 @@ def filled(program: str, folder: str, projects: int) -> int:
     with open(f"{folder}/stream", "wb") as out:
         for number in range(projects):
             body = dump(f"p{number}", 1, FUNCTIONS)
-            head = f"PUT /projects/p{number}/lsif?key=k HTTP/1.1\r\nContent-Length: {len(body)}"
-            out.write(head.encode() + b"\r\n\r\n" + body)
+            out.write(request("PUT", f"/projects/p{number}/lsif?key=k", body))
     words = [program, "replay", database, f"{folder}/stream"]
     said = subprocess.run(words, check=True, capture_output=True).stdout
     if said.count(b"200 OK") != projects:
@@ -60,7 +53,7 @@ def reads(seen: Seen) -> float:
 def turn(folder: str, count: int) -> None:
     """Takes turns, one after the other."""
     for _ in range(count):
-        subprocess.run([*tool("turn"), folder], check=True, stdin=subprocess.DEVNULL)
+        subprocess.run(tool("turn", folder), check=True, stdin=subprocess.DEVNULL)
         time.sleep(1)
 
 
@@ -76,10 +69,10 @@ def trial(given: argparse.Namespace, stack: ExitStack) -> bool:
     front = stack.enter_context(fronted("lua", f"{base}/front", servers))
     words = ["--program", program, "--port", str(ports[0]), "--second-port", str(ports[1])]
     words += ["--front", f"http://127.0.0.1:{front.local}", folder]
-    service = subprocess.Popen([*tool("supervise"), *words], stdin=subprocess.DEVNULL)
+    service = subprocess.Popen(tool("supervise", *words), stdin=subprocess.DEVNULL)
     stack.callback(service.wait)
     stack.callback(service.terminate)
-    while request(f"http://127.0.0.1:{ports[0]}/projects", seconds=5).status != 200:
+    while http.request(f"http://127.0.0.1:{ports[0]}/projects", seconds=5).status != 200:
         time.sleep(0.1)
     place, until = Place(front.port, front.context()), time.monotonic() + BEFORE
     before = asyncio.run(load(place, "before", lambda: time.monotonic() > until))

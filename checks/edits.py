@@ -1,4 +1,6 @@
-"""Tries edits that the check must refuse, many in one check: see bench/edits.sh.
+#!/usr/bin/env python3
+"""Tries the edits that the check must refuse, those of edits/NAME beside those of
+crates/NAME/must-fail, in batches, and prints what refused each.
 
 A batch has edits of different functions. It's applied to a copy of the crate, and the functions that
 it changes are checked with what they call (`rattle check --only`), over what the batches before it
@@ -19,8 +21,7 @@ from concurrent.futures import ThreadPoolExecutor
 from typing import Optional
 
 from edit_files import TOP, BadEdit, Edit, Place, Tried, applied, batches_of, edits_of, module_of
-from kept_edits import KeptEdits
-from rooms import Libraries, Room, libraries, proved_again
+from rooms import KeptEdits, Libraries, Room, libraries, proved_again
 
 NOT_PROVED = re.compile(r"not proved|no proof")
 # With this alone the check hasn't tried the function's own goals: a function that it calls isn't
@@ -193,27 +194,21 @@ def try_all(stands_on: Libraries, edits: list[Edit], in_gate: bool, jobs: int) -
 
 def main() -> int:
     parser = argparse.ArgumentParser(
-        prog="bench/edits.sh", description="Tries the edits that the check must refuse, in batches."
+        description=__doc__, formatter_class=argparse.RawDescriptionHelpFormatter
     )
-    parser.add_argument(
-        "--fits",
-        action="store_true",
-        help="say which texts aren't there exactly once, and try nothing",
-    )
-    parser.add_argument(
-        "--gate",
-        action="store_true",
-        help="try the named edits, and a share of the others, over what `rt ci` left",
-    )
+    for option, text in (
+        (
+            "--fits",
+            "say which texts, there and in must-fail/, aren't in their file once; try nothing",
+        ),
+        ("--gate", "try the named edits, and a share of the others, over what `rt ci` left"),
+        ("--all", "try the edits of must-fail/ too"),
+    ):
+        parser.add_argument(option, action="store_true", help=text)
     parser.add_argument("--turn", type=int, help="the share of this number (default: by commits)")
     parser.add_argument("--jobs", type=int, default=1, help="so many crates at once")
-    parser.add_argument("--all", action="store_true", help="try the edits of must-fail/ too")
-    parser.add_argument(
-        "names",
-        nargs="*",
-        metavar="NAME",
-        help="a crate, or CRATE/EDIT for one of its edits (default: every crate)",
-    )
+    each = "a crate, or CRATE/EDIT for one of its edits, of must-fail/ too (default: every crate)"
+    parser.add_argument("names", nargs="*", metavar="NAME", help=each)
     words = parser.parse_args()
     stands_on = libraries()
     folders = [it.name for it in (TOP / "edits").iterdir()]

@@ -1,8 +1,6 @@
 """A service through restarts, turns and backups, beside a server that's never restarted: each
 answer is compared.
 
-usage: bench/soak.py [--restarts N] [--requests N] [--seed N] PROGRAM
-
 The same uploads, removals and queries go to a service behind the front of nginx with Lua, and to a
 server in memory. Meanwhile the service's server is ended by KILL and TERM, the service itself is
 killed, turns are taken and backups made, in turn. At the end both are asked for everything. Status
@@ -21,19 +19,17 @@ import threading
 import time
 from collections import Counter
 from contextlib import ExitStack
-from pathlib import Path
 
 from load import AT, Client, Place, Seen, hover_dump
+from watched import FIRST_LINES, SECONDS, tool
 
 from codenav.program import free_port, serving
 from codenav.service.folder import serving_of
 from tests.fronts import Front, fronted, lacking
 
-TOP = Path(__file__).resolve().parent.parent
 PROJECTS, CLIENTS = 40, 20
 GAP = 1.0
-SECONDS = 60
-TAGS = "!_TAG_FILE_FORMAT\t2\t//\n!_TAG_FILE_SORTED\t1\t//\nname_{0}\ta.c\t{0}\n"
+TAGS = FIRST_LINES + "name_{0}\ta.c\t{0}\n"
 
 
 class Service:
@@ -47,8 +43,8 @@ class Service:
         self.done: "Counter[str]" = Counter()
         self.process = self.started()
 
-    def called(self, tool: str, *words: str) -> "subprocess.Popen[bytes]":
-        command = [sys.executable, "-B", str(TOP / "tools" / tool), *words]
+    def called(self, word: str, *words: str) -> "subprocess.Popen[bytes]":
+        command = tool(word, *words)
         return subprocess.Popen(command, stdin=subprocess.DEVNULL, stdout=self.log, stderr=self.log)
 
     def started(self) -> "subprocess.Popen[bytes]":

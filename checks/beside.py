@@ -2,11 +2,9 @@
 
 The scripts ask, kill, fill and refuse the program, or try it in an editor or a browser.
 
-usage: bench/beside.py [--only NAME[,NAME..]] [--until FILE] PROGRAM
-
 Parts run side by side, one processor less than there are, and beside them the one that mostly
 waits; one that measures a time runs at the end, alone. The gate calls it beside `rt ci` and
-`bench/edits.py`: then one part runs at a time, what measures a time waits for their end, which the
+`checks/edits.py`: then one part runs at a time, what measures a time waits for their end, which the
 file says that has their last lines, and these are added to its own. What needs a program that isn't
 here is left out, and said, with the command that installs it. The last line is `N passed, M
 failed`, and the status is 1 where something failed.
@@ -27,6 +25,7 @@ from pathlib import Path
 from typing import Optional
 
 TOP = Path(__file__).resolve().parent.parent
+PYTHON = "python3", "-B"
 # the longest that a part may take, also on a slow machine: on four quiet processors all take ten
 # minutes at most
 SECONDS = 2400
@@ -59,22 +58,28 @@ def parts(program: str) -> list[Part]:
     """All parts, those that take longest first."""
     compiler = os.environ.get("CC", "cc")
     return [
-        Part("program", ("bench/program.sh", program), (compiler,), "gcc libc6-dev", waits=True),
+        Part(
+            "program",
+            (*PYTHON, "checks/program.py", program),
+            (compiler,),
+            "gcc libc6-dev",
+            waits=True,
+        ),
         Part(
             "tools",
-            ("python3", "-B", "-m", "unittest", "discover", "-s", "tests", "-t", "."),
+            (*PYTHON, "-m", "unittest", "discover", "-s", "tests", "-t", "."),
             packages="nginx libnginx-mod-http-lua haproxy openssl",
             folder="tools",
             some_need=("nginx", LUA_MODULE, "haproxy", "openssl"),
         ),
         Part(
             "refused",
-            ("bench/replay_refused_in_turn.sh", program, "1", "1000000", "50"),
+            (*PYTHON, "checks/refused.py", "--each", "50", program),
             (compiler,),
             "gcc libc6-dev",
         ),
-        Part("kills", ("bench/kills.sh", program, "40")),
-        Part("disk", ("bench/full_disk.sh", program), mounts=True),
+        Part("kills", (*PYTHON, "checks/kills.py", program, "40")),
+        Part("disk", (*PYTHON, "checks/full_disk.py", program), mounts=True),
         Part(
             "neovim",
             ("tools/tests/neovim", program),
@@ -174,8 +179,9 @@ def waited_for(file: str) -> str:
 
 def main() -> int:
     """Answers 0 where nothing failed."""
-    said = (__doc__ or "").strip().split("\n")
-    options = argparse.ArgumentParser(description=said[0])
+    options = argparse.ArgumentParser(
+        description=__doc__, formatter_class=argparse.RawDescriptionHelpFormatter
+    )
     options.add_argument("--only", help="these parts, by their names, with commas between them")
     options.add_argument(
         "--until",

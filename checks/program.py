@@ -1,6 +1,10 @@
-"""Runs the built program and compares what it prints, its status and the time that it takes: see
-bench/program.sh."""
+"""Asks of the built program what only its runs show: what each call prints, and its status; the line
+and the status of each fault; and how long a connection may take whose client is slow.
 
+It takes some two minutes, most of them of waiting.
+"""
+
+import argparse
 import os
 import pathlib
 import socket
@@ -14,7 +18,11 @@ import time
 from dataclasses import dataclass
 from typing import IO, Callable, Optional, Sequence, Union
 
-TOP = pathlib.Path(__file__).resolve().parent.parent
+from refused import built, refusing
+from watched import TOP, NotStarted, Server, Wrong, started
+
+from codenav.program import free_port
+
 BASE, EMPTY = "demo/base.lsif", "/dev/null"
 PROJECTS = b"GET /projects HTTP/1.1\r\n\r\n"
 NAMES = b"GET /names?prefix=n HTTP/1.1\r\n\r\n"
@@ -23,10 +31,6 @@ STORE, MEMORY = "codenav: store refused\n", "codenav: out of memory\n"
 FOREIGN, OLD = "codenav: not a codenav database\n", "codenav: database is of format 1\n"
 Word = Union[str, pathlib.Path]
 Words = Sequence[Union[Word, bytes]]
-
-
-class Wrong(Exception):
-    """The program did something else than it should."""
 
 
 def reply(status: str, body: str) -> str:
@@ -126,9 +130,11 @@ class Program:
         words: Words,
         stdout: Union[int, IO[bytes]] = subprocess.PIPE,
         timeout: float = 60,
-        env: Optional[dict[str, str]] = None,
+        refused: int = -1,
     ) -> tuple[str, str, int]:
-        """What a call prints, and its status; the base dump is its standard input."""
+        """What a call prints, and its status; the base dump is its standard input. Where a number is
+        given, its request for memory of that number is refused; with 0 they are counted."""
+        env = refusing(self.refuse, refused) if refused >= 0 else None
         with open(TOP / BASE, "rb") as given:
             done = subprocess.run(
                 [self.path, *words],
@@ -147,74 +153,23 @@ class Program:
         requests: int,
         before: tuple[str, ...] = (),
         database: str = ":memory:",
-        env: Optional[dict[str, str]] = None,
-    ) -> "Server":
+        refused: int = -1,
+    ) -> Server:
         """A server of so many requests, which has said that it listens; it's started by the words
-        before it."""
-        port = free_port()
-        words = [
-            *before,
-            self.path,
-            "serve",
-            database,
-            "--port",
-            str(port),
-            "--requests",
-            str(requests),
-        ]
-        process = subprocess.Popen(
-            words,
-            stdin=subprocess.DEVNULL,
-            stdout=subprocess.PIPE,
-            stderr=subprocess.PIPE,
-            env=env,
-        )
-        assert process.stdout is not None and process.stderr is not None
-        line = process.stdout.readline().decode()
-        if line != f"listening on 127.0.0.1:{port}\n":
-            process.kill()
-            raise Wrong(f"serve printed {line!r}, {process.stderr.read().decode()!r}")
-        return Server(process, port)
-
-
-@dataclass
-class Server:
-    process: subprocess.Popen[bytes]
-    port: int
-
-    def connect(self, room: int = 0) -> socket.socket:
-        """A connection, whose client has so much room for what it hasn't read yet."""
-        peer = socket.socket()
-        if room:
-            peer.setsockopt(socket.SOL_SOCKET, socket.SO_RCVBUF, room)
-        peer.connect(("127.0.0.1", self.port))
-        return peer
-
-    def ask(self, request: bytes, seconds: float = 60) -> str:
-        """What a connection is sent for a request, up to its end; each part of it within so many
-        seconds."""
-        with self.connect() as peer:
-            peer.settimeout(seconds)
-            peer.sendall(request)
-            return received(peer)
-
-    def end(self, seconds: float) -> tuple[str, str, int]:
-        """What else it prints, and its status, where it ends within so many seconds."""
+        before it, and where a number is given has its request for memory of that number refused."""
+        env = refusing(self.refuse, refused) if refused >= 0 else None
         try:
-            output, error = self.process.communicate(timeout=seconds)
-        except subprocess.TimeoutExpired:
-            self.process.kill()
-            self.process.communicate()
-            raise Wrong(f"serve goes on after {seconds:.1f} seconds") from None
-        return output.decode(), error.decode(), self.process.returncode
+            return started(self.path, database, before, requests, env=env)
+        except NotStarted as fault:
+            raise Wrong(str(fault)) from None
 
 
-def free_port() -> int:
-    """A port of this machine that nobody listens on now."""
-    with socket.socket() as one:
-        one.bind(("127.0.0.1", 0))
-        port: int = one.getsockname()[1]
-    return port
+def sent(server: Server, request: bytes, seconds: float = 60) -> str:
+    """What a connection is sent for a request, up to its end; each part of it within so many
+    seconds."""
+    with server.connect(seconds=seconds) as peer:
+        peer.sendall(request)
+        return received(peer)
 
 
 def received(peer: socket.socket) -> str:
@@ -237,11 +192,6 @@ def expect_same(what: str, found: str, wanted: str) -> None:
     raise Wrong(
         f"{what}: {len(found)} characters, {found[at : at + 80]!r}, not {len(wanted)}, {wanted[at : at + 80]!r}"
     )
-
-
-def refusing(program: Program, number: int) -> dict[str, str]:
-    """Has the program's request for memory of this number refused, or with 0 has them counted."""
-    return {**os.environ, "LD_PRELOAD": program.refuse, "REFUSED": str(number)}
 
 
 # ---- calls
@@ -319,16 +269,16 @@ def refused_memory(program: Program) -> None:
         ["check-tags", "demo/base.tags"],
         ["replay", ":memory:", EMPTY],
     ):
-        _, count, _ = program.run(words, env=refusing(program, 0))
+        _, count, _ = program.run(words, refused=0)
         expect(
             f"{words} with memory refused",
-            program.run(words, env=refusing(program, int(count))),
+            program.run(words, refused=int(count)),
             ("", MEMORY, 2),
         )
-    server = program.start(1, env=refusing(program, 0))
+    server = program.start(1, refused=0)
     server.connect().close()
     _, count, _ = server.end(5)
-    server = program.start(1, env=refusing(program, int(count)))
+    server = program.start(1, refused=int(count))
     server.connect().close()
     expect("serve with memory refused", server.end(5), ("", MEMORY, 2))
 
@@ -337,12 +287,12 @@ def connections(program: Program) -> None:
     """So many connections, one request each: also one that sends nothing, and one that is reset,
     count."""
     server = program.start(4)
-    expect("two requests", server.ask(PROJECTS + PROJECTS), NO_PROJECTS)
+    expect("two requests", sent(server, PROJECTS + PROJECTS), NO_PROJECTS)
     server.connect().close()
     with server.connect() as peer:
         peer.sendall(b"GET /projects")
         peer.setsockopt(socket.SOL_SOCKET, socket.SO_LINGER, struct.pack("ii", 1, 0))
-    expect("the last request", server.ask(PROJECTS), NO_PROJECTS)
+    expect("the last request", sent(server, PROJECTS), NO_PROJECTS)
     expect("the end of serve", server.end(5), ("", "", 0))
 
 
@@ -375,7 +325,7 @@ def other_addresses(program: Program) -> None:
         peer.settimeout(5)
         if peer.connect_ex(("::1", server.port)) == 0:
             raise Wrong("a connection to ::1 was accepted")
-    expect("its own address", server.ask(PROJECTS), NO_PROJECTS)
+    expect("its own address", sent(server, PROJECTS), NO_PROJECTS)
     expect("the end of serve", server.end(5), ("", "", 0))
 
 
@@ -460,7 +410,7 @@ def closed_logs(program: Program) -> None:
         expect("what it has", statements(path, "SELECT project FROM slot"), [("app",)])
         server = program.start(1, database=str(path))
         removal = b"DELETE /projects/app?key=d1 HTTP/1.1\r\n\r\n"
-        expect("a removal", server.ask(removal), reply("200 OK", '{"removed":true}'))
+        expect("a removal", sent(server, removal), reply("200 OK", '{"removed":true}'))
         expect("the end of serve", server.end(5), ("", "", 0))
         expect("the log after serve", has_pages_in_log(path), False)
         expect("what it has then", statements(path, "SELECT project FROM slot"), [])
@@ -473,9 +423,9 @@ def refused_memory_of_files(program: Program) -> None:
         path = pathlib.Path(room) / "index.db"
         expect("a replay", program.run(["replay", path, EMPTY]), ("", "", 0))
         words: list[Word] = ["replay", path, EMPTY]
-        _, count, _ = program.run(words, env=refusing(program, 0))
+        _, count, _ = program.run(words, refused=0)
         for number in range(1, int(count) + 1, max(1, int(count) // 20)):
-            answer = program.run(words, env=refusing(program, number))
+            answer = program.run(words, refused=number)
             if answer != ("", "", 0):
                 expect(f"request {number} for memory refused", answer, ("", MEMORY, 2))
 
@@ -679,7 +629,7 @@ def put_tags(server: Server) -> str:
     head = b"PUT /projects/app/tags?key=k1 HTTP/1.1\r\nContent-Length: %d\r\n\r\n" % len(body)
     expect(
         "an upload of tags",
-        server.ask(head + body),
+        sent(server, head + body),
         reply("200 OK", '{"accepted":"tags","count":400}'),
     )
     return reply("200 OK", '{"projects":[{"dump":false,"name":"app","tags":true}]}')
@@ -703,7 +653,7 @@ def slow_client(program: Program, client: Client, least: int, most: int, faults:
         start = time.monotonic()
         peer = server.connect(room=4096)
         threading.Thread(target=act, args=(peer,), daemon=True).start()
-        expect(f"{what}: the next one", server.ask(PROJECTS, most + 10), projects)
+        expect(f"{what}: the next one", sent(server, PROJECTS, most + 10), projects)
         took = time.monotonic() - start
         print(f"{what}: {took:.2f} s", flush=True)
         expect(f"{what}: the end of serve", server.end(10), ("", "", 0))
@@ -736,18 +686,26 @@ PARTS = (
 
 
 def main() -> int:
-    program = Program(sys.argv[1], str(pathlib.Path(sys.argv[2]) / "refuse.so"))
+    options = argparse.ArgumentParser(
+        description=__doc__, formatter_class=argparse.RawDescriptionHelpFormatter
+    )
+    options.add_argument("program", help="the built one; needs a C compiler")
+    path = os.path.realpath(options.parse_args().program)
     faults: list[str] = []
-    slow = [threading.Thread(target=slow_client, args=(program, *row, faults)) for row in CLIENTS]
-    for thread in slow:
-        thread.start()
-    for part in PARTS:
-        try:
-            part(program)
-        except (Wrong, OSError, ValueError, subprocess.TimeoutExpired) as fault:
-            faults.append(f"{part.__name__}: {fault}")
-    for thread in slow:
-        thread.join()
+    with tempfile.TemporaryDirectory() as folder:
+        program = Program(path, built(folder))
+        slow = [
+            threading.Thread(target=slow_client, args=(program, *row, faults)) for row in CLIENTS
+        ]
+        for thread in slow:
+            thread.start()
+        for part in PARTS:
+            try:
+                part(program)
+            except (Wrong, OSError, ValueError, subprocess.TimeoutExpired) as fault:
+                faults.append(f"{part.__name__}: {fault}")
+        for thread in slow:
+            thread.join()
     for each in faults:
         print(f"program: {each}", file=sys.stderr)
     if not faults:
@@ -757,4 +715,5 @@ def main() -> int:
     return 1 if faults else 0
 
 
-sys.exit(main())
+if __name__ == "__main__":
+    sys.exit(main())

@@ -1,14 +1,14 @@
 """Runs the gate and says what each part of it costs in processor time, user and system together; or
 reads that from a gate's log.
 
-usage: bench/gate.py measure COMMAND..    runs it; before its last line it prints `cost:` lines: a
+usage: checks/gate.py measure COMMAND..    runs it; before its last line it prints `cost:` lines: a
                                           crate, its proof, its tests and its edits, in
                                           seconds; and `alone:` lines: for how many seconds
                                           nothing ran beside a part
-       bench/gate.py ratio LOG            the cost of the whole over that of the proofs and tests
+       checks/gate.py ratio LOG            the cost of the whole over that of the proofs and tests
                                           of the crates that measure it; what ran alone; and the
                                           time by the clock on 2, 4 and 8 processors
-       bench/gate.py table LOG            the costs as a table of docs/DEVELOPING.md, in minutes
+       checks/gate.py table LOG            the costs as a table of docs/DEVELOPING.md, in minutes
 
 The whole is what the system counted for the command and all that it started. A part is the time of
 the processes of one crate, as it was seen last before each ended, looked at a few times a second;
@@ -34,7 +34,7 @@ from typing import Optional
 PARTS = ("proof", "tests", "edits")
 # What these cost is the measure: hosts differ by two.
 MEASURES = ("positions", "tags")
-# those of `rt ci`, and of bench/edits.py
+# those of `rt ci`, and of checks/edits.py
 EDIT_FOLDERS = re.compile("/rt-edit-|/codenav-edits-")
 TICK = os.sysconf("SC_CLK_TCK")
 COST = re.compile(r"^cost: (\w+) proof (\d+) tests (\d+) edits (\d+)$", re.M)

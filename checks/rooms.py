@@ -1,14 +1,19 @@
-"""Copies of crates in which edits are tried, and what a check there stands on: the libraries that
-`rt check` or `rt ci` left, and what the checks before it kept."""
+"""Copies of crates in which edits are tried; what a check there stands on, the libraries that
+`rt check` or `rt ci` left, and what the checks before it kept; and what earlier runs saw refused."""
 
+import hashlib
 import os
 import pathlib
 import re
 import shutil
 import subprocess
+import tempfile
 from dataclasses import dataclass
+from typing import Optional
 
-from edit_files import TOP, Place, module_of
+from edit_files import TOP, Edit, Place, module_of
+
+REFUSED = pathlib.Path(os.environ.get("XDG_CACHE_HOME") or pathlib.Path.home() / ".cache")
 
 VERDICT = re.compile(r"^fn (\S+): (.*)$", re.M)
 # The prover couldn't read the text, so no contract was tried.
@@ -150,3 +155,43 @@ def proved_again(crate: str) -> tuple[str, bool]:
         check=False,
     )
     return ran.stdout, ran.returncode == 0
+
+
+class KeptEdits:
+    """What earlier runs of the gate on this machine saw refused of a crate's edits, each by a sum of
+    all that it was made from: the toolchain, the scripts, the files of the crate and of those below
+    it, and the edit."""
+
+    def __init__(self, crate: str, stands_on: Libraries) -> None:
+        version = subprocess.run(["rt", "version"], capture_output=True, check=True).stdout
+        self.sum = hashlib.sha256(version)
+        files = [TOP / "crates.txt", *(TOP / "checks").glob("*edit*.py"), TOP / "checks/rooms.py"]
+        for name in [crate, *stands_on.below(crate)]:
+            for part in ("src", "specs", "proofs"):
+                files += (TOP / "crates" / name / part).rglob("*.*")
+        for file in sorted(files):
+            text = file.read_bytes()
+            self.sum.update(f"{file.relative_to(TOP)} {len(text)}\n".encode() + text)
+
+    def file_of(self, edit: Edit) -> pathlib.Path:
+        whole = self.sum.copy()
+        whole.update(edit.path.read_bytes())
+        return REFUSED / "codenav-edits" / whole.hexdigest()
+
+    def why(self, edit: Edit) -> Optional[str]:
+        """Answers what refused an edit in an earlier run, if it was."""
+        try:
+            return self.file_of(edit).read_text(encoding="utf-8")
+        except OSError:
+            return None
+
+    def keep(self, edit: Edit, why: str) -> None:
+        """Keeps that an edit was refused, as a whole or not at all."""
+        file = self.file_of(edit)
+        try:
+            file.parent.mkdir(parents=True, exist_ok=True)
+            with tempfile.NamedTemporaryFile("w", dir=file.parent, delete=False) as made:
+                made.write(why)
+            os.replace(made.name, file)
+        except OSError as error:
+            print(f"edits: {edit} isn't kept: {error.strerror}")

@@ -1,10 +1,7 @@
-"""Shows that the gate fails where it should, for each part of bench/beside.py, and for a wrong body
+"""Shows that the gate fails where it should, for each part of checks/beside.py, and for a wrong body
 that is proved.
 
 Breaks one thing that the part checks, and asks that this part fails; unbroken, each must pass.
-
-usage: bench/gate_fails.py [--only CASE[,CASE..]] PROGRAM
-       (PROGRAM is the built one, as crates/codenav/out/codenav; run by hand)
 
 What is broken is in a clone of the repository as it's committed, or in a program that is called
 before the built one. An edit that changes nothing is tried beside one that is refused, and so are
@@ -63,6 +60,7 @@ EDITS = {
 }
 
 
+EDITS_IN_GATE = ["python3", "-B", "checks/edits.py", "--gate", "--turn", "0"]
 BESIDE = """import pathlib, sys, time
 over = pathlib.Path(sys.argv[2])
 while not over.exists():
@@ -165,7 +163,7 @@ def counts_of(words: list[str], top: Path, path: str = "") -> tuple[int, int, in
 
 def ask(top: Path, part: str, program: str, may_pass: bool) -> bool:
     """Whether a part passes or fails as it should; it says which."""
-    words = ["python3", "-B", "bench/beside.py", "--only", part, program]
+    words = ["python3", "-B", "checks/beside.py", "--only", part, program]
     status, passed, failed, text = counts_of(words, top)
     if "left out:" in text:
         print(f"{part}: not tried: {text.splitlines()[-2]}", flush=True)
@@ -184,17 +182,17 @@ def ask(top: Path, part: str, program: str, may_pass: bool) -> bool:
 
 
 def ask_edits(folder: Path) -> bool:
-    """Whether bench/edits.py fails for an edit that changes nothing and for one that doesn't
+    """Whether checks/edits.py fails for an edit that changes nothing and for one that doesn't
     compile, and says so of these alone; and tries again none that was refused."""
     top = folder / "clone"
     clone(top)
     plant(top, *EDITS)
-    status, passed, failed, text = counts_of(["bench/edits.sh", "--gate", "--turn", "0"], top)
+    status, passed, failed, text = counts_of(EDITS_IN_GATE, top)
     is_well = (status, passed, failed) == (1, 1, 2)
     for number, said in enumerate(EDITS):
         is_well = is_well and f"positions/planted_{number}: {said}" in text
     plant(top, "refused")
-    ran = counts_of(["bench/edits.sh", "--gate", "--turn", "0"], top)
+    ran = counts_of(EDITS_IN_GATE, top)
     is_well = is_well and ran[:3] == (0, 1, 0) and "an earlier run" in ran[3]
     print(f"edits: {'as it should be' if is_well else 'NOT AS IT SHOULD BE'}", flush=True)
     if not is_well:
@@ -231,7 +229,7 @@ def ask_gate(folder: Path, real: str) -> bool:
         flush=True,
     )
     # nothing that is run beside fails here
-    (top / "bench/beside.py").write_text(BESIDE)
+    (top / "checks/beside.py").write_text(BESIDE)
     plant(top, "NOT REFUSED")
     status, passed, failed, proved = counts_of(["bash", ".ci/run"], top, f"{stub}:")
     is_red = is_red and (status, passed, failed) == (1, 1, 1)
@@ -249,8 +247,9 @@ def ask_gate(folder: Path, real: str) -> bool:
 
 def main() -> int:
     """Answers 0 where each part fails as it should."""
-    said = (__doc__ or "").strip().split("\n")
-    options = argparse.ArgumentParser(description=said[0])
+    options = argparse.ArgumentParser(
+        description=__doc__, formatter_class=argparse.RawDescriptionHelpFormatter
+    )
     options.add_argument(
         "--only", help="these cases, with commas between them; `edits` and `gate` for the last"
     )

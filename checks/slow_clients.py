@@ -1,8 +1,6 @@
 """How long others wait while a client is slow: 20 readers through each front, beside a client that
 sends or reads a little each second.
 
-usage: bench/slow_clients.py [--front lua|haproxy|none] [--seconds N] PROGRAM
-
 The slow clients: one whose PUT comes by a byte a second, one whose head does, one that opens
 connections and sends nothing, and one that reads a reply of 1,000,000 bytes by 1,000 bytes a
 second. Beside nobody slow the readers are measured first. `none` asks the server itself. Status 1
