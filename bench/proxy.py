@@ -1,8 +1,20 @@
-"""Compares projects over three servers behind the front with the same projects on one server: see
-bench/proxy.sh."""
+"""Shows projects over several servers, beside the same projects on one server.
 
+Three `codenav serve` are behind the front of packaging/front/lua, which picks the server by a hash
+of the project's name in the path. Thirty projects, each of which exports a function and imports two
+others', are put through the front and to one server besides. Each definition, reference and hover
+is asked of both. The answers must be equal where no join leads to a project on another server;
+elsewhere the front's must be the other's without the places of such projects, which are counted.
+Then what a request costs: the least time of so many, by the one server, through the front, and of
+nginx alone with a fixed reply. Then all thirty are published as sets with their surfaces, and each
+query has to be answered as by the one server; so it is on three servers behind nginx and HAProxy.
+It needs Debian's nginx, libnginx-mod-http-lua and haproxy.
+"""
+
+import argparse
 import json
 import os
+import subprocess
 import sys
 import tempfile
 from contextlib import redirect_stderr, redirect_stdout
@@ -285,14 +297,19 @@ def run(program: str, folder: str) -> None:
 
 def main() -> int:
     """Answers 0 where each answer was as it should be."""
+    options = argparse.ArgumentParser(
+        description=__doc__, formatter_class=argparse.RawDescriptionHelpFormatter
+    )
+    options.add_argument("program", help="the built one")
+    program = options.parse_args().program
+    subprocess.run([program, "--version"], check=True)
     try:
-        if why := lacking("lua"):
-            raise Failed(why)
-        if why := lacking("haproxy"):
-            raise Failed(why)
+        for kind in "lua", "haproxy":
+            if why := lacking(kind):
+                raise Failed(why)
         for part in run, by_haproxy:
             with tempfile.TemporaryDirectory() as folder:
-                part(sys.argv[1], folder)
+                part(program, folder)
     except (Failed, OSError) as fault:
         print(f"proxy: {fault}", file=sys.stderr)
         return 1

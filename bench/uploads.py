@@ -157,7 +157,8 @@ def beside_python(program: str, folder: str, runs: int) -> None:
 
 def again(port: int, part: str, body: bytes, runs: int) -> None:
     """Prints what an upload takes at first, and again."""
-    first, second = [], []
+    first: list[float] = []
+    second: list[float] = []
     for turn in range(runs):
         replies = []
         for times in first, second:
