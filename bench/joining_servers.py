@@ -1,4 +1,3 @@
-#!/usr/bin/env python3
 """Counts what `publish --servers-that-join` saves: dumps that depend on each other in part are
 published as sets over several servers, each at the home that the front's hash gives, and its
 surface to all other servers, or to those alone that have a set with a package in common.
@@ -18,9 +17,6 @@ import sys
 import tempfile
 from contextlib import ExitStack
 from typing import Any, NamedTuple
-
-TOP = os.path.dirname(os.path.dirname(os.path.abspath(__file__)))
-sys.path.insert(0, os.path.join(TOP, "tools"))
 
 from sets import KINDS, points_of
 

@@ -8,7 +8,6 @@ its log, as the program left both. The ratios are of the processor's time.
 """
 
 import argparse
-import os
 import pathlib
 import shutil
 import statistics

@@ -16,7 +16,7 @@ import tempfile
 import threading
 import time
 from dataclasses import dataclass
-from typing import IO, Callable, Optional, Sequence, Union
+from typing import IO, Callable, Sequence, Union
 
 from refused import built, refusing
 from watched import TOP, NotStarted, Server, Wrong, started
