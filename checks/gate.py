@@ -1,15 +1,6 @@
 """Runs the gate and says what each part of it costs in processor time, user and system together; or
 reads that from a gate's log.
 
-usage: checks/gate.py measure COMMAND..    runs it; before its last line it prints `cost:` lines: a
-                                          crate, its proof, its tests and its edits, in
-                                          seconds; and `alone:` lines: for how many seconds
-                                          nothing ran beside a part
-       checks/gate.py ratio LOG            the cost of the whole over that of the proofs and tests
-                                          of the crates that measure it; what ran alone; and the
-                                          time by the clock on 2, 4 and 8 processors
-       checks/gate.py table LOG            the costs as a table of docs/DEVELOPING.md, in minutes
-
 The whole is what the system counted for the command and all that it started. A part is the time of
 the processes of one crate, as it was seen last before each ended, looked at a few times a second;
 what no part has is the rest. The time by the clock is of a plan: each part takes one processor for
@@ -20,6 +11,7 @@ leaves out: `rt ci` waits for memory, and where RT_JOBS isn't set it gives a par
 beside it several processors.
 """
 
+import argparse
 import os
 import re
 import resource
@@ -240,14 +232,32 @@ def table(log: str) -> None:
     print(f"\nThe whole: {whole / 60:.0f}, of which {rest / 60:.1f} are of no crate.")
 
 
-def main(words: list[str]) -> int:
-    if len(words) > 1 and words[0] == "measure":
-        return measure(words[1:])
-    if len(words) == 2 and words[0] in ("ratio", "table"):
-        {"ratio": ratio, "table": table}[words[0]](words[1])
-        return 0
-    sys.exit((__doc__ or "").strip())
+def main() -> int:
+    options = argparse.ArgumentParser(
+        description=__doc__, formatter_class=argparse.RawDescriptionHelpFormatter
+    )
+    parts = options.add_subparsers(required=True, dest="part")
+    ran = parts.add_parser(
+        "measure",
+        help="runs the gate; before its last line it prints `cost:` lines: a crate, its proof, its tests"
+        " and its edits, in seconds; and `alone:` lines: for how many seconds nothing ran beside a part",
+    )
+    ran.add_argument("command", nargs=argparse.REMAINDER)
+    for part, text in (
+        (
+            "ratio",
+            "the cost of the whole over that of the proofs and tests of the crates that measure it; what"
+            " ran alone; and the time by the clock on 2, 4 and 8 processors",
+        ),
+        ("table", "the costs as a table of docs/DEVELOPING.md, in minutes"),
+    ):
+        parts.add_parser(part, help=text).add_argument("log", metavar="LOG")
+    given = options.parse_args()
+    if given.part == "measure":
+        return measure(given.command)
+    {"ratio": ratio, "table": table}[given.part](given.log)
+    return 0
 
 
 if __name__ == "__main__":
-    sys.exit(main(sys.argv[1:]))
+    sys.exit(main())
