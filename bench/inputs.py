@@ -1,58 +1,9 @@
-"""Makes dumps and tags files of any size from nothing. Each element of a dump has the number of its
-line as its id, where nothing else is said."""
+"""Makes dumps and tags files of any size from nothing."""
 
 from typing import Iterator
 
-
-class Lines:
-    """The lines of a dump."""
-
-    def __init__(self) -> None:
-        self.lines: list[str] = []
-
-    @property
-    def last(self) -> int:
-        """The id of the last element."""
-        return len(self.lines)
-
-    def vertex(self, label: str, members: str = "") -> int:
-        self.lines.append(f'{{"id":{self.last + 1},"type":"vertex","label":"{label}"{members}}}')
-        return self.last
-
-    def edge(self, label: str, source: int, target: int) -> None:
-        ends = f'"inV":{target},"outV":{source}'
-        self.lines.append(f'{{"id":{self.last + 1},"type":"edge","label":"{label}",{ends}}}')
-
-    def contains(self, source: int, targets: list[int]) -> None:
-        ends = f'"inVs":[{",".join(map(str, targets))}],"outV":{source}'
-        self.lines.append(f'{{"id":{self.last + 1},"type":"edge","label":"contains",{ends}}}')
-
-    def item(self, source: int, targets: list[int], document: int, prop: str = "") -> None:
-        more = f'"document":{document},' + (f'"property":"{prop}",' if prop else "")
-        ends = f'{more}"inVs":[{",".join(map(str, targets))}],"outV":{source}'
-        self.lines.append(f'{{"id":{self.last + 1},"type":"edge","label":"item",{ends}}}')
-
-    def result(self, request: str, owner: int, members: str = "") -> int:
-        """A result of a result set or range."""
-        found = self.vertex(f"{request}Result".replace("references", "reference"), members)
-        self.edge(f"textDocument/{request}", owner, found)
-        return found
-
-    def meta_data(self) -> None:
-        root = ',"projectRoot":"file:///src"'
-        self.vertex("metaData", f',"version":"0.6.0"{root},"positionEncoding":"utf-16"')
-
-    def document(self, number: int) -> int:
-        uri = f"file:///src/part_{number}.rs"
-        return self.vertex("document", f',"uri":"{uri}","languageId":"rust"')
-
-    def range(self, line: int, first: int, end_line: int, end: int) -> int:
-        start = f'{{"line":{line},"character":{first}}}'
-        stop = f'{{"line":{end_line},"character":{end}}}'
-        return self.vertex("range", f',"start":{start},"end":{stop}')
-
-    def text(self) -> bytes:
-        return "".join(f"{line}\n" for line in self.lines).encode()
+import servers  # noqa: F401  (the path of the checks)
+from watched import Lines
 
 
 def function(own: Lines, file: int, line: int) -> list[int]:

@@ -13,8 +13,8 @@ import time
 from contextlib import ExitStack
 from typing import Callable
 
-from inputs import Lines
 from servers import ask
+from watched import Lines
 
 from codenav.program import serving
 

@@ -234,7 +234,7 @@ def measure(program: str, folder: pathlib.Path) -> None:
         }
         for where, port in ports.items():
             put(port, "/projects/small/lsif", small.read_bytes())
-            put(port, "/projects/joined/lsif", dump(0).encode())
+            put(port, "/projects/joined/lsif", dump(0))
             measure_growth(where, sizes[where], port, "lsif", great.read_bytes(), PROJECTS)
             measure_growth(where, sizes[where], port, "tags", tags.read_bytes(), TAGGED[where])
         print(

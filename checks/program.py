@@ -19,7 +19,7 @@ from dataclasses import dataclass
 from typing import IO, Callable, Sequence, Union
 
 from refused import built, refusing
-from watched import TOP, NotStarted, Server, Wrong, started
+from watched import TOP, Lines, NotStarted, Server, Wrong, started
 
 from codenav.program import free_port
 
@@ -453,34 +453,22 @@ def get(target: str) -> bytes:
 
 def many_places(program: Program) -> None:
     """A symbol with 50,000 references has them all in one reply."""
-    lines = [
-        '{"id":1,"type":"vertex","label":"metaData","version":"0.6.0"}',
-        '{"id":2,"type":"vertex","label":"document","uri":"file:///a.ts"}',
-        '{"id":3,"type":"vertex","label":"resultSet"}',
-        '{"id":4,"type":"vertex","label":"referenceResult"}',
-        '{"id":5,"type":"edge","label":"textDocument/references","outV":3,"inV":4}',
-    ]
-    ranges = list(range(10, 50_010))
-    for line, number in enumerate(ranges):
-        lines.append(
-            f'{{"id":{number},"type":"vertex","label":"range","start":{{"line":{line},"character":1}},'
-            f'"end":{{"line":{line},"character":3}}}}'
-        )
-    targets = ",".join(map(str, ranges))
-    lines += [
-        '{"id":6,"type":"edge","label":"next","outV":10,"inV":3}',
-        f'{{"id":7,"type":"edge","label":"item","outV":4,"inVs":[{targets}],"property":"references","shard":2}}',
-        f'{{"id":8,"type":"edge","label":"contains","outV":2,"inVs":[{targets}]}}',
-    ]
+    own = Lines("shard")
+    own.vertex("metaData", ',"version":"0.6.0"')
+    file = own.vertex("document", ',"uri":"file:///a.ts"')
+    both = own.vertex("resultSet")
+    ranges = [own.range(line, 1, line, 3) for line in range(50_000)]
+    own.edge("next", ranges[0], both)
+    own.item(own.result("references", both), ranges, file, "references")
+    own.contains(file, ranges)
     places = ",".join(
         f'{{"end":{{"character":3,"line":{line}}},"project":"app",'
         f'"start":{{"character":1,"line":{line}}},"uri":"file:///a.ts"}}'
         for line in range(len(ranges))
     )
-    dump = "\n".join(lines).encode() + b"\n"
     target = "/projects/app/references?uri=file:///a.ts&line=0&character=1"
-    output, error, status = exchanged(program, put("lsif", "k1", dump) + get(target))
-    accepted = reply("200 OK", f'{{"accepted":"lsif","count":{len(lines)}}}')
+    output, error, status = exchanged(program, put("lsif", "k1", own.text()) + get(target))
+    accepted = reply("200 OK", f'{{"accepted":"lsif","count":{own.last}}}')
     expect("50,000 places", (error, status), ("", 0))
     expect_same("50,000 places", output, accepted + reply("200 OK", f'{{"places":[{places}]}}'))
 

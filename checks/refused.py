@@ -9,7 +9,6 @@ last nothing is refused.
 """
 
 import argparse
-import json
 import os
 import subprocess
 import sys
@@ -18,7 +17,8 @@ from collections import Counter
 from dataclasses import dataclass
 from itertools import count
 from pathlib import Path
-from typing import Any
+
+from watched import Lines
 
 # What a program is started with that has one of its requests for memory refused: that of the number
 # in REFUSED, counted from 1. With 0 none is, and at its end the program prints on the standard
@@ -55,80 +55,47 @@ __attribute__((destructor)) static void tell(void) {
 NO_MEMORY = "codenav: out of memory\n"
 STORE = '{"fault":"S01","text":"store refused"}'
 MEMORY = '{"fault":"S02","text":"out of memory"}'
-META = {"label": "metaData", "version": "0.6.0", "positionEncoding": "utf-16"}
-
-Element = dict[str, Any]
 # A request's line without its version, and its body.
 Request = tuple[str, str]
 
 
-def dump(*elements: Element) -> str:
-    """A dump of these elements, whose ids are the numbers of their lines."""
-    rows = [{"type": "vertex", **META}, *elements]
-    lines = [
-        json.dumps({"id": number, **row}, separators=(",", ":"))
-        for number, row in enumerate(rows, start=1)
-    ]
-    return "\n".join(lines) + "\n"
+def base() -> Lines:
+    """A dump of a function that is defined and called."""
+    own = Lines("shard")
+    own.vertex("metaData", ',"version":"0.6.0","positionEncoding":"utf-16"')
+    file = own.vertex("document", ',"uri":"file:///a.ts"')
+    ranges = [own.range(0, 4, 0, 7), own.range(2, 0, 2, 3)]
+    both = own.vertex("resultSet")
+    for one in ranges:
+        own.edge("next", one, both)
+    own.item(own.result("definition", both), ranges[:1], file)
+    own.contains(file, ranges)
+    return own
 
 
-def vertex(label: str, **members: Any) -> Element:
-    return {"type": "vertex", "label": label, **members}
+def with_moniker(kind: str) -> Lines:
+    """A dump of a function of another package, or of its export, which has a definition."""
+    own = Lines("shard")
+    own.vertex("metaData", ',"version":"0.6.0","positionEncoding":"utf-16"')
+    name = {"export": "lib", "import": "app"}[kind]
+    file = own.vertex("document", f',"uri":"file:///{name}.ts"')
+    place = own.range(0, 9, 0, 10) if kind == "export" else own.range(1, 0, 1, 3)
+    own.moniker(place, kind, "lib", "lib::f")
+    if kind == "export":
+        own.item(own.result("definition", place), [place], file)
+    own.contains(file, [place])
+    return own
 
 
-def edge(label: str, source: int, target: int | list[int], **members: Any) -> Element:
-    ends = "inVs" if isinstance(target, list) else "inV"
-    return {"type": "edge", "label": label, "outV": source, ends: target, **members}
-
-
-def span(line: int, start: int, end: int) -> Element:
-    ends = [{"line": line, "character": character} for character in (start, end)]
-    return vertex("range", start=ends[0], end=ends[1])
-
-
-def moniker(kind: str) -> list[Element]:
-    """A moniker, the fourth element of a dump, and its package, the fifth."""
-    return [
-        vertex("moniker", kind=kind, scheme="npm", identifier="lib::f"),
-        vertex("packageInformation", manager="npm", name="lib", version="1.0.0"),
-        edge("moniker", 3, 4),
-        edge("packageInformation", 4, 5),
-    ]
-
-
-BASE = [
-    vertex("document", uri="file:///a.ts"),
-    span(0, 4, 7),
-    span(2, 0, 3),
-    vertex("resultSet"),
-    edge("next", 3, 5),
-    edge("next", 4, 5),
-    vertex("definitionResult"),
-    edge("textDocument/definition", 5, 8),
-    edge("item", 8, [3], shard=2),
-    edge("contains", 2, [3, 4]),
-]
-EXPORTING = [
-    vertex("document", uri="file:///lib.ts"),
-    span(0, 9, 10),
-    *moniker("export"),
-    vertex("definitionResult"),
-    edge("textDocument/definition", 3, 8),
-    edge("item", 8, [3], shard=2),
-    edge("contains", 2, [3]),
-]
-IMPORTING = [
-    vertex("document", uri="file:///app.ts"),
-    span(1, 0, 3),
-    *moniker("import"),
-    edge("contains", 2, [3]),
-]
+BASE = base().text().decode()
+# without its last line
+CUT = BASE[: BASE.rindex("{")]
 TAGS = 'a\\x41\\tb\tf.c\t/a\\/b/;"\tf\n'
 ASKED: list[Request] = [
-    ("PUT /projects/app/lsif?key=k1", dump(*BASE)),
-    ("PUT /projects/app/lsif?key=k2", dump(*BASE[:-1])),
-    ("PUT /projects/lib/lsif?key=k1", dump(*EXPORTING)),
-    ("PUT /projects/imp/lsif?key=k1", dump(*IMPORTING)),
+    ("PUT /projects/app/lsif?key=k1", BASE),
+    ("PUT /projects/app/lsif?key=k2", CUT),
+    ("PUT /projects/lib/lsif?key=k1", with_moniker("export").text().decode()),
+    ("PUT /projects/imp/lsif?key=k1", with_moniker("import").text().decode()),
     ("GET /projects/imp/definition?uri=file:///app.ts&line=1&character=0", ""),
     ("PUT /projects/app/tags?key=k3", TAGS),
     ("GET /names?prefix=aA", ""),

@@ -190,6 +190,69 @@ def accepted(part: str, count: int) -> bytes:
 # ---- uploads
 
 
+class Lines:
+    """The lines of a dump, of which each element has its number as its id; items name their document
+    by this member."""
+
+    def __init__(self, home: str = "document") -> None:
+        self.lines: list[str] = []
+        self.home = home
+
+    @property
+    def last(self) -> int:
+        """The id of the last element."""
+        return len(self.lines)
+
+    def vertex(self, label: str, members: str = "") -> int:
+        self.lines.append(f'{{"id":{self.last + 1},"type":"vertex","label":"{label}"{members}}}')
+        return self.last
+
+    def edge(self, label: str, source: int, target: int) -> None:
+        ends = f'"inV":{target},"outV":{source}'
+        self.lines.append(f'{{"id":{self.last + 1},"type":"edge","label":"{label}",{ends}}}')
+
+    def contains(self, source: int, targets: list[int]) -> None:
+        ends = f'"inVs":[{",".join(map(str, targets))}],"outV":{source}'
+        self.lines.append(f'{{"id":{self.last + 1},"type":"edge","label":"contains",{ends}}}')
+
+    def item(self, source: int, targets: list[int], document: int, prop: str = "") -> None:
+        more = f'"{self.home}":{document},' + (f'"property":"{prop}",' if prop else "")
+        ends = f'{more}"inVs":[{",".join(map(str, targets))}],"outV":{source}'
+        self.lines.append(f'{{"id":{self.last + 1},"type":"edge","label":"item",{ends}}}')
+
+    def result(self, request: str, owner: int, members: str = "") -> int:
+        """A result of a result set or range."""
+        found = self.vertex(f"{request}Result".replace("references", "reference"), members)
+        self.edge(f"textDocument/{request}", owner, found)
+        return found
+
+    def moniker(self, owner: int, kind: str, package: str, identifier: str) -> None:
+        """A moniker of a range or result set, with its package."""
+        names = f',"kind":"{kind}","scheme":"bench","identifier":"{identifier}"'
+        found = self.vertex("moniker", names)
+        of = self.vertex(
+            "packageInformation", f',"name":"{package}","manager":"bench","version":"1"'
+        )
+        self.edge("packageInformation", found, of)
+        self.edge("moniker", owner, found)
+
+    def meta_data(self) -> None:
+        root = ',"projectRoot":"file:///src"'
+        self.vertex("metaData", f',"version":"0.6.0"{root},"positionEncoding":"utf-16"')
+
+    def document(self, number: int) -> int:
+        uri = f"file:///src/part_{number}.rs"
+        return self.vertex("document", f',"uri":"{uri}","languageId":"rust"')
+
+    def range(self, line: int, first: int, end_line: int, end: int) -> int:
+        start = f'{{"line":{line},"character":{first}}}'
+        stop = f'{{"line":{end_line},"character":{end}}}'
+        return self.vertex("range", f',"start":{start},"end":{stop}')
+
+    def text(self) -> bytes:
+        return "".join(f"{line}\n" for line in self.lines).encode()
+
+
 def document_of(project: str) -> str:
     return f"file:///{project}/main.rs"
 
@@ -204,74 +267,32 @@ def dump(
 ) -> bytes:
     """The dump of a project: functions that are each defined in one line and called in the next.
     Every eighth one is exported, and below its call another project's function of the same number
-    is called. In profile 2 each call is a declaration too. Ids are numbers of lines.
+    is called. In profile 2 each call is a declaration too.
     """
-    lines: list[str] = []
-    ranges: list[int] = []
-
-    def vertex(label: str, members: str = "") -> int:
-        lines.append(f'{{"id":{len(lines) + 1},"type":"vertex","label":"{label}"{members}}}')
-        return len(lines)
-
-    def edge(label: str, source: int, target: int) -> None:
-        lines.append(
-            f'{{"id":{len(lines) + 1},"type":"edge","label":"{label}","outV":{source},"inV":{target}}}'
-        )
-
-    def item(source: int, targets: str, members: str = "") -> None:
-        lines.append(
-            f'{{"id":{len(lines) + 1},"type":"edge","label":"item","outV":{source},"inVs":[{targets}],"shard":2{members}}}'
-        )
-
-    def span(line: int) -> int:
-        ranges.append(
-            vertex(
-                "range",
-                f',"start":{{"line":{line},"character":0}},"end":{{"line":{line},"character":9}}',
-            )
-        )
-        return ranges[-1]
-
-    def result(label: str, request: str, owner: int, members: str = "") -> int:
-        found = vertex(label, members)
-        edge(f"textDocument/{request}", owner, found)
-        return found
-
-    def moniker(owner: int, kind: str, name: str, function: int) -> None:
-        found = vertex(
-            "moniker", f',"kind":"{kind}","scheme":"bench","identifier":"{name}::{function}"'
-        )
-        package = vertex("packageInformation", f',"name":"{name}","manager":"bench","version":"1"')
-        edge("packageInformation", found, package)
-        edge("moniker", owner, found)
-
-    vertex("metaData", ',"version":"0.6.0","positionEncoding":"utf-16"')
-    vertex("document", f',"uri":"{document_of(project)}"')
+    own, ranges = Lines("shard"), []
+    own.vertex("metaData", ',"version":"0.6.0","positionEncoding":"utf-16"')
+    file = own.vertex("document", f',"uri":"{document_of(project)}"')
     for function in range(functions):
-        both = vertex("resultSet")
-        own, call = span(4 * function), span(4 * function + 1)
-        edge("next", own, both)
-        edge("next", call, both)
-        item(result("definitionResult", "definition", both), str(own))
-        references = result("referenceResult", "references", both)
-        item(references, str(own), ',"property":"definitions"')
-        item(references, str(call), ',"property":"references"')
-        result(
-            "hoverResult",
-            "hover",
-            both,
-            f',"result":{{"contents":"{said(project, number, function)}"}}',
-        )
+        both = own.vertex("resultSet")
+        place, call = (own.range(4 * function + n, 0, 4 * function + n, 9) for n in range(2))
+        ranges += [place, call]
+        own.edge("next", place, both)
+        own.edge("next", call, both)
+        own.item(own.result("definition", both), [place], file)
+        references = own.result("references", both)
+        own.item(references, [place], file, "definitions")
+        own.item(references, [call], file, "references")
+        text = said(project, number, function)
+        own.result("hover", both, f',"result":{{"contents":"{text}"}}')
         if profile == 2:
-            item(result("declarationResult", "declaration", both), str(call))
+            own.item(own.result("declaration", both), [call], file)
         if function % APART == 0:
-            moniker(both, "export", project, function)
+            own.moniker(both, "export", project, f"{project}::{function}")
             if joined:
-                moniker(span(4 * function + 2), "import", joined, function)
-    lines.append(
-        f'{{"id":{len(lines) + 1},"type":"edge","label":"contains","outV":2,"inVs":[{",".join(map(str, ranges))}]}}'
-    )
-    return "".join(f"{line}\n" for line in lines).encode()
+                ranges.append(own.range(4 * function + 2, 0, 4 * function + 2, 9))
+                own.moniker(ranges[-1], "import", joined, f"{joined}::{function}")
+    own.contains(file, ranges)
+    return own.text()
 
 
 def tags(project: str, number: int, count: int) -> bytes:
