@@ -22,15 +22,15 @@ from typing import Any, NamedTuple
 TOP = os.path.dirname(os.path.dirname(os.path.abspath(__file__)))
 sys.path.insert(0, os.path.join(TOP, "tools"))
 
-from sets import KINDS, points_of
-
 from codenav.asking.index import Asked
 from codenav.asking.questions import Fetch, fetch_from
 from codenav.program import Failed, serving
 from codenav.sets.publish.publish import Publish, Store
-from codenav.sets.publish.spread import Made, Spread, made_surface
+from codenav.sets.publish.spread import Spread
 from codenav.sets.ring import home_of
 from codenav.sets.split import split
+from codenav.sets.surface.made import SurfaceFiles, made_surface
+from sets import KINDS, points_of
 
 NUMBERS = 3, 5, 10, 30, 100
 PLACEMENTS = 100

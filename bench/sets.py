@@ -34,7 +34,8 @@ from codenav.asking.index import Asked
 from codenav.client import http as client
 from codenav.client.http import found_in, request
 from codenav.program import ended, free_port, started
-from codenav.sets.manifest import MANIFEST, Head, read_documents, read_head
+from codenav.sets.files import MANIFEST, read_documents, read_head
+from codenav.sets.manifest import Head
 
 TICKS = os.sysconf("SC_CLK_TCK")
 KINDS = {"definition": "places", "references": "places", "hover": "contents"}

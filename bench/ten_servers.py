@@ -33,14 +33,14 @@ TOP = os.path.dirname(os.path.dirname(os.path.abspath(__file__)))
 sys.path.insert(0, os.path.join(TOP, "tools"))
 
 from joined_dumps import Place, make_text, write_renamed
-from sets import children_seconds, processor_seconds, stage
 
 from codenav.asking.index import Asked
 from codenav.asking.questions import fetch_from
 from codenav.program import Failed, ended, free_port, started
 from codenav.sets.publish.publish import Publish, Store
-from codenav.sets.publish.spread import Made, made_surface
 from codenav.sets.split import split
+from codenav.sets.surface.made import SurfaceFiles, made_surface
+from sets import children_seconds, processor_seconds, stage
 
 ASKED = 400
 SECONDS = 300

@@ -11,12 +11,14 @@ from typing import Any, Iterator, NamedTuple, Optional
 from unittest import mock
 
 from codenav.dumps.tables import graph
-from codenav.sets.manifest import MANIFEST, PART, PARTS, read_head
+from codenav.sets.files import MANIFEST, read_head
+from codenav.sets.manifest import PART, PARTS
 from codenav.sets.publish import publish
 from codenav.sets.publish.publish import Publish, remove_set
-from codenav.sets.publish.spread import Spread, keep_surface, made_surface
+from codenav.sets.publish.spread import Spread
 from codenav.sets.split import split
 from codenav.sets.split.crossing import Shared
+from codenav.sets.surface.made import keep_surface, made_surface
 from tests.dump_walks import OF_PROFILE, Maker, Question, Walk, answered, body_of, questions
 from tests.in_memory import FRONT, Kept, Killed, Moment, Servers, tags_of, walk_of
 from tests.test_sets import flat_of

@@ -17,12 +17,13 @@ from unittest import mock
 from codenav.faults import NoReply
 from codenav.program import ended, free_port
 from codenav.publishing import publish
-from codenav.sets.manifest import MANIFEST, PartEntry
+from codenav.sets.files import MANIFEST
+from codenav.sets.manifest import PartEntry
 from codenav.sets.publish import rebalance
 from codenav.sets.publish.places import Place
 from codenav.sets.publish.publish import Store, claimed
-from codenav.sets.publish.spread import Made, keep_surface
 from codenav.sets.ring import home_of
+from codenav.sets.surface.made import SurfaceFiles, keep_surface
 from tests.fronts import adding, host_of
 from tests.servers import TOP
 from tests.test_set_service import answer_of, asked_at

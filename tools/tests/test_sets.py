@@ -20,8 +20,10 @@ from codenav.sets.split import crossing
 from codenav.sets.split import flat as flat_tables
 from codenav.sets.split import keys
 from codenav.sets.split.crossing import Cut, Shared
-from codenav.sets.split.flat import Flat, flattened
-from codenav.sets.split.part import Lines, Part
+from codenav.sets.split.flat import Flat
+from codenav.sets.split.flattening import flattened
+from codenav.sets.split.lines import Lines
+from codenav.sets.split.part import Part
 from tests.dump_walks import OF_PROFILE, Maker, Question, Walk, answered, body_of, questions
 from tests.servers import TOP, program
 

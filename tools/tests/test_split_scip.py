@@ -27,7 +27,8 @@ from codenav.dumps.tables import graph
 from codenav.dumps.tables import of_scip as scip_graph
 from codenav.sets.split import split
 from codenav.sets.split.crossing import Cut, Shared
-from codenav.sets.split.flat import Flat, flattened
+from codenav.sets.split.flat import Flat
+from codenav.sets.split.flattening import flattened
 from tests.dump_walks import answered
 from tests.random_scip import indexes
 from tests.randomly import check_cases

@@ -20,9 +20,10 @@ from codenav.program import ended, free_port, started
 from codenav.publishing import publish
 from codenav.sets.manifest import PartEntry
 from codenav.sets.publish.publish import Claim, Late, Publish, Store, claimed, remove_set
-from codenav.sets.publish.spread import Spread, made_surface
+from codenav.sets.publish.spread import Spread
 from codenav.sets.ring import home_of, shard_of
 from codenav.sets.split import split
+from codenav.sets.surface.made import made_surface
 from codenav.settings.found import FILE
 from codenav.texts.places import uri_of
 from tests.dump_walks import OF_PROFILE, Walk, answered, questions

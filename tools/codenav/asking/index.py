@@ -16,7 +16,8 @@ from typing import Any, Callable
 from codenav.addresses import serialized
 from codenav.asking.known import Fetch, Sets
 from codenav.faults import NoReply
-from codenav.sets.manifest import BRANCH, DOCUMENT, Head, shown_name
+from codenav.names import BRANCH, shown_name
+from codenav.sets.manifest import DOCUMENT, Head
 
 Found = dict[str, Any]
 Shown = tuple[Any, set[str]]

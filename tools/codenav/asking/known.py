@@ -12,19 +12,17 @@ from contextlib import contextmanager
 from typing import Any, Callable, Iterator, Optional
 
 from codenav.faults import NoReply
+from codenav.names import BRANCH, base_name, shown_name
 from codenav.sets.manifest import (
     ABOUT,
-    BRANCH,
     CLAIM,
     PART,
     PARTS,
     SURFACE,
     Head,
     NotAManifest,
-    base_name,
     head_of,
     mark_in,
-    shown_name,
 )
 
 Fetch = Callable[[str, dict[str, Any], str], Any]

@@ -6,8 +6,8 @@ from typing import NamedTuple, Optional
 from codenav.asking.index import Asked
 from codenav.asking.known import Away
 from codenav.faults import BadCall, NoReply
+from codenav.names import BRANCH
 from codenav.records import AT, record_in
-from codenav.sets.manifest import BRANCH
 
 NONE_KEPT = "no revision is kept with its index"
 UNCOMMITTED = "its index is of files that weren't committed"

@@ -31,23 +31,17 @@ from codenav.faults import BadCall, NotADump
 from codenav.files import whole_file
 from codenav.index.indexers import INDEXERS, fitting, indexed, is_scip, named
 from codenav.index.tags_file import LEFT_OUT, tagged
-from codenav.names import project_of, server_of
+from codenav.names import project_of, server_of, set_name, shown_name
 from codenav.program import TOP
-from codenav.progress import Heard, Stage, Watched
+from codenav.progress import Heard, Quiet, Stage, Watched
 from codenav.publishing.left_out import Row, rows_of, table
 from codenav.records import Prepared, new_record
-from codenav.sets.manifest import set_name, shown_name
 from codenav.sets.publish.publish import Publish, Store, fetch_cuts, remove_set
 from codenav.sets.publish.rebalance import GRACE, rebalanced
-from codenav.sets.publish.spread import (
-    Spread,
-    keep_surface,
-    made_surface,
-    surface_file,
-    surface_name,
-)
+from codenav.sets.publish.spread import Spread
 from codenav.sets.ring import home_of, named_in_front, servers_of
-from codenav.sets.split import split
+from codenav.sets.split.split import ScipOptions, SplitOptions, split
+from codenav.sets.surface.made import keep_surface, made_surface, surface_file, surface_name
 from codenav.settings.checkout import new_settings, plain, target_of
 from codenav.settings.found import FILE, found_in_file
 from codenav.texts.checked_out import indexed_at, still_indexed_at
@@ -312,6 +306,18 @@ def set_folder(work: str) -> str:
     return os.path.join(work, "set")
 
 
+@contextmanager
+def opened_source(path: str) -> Iterator[Any]:
+    """The dump's path, or the index."""
+    if not is_scip(path):
+        yield path
+        return
+    from codenav.dumps.scip.messages import IndexFile
+
+    with open(path, "rb") as file:
+        yield IndexFile(file, path)
+
+
 def parts_of(
     call: argparse.Namespace, bodies: list[Body], folder: str
 ) -> tuple[list[Body], list[str]]:
@@ -320,18 +326,21 @@ def parts_of(
     name = set_name(call.project)
     if not call.dry_run:
         fetch_cuts(Store(call.home), name, folder)
-    words = ["--name", name, "--profile", call.profile, "--map", map_words(call.where, call.folder)]
-    words += ["--revision", call.commit]
-    for body in bodies:
-        if body.part == "tags":
-            words += ["--tags", body.path, "--tags-folder", call.folder]
-    if is_scip(bodies[0].path):
-        words += ["--source", call.folder]
-    with Stage(TOOL, "split-lsif") as stage:
-        status, lines = made_by(split.main, [*words, bodies[0].path, folder])
-        if status == 2:
-            raise Refused("\n".join(lines))
-        stage.detail = lines[-1]
+    tags = [body.path for body in bodies if body.part == "tags"]
+    options = SplitOptions(
+        name,
+        call.profile,
+        call.commit,
+        (map_words(call.where, call.folder),),
+        tags[0] if tags else "",
+        call.folder,
+    )
+    with Stage(TOOL, "split-lsif") as stage, opened_source(bodies[0].path) as source:
+        try:
+            files = split(source, options, folder, Quiet(), ScipOptions(call.folder))
+        except (BadCall, NotADump) as fault:
+            raise Refused(str(fault)) from None
+        stage.detail = files.lines()[-1]
     parts = [
         Body(project, part, path, call.profile if part == "lsif" else None)
         for project, files in Publish(Store(""), folder).files.items()
@@ -339,21 +348,15 @@ def parts_of(
     ]
     if call.servers:
         parts += surface_of(call, bodies[0].path, name, folder)
-    return parts, lines
+    return parts, files.lines()
 
 
 def surface_of(call: argparse.Namespace, dump: str, name: str, folder: str) -> list[Body]:
     """Makes the surface of a dump, in a folder of its own beside its parts; answers its parts."""
     own = os.path.join(folder, "surface")
     with Stage(TOOL, "surface-lsif") as stage:
-        heard = Heard()
-        try:
-            with redirect_stderr(heard):
-                surface = made_surface(dump, name, call.profile, own)
-        except BadCall as fault:
-            said = [str(fault), *heard.getvalue().splitlines()[-1:]]
-            raise BadCall(": ".join(said)) from None
-        stage.detail = f"elements {sum(part.elements for part in surface.parts)}"
+        surface = made_surface(dump, name, call.profile, own, Quiet())
+        stage.detail = f"elements {surface.elements()}"
     keep_surface(folder, surface)
     return [
         Body(part.project, "lsif", surface_file(own, part.project), call.profile)

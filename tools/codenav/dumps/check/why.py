@@ -21,7 +21,7 @@ from codenav.dumps.packed import opened
 from codenav.dumps.prepare.edges import flaw
 from codenav.dumps.prepare.vertices import contents_of
 from codenav.faults import BadCall, NotADump
-from codenav.sets.manifest import part_file
+from codenav.sets.files import part_file
 from codenav.texts.places import KEPT, Maps, character_at, maps_of, place_line, place_of, uri_of
 
 Found = dict[str, Any]

@@ -23,12 +23,12 @@ from typing import Any, Iterable, Iterator, Optional
 from codenav.cli.ends import status_of
 from codenav.client.http import address, found_in, refusal_of, request, request_again
 from codenav.faults import BadCall, NoReply
-from codenav.names import server_of
+from codenav.names import server_of, shown_name
+from codenav.sets.files import MANIFEST, read_head, with_head
 from codenav.sets.manifest import (
     ABOUT,
     CLAIM,
     DOCUMENT,
-    MANIFEST,
     PART,
     PARTS,
     DocumentEntry,
@@ -39,10 +39,7 @@ from codenav.sets.manifest import (
     head_lines,
     head_of,
     line_of,
-    read_head,
-    shown_name,
     tags_text,
-    with_head,
 )
 
 LEASE = 900

@@ -20,9 +20,9 @@ from typing import Callable, Iterator, Optional
 from codenav.asking.known import BRIEF, Sets
 from codenav.asking.questions import fetch_from
 from codenav.faults import BadCall, NoReply
-from codenav.names import server_of
+from codenav.names import server_of, shown_name
 from codenav.progress import Stage
-from codenav.sets.manifest import SURFACE, Head, shown_name
+from codenav.sets.manifest import SURFACE, Head
 from codenav.sets.publish.kept import Kept, kept_sets
 from codenav.sets.publish.moving import STEPS, Moving
 from codenav.sets.publish.places import Place, is_same
