@@ -11,8 +11,8 @@ from typing import Any
 from unittest import mock
 
 from codenav import limits
+from codenav.cli.prepare import PREPARE
 from codenav.dumps.check import why
-from codenav.dumps.prepare import prepare
 from codenav.records import ADDRESS, Prepared, Record, new_record, record_in
 from codenav.sets.split import split
 from codenav.sets.surface import surface
@@ -36,7 +36,7 @@ class Records(unittest.TestCase):
     def setUp(self) -> None:
         self.folder = self.enterContext(tempfile.TemporaryDirectory())
         self.path = os.path.join(self.folder, "dump.lsif")
-        self.assertEqual(quietly(prepare.main, "--strip", RAW, self.path)[0], 0)
+        self.assertEqual(quietly(PREPARE.main, "--strip", RAW, self.path)[0], 0)
 
     def elements(self) -> list[dict[str, Any]]:
         """The elements of the dump."""
@@ -112,7 +112,7 @@ class Records(unittest.TestCase):
         self.assertEqual(quietly(surface.main, self.path, f"{plain}.surface")[0], 0)
         self.assertTrue(Prepared(self.path).add(RECORD))
         again = f"{self.path}.again"
-        status, said = quietly(prepare.main, "--strip", "--report", self.path, again)
+        status, said = quietly(PREPARE.main, "--strip", "--report", self.path, again)
         count = len(self.elements())
         self.assertIn(f"; elements {count} -> {count}\n", said)
         self.assertEqual(status, 0, said)

@@ -80,7 +80,7 @@ def excesses(body: IO[bytes], name: str, profile: str) -> list[str]:
             counter.take(row.element)
     except NotADump:
         return []
-    return rows.excesses(counter.tallies())
+    return [*map(str, rows.excesses(counter.tallies()))]
 
 
 def put(
