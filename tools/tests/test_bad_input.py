@@ -10,10 +10,10 @@ from contextlib import redirect_stderr, redirect_stdout
 from typing import Callable, Optional
 
 from codenav.cli import ask
+from codenav.cli.explain import EXPLAIN, WHY
 from codenav.cli.prepare import PREPARE
 from codenav.cli.projects import LIST, REMOVE
 from codenav.client import upload
-from codenav.dumps.check import explain, why
 from codenav.publishing import publish
 from codenav.sets.split import split
 from codenav.sets.surface import surface
@@ -99,11 +99,11 @@ class Files(unittest.TestCase):
             for tool, main, words in (
                 ("split-lsif", split.main, [path, out]),
                 ("surface-lsif", surface.main, [path, out]),
-                ("why", why.main, [path, "src/lib.rs", "18", "12"]),
-                ("explain-fault", explain.main, [path, "line 1000: L07 bad member"]),
+                ("codenav why", WHY.main, [path, "src/lib.rs", "18", "12"]),
+                ("codenav explain", EXPLAIN.main, [path, "line 1000: L07 bad member"]),
             ):
                 # `why` takes a dump that the server refuses, as long as it can be read.
-                if tool != "why" or name not in ("nothing", "cycle"):
+                if tool != "codenav why" or name not in ("nothing", "cycle"):
                     with self.subTest(tool, name=name):
                         self.refused(main, words, f"^{tool}: .*{path}")
         self.refused(

@@ -53,10 +53,10 @@ def prepared(sample: Sample, folder: str) -> tuple[int, str, str]:
         index = os.path.join(folder, "index.scip")
         with open(source, encoding="utf-8") as text, open(index, "wb") as file:
             file.write(json_format.ParseDict(json.load(text), Index()).SerializeToString())
-        status, _, said = called(scip_to_lsif, [*words, index, out])
+        status, _, said = called(PREPARE, [*words, index, out])
     else:
         dump = next(name for name in os.listdir(home) if name.startswith("dump."))
-        status, _, said = called(prepare, [*words, os.path.join(home, dump), out])
+        status, _, said = called(PREPARE, [*words, os.path.join(home, dump), out])
     return status, out, said
 
 

@@ -14,6 +14,7 @@ from codenav.cli.ends import status_of
 from codenav.cli.options import Help, add_server, first_place, parsed
 from codenav.client.http import SECONDS
 from codenav.faults import NoReply
+from codenav.kinds import hover_text
 from codenav.settings.found import FILE, Settings, given_server, nearest, settings_by
 from codenav.texts.decoded import counts_bytes
 from codenav.texts.indexed import Indexed, NotThere, add_indexed, position_of, sources_of
@@ -34,13 +35,6 @@ KINDS = {
     "references": "where it's used",
     "hover": "what is said of it",
 }
-
-
-def hover_text(contents: Any) -> str:
-    """The text of hover contents."""
-    if isinstance(contents, list):
-        return "\n\n".join(hover_text(part) for part in contents)
-    return str(contents if isinstance(contents, str) else contents["value"])
 
 
 def questions_of(settings: Settings) -> Questions:

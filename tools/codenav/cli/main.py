@@ -37,8 +37,10 @@ TOOLS = {
     "ask": Tool("cli.ask", "ask what is at a place, or for a name"),
     "lsp": Tool("lsp.bridge", "serve an editor by the Language Server Protocol"),
     "browse": Tool("browse.command", "show a folder's files as web pages with answers"),
-    "explain-fault": Tool("dumps.check.explain", "say what is wrong with a dump that is refused"),
-    "why": Tool("dumps.check.why", "say of a dump why an answer is what it is"),
+    "explain": Tool(
+        "cli.explain", "say what is wrong with a dump that is refused", command="EXPLAIN"
+    ),
+    "why": Tool("cli.explain", "say of a dump why an answer is what it is", command="WHY"),
     "supervise": Tool("service.supervise", "keep a server running over a folder"),
     "turn": Tool("service.turn", "start a service's server anew, with no request lost"),
     "backup": Tool("service.backup", "copy a service's database while it runs"),

@@ -16,7 +16,6 @@ from codenav.outcome import Prepared
 from codenav.progress import Shows
 from codenav.texts.columns import ENCODINGS
 
-
 ADVICE = "leave documents out by --without GLOB, drop what has no effect by --strip, or index parts of the code as projects of their own"
 
 
