@@ -24,11 +24,12 @@ sys.path.insert(0, os.path.join(TOP, "tools"))
 
 from codenav.asking.index import Asked
 from codenav.asking.questions import Fetch, fetch_from
-from codenav.program import Failed, serving
+from codenav.program import serving
+from codenav.progress import Quiet
 from codenav.sets.publish.publish import Publish, Store
 from codenav.sets.publish.spread import Spread
 from codenav.sets.ring import home_of
-from codenav.sets.split import split
+from codenav.sets.split.split import SplitOptions, split
 from codenav.sets.surface.made import SurfaceFiles, made_surface
 from sets import KINDS, points_of
 
@@ -46,7 +47,7 @@ class Crate(NamedTuple):
     name: str
     folder: str
     elements: int
-    surface: Made
+    surface: SurfaceFiles
     points: list[tuple[str, int, int]]
 
     def weight(self) -> int:
@@ -58,9 +59,8 @@ def crate_of(path: str, folder: str) -> Crate:
     """Splits a dump and makes its surface, below a folder."""
     name = os.path.basename(path).partition(".")[0].lower()
     own = os.path.join(folder, name)
-    if split.main(["--name", name, path, own]) != 0:
-        raise Failed(f"{path}: it can't be split")
-    surface = made_surface(path, name, "1", os.path.join(own, "surface"))
+    split(path, SplitOptions(name), own, Quiet())
+    surface = made_surface(path, name, "1", os.path.join(own, "surface"), Quiet())
     with open(path, "rb") as file:
         elements = sum(1 for _ in file)
     return Crate(name, own, elements, surface, points_of(own, MOST))

@@ -24,8 +24,7 @@ import sys
 import tempfile
 import time
 from concurrent.futures import ProcessPoolExecutor
-from contextlib import ExitStack, contextmanager, redirect_stderr
-from io import StringIO
+from contextlib import ExitStack, contextmanager
 from subprocess import Popen
 from typing import Any, Callable, Iterator, NamedTuple
 
@@ -37,8 +36,9 @@ from joined_dumps import Place, make_text, write_renamed
 from codenav.asking.index import Asked
 from codenav.asking.questions import fetch_from
 from codenav.program import Failed, ended, free_port, started
+from codenav.progress import Quiet
 from codenav.sets.publish.publish import Publish, Store
-from codenav.sets.split import split
+from codenav.sets.split.split import SplitOptions, split
 from codenav.sets.surface.made import SurfaceFiles, made_surface
 from sets import children_seconds, processor_seconds, stage
 
@@ -80,16 +80,12 @@ def in_child(used: dict[str, float], call: Callable[..., Any], *words: object) -
 
 def split_dump(dump: str, name: str, folder: str) -> str:
     """Splits a dump into a folder; answers what is said."""
-    with redirect_stderr(StringIO()) as said:
-        if split.main(["--name", name, dump, folder]) != 0:
-            raise Failed(said.getvalue())
-    return said.getvalue().strip()
+    return "\n".join(split(dump, SplitOptions(name), folder, Quiet()).lines())
 
 
-def surface_of(dump: str, name: str, folder: str) -> Made:
+def surface_of(dump: str, name: str, folder: str) -> SurfaceFiles:
     """Makes the surface of a dump in a folder."""
-    with redirect_stderr(StringIO()):
-        return made_surface(dump, name, "1", folder)
+    return made_surface(dump, name, "1", folder, Quiet())
 
 
 def parts_in(folder: str) -> list[str]:

@@ -16,8 +16,6 @@ from codenav.dumps.check import explain, why
 from codenav.dumps.prepare import prepare
 from codenav.dumps.scip import to_lsif as scip_to_lsif
 from codenav.publishing import publish
-from codenav.sets.split import split
-from codenav.sets.surface import surface
 from tests.servers import TOP
 from tests.test_client import FOUND, Peer, environment, head_of, sends, status
 
@@ -98,8 +96,6 @@ class Files(unittest.TestCase):
                 with self.subTest(tool, name=name):
                     self.refused(main, words, f"^{tool}: .*{path}.*{line}")
             for tool, main, words in (
-                ("split-lsif", split.main, [path, out]),
-                ("surface-lsif", surface.main, [path, out]),
                 ("why", why.main, [path, "src/lib.rs", "18", "12"]),
                 ("explain-fault", explain.main, [path, "line 1000: L07 bad member"]),
             ):

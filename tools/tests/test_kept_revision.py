@@ -382,7 +382,7 @@ class Switched(OnServer, InRepository):
         self.made += 1
         folder, commit = os.path.join(self.home, f"set{self.made}"), self.commits[number]
         if is_set:
-            split_into(folder, self.bodies[number], *(["--revision", commit] if is_kept else []))
+            split_into(folder, self.bodies[number], revision=commit if is_kept else "")
             Publish(Store(self.url), folder, in_place_of_project=True).run()
             return
         dump = f"{folder}.lsif"

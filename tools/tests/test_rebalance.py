@@ -70,7 +70,7 @@ class Moved(TwoSets):
         shutil.rmtree(own, ignore_errors=True)
         shutil.copytree(folder, os.path.join(own, "set"))
         parts, packages = self.surface_in(folder)
-        keep_surface(os.path.join(own, "set"), Made(parts, packages))
+        keep_surface(os.path.join(own, "set"), SurfaceFiles(parts, packages))
 
     def surface_in(self, folder: str) -> tuple[tuple[PartEntry, ...], tuple[str, ...]]:
         """The surface that was made in a folder."""

@@ -19,10 +19,10 @@ from codenav.faults import BadCall, NoReply
 from codenav.sets.manifest import NotAManifest
 from codenav.sets.publish import publish
 from codenav.sets.publish.publish import Late, Publish, Store
-from codenav.sets.split import split
 from codenav.texts.places import uri_of
 from tests.dump_walks import OF_PROFILE, Question, Walk, answered, questions
 from tests.servers import TOP, OnServer
+from tests.split_files import split_file
 from tests.test_lsp import Editor
 
 NAME = "code"
@@ -47,17 +47,12 @@ def revision(number: int) -> bytes:
     return b"".join(json.dumps(element).encode() + b"\n" for element in elements)
 
 
-def split_into(folder: str, body: bytes, *words: str, most: int = 200) -> None:
+def split_into(folder: str, body: bytes, name: str = NAME, most: int = 200, **options: Any) -> None:
     """Splits a dump into small parts in a folder."""
     path = os.path.join(os.path.dirname(folder), "whole.lsif")
     with open(path, "wb") as out:
         out.write(body)
-    said = io.StringIO()
-    with redirect_stderr(said):
-        status = split.main(
-            ["--jobs", "1", "--name", NAME, "--elements", str(most), *words, path, folder]
-        )
-    assert status == 0, said.getvalue()
+    split_file(path, folder, name, elements=most, **options)
 
 
 def asked_at(url: str, name: str) -> Asked:
@@ -340,7 +335,7 @@ class Published(OnFile):
         both = Revisions(self.folder)
         self.publish(both.folders[0])
         branch = os.path.join(self.folder, "branch")
-        split_into(branch, revision(1), "--name", f"{NAME}@old")
+        split_into(branch, revision(1), f"{NAME}@old")
         self.publish(branch)
         dump = os.path.join(self.folder, "user.lsif")
         with redirect_stderr(io.StringIO()):

@@ -50,12 +50,6 @@ def bodies(flat: Flat, hovers: str, profile: str) -> list[bytes]:
     return bodies_of(cut, hovers)
 
 
-def call_of(path: str, profile: str, *words: str) -> argparse.Namespace:
-    """The call that splits an index."""
-    call = split.words_parser().parse_args(["--profile", profile, *words, path, "nowhere"])
-    return call
-
-
 def repeated(symbols: int, documents: int) -> bytes:
     """An index in which each document uses each symbol of the first."""
     names = [f"{APP}s{number}#" for number in range(symbols)]

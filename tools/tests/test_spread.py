@@ -16,13 +16,14 @@ from unittest import mock
 from codenav.cli import ask
 from codenav.dumps.prepare import prepare
 from codenav.faults import NoReply
+from codenav.limits import MOST_ELEMENTS
 from codenav.program import ended, free_port, started
+from codenav.progress import Quiet
 from codenav.publishing import publish
 from codenav.sets.manifest import PartEntry
 from codenav.sets.publish.publish import Claim, Late, Publish, Store, claimed, remove_set
 from codenav.sets.publish.spread import Spread
 from codenav.sets.ring import home_of, shard_of
-from codenav.sets.split import split
 from codenav.sets.surface.made import made_surface
 from codenav.settings.found import FILE
 from codenav.texts.places import uri_of
@@ -118,16 +119,16 @@ class OnServers(unittest.TestCase):
         folder."""
         folder = os.path.join(self.folder, where, name)
         os.makedirs(os.path.dirname(folder), exist_ok=True)
-        split_into(folder, body, "--name", name, most=most)
+        split_into(folder, body, name, most)
         self.make_surface(folder)
         return folder
 
-    def make_surface(self, folder: str) -> int:
-        """Makes the surface of the dump that was split into a folder; answers the number
-        of its parts."""
+    def make_surface(self, folder: str, most: int = MOST_ELEMENTS) -> int:
+        """Makes the surface of the dump that was split into a folder, in parts of so many elements
+        at most; answers the number of its parts."""
         whole = os.path.join(os.path.dirname(folder), "whole.lsif")
         name = os.path.basename(folder)
-        surface = made_surface(whole, name, "1", os.path.join(folder, "surface"))
+        surface = made_surface(whole, name, "1", os.path.join(folder, "surface"), Quiet(), most)
         with open(os.path.join(folder, "surface.json"), "w", encoding="utf-8") as out:
             json.dump(list(surface), out)
         return len(surface.parts)
@@ -237,9 +238,7 @@ class Published(TwoSets):
     def test_a_surface_in_parts(self) -> None:
         """A surface over the limits is published in parts, which lead to the same answers, and goes
         when one in one part comes."""
-        with mock.patch("codenav.limits.MOST_ELEMENTS", 100):
-            with mock.patch.object(split, "MOST_ELEMENTS", 100), redirect_stderr(io.StringIO()):
-                self.assertEqual(self.make_surface(self.folders[0]), 2)
+        self.assertEqual(self.make_surface(self.folders[0], 100), 2)
         self.spread(self.folders[0]).run()
         self.assertEqual((self.answering(), len(self.on(self.servers[2]))), (0, 3))
         self.spread(self.folders[1]).run()
