@@ -4,7 +4,7 @@ import os
 import sys
 from typing import Callable
 
-from codenav.faults import BadCall
+from codenav.faults import Fault
 
 CLOSED_PIPE = 141
 
@@ -21,7 +21,7 @@ def status_of(tool: str, call: Callable[[], int]) -> int:
     except BrokenPipeError:
         os.dup2(os.open(os.devnull, os.O_WRONLY), sys.stdout.fileno())
         return CLOSED_PIPE
-    except BadCall as fault:
+    except Fault as fault:
         text = str(fault)
     except OSError as fault:
         text = f"{fault.filename}: {fault.strerror}" if fault.filename else str(fault)

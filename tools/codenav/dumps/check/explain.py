@@ -14,17 +14,9 @@ from typing import Any, BinaryIO, Callable, Iterator, Optional, Union
 
 from codenav.addresses import serialized
 from codenav.dumps.check.sentences import sentence
-from codenav.dumps.lsif.reading import (
-    MOST_ELEMENT_BYTES,
-    Element,
-    Id,
-    Span,
-    element_of,
-    is_id,
-    opened,
-    shard_of,
-    span_of,
-)
+from codenav.dumps.lsif.elements import Element, Id, Span, element_of, is_id, shard_of, span_of
+from codenav.dumps.lsif.reading import MOST_ELEMENT_BYTES
+from codenav.dumps.packed import opened
 from codenav.faults import NotADump
 
 REPORT = re.compile(r"line ([1-9][0-9]{0,11}): ((?:L(?!00)[01][0-9]|L20|E01|E02)(?: .*)?)")

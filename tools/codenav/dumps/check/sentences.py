@@ -1,7 +1,7 @@
 """What an indexer should have written in place of a faulty element: one sentence for each code, or
 for each of its labels."""
 
-from codenav.dumps.lsif.reading import Element
+from codenav.dumps.lsif.elements import Element
 
 CODES = {
     "L01": "a line has at most 1,048,576 bytes without its line feed: write an edge with so many targets as several edges, and cut a text that is so long.",

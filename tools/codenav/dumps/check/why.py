@@ -15,7 +15,9 @@ from urllib.parse import quote
 from codenav.addresses import serialized
 from codenav.cli.ask import hover_text
 from codenav.dumps.check.explain import Dump, ends, targets
-from codenav.dumps.lsif.reading import Element, Id, Span, is_id, opened, plain
+from codenav.dumps.lsif.elements import Element, Id, Span, is_id
+from codenav.dumps.lsif.reading import plain
+from codenav.dumps.packed import opened
 from codenav.dumps.prepare.edges import flaw
 from codenav.dumps.prepare.vertices import contents_of
 from codenav.faults import BadCall, NotADump

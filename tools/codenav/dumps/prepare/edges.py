@@ -4,7 +4,7 @@ elements nor the `shard` of an item is looked at, nor what other edges there are
 import json
 from typing import Any, Callable
 
-from codenav.dumps.lsif.reading import Element
+from codenav.dumps.lsif.elements import Element
 from codenav.dumps.prepare.survey import KINDS, LABELS, MANY, SINGLE, is_sound
 
 SOURCES = ("range", "resultSet")
