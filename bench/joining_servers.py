@@ -25,7 +25,7 @@ sys.path.insert(0, os.path.join(TOP, "tools"))
 from sets import KINDS, points_of
 
 from codenav.asking.index import Asked
-from codenav.asking.questions import Fetch, fetch_from
+from codenav.client.fetch import Fetch, fetch_from
 from codenav.program import Failed, serving
 from codenav.sets.publish.publish import Publish, Store
 from codenav.sets.publish.spread import Made, Spread, made_surface

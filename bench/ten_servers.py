@@ -36,7 +36,7 @@ from joined_dumps import Place, make_text, write_renamed
 from sets import children_seconds, processor_seconds, stage
 
 from codenav.asking.index import Asked
-from codenav.asking.questions import fetch_from
+from codenav.client.fetch import fetch_from
 from codenav.program import Failed, ended, free_port, started
 from codenav.sets.publish.publish import Publish, Store
 from codenav.sets.publish.spread import Made, made_surface

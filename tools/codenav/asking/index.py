@@ -14,8 +14,9 @@ from the old revision or from the new one.
 from typing import Any, Callable
 
 from codenav.addresses import serialized
-from codenav.asking.known import Fetch, Sets
+from codenav.client.fetch import Fetch
 from codenav.faults import NoReply
+from codenav.sets.known import Sets
 from codenav.sets.manifest import BRANCH, DOCUMENT, Head, shown_name
 
 Found = dict[str, Any]

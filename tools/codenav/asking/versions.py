@@ -4,9 +4,9 @@ and a project by the record that `publish` keeps with its dump."""
 from typing import NamedTuple, Optional
 
 from codenav.asking.index import Asked
-from codenav.asking.known import Away
 from codenav.faults import BadCall, NoReply
 from codenav.records import AT, record_in
+from codenav.sets.known import Away
 from codenav.sets.manifest import BRANCH
 
 NONE_KEPT = "no revision is kept with its index"

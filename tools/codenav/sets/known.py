@@ -9,8 +9,9 @@ without the places of other parts.
 
 import time
 from contextlib import contextmanager
-from typing import Any, Callable, Iterator, Optional
+from typing import Iterator, Optional
 
+from codenav.client.fetch import Fetch
 from codenav.faults import NoReply
 from codenav.sets.manifest import (
     ABOUT,
@@ -27,7 +28,6 @@ from codenav.sets.manifest import (
     shown_name,
 )
 
-Fetch = Callable[[str, dict[str, Any], str], Any]
 BRIEF = 5.0
 AWAY_SECONDS = 60.0
 
