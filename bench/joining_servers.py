@@ -23,7 +23,7 @@ TOP = os.path.dirname(os.path.dirname(os.path.abspath(__file__)))
 sys.path.insert(0, os.path.join(TOP, "tools"))
 
 from codenav.asking.index import Asked
-from codenav.asking.questions import Fetch, fetch_from
+from codenav.client.fetch import Fetch, fetch_from
 from codenav.program import serving
 from codenav.progress import Quiet
 from codenav.sets.publish.publish import Publish, Store

@@ -34,7 +34,7 @@ sys.path.insert(0, os.path.join(TOP, "tools"))
 from joined_dumps import Place, make_text, write_renamed
 
 from codenav.asking.index import Asked
-from codenav.asking.questions import fetch_from
+from codenav.client.fetch import fetch_from
 from codenav.program import Failed, ended, free_port, started
 from codenav.progress import Quiet
 from codenav.sets.publish.publish import Publish, Store

@@ -15,7 +15,7 @@ from urllib.parse import quote
 
 from codenav.addresses import spelled
 from codenav.asking.index import Asked
-from codenav.asking.questions import fetch_from
+from codenav.client.fetch import fetch_from
 from codenav.client.upload import fresh_key
 from codenav.faults import BadCall, NoReply
 from codenav.sets.publish.publish import Publish, Store

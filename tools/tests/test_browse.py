@@ -13,7 +13,6 @@ from typing import Any, Optional
 from unittest import mock
 from urllib.parse import urlencode
 
-from codenav.asking import questions
 from codenav.asking.tags import AWAY, GUESSED, SAID
 from codenav.browse import answers
 from codenav.browse import command as browse
@@ -23,6 +22,7 @@ from codenav.browse.finder import found as found_files
 from codenav.browse.folder import Folder, Refused
 from codenav.browse.markdown import ELEMENTS, tree_of
 from codenav.browse.server import Pages
+from codenav.client import fetch
 from codenav.client.http import Answer
 from codenav.faults import BadCall
 from codenav.settings.found import Settings
@@ -91,7 +91,7 @@ class Served:
         the server was asked by; of a record of the revision it has none."""
         answer = Answer("http://127.0.0.1:1", status, json.dumps(reply).encode())
         asked: list[str] = []
-        with mock.patch.object(questions, "request", replying(answer, asked)):
+        with mock.patch.object(fetch, "request", replying(answer, asked)):
             code, body, _ = self.got(path)
         return code, json.loads(body), asked[0] if asked else None
 

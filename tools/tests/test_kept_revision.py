@@ -12,9 +12,10 @@ from random import Random
 from typing import Any, Callable
 from unittest import mock
 
-from codenav.asking.questions import Fetcher, Questions, fetch_from
+from codenav.asking.questions import Questions
 from codenav.cli import ask
 from codenav.client import upload
+from codenav.client.fetch import Fetcher, fetch_from
 from codenav.dumps.prepare import prepare
 from codenav.faults import NoReply
 from codenav.publishing import publish

@@ -46,8 +46,6 @@ service.restore -> cli.ends
 service.supervise -> cli.ends
 service.turn -> cli.ends
 sets.publish.publish -> cli.ends
-sets.publish.rebalance -> asking.known
-sets.publish.rebalance -> asking.questions
 sets.split.split -> cli.ends
 sets.split.split -> index.indexers
 sets.split.tags -> index.tags_file

@@ -8,8 +8,8 @@ from contextlib import redirect_stderr, redirect_stdout
 from typing import Any
 
 from codenav.asking.all_servers import names_of_all
-from codenav.asking.questions import fetch_from
 from codenav.cli import ask
+from codenav.client.fetch import fetch_from
 from codenav.program import free_port, serving
 from codenav.sets.publish.publish import Publish, Store
 from codenav.sets.ring import home_of

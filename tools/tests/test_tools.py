@@ -11,8 +11,8 @@ from typing import Any
 from unittest import mock
 from urllib.parse import quote
 
-from codenav.asking import questions
 from codenav.cli import ask
+from codenav.client import fetch
 from codenav.client import http as client
 from codenav.client import upload
 from codenav.client.http import Answer
@@ -330,7 +330,7 @@ class Ask(unittest.TestCase):
         """The status, the address that was asked, and what was printed of a reply."""
         answer = Answer(self.AT[0], 404 if "fault" in reply else 200, json.dumps(reply).encode())
         asked: list[str] = []
-        with mock.patch.object(questions, "request", replying(answer, asked)), redirect_stdout(
+        with mock.patch.object(fetch, "request", replying(answer, asked)), redirect_stdout(
             io.StringIO()
         ) as said, redirect_stderr(io.StringIO()) as warned:
             status = ask.main(words)

@@ -8,7 +8,7 @@ it was put elsewhere by hand, it's shown as the others have it, equal tags once.
 from typing import Any, Callable, Optional, Sequence
 
 from codenav.asking.index import Asked, Found, order_of_tag
-from codenav.asking.known import Fetch
+from codenav.client.fetch import Fetch
 from codenav.client.projects import listed
 from codenav.faults import NoReply
 from codenav.names import set_name

@@ -14,9 +14,10 @@ from the old revision or from the new one.
 from typing import Any, Callable
 
 from codenav.addresses import serialized
-from codenav.asking.known import Fetch, Sets
+from codenav.client.fetch import Fetch
 from codenav.faults import NoReply
 from codenav.names import BRANCH, shown_name
+from codenav.sets.known import Sets
 from codenav.sets.manifest import DOCUMENT, Head
 
 Found = dict[str, Any]

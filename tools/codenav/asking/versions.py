@@ -4,10 +4,10 @@ and a project by the record that `publish` keeps with its dump."""
 from typing import NamedTuple, Optional
 
 from codenav.asking.index import Asked
-from codenav.asking.known import Away
 from codenav.faults import BadCall, NoReply
 from codenav.names import BRANCH
 from codenav.records import AT, record_in
+from codenav.sets.known import Away
 
 NONE_KEPT = "no revision is kept with its index"
 UNCOMMITTED = "its index is of files that weren't committed"

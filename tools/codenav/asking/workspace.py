@@ -10,8 +10,9 @@ import stat
 from typing import Any, Callable, Iterator, Optional, Union
 
 from codenav.asking.by_name import ByName
-from codenav.asking.questions import Fetch, Questions, Reply, fetch_from
+from codenav.asking.questions import Questions, Reply
 from codenav.asking.tags import Names, Tag
+from codenav.client.fetch import Fetch, fetch_from
 from codenav.faults import BadCall, NoReply
 from codenav.settings.found import FILE, Settings, folders_above, settings_in
 from codenav.texts.indexed import Indexed, Source, sources_of

@@ -8,10 +8,11 @@ import sys
 from typing import Any, Optional
 
 from codenav.asking.by_name import ByName, add_by_name, has_dump, has_tags
-from codenav.asking.questions import Questions, Reply, fetch_from
+from codenav.asking.questions import Questions, Reply
 from codenav.asking.tags import Names, folders_of
 from codenav.cli.ends import status_of
 from codenav.cli.options import Help, add_server, first_place, parsed
+from codenav.client.fetch import fetch_from
 from codenav.client.http import SECONDS
 from codenav.faults import NoReply
 from codenav.settings.found import FILE, Settings, given_server, nearest, settings_by

@@ -17,11 +17,11 @@ import sys
 import time
 from typing import Callable, Iterator, Optional
 
-from codenav.asking.known import BRIEF, Sets
-from codenav.asking.questions import fetch_from
+from codenav.client.fetch import fetch_from
 from codenav.faults import BadCall, NoReply
 from codenav.names import server_of, shown_name
 from codenav.progress import Stage
+from codenav.sets.known import BRIEF, Sets
 from codenav.sets.manifest import SURFACE, Head
 from codenav.sets.publish.kept import Kept, kept_sets
 from codenav.sets.publish.moving import STEPS, Moving
