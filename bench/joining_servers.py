@@ -26,8 +26,9 @@ from codenav.asking.index import Asked
 from codenav.client.fetch import Fetch, fetch_from
 from codenav.program import serving
 from codenav.progress import Quiet
-from codenav.sets.publish.publish import Publish, Store
+from codenav.sets.publish.publish import Publish
 from codenav.sets.publish.spread import Spread
+from codenav.sets.publish.store import Store
 from codenav.sets.ring import home_of
 from codenav.sets.split.split import SplitOptions, split
 from codenav.sets.surface.made import SurfaceFiles, made_surface

@@ -37,7 +37,8 @@ from codenav.asking.index import Asked
 from codenav.client.fetch import fetch_from
 from codenav.program import Failed, ended, free_port, started
 from codenav.progress import Quiet
-from codenav.sets.publish.publish import Publish, Store
+from codenav.sets.publish.publish import Publish
+from codenav.sets.publish.store import Store
 from codenav.sets.split.split import SplitOptions, split
 from codenav.sets.surface.made import SurfaceFiles, made_surface
 from sets import children_seconds, processor_seconds, stage

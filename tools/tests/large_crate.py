@@ -11,7 +11,7 @@ from contextlib import contextmanager
 from typing import Iterator, NamedTuple
 
 from codenav.program import Failed, serving
-from codenav.sets.publish.publish import Store
+from codenav.sets.publish.store import Store
 from codenav.texts.places import uri_of
 from tests.debian_crates import ANALYZER, copied
 from tests.demo_server import succeed

@@ -16,9 +16,10 @@ from urllib.parse import quote
 from codenav.addresses import spelled
 from codenav.asking.index import Asked
 from codenav.client.fetch import fetch_from
-from codenav.client.upload import fresh_key
+from codenav.client.projects import fresh_key
 from codenav.faults import BadCall, NoReply
-from codenav.sets.publish.publish import Publish, Store
+from codenav.sets.publish.publish import Publish
+from codenav.sets.publish.store import Store
 from codenav.settings.found import settings_of
 from codenav.texts.indexed import sources_of
 from codenav.texts.places import map_words, maps_of, path_of, uri_of

@@ -20,7 +20,8 @@ from codenav.dumps.prepare import prepare
 from codenav.faults import NoReply
 from codenav.publishing import publish
 from codenav.records import Prepared, new_record
-from codenav.sets.publish.publish import Publish, Store, remove_set
+from codenav.sets.publish.publish import Publish, remove_set
+from codenav.sets.publish.store import Store
 from codenav.settings.found import Settings
 from codenav.texts.indexed import Indexed
 from tests.repository import InRepository, git_in

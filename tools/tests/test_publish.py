@@ -23,7 +23,7 @@ from codenav.publishing import publish
 from codenav.publishing.left_out import Row, rows_of, table
 from codenav.records import Prepared
 from codenav.sets.publish.publish import Publish as Made
-from codenav.sets.publish.publish import Store
+from codenav.sets.publish.store import Store
 from tests.repository import git_in
 from tests.servers import TOP, OnServer
 from tests.test_set_service import asked_at

@@ -20,8 +20,9 @@ from codenav.publishing import publish
 from codenav.sets.files import MANIFEST
 from codenav.sets.manifest import PartEntry
 from codenav.sets.publish import rebalance
+from codenav.sets.publish.claim import claimed
 from codenav.sets.publish.places import Place
-from codenav.sets.publish.publish import Store, claimed
+from codenav.sets.publish.store import Store
 from codenav.sets.ring import home_of
 from codenav.sets.surface.made import SurfaceFiles, keep_surface
 from tests.fronts import adding, host_of

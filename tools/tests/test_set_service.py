@@ -18,7 +18,9 @@ from codenav.dumps.prepare import prepare
 from codenav.faults import BadCall, NoReply
 from codenav.sets.manifest import NotAManifest
 from codenav.sets.publish import publish
-from codenav.sets.publish.publish import Late, Publish, Store
+from codenav.sets.publish.claim import Late
+from codenav.sets.publish.publish import Publish
+from codenav.sets.publish.store import Store
 from codenav.texts.places import uri_of
 from tests.dump_walks import OF_PROFILE, Question, Walk, answered, questions
 from tests.servers import TOP, OnServer

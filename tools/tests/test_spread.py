@@ -21,8 +21,10 @@ from codenav.program import ended, free_port, started
 from codenav.progress import Quiet
 from codenav.publishing import publish
 from codenav.sets.manifest import PartEntry
-from codenav.sets.publish.publish import Claim, Late, Publish, Store, claimed, remove_set
+from codenav.sets.publish.claim import Claim, Late, claimed
+from codenav.sets.publish.publish import Publish, remove_set
 from codenav.sets.publish.spread import Spread
+from codenav.sets.publish.store import Store
 from codenav.sets.ring import home_of, shard_of
 from codenav.sets.surface.made import made_surface
 from codenav.settings.found import FILE

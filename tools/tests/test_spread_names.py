@@ -11,7 +11,8 @@ from codenav.asking.all_servers import names_of_all
 from codenav.cli import ask
 from codenav.client.fetch import fetch_from
 from codenav.program import free_port, serving
-from codenav.sets.publish.publish import Publish, Store
+from codenav.sets.publish.publish import Publish
+from codenav.sets.publish.store import Store
 from codenav.sets.ring import home_of
 from codenav.settings.found import FILE
 from tests.servers import program

@@ -24,7 +24,8 @@ from codenav.cli.ends import status_of
 from codenav.cli.main import main_of
 from codenav.cli.options import URL_HELP, add_server, add_words, parsed
 from codenav.client.http import address, found_in, refusal_of, reply_in, request_again
-from codenav.client.upload import fresh_key, put, upload_url
+from codenav.client.projects import fresh_key
+from codenav.client.upload import put, upload_url
 from codenav.dumps.check import explain
 from codenav.dumps.prepare import prepare
 from codenav.faults import BadCall, NotADump
@@ -36,9 +37,10 @@ from codenav.program import TOP
 from codenav.progress import Heard, Quiet, Stage, Watched
 from codenav.publishing.left_out import Row, rows_of, table
 from codenav.records import Prepared, new_record
-from codenav.sets.publish.publish import Publish, Store, fetch_cuts, remove_set
+from codenav.sets.publish.publish import Publish, fetch_cuts, remove_set
 from codenav.sets.publish.rebalance import GRACE, rebalanced
 from codenav.sets.publish.spread import Spread
+from codenav.sets.publish.store import Store
 from codenav.sets.ring import home_of, named_in_front, servers_of
 from codenav.sets.split.split import ScipOptions, SplitOptions, split
 from codenav.sets.surface.made import keep_surface, made_surface, surface_file, surface_name

@@ -7,7 +7,7 @@ from typing import Any
 from urllib.parse import urlsplit
 
 from codenav.cli.options import url_in
-from codenav.client.http import place_of
+from codenav.client.login import place_of
 from codenav.faults import BadCall
 from codenav.names import server_of
 from codenav.settings.found import FILE, found_in_file, given_server

@@ -5,7 +5,7 @@ import os
 from typing import Any, Iterator, NamedTuple, Optional
 
 from codenav.addresses import folder_address
-from codenav.client.http import named_by_call, named_by_file
+from codenav.client.login import named_by_call, named_by_file
 from codenav.faults import BadCall
 from codenav.names import project_of, server_of, set_name
 from codenav.texts.decoded import body_of

@@ -11,41 +11,65 @@ A set is answered at each moment: up to the switch from its old home, which has 
 then from its new one, which has it all. So a call may end anywhere, and the next one goes on.
 """
 
-import argparse
 import subprocess
-import sys
 import time
-from typing import Callable, Iterator, Optional
+from contextlib import contextmanager
+from dataclasses import dataclass
+from typing import Callable, Iterator, Mapping, NamedTuple, Optional
 
 from codenav.client.fetch import fetch_from
 from codenav.faults import BadCall, NoReply
-from codenav.names import server_of, shown_name
-from codenav.progress import Stage
+from codenav.names import shown_name
+from codenav.progress import Shows
 from codenav.sets.known import BRIEF, Sets
 from codenav.sets.manifest import SURFACE, Head
 from codenav.sets.publish.kept import Kept, kept_sets
 from codenav.sets.publish.moving import STEPS, Moving
 from codenav.sets.publish.places import Place, is_same
-from codenav.sets.publish.publish import Store
-from codenav.sets.ring import Ring, named_in_front, servers_of
+from codenav.sets.publish.store import Store
+from codenav.sets.ring import Ring, named_in_front
 
-TOOL = "publish"
 SWITCH_SECONDS = 60
 PAUSE = 0.2
 GRACE = 10.0
 
 
+@dataclass(frozen=True)
+class Lists:
+    """The front that is asked, the `servers` that it's to ask, and those of `before`. With
+    `only_joined` surfaces go to servers alone that have a set with a package in common."""
+
+    front: str
+    servers: tuple[str, ...]
+    before: tuple[str, ...] = ()
+    only_joined: bool = False
+
+    def places(self) -> list[Place]:
+        """The servers, and those that leave the list."""
+        named = set(map(named_in_front, self.servers))
+        leaving = [server for server in self.before if named_in_front(server) not in named]
+        return [Place(one) for one in self.servers] + [Place(one, True) for one in leaving]
+
+
+class Cleared(NamedTuple):
+    """How many sets were moved, and how many projects removed where they were."""
+
+    moved: int
+    removed: int
+
+
 class Rebalance:
     """The sets that are kept below a folder and those on servers, of which the front asks some."""
 
-    def __init__(self, folder: str, places: list[Place], front: Store, only_joined: bool) -> None:
-        self.folder, self.places, self.front = folder, places, front
+    def __init__(self, folder: str, lists: Lists, shows: Shows) -> None:
+        self.folder, self.front, self.shows = folder, Store(lists.front), shows
+        self.places = places = lists.places()
         self.kept, self.faults = kept_sets(folder)
         self.faults += [fault for place in places for fault in place.faults]
         servers = [place for place in places if not place.is_leaving]
         self.ring = Ring([place.server for place in servers])
         self.by_server = {place.server: place for place in servers}
-        self.at_home = self.homes_of_packages() if only_joined else None
+        self.at_home = self.homes_of_packages() if lists.only_joined else None
         self.moving: list[Moving] = []
 
     def home(self, name: str) -> Place:
@@ -176,18 +200,18 @@ class Rebalance:
         count = 0
         for what, is_needed, step in STEPS:
             todo = [moving for moving in self.moving if is_needed(moving)]
-            with Stage(TOOL, f"put {what}", len(todo), " sets") as stage:
-                names = self.each(todo, stage, step)
-                stage.detail = f"of {len(names)} sets"
+            self.shows.begin(f"put {what}", len(todo), " sets")
+            names = self.each(todo, step)
+            self.shows.end(f"of {len(names)} sets")
             count += len(names - done[what])
             done[what] |= names
         return count
 
-    def each(self, todo: list[Moving], stage: Stage, step: Callable[..., None]) -> set[str]:
+    def each(self, todo: list[Moving], step: Callable[..., None]) -> set[str]:
         """Makes a step of sets; answers of which. One that can't be made is noted, and left."""
         names = set()
         for at, moving in enumerate(todo):
-            stage.at(at)
+            self.shows.at(at)
             try:
                 with moving.held() as claim:
                     step(moving, claim)
@@ -214,12 +238,16 @@ class Rebalance:
         except NoReply:
             return False
 
-    def clear(self) -> int:
-        """Removes what is left where sets were; answers how many projects."""
-        with Stage(TOOL, "removed what was left") as stage:
-            count = sum(moving.clear() for moving in self.moving)
-            stage.detail = f"{count} projects"
-        return count
+    def clear(self, grace: float) -> Cleared:
+        """Removes what is left where sets were, so many seconds after the switch where a set has
+        moved."""
+        moved = sum(moving.has_moved() for moving in self.moving)
+        if moved:
+            time.sleep(grace)
+        self.shows.begin("removed what was left")
+        count = sum(moving.clear() for moving in self.moving)
+        self.shows.end(f"{count} projects")
+        return Cleared(moved, count)
 
 
 def mark_of(head: Optional[Head]) -> str:
@@ -232,61 +260,53 @@ def of_revision(head: Head) -> str:
     return f" ({head.revision})" if head.revision else ""
 
 
-def places_of(call: argparse.Namespace) -> list[Place]:
-    """The servers of the list, and those that leave it."""
-    before = servers_of(call.servers_before.split(",")) if call.servers_before else []
-    named = set(map(named_in_front, call.servers))
-    leaving = [server for server in before if named_in_front(server) not in named]
-    return [Place(one) for one in call.servers] + [Place(one, True) for one in leaving]
-
-
-def switch(work: Rebalance, put: set[str], command: str) -> None:
-    """Switches the front by a command, and waits until it asks the new homes."""
-    status = subprocess.run(command, shell=True, check=False, stdin=subprocess.DEVNULL).returncode
-    if status != 0:
-        raise BadCall(f"{command}: ended with status {status}; nothing was removed: call again")
-    stop = time.monotonic() + SWITCH_SECONDS
-    while not work.is_switched(put):
-        if time.monotonic() > stop:
-            raise BadCall(f"after {command} {work.front.server} isn't switched: call again")
-        time.sleep(PAUSE)
-
-
-def rebalanced(call: argparse.Namespace) -> int:
-    """Puts the kept sets where the servers of a call have them; answers 0, or 2 where a line was
-    said."""
-    server = server_of(call.url)
-    if not call.servers:
-        raise BadCall("--rebalance takes --servers, or `servers` in the settings")
-    if named_in_front(server) in map(named_in_front, call.servers):
-        raise BadCall(f"--rebalance asks the front which servers it asks: {server} is one of these")
-    done: dict[str, set[str]] = {what: set() for what, _, _ in STEPS}
+@contextmanager
+def call_again() -> Iterator[None]:
+    """Has a fault of a server say what to do."""
     try:
-        is_done = False
-        while not is_done:
-            # what was published since is looked at again, up to when nothing is lacking
-            work = Rebalance(call.rebalance, places_of(call), Store(server), call.servers_that_join)
-            work.look()
-            is_done = work.put(done) == 0 or bool(work.faults)
-        for fault in work.faults:
-            print(f"{TOOL}: {fault}", file=sys.stderr)
-        steps = ", ".join(f"{what} of {len(names)}" for what, names in done.items())
-        print(f"sets {len(work.moving)}, put {steps}")
-        return 2 if work.faults else finished(work, done["manifests"], call)
+        yield
     except NoReply as fault:
         raise BadCall(f"{fault}; nothing that is asked was lost: call again") from None
 
 
-def finished(work: Rebalance, put: set[str], call: argparse.Namespace) -> int:
-    """Switches the front, where that's needed and a command was given, and removes what is left;
-    answers 0."""
-    moved = sum(moving.has_moved() for moving in work.moving)
-    if not work.is_switched(put):
-        if not call.switch:
-            print(f"switch {work.front.server} to these servers, and call again")
-            return 0
-        switch(work, put, call.switch)
-    if moved:
-        time.sleep(call.grace)
-    print(f"moved {moved}, removed {work.clear()}")
-    return 0
+class Rebalanced(NamedTuple):
+    """The kept sets, of which all are where they're to be but for the faults, and the sets that
+    each step was of."""
+
+    work: Rebalance
+    done: Mapping[str, set[str]]
+
+    def is_switched(self) -> bool:
+        """Whether the front asks the homes of the list."""
+        with call_again():
+            return self.work.is_switched(self.done["manifests"])
+
+    def switch(self, command: str) -> None:
+        """Switches the front by a command, and waits until it asks the new homes."""
+        status = subprocess.run(command, shell=True, check=False, stdin=subprocess.DEVNULL)
+        if status.returncode != 0:
+            text = f"{command}: ended with status {status.returncode}; nothing was removed: call again"
+            raise BadCall(text)
+        stop = time.monotonic() + SWITCH_SECONDS
+        while not self.is_switched():
+            if time.monotonic() > stop:
+                front = self.work.front.server
+                raise BadCall(f"after {command} {front} isn't switched: call again")
+            time.sleep(PAUSE)
+
+    def clear(self, grace: float) -> Cleared:
+        """Removes what is left where sets were."""
+        with call_again():
+            return self.work.clear(grace)
+
+
+def rebalance(folder: str, lists: Lists, shows: Shows) -> Rebalanced:
+    """Puts the sets that are kept below a folder where a list of servers has them."""
+    done: dict[str, set[str]] = {what: set() for what, _, _ in STEPS}
+    with call_again():
+        while True:
+            # what was published since is looked at again, up to when nothing is lacking
+            work = Rebalance(folder, lists, shows)
+            work.look()
+            if work.put(done) == 0 or work.faults:
+                return Rebalanced(work, done)
